@@ -1,0 +1,194 @@
+-- What the check's answers mean.
+use Prim.Native.Nat.{zero}
+use mathlib.Core.Logic.{_↔_}
+use mathlib.Core.Path.{_≡_, refl, sym, _∙_, ap}
+use mathlib.Core.Bool.{true, false, not, Bool}
+use mathlib.Core.List.{List, [], _∷_}
+use mathlib.Core.Option.{none, some}
+use Prim.Native.Nat.{ℕ, suc, _<_, _≤_, _+_}
+use native.Mathlib.Omega.{arith}
+use lib.Dec.{eqb, ltb}
+use lib.ListN.{length, take}
+use lib.Seq.{ext-getD, take-length}
+use borrow.Author.Tests.{not-true, not-false, eqb-true, eqb-false, eq-eqb, ltb-false, ltb-true, ne-eqb}
+use Rattle.paper.specs.Basics.{if_then_else_, upTo}
+use Rattle.paper.specs.Yard.{Bay, Carrier, Yard, Placement, Crossing, bayOf, move, after, joined, legal, legalPlan, crossings, named}
+use Rattle.paper.specs.Docket.{illegal, missed, yardOf, firstIllegal, notHome, Refusal, number}
+use Rattle.paper.specs.Answers.{firstSix, check}
+use Rattle.paper.proofs.Tests.{by-cases, never-some, none-both, none-from, not-both, by-option, never}
+use Rattle.paper.proofs.Members.{in-count, find-none, none-find, find-exactly}
+use Rattle.paper.proofs.Playing.{after-length, plan-head, plan-tail}
+use Rattle.paper.proofs.Admitted.{clean-of, six-number}
+
+module _ (Y : Yard) where
+  pub none-illegal : (p : Placement) (i : ℕ) (xs : List Crossing) → firstIllegal Y p i xs ≡ none → legalPlan Y p xs ≡ true
+  unfolding firstIllegal legalPlan
+  none-illegal p i [] h = refl
+  none-illegal p i (x ∷ xs) h =
+      by-cases (legal Y p x) (λ e. rw e (none-illegal (move p x) (suc i) xs (rw e at h))) (λ e. never-some i (sym (rw e at h)))
+
+  pub illegal-none : (p : Placement) (i : ℕ) (xs : List Crossing) → legalPlan Y p xs ≡ true → firstIllegal Y p i xs ≡ none
+  unfolding firstIllegal
+  illegal-none p i [] h = refl
+  illegal-none p i (x ∷ xs) h = rw (plan-head Y p x xs h) (illegal-none (move p x) (suc i) xs (plan-tail Y p x xs h))
+
+-- The crossing named d is the first illegal one: those before it are legal, and it is not.
+pub record FirstIllegal (Y : Yard) (p : Placement) (xs : List Crossing) (d : ℕ) : Type 0 where
+  pub there : d < length xs
+  pub before : legalPlan Y p (take d xs) ≡ true
+  pub is-illegal : legal Y (after p (take d xs)) (named xs d) ≡ false
+
+module _ (Y : Yard) where
+  first-illegal : (p : Placement) (i : ℕ) (xs : List Crossing) (j : ℕ) → firstIllegal Y p i xs ≡ some j → (d : ℕ) × (j ≡ i + d) × FirstIllegal Y p xs d
+  unfolding firstIllegal legalPlan after
+  first-illegal p i [] j h = never-some j h
+  first-illegal p i (x ∷ xs) j h =
+      by-cases (legal Y p x)
+      (λ e.
+      let r = first-illegal (move p x) (suc i) xs j (rw e at h) in
+      let f = r .2 in
+      (suc (r .0), omega (arith, r .1), record { there = omega (arith, f .there); before = rw e (f .before); is-illegal = f .is-illegal }))
+      (λ e. (0, (let w = rw e at h in let z : i ≡ j = cc in omega arith), record { there = omega arith; before = refl; is-illegal = e }))
+
+  -- a name below e is legal in its turn where the first e are
+  legal-within : (p : Placement) (xs : List Crossing) (d e : ℕ) → d < e → d < length xs → legalPlan Y p (take e xs) ≡ true
+      → legal Y (after p (take d xs)) (named xs d) ≡ true
+  unfolding after
+  legal-within p [] d e l k h = absurd (omega arith)
+  legal-within p (x ∷ xs) zero zero l k h = absurd (omega arith)
+  legal-within p (x ∷ xs) (suc d) zero l k h = absurd (omega arith)
+  legal-within p (x ∷ xs) zero (suc e) l k h = plan-head Y p x (take e xs) h
+  legal-within p (x ∷ xs) (suc d) (suc e) l k h =
+      legal-within (move p x) xs d e (omega arith) (omega arith) (plan-tail Y p x (take e xs) h)
+
+  firsts-agree : (p : Placement) (xs : List Crossing) (d e : ℕ) → FirstIllegal Y p xs d → FirstIllegal Y p xs e → d ≡ e
+  firsts-agree p xs d e f g =
+      by-cases (ltb d e)
+      (λ l. not-both (legal-within p xs d e (ltb-true d e l) (f .there) (g .before)) (f .is-illegal))
+      (λ l. by-cases (ltb e d)
+      (λ m. not-both (legal-within p xs e d (ltb-true e d m) (g .there) (f .before)) (g .is-illegal))
+      (λ m. omega (arith, ltb-false d e l, ltb-false e d m)))
+
+  -- What `firstIllegal` gives is exactly the first illegal crossing's name.
+  pub illegal-exactly : (p : Placement) (xs : List Crossing) (d : ℕ) → (firstIllegal Y p 0 xs ≡ some d) ↔ FirstIllegal Y p xs d
+  illegal-exactly p xs d = (
+    λ h. let r = first-illegal p 0 xs d h in let e : r .0 ≡ d = omega (arith, r .1) in rw e at (r .2),
+    λ f. by-option (firstIllegal Y p 0 xs)
+        (λ h.
+        let whole : legalPlan Y p (take (length xs) xs) ≡ true = rw (take-length xs) (none-illegal Y p 0 xs h) in
+        not-both (legal-within p xs d (length xs) (f .there) (f .there) whole) (f .is-illegal))
+        (λ j h.
+        let r = first-illegal p 0 xs j h in
+        let e : r .0 ≡ d = firsts-agree p xs (r .0) d (r .2) f in
+        let z : j ≡ d = omega (arith, r .1) in
+        rw z at h),
+  )
+
+-- The lowest carrier that isn't home.
+pub record LowestMissed (goals p : Placement) (c : Carrier) : Type 0 where
+  pub there : c < length goals
+  pub away : bayOf p c ≡ bayOf goals c → ⊥
+  pub lower-home : (b : Carrier) → b < c → bayOf p b ≡ bayOf goals b
+
+pub missed-exactly : (goals p : Placement) (c : Carrier) → (notHome goals p ≡ some c) ↔ LowestMissed goals p c
+unfolding notHome
+missed-exactly goals p c =
+    let q : Carrier → Bool = λ b. not (eqb (bayOf p b) (bayOf goals b)) in
+    let f = find-exactly q (length goals) c in (
+      λ h.
+          let k = f .0 h in
+          record { there = k .0; away = eqb-false _ _ (not-true _ (k .1)); lower-home = λ b l. eqb-true _ _ (not-false _ (k .2 b l)) },
+      λ m. f .1 (m .there, ap not (ne-eqb _ _ (m .away)), λ b l. ap not (eq-eqb _ _ (m .lower-home b l))),
+    )
+
+pub none-missed : (goals p : Placement) → length p ≡ length goals → notHome goals p ≡ none → p ≡ goals
+unfolding notHome
+none-missed goals p len h =
+    ext-getD 0 p goals len
+    (λ c k. eqb-true _ _ (not-false _ (find-none (λ b. not (eqb (bayOf p b) (bayOf goals b))) (upTo (length goals)) c h (in-count 0 (length goals) c (omega arith) (omega arith)))))
+
+pub missed-none : (goals p : Placement) → p ≡ goals → notHome goals p ≡ none
+unfolding notHome
+missed-none goals p h = none-find _ (upTo (length goals)) (λ c i. ap not (eq-eqb _ _ (ap (λ q. bayOf q c) h)))
+
+-- The check passes exactly if 1 to 6 do, the plan is legal from the starts, and it ends at the goals.
+pub record Passed (n : ℕ) (ends : List Bay) (starts goals : Placement) (plan : List ℕ) : Type 0 where
+  pub sound : firstSix n ends starts goals (length plan) ≡ none
+  pub lawful : legalPlan (yardOf n ends) starts (crossings plan) ≡ true
+  pub home : after starts (crossings plan) ≡ goals
+
+module _ (n : ℕ) (ends : List Bay) (starts goals : Placement) (plan : List ℕ) where
+  pub check-passed : check n ends starts goals plan ≡ none → Passed n ends starts goals plan
+  unfolding check
+  check-passed h =
+      let b = none-both (firstSix n ends starts goals (length plan)) _ h in
+      let c = none-both _ _ (b .1) in
+      record {
+        sound = b .0;
+        lawful = none-illegal (yardOf n ends) starts 0 (crossings plan) (none-from illegal _ (c .0));
+        home = none-missed goals (after starts (crossings plan))
+            (after-length starts (crossings plan) ∙ clean-of n ends starts goals (length plan) (b .0) .sizes .same-length)
+            (none-from missed _ (c .1));
+      }
+
+  pub passed-check : Passed n ends starts goals plan → check n ends starts goals plan ≡ none
+  unfolding check
+  passed-check p =
+      rw (p .sound, illegal-none (yardOf n ends) starts 0 (crossings plan) (p .lawful))
+      (rw (missed-none goals (after starts (crossings plan)) (p .home)))
+
+-- The legality of crossings sees the yard through its rails alone: the number of bays does not matter.
+pub illegal-bays : (n m : ℕ) (ends : List Bay) (p : Placement) (i : ℕ) (xs : List Crossing) → firstIllegal (yardOf n ends) p i xs ≡ firstIllegal (yardOf m ends) p i xs
+unfolding firstIllegal legal joined
+illegal-bays n m ends p i [] = refl
+illegal-bays n m ends p i (x ∷ xs) =
+    ap (λ r. if legal (yardOf m ends) p x then r else some i) (illegal-bays n m ends (move p x) (suc i) xs)
+
+module _ (n : ℕ) (ends : List Bay) (starts goals : Placement) (plan : List ℕ) where
+  abbrev xs : List Crossing
+  xs = crossings plan
+
+  -- every way in which the check's answer comes about
+  by-check : {P : Type 0}
+      → ((r : Refusal) → number r ≤ 6 → check n ends starts goals plan ≡ some r → P)
+      → (firstSix n ends starts goals (length plan) ≡ none → (i : ℕ) → firstIllegal (yardOf n ends) starts 0 xs ≡ some i
+      → check n ends starts goals plan ≡ some (illegal i) → P)
+      → (firstSix n ends starts goals (length plan) ≡ none → firstIllegal (yardOf n ends) starts 0 xs ≡ none → (c : Carrier)
+      → notHome goals (after starts xs) ≡ some c → check n ends starts goals plan ≡ some (missed c) → P)
+      → (check n ends starts goals plan ≡ none → P)
+      → P
+  unfolding check
+  by-check six nine ten passes =
+      by-option (firstSix n ends starts goals (length plan))
+      (λ a. by-option (firstIllegal (yardOf n ends) starts 0 xs)
+      (λ b. by-option (notHome goals (after starts xs))
+      (λ c. passes (rw (a, b, c)))
+      (λ y c. ten a b y c (rw (a, b, c))))
+      (λ i b. nine a i b (rw (a, b))))
+      (λ r a. six r (six-number n ends starts goals (length plan) r a) (rw a))
+
+  -- 9 carries d exactly if 1 to 6 pass and d names the first illegal crossing.
+  pub nine-exactly : (d : ℕ) → (check n ends starts goals plan ≡ some (illegal d))
+      ↔ ((firstSix n ends starts goals (length plan) ≡ none) × FirstIllegal (yardOf n ends) starts xs d)
+  unfolding check number
+  nine-exactly d = (
+    λ h. by-check
+        (λ r l e. let z : r ≡ illegal d = cc in let w = rw z at l in absurd (omega arith))
+        (λ a i b e. let z : i ≡ d = cc in (a, rw z at ((illegal-exactly (yardOf n ends) starts xs i) .0 b)))
+        (λ a b c k e. never (cc))
+        (λ e. never (cc)),
+    λ k. rw (k .0, (illegal-exactly (yardOf n ends) starts xs d) .1 (k .1)),
+  )
+
+  -- 10 carries c exactly if 1 to 6 pass, the plan is legal, and c is the lowest carrier that isn't home.
+  pub ten-exactly : (c : Carrier) → (check n ends starts goals plan ≡ some (missed c))
+      ↔ ((firstSix n ends starts goals (length plan) ≡ none) × (legalPlan (yardOf n ends) starts xs ≡ true) × LowestMissed goals (after starts xs) c)
+  unfolding check number
+  ten-exactly c = (
+    λ h. by-check
+        (λ r l e. let z : r ≡ missed c = cc in let w = rw z at l in absurd (omega arith))
+        (λ a i b e. never (cc))
+        (λ a b y k e. let z : y ≡ c = cc in (a, none-illegal (yardOf n ends) starts 0 xs b, rw z at ((missed-exactly goals (after starts xs) y) .0 k)))
+        (λ e. never (cc)),
+    λ k. rw (k .0, illegal-none (yardOf n ends) starts 0 xs (k .1), (missed-exactly goals (after starts xs) c) .1 (k .2)),
+  )

@@ -1,0 +1,153 @@
+-- The rings around a bay are right: what is in ring d is d rails away, and what is d rails away is in a ring up to d.
+use mathlib.Core.Path.{_≡_, refl, sym, _∙_, ap}
+use mathlib.Core.Bool.{Bool, true, false}
+use mathlib.Core.Logic.{_⊎_, inl, inr, ⊎-elim}
+use mathlib.Core.List.{List, [], _∷_, _++_}
+use mathlib.Core.Option.{none, some}
+use Prim.Native.Nat.{ℕ, zero, suc, _<_, _≤_}
+use native.Mathlib.Omega.{arith}
+use lib.ListN.{length, getD}
+use Rattle.paper.specs.Basics.{without, any, find, concat, elem, upTo, In, Out}
+use Rattle.paper.specs.Yard.{Bay, Yard, joined}
+use Rattle.paper.specs.Path.{nextRing, ringsFrom, rings, nearestFirst, ringOf, Free}
+use Rattle.paper.proofs.Tests.{by-cases, by-option}
+use Rattle.paper.proofs.Members.{In-head, In-nil, In-append, Out-append, find-in, filter-in, in-filter, any-of, without-in, without-out, in-without, Out-left, find-none, Out-right}
+use Rattle.paper.proofs.Paths.{joined-sym, ring-step, ring-zero, in-concat, distance-in}
+
+module _ (Y : Yard) (held : List Bay) where
+  -- v is d rails from u, each bay after u free
+  pub data Walk (u : Bay) : ℕ → Bay → Type 0 where
+    here : Walk u 0 u
+    on : {d : ℕ} {w v : Bay} → Walk u d w → joined Y w v ≡ true → Free Y held v → Walk u (suc d) v
+
+  -- a later ring holds free bays only, none seen before
+  pub ring-free : (k : ℕ) (seen ring : List Bay) (d : ℕ) (b : Bay) → In b (getD (ringsFrom Y held k seen ring) (suc d) []) → Free Y held b × Out b (ring ++ seen)
+  unfolding ringsFrom nextRing
+  ring-free zero seen ring d b i = In-nil b i
+  ring-free (suc zero) seen ring zero b i = In-nil b i
+  ring-free (suc (suc k)) seen ring zero b i =
+      let j = filter-in _ (without (held ++ (ring ++ seen)) (upTo (Y .bays))) b i in
+      let o = without-out (held ++ (ring ++ seen)) (upTo (Y .bays)) b j in
+      ((without-in (held ++ (ring ++ seen)) (upTo (Y .bays)) b j, Out-left b held (ring ++ seen) o), Out-right b held (ring ++ seen) o)
+  ring-free (suc k) seen ring (suc d) b i =
+      let r = ring-free k (ring ++ seen) (nextRing Y held (ring ++ seen) ring) d b i in
+      (r .0, Out-right b (nextRing Y held (ring ++ seen) ring) (ring ++ seen) (r .1))
+
+  -- no bay is in two rings
+  pub rings-apart : (k : ℕ) (seen ring : List Bay) (i j : ℕ) (b : Bay) → i < j
+      → In b (getD (ringsFrom Y held k seen ring) j []) → Out b (getD (ringsFrom Y held k seen ring) i [])
+  unfolding ringsFrom
+  rings-apart zero seen ring i j b h h′ = In-nil b h′
+  rings-apart (suc k) seen ring i zero b h h′ = absurd (omega arith)
+  rings-apart (suc k) seen ring zero (suc j) b h h′ = Out-left b ring seen ((ring-free (suc k) seen ring j b h′) .1)
+  rings-apart (suc k) seen ring (suc i) (suc j) b h h′ =
+      rings-apart k (ring ++ seen) (nextRing Y held (ring ++ seen) ring) i j b (omega arith) h′
+
+  -- what is in ring d is d rails away
+  pub ring-walk : (k : ℕ) (x : Bay) (d : ℕ) (b : Bay) → In b (getD (ringsFrom Y held k [] (x ∷ [])) d []) → Walk x d b
+  ring-walk k x zero b i = rw (ring-zero Y held k [] x b i) here
+  ring-walk k x (suc d) b i =
+      let s = ring-step Y held k [] (x ∷ []) d b i in
+      on (ring-walk k x d (s .0) (s .1)) (joined-sym Y b (s .0) (s .2)) ((ring-free k [] (x ∷ []) d b i) .0)
+
+  -- a free neighbour of a bay in ring d is seen, or in a ring up to d + 1
+  ring-grow : (k : ℕ) (seen ring : List Bay) (d : ℕ) (w b : Bay) → suc d < k → In w (getD (ringsFrom Y held k seen ring) d [])
+      → joined Y w b ≡ true → Free Y held b
+      → In b seen ⊎ ((i : ℕ) × (i ≤ suc d) × In b (getD (ringsFrom Y held k seen ring) i []))
+  unfolding ringsFrom nextRing
+  ring-grow zero seen ring d w b h i e f = absurd (omega arith)
+  ring-grow (suc zero) seen ring d w b h i e f = absurd (omega arith)
+  ring-grow (suc (suc k)) seen ring zero w b h i e f =
+      by-cases (elem b (ring ++ seen))
+      (λ y. In-append b ring seen y (λ r. inr (0, omega arith, r)) inl)
+      (λ o. inr (
+        1,
+        omega arith,
+        in-filter (λ c. any (joined Y c) ring) (without (held ++ (ring ++ seen)) (upTo (Y .bays))) b
+            (in-without (held ++ (ring ++ seen)) (upTo (Y .bays)) b (f .0) (Out-append b held (ring ++ seen) (f .1) o))
+            (any-of (joined Y b) ring w i (joined-sym Y w b e)),
+      ))
+  ring-grow (suc (suc k)) seen ring (suc d) w b h i e f =
+      ⊎-elim
+      (λ y. In-append b ring seen y (λ r. inr (0, omega arith, r)) inl)
+      (λ r. inr (suc (r .0), omega arith, r .2))
+      (ring-grow (suc k) (ring ++ seen) (nextRing Y held (ring ++ seen) ring) d w b (omega arith) i e f)
+
+  -- what is d rails away is in a ring up to d, if there are so many rings
+  pub walk-ring : (k : ℕ) (x : Bay) {d : ℕ} {b : Bay} → Walk x d b → d < k
+      → (i : ℕ) × (i ≤ d) × In b (getD (ringsFrom Y held k [] (x ∷ [])) i [])
+  unfolding ringsFrom
+  walk-ring zero x w h = absurd (omega arith)
+  walk-ring (suc k) x here h = (0, omega arith, In-head x [])
+  walk-ring (suc k) x (on {d = d} {w = w} {v = v} r e f) h =
+      let s = walk-ring (suc k) x r (omega arith) in
+      ⊎-elim
+      (λ y. In-nil v y)
+      (λ t. (t .0, omega arith, t .2))
+      (ring-grow (suc k) [] (x ∷ []) (s .0) w v (omega arith) (s .2) e f)
+
+  -- a inward with one more bay in front
+  pub walk-cons : {u w v : Bay} {d : ℕ} → joined Y u w ≡ true → Free Y held w → Walk w d v → Walk u (suc d) v
+  walk-cons e f here = on here e f
+  walk-cons e f (on r e′ f′) = on (walk-cons e f r) e′ f′
+
+  pub walk-free : {u v : Bay} {d : ℕ} → Free Y held u → Walk u d v → Free Y held v
+  walk-free f here = f
+  walk-free f (on r e f′) = f′
+
+  -- the inward the other way
+  pub walk-back : {u v : Bay} {d : ℕ} → Free Y held u → Walk u d v → Walk v d u
+  walk-back f here = here
+  walk-back f (on {w = w} {v = v} r e f′) = walk-cons (joined-sym Y w v e) (walk-free f r) (walk-back f r)
+
+module _ (q : Bay → Bool) where
+  pub find-here : (xs ys : List Bay) {e : Bay} → find q xs ≡ some e → find q (xs ++ ys) ≡ some e
+  unfolding find
+  find-here [] ys h = cc
+  find-here (x ∷ xs) ys h = by-cases (q x) (λ k. rw k (rw k at h)) (λ k. rw k (find-here xs ys (rw k at h)))
+
+  pub find-later : (xs ys : List Bay) → find q xs ≡ none → find q (xs ++ ys) ≡ find q ys
+  unfolding find
+  find-later [] ys h = refl
+  find-later (x ∷ xs) ys h = by-cases (q x) (λ k. let z = rw k at h in cc) (λ k. rw k (find-later xs ys (rw k at h)))
+
+  -- the first that passes, ring by ring: nothing of an earlier ring passes
+  pub first-ring : (rs : List (List Bay)) {e : Bay} → find q (concat rs) ≡ some e
+      → (d : ℕ) × (d < length rs) × In e (getD rs d []) × ((j : ℕ) (b : Bay) → j < d → In b (getD rs j []) → q b ≡ false)
+  unfolding concat find
+  first-ring [] h = let z : _≡_ {A = ℕ} 0 1 = cc in absurd (omega arith)
+  first-ring (r ∷ rs) {e} h =
+      by-option (find q r)
+      (λ k.
+      let t = first-ring rs (sym (find-later r (concat rs) k) ∙ h) in
+      let earlier : (j : ℕ) (b : Bay) → j < suc (t .0) → In b (getD (r ∷ rs) j []) → q b ≡ false =
+      λ j. elim j [ zero ↦ λ b l i. find-none q r b k i | suc m ↦ λ b l i. t .3 m b (omega arith) i ] in
+      (suc (t .0), omega arith, t .2, earlier))
+      (λ y k.
+      let n : y ≡ e = let z = find-here r (concat rs) k in cc in
+      (0, omega arith, rw n at (find-in q r k), λ j b l i. absurd (omega arith)))
+
+pub in-ring : (u : Bay) (rs : List (List Bay)) (d : ℕ) → In u (getD rs d []) → d < length rs
+in-ring u [] d i = In-nil u i
+in-ring u (r ∷ rs) zero i = omega arith
+in-ring u (r ∷ rs) (suc d) i = let h = in-ring u rs d i in omega arith
+
+pub ringsFrom-length : (Y : Yard) (held : List Bay) (k : ℕ) (seen ring : List Bay) → length (ringsFrom Y held k seen ring) ≡ k
+unfolding ringsFrom
+ringsFrom-length Y held zero seen ring = refl
+ringsFrom-length Y held (suc k) seen ring = ap suc (ringsFrom-length Y held k (ring ++ seen) (nextRing Y held (ring ++ seen) ring))
+
+-- what is reached is fewer rails away than there are bays, and the other way round
+pub reached-walk : (Y : Yard) (held : List Bay) (x b : Bay) → In b (nearestFirst Y held x) → (d : ℕ) × (d < Y .bays) × Walk Y held x d b
+reached-walk Y held x b i =
+    let d = ringOf Y b (rings Y held x) in
+    let j = distance-in Y b (rings Y held x) i in
+    (d, rw ringsFrom-length at (in-ring b (rings Y held x) d j), ring-walk Y held (Y .bays) x d b j)
+
+pub walk-reached : (Y : Yard) (held : List Bay) (x b : Bay) {d : ℕ} → Walk Y held x d b → d < Y .bays → In b (nearestFirst Y held x)
+walk-reached Y held x b w h = let r = walk-ring Y held (Y .bays) x w h in in-concat Y b (rings Y held x) (r .0) (r .2)
+
+pub reached-sym : (Y : Yard) (held : List Bay) (u v : Bay) → Free Y held u → In v (nearestFirst Y held u) → In u (nearestFirst Y held v)
+reached-sym Y held u v f i =
+    let r = reached-walk Y held u v i in
+    walk-reached Y held v u (walk-back Y held f (r .2)) (r .1)

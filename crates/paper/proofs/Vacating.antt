@@ -1,0 +1,249 @@
+-- Vacating is legal, empties the bay, and moves no carrier at a held bay.
+use mathlib.Core.Path.{_≡_, refl, _∙_, ap}
+use mathlib.Core.Bool.{true, false}
+use mathlib.Core.List.{List, [], _∷_, _++_}
+use mathlib.Core.Option.{some}
+use Prim.Native.Nat.{ℕ, zero, suc, _<_, _≤_, _+_}
+use native.Mathlib.Omega.{arith}
+use lib.ListN.{length, getD}
+use lib.Dec.{eqb}
+use borrow.Author.Tests.{not-true, not-false, ne-eqb}
+use Rattle.paper.specs.Basics.{find, elem, upTo, In, Out, NoDup}
+use Rattle.paper.specs.Yard.{Bay, Carrier, Yard, Placement, Crossing, crossing, bayOf, carrierAt, isEmpty, move, after, joined, legalPlan}
+use Rattle.paper.specs.Path.{rings, nearestFirst, ringOf, inward, shortestPath, Free}
+use Rattle.paper.specs.Procedure.{shift, vacate}
+use Rattle.paper.proofs.Tests.{by-cases, by-option, not-both, never-some}
+use Rattle.paper.proofs.Members.{nothing-in-nil, Out-head, Out-tail, In-cases, In-one, find-passes, find-in, find-some}
+use Rattle.paper.proofs.Paths.{ring-step, ring-zero, in-concat, distance-in, distance-least}
+use Rattle.paper.proofs.Rings.{Walk, here, on, ring-free, rings-apart, ring-walk, walk-ring, walk-back, walk-free, first-ring, ringsFrom-length}
+use Rattle.paper.proofs.Playing.{Apart, Legal, legal-facts, legal-of, after-append, after-length, plan-head, plan-tail, plan-cons, plan-append, placeOf-bay, placeOf-there, move-other, move-apart, move-empties, move-out}
+
+pub plan-apart : (Y : Yard) (p : Placement) (xs : List Crossing) → Apart p → legalPlan Y p xs ≡ true → Apart (after p xs)
+unfolding after
+plan-apart Y p [] a h = a
+plan-apart Y p (x ∷ xs) a h =
+    plan-apart Y (move p x) xs (move-apart Y p x (legal-facts Y p x (plan-head Y p x xs h)) a) (plan-tail Y p x xs h)
+
+pub shift-cons : (p : Placement) (a b : Bay) (l : List Bay) → shift p (a ∷ b ∷ l) ≡ shift p (b ∷ l) ++ (crossing (carrierAt p a) a b ∷ [])
+unfolding shift
+shift-cons p a b l = refl
+
+pub shift-one : (p : Placement) (a : Bay) → shift p (a ∷ []) ≡ []
+unfolding shift
+shift-one p a = refl
+
+module _ (Y : Yard) (p : Placement) (apart : Apart p) where
+  -- Carriers can be shifted along the path: one at each bay but the last, which is empty; no bay twice.
+  abbrev pub Shiftable : List Bay → Type 0
+  Shiftable [] = ⊥
+  Shiftable (a ∷ []) = Out a p
+  Shiftable (a ∷ b ∷ l) = In a p × (joined Y a b ≡ true) × Out a (b ∷ l) × Shiftable (b ∷ l)
+
+  -- what crossings do that empty bay a and touch no bay outside the list
+  pub record Shifted (a : Bay) (l : List Bay) (xs : List Crossing) : Type 0 where
+    pub legal : legalPlan Y p xs ≡ true
+    pub empties : Out a (after p xs)
+    pub keeps : (c : Carrier) → c < length p → Out (bayOf p c) l → bayOf (after p xs) c ≡ bayOf p c
+    pub spares : (z : Bay) → Out z l → Out z p → Out z (after p xs)
+
+  -- one carrier more, behind those that were shifted
+  behind : (a b : Bay) (l : List Bay) (xs : List Crossing) → In a p → joined Y a b ≡ true → Out a (b ∷ l) → Shifted b (b ∷ l) xs
+      → Shifted a (a ∷ b ∷ l) (xs ++ (crossing (carrierAt p a) a b ∷ []))
+  unfolding after legalPlan
+  behind a b l xs i j o s =
+      let q = after p xs in
+      let c = carrierAt p a in
+      let x = crossing c a b in
+      let stood : bayOf p c ≡ a = placeOf-bay p a i in
+      let k : c < length p = placeOf-there p a i in
+      let legal-x : Legal Y q x = record {
+        there = rw after-length k;
+        stands = s .keeps c k (rw stood o) ∙ stood;
+        rail = j;
+        free = s .empties;
+      } in
+      record {
+        legal = plan-append Y p xs (x ∷ []) (s .legal) (plan-cons Y q x [] (legal-of Y q x legal-x) refl);
+        empties = rw after-append (move-empties Y q x legal-x (plan-apart Y p xs apart (s .legal)));
+        keeps = λ d kd od.
+            let other : eqb d c ≡ false = ne-eqb d c (λ e. Out-head (bayOf p d) a (b ∷ l) od (ap (bayOf p) e ∙ stood)) in
+            rw after-append (move-other Y q x legal-x d other ∙ s .keeps d kd (Out-tail (bayOf p d) a (b ∷ l) od));
+        spares = λ z oz op.
+            let t = Out-tail z a (b ∷ l) oz in
+            rw after-append (move-out Y q x legal-x z (s .spares z t op) (Out-head z b l t));
+      }
+
+  pub shift-shifts : (a : Bay) (l : List Bay) → Shiftable (a ∷ l) → Shifted a (a ∷ l) (shift p (a ∷ l))
+  unfolding after legalPlan
+  shift-shifts a [] h = rw shift-one (record { legal = refl; empties = h; keeps = λ c k o. refl; spares = λ z o k. k })
+  shift-shifts a (b ∷ l) h = rw shift-cons (behind a b l (shift p (b ∷ l)) (h .0) (h .1) (h .2) (shift-shifts b l (h .3)))
+
+-- a inward begins where it should, and stays in the rings
+pub walk-head : (Y : Yard) (rs : List (List Bay)) (d : ℕ) (u : Bay) → (l : List Bay) × (inward Y rs d u ≡ u ∷ l)
+unfolding inward
+walk-head Y rs zero u = ([], refl)
+walk-head Y rs (suc d) u = (_, refl)
+
+pub walk-zero : (Y : Yard) (rs : List (List Bay)) (u : Bay) → inward Y rs 0 u ≡ u ∷ []
+unfolding inward
+walk-zero Y rs u = refl
+
+module _ (Y : Yard) (held : List Bay) (e : Bay) where
+  -- the next bay of a inward towards e
+  pub record Next (d : ℕ) (u : Bay) : Type 0 where
+    pub bay : Bay
+    pub rail : joined Y u bay ≡ true
+    pub nearer : In bay (getD (rings Y held e) d [])
+    pub found : find (joined Y u) (getD (rings Y held e) d []) ≡ some bay
+    pub on-walk : inward Y (rings Y held e) (suc d) u ≡ u ∷ inward Y (rings Y held e) d bay
+
+  pub next : (d : ℕ) (u : Bay) → In u (getD (rings Y held e) (suc d) []) → Next d u
+  unfolding inward
+  next d u i =
+      let r = getD (rings Y held e) d [] in
+      let s = ring-step Y held (Y .bays) [] (e ∷ []) d u i in
+      let f = find-some (joined Y u) r (s .0) (s .1) (s .2) in
+      record {
+        bay = f .0;
+        rail = find-passes (joined Y u) r (f .1);
+        nearer = find-in (joined Y u) r (f .1);
+        found = f .1;
+        on-walk = rw (f .1);
+      }
+
+  walk-in : (d : ℕ) (u : Bay) → In u (getD (rings Y held e) d []) → (b : Bay) → In b (inward Y (rings Y held e) d u)
+      → (j : ℕ) × (j ≤ d) × In b (getD (rings Y held e) j [])
+  walk-in zero u i b h = (0, omega arith, rw (In-one b u (rw walk-zero at h)) i)
+  walk-in (suc d) u i b h =
+      let n = next d u i in
+      In-cases b u (inward Y (rings Y held e) d (n .bay)) (rw (n .on-walk) at h)
+      (λ k. (suc d, omega arith, rw k i))
+      (λ k. let r = walk-in d (n .bay) (n .nearer) b k in (r .0, omega arith, r .2))
+
+  apart-from : (d : ℕ) (u a : Bay) → In u (getD (rings Y held e) (suc d) []) → In a (getD (rings Y held e) d []) → Out u (inward Y (rings Y held e) d a)
+  apart-from d u a i k =
+      by-cases (elem u (inward Y (rings Y held e) d a))
+      (λ y. let r = walk-in d a k u y in not-both (r .2) (rings-apart Y held (Y .bays) [] (e ∷ []) (r .0) (suc d) u (omega (arith, r .1)) i))
+      (λ o. o)
+
+  walk-nodup : (d : ℕ) (u : Bay) → In u (getD (rings Y held e) d []) → NoDup (inward Y (rings Y held e) d u)
+  walk-nodup zero u i = rw walk-zero (nothing-in-nil u, tt)
+  walk-nodup (suc d) u i =
+      let n = next d u i in
+      rw (n .on-walk) (apart-from d u (n .bay) i (n .nearer), walk-nodup d (n .bay) (n .nearer))
+
+  pub shortest-nodup : (u : Bay) → In u (nearestFirst Y held e) → NoDup (shortestPath Y held u e)
+  unfolding shortestPath
+  shortest-nodup u i = walk-nodup (ringOf Y u (rings Y held e)) u (distance-in Y u (rings Y held e) i)
+
+-- The path to the nearest empty bay e can be shifted along, and no bay of it is held.
+module _ (Y : Yard) (held : List Bay) (p : Placement) (apart : Apart p) (x e : Bay) (free-x : Free Y held x)
+    (first : find (isEmpty p) (nearestFirst Y held x) ≡ some e) where
+  -- the ring of e around x
+  found : (d : ℕ) × (d < length (rings Y held x)) × In e (getD (rings Y held x) d [])
+      × ((j : ℕ) (b : Bay) → j < d → In b (getD (rings Y held x) j []) → isEmpty p b ≡ false)
+  found = first-ring (isEmpty p) (rings Y held x) first
+
+  fits : found .0 < Y .bays
+  fits = rw ringsFrom-length at (found .1)
+
+  to-e : Walk Y held x (found .0) e
+  to-e = ring-walk Y held (Y .bays) x (found .0) e (found .2)
+
+  free-e : Free Y held e
+  free-e = walk-free Y held free-x to-e
+
+  -- x is in a ring around e that is no further out
+  x-around : (i : ℕ) × (i ≤ found .0) × In x (getD (rings Y held e) i [])
+  x-around = walk-ring Y held (Y .bays) e (walk-back Y held free-x to-e) fits
+
+  pub far : ℕ
+  far = ringOf Y x (rings Y held e)
+
+  pub far-in : In x (getD (rings Y held e) far [])
+  unfolding far
+  far-in = distance-in Y x (rings Y held e) (in-concat Y x (rings Y held e) (x-around .0) (x-around .2))
+
+  far-fits : far ≤ found .0
+  unfolding far
+  far-fits = omega (arith, distance-least Y x (rings Y held e) (x-around .0) (x-around .2), x-around .1)
+
+  around-free : (j : ℕ) (b : Bay) → In b (getD (rings Y held e) j []) → Free Y held b
+  around-free zero b i = rw (ring-zero Y held (Y .bays) [] e b i) free-e
+  around-free (suc j) b i = (ring-free Y held (Y .bays) [] (e ∷ []) j b i) .0
+
+  occupied : (i : ℕ) (u : Bay) → Walk Y held x i u → i < far → In u p
+  occupied i u w h =
+      let r = walk-ring Y held (Y .bays) x w (omega (arith, far-fits, fits)) in
+      not-false (elem u p) (found .3 (r .0) u (omega (arith, far-fits, r .1)) (r .2))
+
+  -- from a bay that is i rails from x and d from e
+  pub shiftable : (d i : ℕ) (u : Bay) → In u (getD (rings Y held e) d []) → Walk Y held x i u → i + d ≤ far
+      → Shiftable Y p apart (inward Y (rings Y held e) d u)
+  shiftable zero i u k w h =
+      rw (walk-zero, ring-zero Y held (Y .bays) [] e u k) (not-true (elem e p) (find-passes (isEmpty p) (nearestFirst Y held x) first))
+  shiftable (suc d) i u k w h =
+      let n = next Y held e d u k in
+      let t = walk-head Y (rings Y held e) d (n .bay) in
+      let ih = shiftable d (suc i) (n .bay) (n .nearer) (on w (n .rail) (around-free d (n .bay) (n .nearer))) (omega arith) in
+      let apart-u = apart-from Y held e d u (n .bay) k (n .nearer) in
+      rw (n .on-walk, t .1) (occupied i u w (omega arith), n .rail, rw (t .1) at apart-u, rw (t .1) at ih)
+
+  -- so the shift along the shortestPath path to e does what vacating is for
+  pub vacates : Shifted Y p apart x (shortestPath Y held x e) (shift p (shortestPath Y held x e))
+  unfolding shortestPath far
+  vacates =
+      let t = walk-head Y (rings Y held e) far x in
+      let s = shiftable far 0 x far-in here (omega arith) in
+      rw (t .1) (shift-shifts Y p apart x (t .0) (rw (t .1) at s))
+
+  pub path-shiftable : Shiftable Y p apart (shortestPath Y held x e)
+  unfolding shortestPath far
+  path-shiftable = shiftable far 0 x far-in here (omega arith)
+
+  pub path-free : (b : Bay) → In b (shortestPath Y held x e) → Free Y held b
+  unfolding shortestPath far
+  path-free b y = let r = walk-in Y held e far x far-in b y in around-free (r .0) b (r .2)
+
+  pub path-not-held : (b : Bay) → In b held → Out b (shortestPath Y held x e)
+  unfolding shortestPath far
+  path-not-held b i =
+      by-cases (elem b (shortestPath Y held x e))
+      (λ y. let r = walk-in Y held e far x far-in b y in not-both i ((around-free (r .0) b (r .2)) .1))
+      (λ o. o)
+
+-- What vacating does: legal crossings, after which x is empty; no carrier at a held bay has moved, and none has come to one.
+pub record Vacated (Y : Yard) (held : List Bay) (x : Bay) (p : Placement) (xs : List Crossing) : Type 0 where
+  pub legal : legalPlan Y p xs ≡ true
+  pub empties : Out x (after p xs)
+  pub keeps : (c : Carrier) → c < length p → In (bayOf p c) held → bayOf (after p xs) c ≡ bayOf p c
+  pub spares : (z : Bay) → In z held → Out z p → Out z (after p xs)
+
+at-once : (Y : Yard) (held : List Bay) (x : Bay) (p : Placement) → isEmpty p x ≡ true → Vacated Y held x p []
+unfolding after legalPlan
+at-once Y held x p a = record { legal = refl; empties = not-true (elem x p) a; keeps = λ c k m. refl; spares = λ z m o. o }
+
+-- (b)
+pub vacate-vacates : (Y : Yard) (held : List Bay) (x : Bay) (p : Placement) (xs : List Crossing)
+    → Apart p → In x (upTo (Y .bays)) → vacate Y held x p ≡ some xs → Vacated Y held x p xs
+unfolding vacate
+vacate-vacates Y held x p xs apart i h =
+    by-cases (isEmpty p x)
+    (λ a. let none-moved : [] ≡ xs = let z = rw a at h in cc in rw (← none-moved) (at-once Y held x p a))
+    (λ a. by-cases (elem x held)
+    (λ b. never-some xs (rw (a, b) at h))
+    (λ b. by-option (find (isEmpty p) (nearestFirst Y held x))
+    (λ c. never-some xs (rw (a, b, c) at h))
+    (λ e c.
+    let s = vacates Y held p apart x e (i, b) c in
+    let same : shift p (shortestPath Y held x e) ≡ xs = let z = rw (a, b, c) at h in cc in
+    rw (← same) (record {
+      legal = s .legal;
+      empties = s .empties;
+      keeps = λ d k m. s .keeps d k (path-not-held Y held p apart x e (i, b) c (bayOf p d) m);
+      spares = λ z m o. s .spares z (path-not-held Y held p apart x e (i, b) c z m) o;
+    }))))
+
+pub vacate-empty : (Y : Yard) (held : List Bay) (x : Bay) (p : Placement) → Out x p → vacate Y held x p ≡ some []
+unfolding vacate
+vacate-empty Y held x p o = rw o

@@ -1,0 +1,118 @@
+-- The yards worked by hand that the document marks *: Y1 to Y9, computed together. Assumes nothing.
+use mathlib.Core.Path.{_≡_, refl}
+use mathlib.Core.List.{List, [], _∷_, map}
+use Prim.Native.Nat.{ℕ}
+use Rattle.paper.specs.Yard.{Bay, Placement, Crossing, crossing, pack}
+use Rattle.paper.specs.Dependence.{slots, fresh}
+use Rattle.paper.specs.Docket.{crowd, stopped, unknown, early}
+use Rattle.paper.specs.Answers.{Answer, accepted, refused, plan, Report, accept, already, refuse}
+use Rattle.paper.specs.Log.{Request, reports}
+use Rattle.paper.specs.Basics
+use Rattle.paper.specs.Yard
+use Rattle.paper.specs.Path
+use Rattle.paper.specs.Procedure
+use Rattle.paper.specs.Dependence
+use Rattle.paper.specs.Docket
+use Rattle.paper.specs.Answers
+use Rattle.paper.specs.Log
+
+-- every definition of the rules, opened, so that the checker computes with them
+unfoldable pub computing : Unit {0}
+unfolding Basics._and_ Basics._or_ Basics.filter Basics.any Basics.find Basics.concat Basics.firstOf Basics.firstBad Basics.elem Basics.placeOf Basics.without Basics.countFrom Yard.occupied Yard.pack Yard.unpack Yard.after Yard.joined Yard.neighbours Yard.junction Yard.legal Yard.legalPlan Path.nextRing Path.ringsFrom Path.ringOf Path.inward Path.shortestPath Path.pathBetween Procedure._then_ Procedure.cross Procedure.shift Procedure.vacate Procedure.exchange Procedure.trade Procedure.undo Procedure.bring Procedure.clearing Procedure.clear Procedure.finish Procedure.trialLed Procedure.trial Procedure.swap Procedure.step Procedure.orStuck Procedure.onward Procedure._next_ Procedure.go Procedure.homeAt Procedure.wayHome Procedure.carry Procedure.carryFrom Procedure.procedure Dependence.depend Dependence.highest Dependence.slotsAfter Dependence.slots Dependence.undoneBefore Dependence.outOfOrder Dependence.doneOf Dependence.undoneOf Dependence.countOf Docket.number Docket.carried Docket.railsOf Docket.badSize Docket.badRail Docket.apartBay Docket.badPlace Docket.firstIllegal Docket.notHome Docket.badMarks Answers.firstSix Answers.crossingsOf Answers.within Answers.unless Answers.plan Answers.written Answers.accepts Answers.tell Answers.marksAfter Answers.check Answers.slotsRefusal Answers.slotsEnd Answers.report Log.reports Log.marksFrom Log.namesFrom
+computing = tt
+
+-- a yard, and the names then reported one after the other from fresh marks
+pub record Case : Type 0 where
+  pub bays : ℕ
+  pub ends : List Bay
+  pub starts : Placement
+  pub goals : Placement
+  pub names : List ℕ
+
+-- the planner's answer with room for 8,192 crossings, the plan's slots, and the answers to the reports
+pub record Said : Type 0 where
+  pub answer : Answer
+  pub slots : List ℕ
+  pub reports : List Report
+
+abbrev pub planOf : Answer → List Crossing
+planOf (accepted xs) = xs
+planOf (refused r) = []
+
+abbrev pub request : Case → ℕ → Request
+request c i = record { bays = c .bays; ends = c .ends; starts = c .starts; goals = c .goals; name = i }
+
+abbrev pub computed : Case → Said
+computed c =
+    let a = plan (c .bays) (c .ends) (c .starts) (c .goals) 8192 in
+    let lent = map pack (planOf a) in
+    record { answer = a; slots = slots (planOf a); reports = reports lent (fresh lent) (map (request c) (c .names)) }
+
+-- a case beside what the document says of it
+pub record Worked : Type 0 where
+  pub given : Case
+  pub said : Said
+
+abbrev worked : ℕ → List Bay → Placement → Placement → List ℕ → Answer → List ℕ → List Report → Worked
+worked n e s g ns a ss rs =
+    record { given = record { bays = n; ends = e; starts = s; goals = g; names = ns }; said = record { answer = a; slots = ss; reports = rs } }
+
+-- yard "T", a line of four, a ring of four, a line of six
+abbrev pub T : List Bay
+T = 0 ∷ 1 ∷ 1 ∷ 2 ∷ 1 ∷ 3 ∷ []
+
+abbrev line-4 : List Bay
+line-4 = 0 ∷ 1 ∷ 1 ∷ 2 ∷ 2 ∷ 3 ∷ []
+
+abbrev ring-4 : List Bay
+ring-4 = 0 ∷ 1 ∷ 1 ∷ 2 ∷ 2 ∷ 3 ∷ 3 ∷ 0 ∷ []
+
+abbrev line-6 : List Bay
+line-6 = 0 ∷ 1 ∷ 1 ∷ 2 ∷ 2 ∷ 3 ∷ 3 ∷ 4 ∷ 4 ∷ 5 ∷ []
+
+abbrev pub Y1-plan : List Crossing
+Y1-plan = crossing 0 1 2 ∷ crossing 1 0 1 ∷ crossing 1 1 3 ∷ crossing 0 2 1 ∷ crossing 0 1 0 ∷ crossing 1 3 1 ∷ []
+
+abbrev Y2-plan : List Crossing
+Y2-plan =
+    crossing 0 1 2 ∷ crossing 1 0 1 ∷ crossing 1 1 3 ∷ crossing 0 2 1 ∷ crossing 0 1 0 ∷ crossing 1 3 1 ∷ crossing 1 1 2 ∷ crossing 0 0 1 ∷ []
+
+abbrev one-to-six : List ℕ
+one-to-six = 1 ∷ 2 ∷ 3 ∷ 4 ∷ 5 ∷ 6 ∷ []
+
+abbrev Y1 : Worked
+Y1 = worked 4 T (1 ∷ 0 ∷ []) (0 ∷ 1 ∷ []) [] (accepted Y1-plan) one-to-six []
+
+abbrev Y2 : Worked
+Y2 = worked 4 T (1 ∷ 0 ∷ []) (1 ∷ 2 ∷ []) [] (accepted Y2-plan) (1 ∷ 2 ∷ 3 ∷ 4 ∷ 5 ∷ 6 ∷ 7 ∷ 8 ∷ []) []
+
+abbrev Y3 : Worked
+Y3 = worked 4 line-4 (0 ∷ 1 ∷ []) (1 ∷ 0 ∷ []) [] (refused (stopped 1)) [] []
+
+abbrev Y4 : Worked
+Y4 = worked 4 ring-4 (0 ∷ 1 ∷ []) (1 ∷ 0 ∷ []) [] (refused (stopped 1)) [] []
+
+abbrev Y5 : Worked
+Y5 = worked 4 ring-4 (0 ∷ 1 ∷ []) (1 ∷ 2 ∷ []) [] (accepted (crossing 1 1 2 ∷ crossing 0 0 1 ∷ [])) (1 ∷ 2 ∷ []) []
+
+abbrev Y6 : Worked
+Y6 = worked 6 line-6 (0 ∷ 5 ∷ []) (1 ∷ 4 ∷ []) (1 ∷ 0 ∷ 1 ∷ [])
+    (accepted (crossing 0 0 1 ∷ crossing 1 5 4 ∷ [])) (1 ∷ 1 ∷ []) (accept ∷ accept ∷ already ∷ [])
+
+abbrev Y7 : Worked
+Y7 = worked 4 T (1 ∷ 0 ∷ []) (0 ∷ 1 ∷ []) (1 ∷ 6 ∷ 0 ∷ 0 ∷ [])
+    (accepted Y1-plan) one-to-six (refuse (early 0) ∷ refuse unknown ∷ accept ∷ already ∷ [])
+
+abbrev Y8 : Worked
+Y8 = worked 2 (0 ∷ 1 ∷ []) [] [] [] (accepted []) [] []
+
+abbrev Y9 : Worked
+Y9 = worked 2 (0 ∷ 1 ∷ []) (0 ∷ []) (1 ∷ []) [] (refused crowd) [] []
+
+abbrev pub yards : List Worked
+yards = Y1 ∷ Y2 ∷ Y3 ∷ Y4 ∷ Y5 ∷ Y6 ∷ Y7 ∷ Y8 ∷ Y9 ∷ []
+
+-- What the definitions give for each yard is what the document says of it.
+pub all-worked : map (λ w. computed (w .given)) yards ≡ map (λ w. w .said) yards
+unfolding computing
+all-worked = refl

@@ -1,0 +1,71 @@
+-- Dependence, slots and marks.
+-- Assumes nothing.
+use mathlib.Core.Bool.{Bool, true, false, not}
+use mathlib.Core.List.{List, [], _∷_, _++_}
+use mathlib.Core.Option.{Option, none, some}
+use Prim.Native.Nat.{ℕ, zero, suc, max}
+use lib.Dec.{eqb}
+use lib.ListN.{length, getD, set, replicate}
+use Rattle.paper.specs.Basics.{if_then_else_, _and_, _or_, any, find, upTo}
+use Rattle.paper.specs.Yard.{Carrier, Crossing, named}
+
+-- "Two crossings depend on each other if they have the same carrier or share any bay."
+unfoldable pub depend : Crossing → Crossing → Bool
+depend x y =
+    eqb (x .carrier) (y .carrier)
+    or eqb (x .from) (y .from) or eqb (x .from) (y .to) or eqb (x .to) (y .from) or eqb (x .to) (y .to)
+
+-- ## Slots
+
+-- the highest slot among the earlier crossings that x depends on, or 0
+unfoldable pub highest : Crossing → List Crossing → List ℕ → ℕ
+highest x [] slots = zero
+highest x (e ∷ es) [] = zero
+highest x (e ∷ es) (s ∷ ss) = if depend x e then max s (highest x es ss) else highest x es ss
+
+unfoldable pub slotsAfter : List Crossing → List ℕ → List Crossing → List ℕ
+slotsAfter earlier given [] = []
+slotsAfter earlier given (x ∷ xs) =
+    let s = suc (highest x earlier given) in
+    s ∷ slotsAfter (earlier ++ (x ∷ [])) (given ++ (s ∷ [])) xs
+
+-- "A crossing's slot is 1 if no earlier crossing depends on it, else one more than the highest slot among those that do."
+unfoldable pub slots : List Crossing → List ℕ
+slots xs = slotsAfter [] [] xs
+
+-- ## Marks: one byte a crossing; 1 is done
+
+abbrev pub done : ℕ → Bool
+done m = eqb m 1
+
+abbrev pub isDone : List ℕ → ℕ → Bool
+isDone marks i = done (getD marks i 0)
+
+-- "fresh is all 0"
+abbrev pub fresh : List ℕ → List ℕ
+fresh plan = replicate (length plan) 0
+
+-- the lowest name of an earlier crossing that crossing i depends on and that is undone
+unfoldable pub undoneBefore : List Crossing → List ℕ → ℕ → Option ℕ
+undoneBefore xs marks i = find (λ e. depend (named xs i) (named xs e) and not (isDone marks e)) (upTo i)
+
+-- "a crossing is marked done before an earlier one it depends on"
+unfoldable pub outOfOrder : List Crossing → List ℕ → Bool
+outOfOrder xs marks =
+    any (λ i. isDone marks i and any (λ e. depend (named xs i) (named xs e) and not (isDone marks e)) (upTo i)) (upTo (length xs))
+
+-- the done crossings in plan order, and the others
+unfoldable pub doneOf : List Crossing → List ℕ → List Crossing
+doneOf [] ms = []
+doneOf (x ∷ xs) [] = []
+doneOf (x ∷ xs) (m ∷ ms) = let rest = doneOf xs ms in if done m then x ∷ rest else rest
+
+unfoldable pub undoneOf : List Crossing → List ℕ → List Crossing
+undoneOf [] ms = []
+undoneOf (x ∷ xs) [] = x ∷ xs
+undoneOf (x ∷ xs) (m ∷ ms) = let rest = undoneOf xs ms in if done m then rest else x ∷ rest
+
+-- how many of the crossings are carrier c's
+unfoldable pub countOf : Carrier → List Crossing → ℕ
+countOf c [] = zero
+countOf c (x ∷ xs) = let rest = countOf c xs in if eqb (x .carrier) c then suc rest else rest

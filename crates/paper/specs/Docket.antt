@@ -1,0 +1,152 @@
+-- Numbers on a refused docket: the table, one definition a row. Row N is `no-N`: the refusal with what it carries, or none.
+-- Assumes nothing.
+use mathlib.Core.Bool.{Bool, true, false, not}
+use mathlib.Core.List.{List, [], _∷_}
+use mathlib.Core.Option.{Option, none, some}
+use Prim.Native.Nat.{ℕ, suc, _+_, _/_, _%_}
+use lib.Dec.{eqb, ltb, leb}
+use lib.ListN.{length}
+use Rattle.paper.specs.Basics.{if_then_else_, _or_, _>>=_, when, any, find, firstBad, elem, upTo}
+use Rattle.paper.specs.Yard.{Bay, Carrier, Rail, Yard, Placement, Crossing, fewest-bays, most-bays, most-rails, most-crossings, kept-empty, bayOf, move, joined, legal}
+use Rattle.paper.specs.Path.{nearestFirst}
+use Rattle.paper.specs.Procedure.{Outcome, planned, stuck}
+use Rattle.paper.specs.Dependence.{undoneBefore, outOfOrder}
+
+-- the refusals in the table's order, each with the number that it carries, if any
+pub data Refusal : Type 0 where
+  size : Refusal
+  rail apart : ℕ → Refusal
+  crowd : Refusal
+  start goal stopped room illegal missed : ℕ → Refusal
+  mismarked unknown : Refusal
+  early badMap badScenario : ℕ → Refusal
+
+unfoldable pub number : Refusal → ℕ
+number size = 1
+number (rail i) = 2
+number (apart b) = 3
+number crowd = 4
+number (start c) = 5
+number (goal c) = 6
+number (stopped c) = 7
+number (room l) = 8
+number (illegal i) = 9
+number (missed c) = 10
+number mismarked = 11
+number unknown = 12
+number (early e) = 13
+number (badMap l) = 14
+number (badScenario l) = 15
+
+unfoldable pub carried : Refusal → Option ℕ
+carried size = none
+carried (rail i) = some i
+carried (apart b) = some b
+carried crowd = none
+carried (start c) = some c
+carried (goal c) = some c
+carried (stopped c) = some c
+carried (room l) = some l
+carried (illegal i) = some i
+carried (missed c) = some c
+carried mismarked = none
+carried unknown = none
+carried (early e) = some e
+carried (badMap l) = some l
+carried (badScenario l) = some l
+
+-- the rails, from the list of their ends
+unfoldable pub railsOf : List Bay → List Rail
+railsOf [] = []
+railsOf (a ∷ []) = []
+railsOf (a ∷ b ∷ rest) = (a, b) ∷ railsOf rest
+
+abbrev pub yardOf : ℕ → List Bay → Yard
+yardOf n ends = record { bays = n; rails = railsOf ends }
+
+-- 1 size: "n or rail count outside its limit, odd number of rail ends, start and goal of different length, or a lent plan over
+-- 65,536 crossings". The last number is the lent plan's crossings, 0 where none is lent.
+unfoldable pub badSize : ℕ → List Bay → Placement → Placement → ℕ → Bool
+badSize n ends starts goals lent =
+    ltb n fewest-bays or ltb most-bays n or ltb most-rails (length ends / 2) or eqb (length ends % 2) 1
+    or not (eqb (length starts) (length goals)) or ltb most-crossings lent
+
+abbrev pub no-1 : ℕ → List Bay → Placement → Placement → ℕ → Option Refusal
+no-1 n ends starts goals lent = when (badSize n ends starts goals lent) size
+
+-- 2 rail: "an end is n or more, both ends equal, or a pair given before in either direction"; the first bad rail
+unfoldable pub badRail : ℕ → List Rail → Rail → Bool
+badRail n before r =
+    leb n (r .0) or leb n (r .1) or eqb (r .0) (r .1) or joined (record { bays = n; rails = before }) (r .0) (r .1)
+
+abbrev pub no-2 : ℕ → List Bay → Option Refusal
+no-2 n ends = firstBad (badRail n) 0 [] (railsOf ends) >>= λ i. some (rail i)
+
+-- 3 apart: "some bay cannot be reached from bay 0"; the lowest such bay
+unfoldable pub apartBay : Yard → Option Bay
+apartBay Y = find (λ b. not (elem b (nearestFirst Y [] 0))) (upTo (Y .bays))
+
+abbrev pub no-3 : ℕ → List Bay → Option Refusal
+no-3 n ends = apartBay (yardOf n ends) >>= λ b. some (apart b)
+
+-- 4 crowd: "k + 2 > n"
+abbrev pub no-4 : ℕ → Placement → Option Refusal
+no-4 n starts = when (ltb n (length starts + kept-empty)) crowd
+
+-- 5 start, 6 goal: "a bay is n or more, or already used"; the first bad carrier
+unfoldable pub badPlace : ℕ → List Bay → Bay → Bool
+badPlace n used b = leb n b or elem b used
+
+abbrev pub no-5 : ℕ → Placement → Option Refusal
+no-5 n starts = firstBad (badPlace n) 0 [] starts >>= λ c. some (start c)
+
+abbrev pub no-6 : ℕ → Placement → Option Refusal
+no-6 n goals = firstBad (badPlace n) 0 [] goals >>= λ c. some (goal c)
+
+-- 7 stopped: "the procedure below fails"; the carrier that could not step
+abbrev pub no-7 : Outcome → Option Refusal
+no-7 (planned xs) = none
+no-7 (stuck c) = some (stopped c)
+
+-- 8 room: "the result is longer than the lent list, or a plan is over 65,536"; the needed length
+abbrev pub no-8 : ℕ → ℕ → Option Refusal
+no-8 lent needed = when (ltb lent needed or ltb most-crossings needed) (room needed)
+
+-- 9 crossing: "a lent plan has an illegal crossing"; the first one's name, where the list begins at the name i
+unfoldable pub firstIllegal : Yard → Placement → ℕ → List Crossing → Option ℕ
+firstIllegal Y p i [] = none
+firstIllegal Y p i (x ∷ xs) = let rest = firstIllegal Y (move p x) (suc i) xs in if legal Y p x then rest else some i
+
+abbrev pub no-9 : Yard → Placement → List Crossing → Option Refusal
+no-9 Y starts xs = firstIllegal Y starts 0 xs >>= λ i. some (illegal i)
+
+-- 10 goal missed: "the plan is legal and some carrier isn't home"; the lowest such carrier, at the placement that the plan leaves
+unfoldable pub notHome : Placement → Placement → Option Carrier
+notHome goals p = find (λ c. not (eqb (bayOf p c) (bayOf goals c))) (upTo (length goals))
+
+abbrev pub no-10 : Placement → Placement → Option Refusal
+no-10 goals p = notHome goals p >>= λ c. some (missed c)
+
+-- 11 marks: "mark count is not the plan's length, a mark is neither 0 nor 1, or a crossing is marked done before an earlier one
+-- it depends on"
+unfoldable pub badMarks : List Crossing → List ℕ → Bool
+badMarks xs marks =
+    not (eqb (length marks) (length xs)) or any (λ m. not (eqb m 0 or eqb m 1)) marks or outOfOrder xs marks
+
+abbrev pub no-11 : List Crossing → List ℕ → Option Refusal
+no-11 xs marks = when (badMarks xs marks) mismarked
+
+-- 12 unknown: "the name is not in the plan"
+abbrev pub no-12 : List Crossing → ℕ → Option Refusal
+no-12 xs name = when (leb (length xs) name) unknown
+
+-- 13 early: "an earlier crossing it depends on is undone"; the lowest such name
+abbrev pub no-13 : List Crossing → List ℕ → ℕ → Option Refusal
+no-13 xs marks name = undoneBefore xs marks name >>= λ e. some (early e)
+
+-- 14 map, 15 scenario: "the file breaks its layout"; the first bad line, as the layout's reading gives it
+abbrev pub no-14 : ℕ → Refusal
+no-14 line = badMap line
+
+abbrev pub no-15 : ℕ → Refusal
+no-15 line = badScenario line

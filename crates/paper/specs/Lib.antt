@@ -1,0 +1,15 @@
+pub mod Basics
+pub mod Yard
+pub mod Path
+pub mod Procedure
+pub mod Dependence
+pub mod Text
+pub mod Map
+pub mod Scenario
+pub mod Docket
+pub mod Answers
+pub mod Log
+pub mod Print
+pub mod Program
+pub mod OnePass
+pub mod Bytes

@@ -1,0 +1,87 @@
+-- Ways between bays: what can be reached, what is nearest, and the shortest path.
+-- Each of them is computed here by rings; proofs/Shortest, Nearest and Reach say it in the document's words.
+-- Assumes nothing.
+use mathlib.Core.Bool.{Bool, true, false}
+use mathlib.Core.List.{List, [], _∷_, _++_}
+use mathlib.Core.Logic.{_⊎_}
+use mathlib.Core.Option.{Option, none, some, Option·getD}
+use mathlib.Core.Path.{_≡_}
+use Prim.Native.Nat.{ℕ, zero, suc, _<_}
+use lib.Dec.{eqb}
+use lib.ListN.{length, getD}
+use Rattle.paper.specs.Basics.{if_then_else_, _and_, when, filter, any, find, concat, elem, without, upTo, In, Out}
+use Rattle.paper.specs.Yard.{Bay, Rail, Yard, joined}
+
+-- ## In words
+
+module _ (Y : Yard) where
+  -- a bay of the yard that is not held
+  abbrev pub Free : List Bay → Bay → Type 0
+  Free held b = In b (upTo (Y .bays)) × Out b held
+
+  -- from u by a rail to the first of the list, from each to the next, and so to v; all of them free
+  abbrev pub Route : List Bay → Bay → List Bay → Bay → Type 0
+  Route held u [] v = u ≡ v
+  Route held u (x ∷ xs) v = (joined Y u x ≡ true) × Free held x × Route held x xs v
+
+  -- the list of bays, from u to v, each joined to the next, none held
+  pub record Way (held : List Bay) (u : Bay) (l : List Bay) (v : Bay) : Type 0 where
+    pub rest : List Bay
+    pub starts : l ≡ u ∷ rest
+    pub free : Free held u
+    pub route : Route held u rest v
+
+  -- the rails, one after the other and each in either direction, lead from a to b
+  abbrev pub Along : Bay → List Rail → Bay → Type 0
+  Along a [] b = a ≡ b
+  Along a (r ∷ rs) b =
+      (any (λ s. eqb (s .0) (r .0) and eqb (s .1) (r .1)) (Y .rails) ≡ true)
+      × (((a ≡ r .0) × Along (r .1) rs b) ⊎ ((a ≡ r .1) × Along (r .0) rs b))
+
+  -- "some bay cannot be reached from bay 0": no list of rails leads there
+  abbrev pub Reached : Bay → Type 0
+  Reached b = (rs : List Rail) × Along 0 rs b
+
+-- "the lowest list of bays compared from the first bay on": s is not above t
+abbrev pub NotAbove : List Bay → List Bay → Type 0
+NotAbove [] t = Unit {0}
+NotAbove (a ∷ s) [] = Unit {0}
+NotAbove (a ∷ s) (b ∷ t) = (a < b) ⊎ ((a ≡ b) × NotAbove s t)
+
+-- ## By rings
+
+module _ (Y : Yard) where
+  -- the bays, neither held nor seen yet, that have a neighbour in the ring: rising
+  unfoldable pub nextRing : List Bay → List Bay → List Bay → List Bay
+  nextRing held seen ring = filter (λ b. any (joined Y b) ring) (without (held ++ seen) (upTo (Y .bays)))
+
+  unfoldable pub ringsFrom : List Bay → ℕ → List Bay → List Bay → List (List Bay)
+  ringsFrom held zero seen ring = []
+  ringsFrom held (suc k) seen ring = ring ∷ ringsFrom held k (ring ++ seen) (nextRing held (ring ++ seen) ring)
+
+  -- the bays at 0 rails from x, at 1, at 2, .. through bays not held, each ring rising; n rings are enough
+  abbrev pub rings : List Bay → Bay → List (List Bay)
+  rings held x = ringsFrom held (Y .bays) [] (x ∷ [])
+
+  -- all bays reached from x through bays not held: the nearest first, ties by the lowest number
+  abbrev pub nearestFirst : List Bay → Bay → List Bay
+  nearestFirst held x = concat (rings held x)
+
+  -- which ring u is in: how many rails it is from their middle
+  unfoldable pub ringOf : Bay → List (List Bay) → ℕ
+  ringOf u [] = zero
+  ringOf u (r ∷ rs) = let rest = ringOf u rs in if elem u r then zero else suc rest
+
+  -- from u, which is d rails from the middle: each next bay is the lowest neighbour in the ring one nearer
+  unfoldable pub inward : List (List Bay) → ℕ → Bay → List Bay
+  inward rs zero u = u ∷ []
+  inward rs (suc d) u = u ∷ inward rs d (Option·getD (find (joined Y u) (getD rs d [])) u)
+
+  -- "Shortest path: fewest rails; among equals, the lowest list of bays compared from the first bay on."
+  -- From u to v through bays not held, where there is one.
+  unfoldable pub shortestPath : List Bay → Bay → Bay → List Bay
+  shortestPath held u v = let rs = rings held v in inward rs (ringOf u rs) u
+
+  -- the same, or none where there is no way
+  unfoldable pub pathBetween : List Bay → Bay → Bay → Option (List Bay)
+  pathBetween held u v = when (elem u (nearestFirst held v)) (shortestPath held u v)

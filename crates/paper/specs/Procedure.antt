@@ -1,0 +1,188 @@
+-- How the order is found, sentence by sentence. An action takes the placement and gives the crossings that it makes, in
+-- order, or none where it fails.
+-- Assumes nothing.
+use mathlib.Core.Bool.{Bool, true, false, not}
+use mathlib.Core.List.{List, [], _∷_, _++_, map, reverse, dropLast}
+use mathlib.Core.Option.{Option, none, some}
+use Prim.Native.Nat.{ℕ, zero, suc, min, max}
+use lib.Dec.{eqb, ltb, leb}
+use lib.ListN.{length, getD, take, drop}
+use Rattle.paper.specs.Basics.{if_then_else_, if-some_then_else_, _and_, _>>=_, orElse, filter, find, firstOf, elem, without}
+use Rattle.paper.specs.Yard.{Bay, Carrier, Yard, Placement, Crossing, crossing, bayOf, carrierAt, isEmpty, after, neighbours, junction}
+use Rattle.paper.specs.Path.{nearestFirst, shortestPath}
+
+abbrev pub Action : Type 0
+Action = Placement → Option (List Crossing)
+
+infixr 20 _then_
+-- the first action, then the second at the placement that the first leaves
+unfoldable pub _then_ : Action → Action → Action
+_then_ f g p = f p >>= λ a. g (after p a) >>= λ b. some (a ++ b)
+
+-- carrier c crosses from where it stands
+unfoldable pub cross : Carrier → Bay → Action
+cross c to p = some (crossing c (bayOf p c) to ∷ [])
+
+-- ## Vacate
+
+-- "the last carrier before the empty bay moves first, then the one behind it, and so on"
+unfoldable pub shift : Placement → List Bay → List Crossing
+shift p [] = []
+shift p (a ∷ []) = []
+shift p (a ∷ b ∷ rest) = shift p (b ∷ rest) ++ (crossing (carrierAt p a) a b ∷ [])
+
+module _ (Y : Yard) where
+  -- "the nearest empty bay that is reached from x through bays not held, itself not held; ties go to the lowest number"
+  abbrev pub nearestEmpty : List Bay → Placement → Bay → Option Bay
+  nearestEmpty held p x = find (isEmpty p) (nearestFirst Y held x)
+
+  -- Vacate(x, held): "if x is empty, done. If x is held, fail. Otherwise take the nearest empty bay [..] None: fail."
+  unfoldable pub vacate : List Bay → Bay → Action
+  vacate held x p =
+      if isEmpty p x then some []
+      else if elem x held then none
+      else nearestEmpty held p x >>= λ e. some (shift p (shortestPath Y held x e))
+
+-- ## Swap
+
+-- 3. Exchange: "With x < y kept, leader L, follower M: L v→x, M b→v, M v→y, L x→v, L v→b, M y→v."
+unfoldable pub exchange : Carrier → Carrier → Bay → Bay → Bay → Bay → List Crossing
+exchange L M v b x y =
+    crossing L v x ∷ crossing M b v ∷ crossing M v y ∷ crossing L x v ∷ crossing L v b ∷ crossing M y v ∷ []
+
+-- L and M trading places, everybody else as before
+unfoldable pub trade : Carrier → Carrier → Carrier → Carrier
+trade L M c = if eqb c L then M else if eqb c M then L else c
+
+-- 4. Undo: "Steps 1 and 2 backwards, each crossing reversed, with L and M trading places in it."
+unfoldable pub undo : Carrier → Carrier → List Crossing → List Crossing
+undo L M xs = map (λ x. crossing (trade L M (x .carrier)) (x .to) (x .from)) (reverse xs)
+
+-- what clearing comes to: the crossings made, and the bays kept
+pub record Cleared : Type 0 where
+  pub moves : List Crossing
+  pub kept : List Bay
+
+abbrev pub following : List Crossing → Cleared → Cleared
+following ms c = record { moves = ms ++ c .moves; kept = c .kept }
+
+module _ (Y : Yard) where
+  -- 1. Bring, along the bays that the leader has yet to enter: "While the leader is not at v: vacate the path's next bay,
+  -- holding both their bays; leader crosses into it, follower crosses into the leader's old bay."
+  unfoldable pub bring : Carrier → Carrier → List Bay → Action
+  bring L M [] p = some []
+  bring L M (x ∷ xs) p =
+      let u = bayOf p L in
+      (vacate Y (u ∷ bayOf p M ∷ []) x then cross L x then cross M u then bring L M xs) p
+
+  -- "While fewer than two: go once through the other neighbours of v except b, in rising order; vacate each, holding v, b and
+  -- those kept; on success keep it."
+  unfoldable pub clearing : Bay → Bay → List Bay → List Bay → Placement → Cleared
+  clearing v b kept [] p = record { moves = []; kept = kept }
+  clearing v b kept (x ∷ xs) p =
+      let passed = clearing v b kept xs p in
+      if leb 2 (length kept) then record { moves = []; kept = kept }
+      else if-some vacate Y (v ∷ b ∷ kept) x p
+      then (λ ms. following ms (clearing v b (kept ++ (x ∷ [])) xs (after p ms)))
+      else passed
+
+  -- 2. Clear: "The follower is at b. Keep the empty neighbours of v other than b, at most the two lowest."
+  unfoldable pub clear : Bay → Bay → Placement → Cleared
+  clear v b p =
+      let around = without (b ∷ []) (neighbours Y v) in
+      let kept = take 2 (filter (isEmpty p) around) in
+      clearing v b kept (without kept around) p
+
+  -- Steps 3 and 4 after what steps 1 and 2 did: "Fewer than two at the end: the trial fails."
+  unfoldable pub finish : Carrier → Carrier → Bay → Bay → List Crossing → List Bay → Option (List Crossing)
+  finish L M v b made [] = none
+  finish L M v b made (x ∷ []) = none
+  finish L M v b made (x ∷ y ∷ rest) = some (made ++ exchange L M v b (min x y) (max x y) ++ undo L M made)
+
+  -- a trial at v with leader L, follower M and the bays ahead of the leader
+  unfoldable pub trialLed : Carrier → Carrier → Bay → List Bay → Action
+  trialLed L M v ahead p =
+      bring L M ahead p >>= λ brought.
+      let p₁ = after p brought in
+      let b = bayOf p₁ M in
+      let cleared = clear v b p₁ in
+      finish L M v b (brought ++ cleared .moves) (cleared .kept)
+
+  -- "Take the shortest path from u to v. If its second bay is w, s leads and r follows; otherwise r leads."
+  unfoldable pub trial : Carrier → Carrier → Bay → Action
+  trial r s v p =
+      let path = shortestPath Y [] (bayOf p r) v in
+      if ltb 1 (length path) and eqb (getD path 1 0) (bayOf p s)
+      then trialLed s r v (drop 2 path) p
+      else trialLed r s v (drop 1 path) p
+
+  -- "tries each junction v, nearest to u first, ties lowest. [..] The first junction whose trial succeeds is used and the rest
+  -- are not tried. None: fail."
+  unfoldable pub swap : Carrier → Carrier → Action
+  swap r s p = firstOf (λ v. trial r s v p) (filter (junction Y) (nearestFirst Y [] (bayOf p r)))
+
+  -- ## Carriers
+
+  -- One step of r to w, the carriers below `finished` being finished: "vacate it, holding r's bay and the present bays of
+  -- finished carriers, then cross. If vacating fails, swap r with the carrier there."
+  unfoldable pub step : ℕ → Carrier → Bay → Action
+  step finished r w p =
+      orElse ((vacate Y (bayOf p r ∷ take finished p) w then cross r w) p) (swap r (carrierAt p w) p)
+
+-- the crossings, or the carrier that could not step
+pub data Outcome : Type 0 where
+  planned : List Crossing → Outcome
+  stuck : Carrier → Outcome
+
+abbrev pub Stage : Type 0
+Stage = Placement → Outcome
+
+-- "If the swap fails, stop with 7 for r."
+unfoldable pub orStuck : Carrier → Option (List Crossing) → Outcome
+orStuck c none = stuck c
+orStuck c (some a) = planned a
+
+unfoldable pub onward : Outcome → (List Crossing → Outcome) → Outcome
+onward (planned a) f = f a
+onward (stuck c) f = stuck c
+
+infixr 20 _next_
+-- the first stage, then the second at the placement that the first leaves
+unfoldable pub _next_ : Stage → Stage → Stage
+_next_ f g p = onward (f p) (λ a. onward (g (after p a)) (λ b. planned (a ++ b)))
+
+module _ (Y : Yard) (goals : Placement) where
+  -- "the shortest path v0..vm from its bay to its goal, other carriers disregarded"
+  abbrev pub pathOf : Carrier → Placement → List Bay
+  pathOf r p = shortestPath Y [] (bayOf p r) (bayOf goals r)
+
+  -- "For each next bay": r steps through the bays ahead
+  unfoldable pub go : Carrier → List Bay → Stage
+  go r [] p = planned []
+  go r (w ∷ ws) p = ((λ q. orStuck r (step Y r r w q)) next go r ws) p
+
+  -- "if a finished carrier has goal vi and is not there, it steps [..] to vi by the same rule; a failure is 7 for that carrier"
+  unfoldable pub homeAt : ℕ → Bay → Stage
+  homeAt finished v p =
+      let f = carrierAt (take finished goals) v in
+      if ltb f finished and not (eqb (bayOf p f) v) then orStuck f (step Y finished f v p) else planned []
+
+  -- the bays of the path one after the other, the last of them first
+  unfoldable pub wayHome : ℕ → List Bay → Stage
+  wayHome finished [] p = planned []
+  wayHome finished (v ∷ vs) p = (wayHome finished vs next homeAt finished v) p
+
+  -- Carrier r goes its path v0..vm. "Way home: r now counts as finished. For i from m−1 down to 1".
+  unfoldable pub carry : Carrier → Stage
+  carry r p =
+      let ahead = drop 1 (pathOf r p) in
+      (go r ahead next wayHome (suc r) (dropLast ahead)) p
+
+  -- k carriers from r on: "Carriers are planned by rising number."
+  unfoldable pub carryFrom : Carrier → ℕ → Stage
+  carryFrom r zero p = planned []
+  carryFrom r (suc k) p = (carry r next carryFrom (suc r) k) p
+
+  -- the whole procedure
+  unfoldable pub procedure : Stage
+  procedure p = carryFrom 0 (length goals) p
