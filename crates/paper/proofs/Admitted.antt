@@ -348,7 +348,7 @@ of-clean n ends s g lent c =
 
 -- the first six are what they are called
 pub six-number : (n : ℕ) (ends : List Bay) (s g : Placement) (lent : ℕ) (r : Refusal) → firstSix n ends s g lent ≡ some r → number r ≤ 6
-unfolding firstSix number
+unfolding firstSix
 six-number n ends s g lent r h =
     either (no-1 n ends s g lent) _ h (λ a. let e = some-when (badSize n ends s g lent) size a in rw (← e .1) (omega arith)) (λ _ h2.
     either (no-2 n ends) _ h2 (λ a. let e = some-from rail (firstBad (badRail n) 0 [] (railsOf ends)) a in rw (← e .2) (omega arith)) (λ _ h3.

@@ -170,7 +170,7 @@ module _ (n : ℕ) (ends : List Bay) (starts goals : Placement) (plan : List ℕ
   -- 9 carries d exactly if 1 to 6 pass and d names the first illegal crossing.
   pub nine-exactly : (d : ℕ) → (check n ends starts goals plan ≡ some (illegal d))
       ↔ ((firstSix n ends starts goals (length plan) ≡ none) × FirstIllegal (yardOf n ends) starts xs d)
-  unfolding check number
+  unfolding check
   nine-exactly d = (
     λ h. by-check
         (λ r l e. let z : r ≡ illegal d = cc in let w = rw z at l in absurd (omega arith))
@@ -183,7 +183,7 @@ module _ (n : ℕ) (ends : List Bay) (starts goals : Placement) (plan : List ℕ
   -- 10 carries c exactly if 1 to 6 pass, the plan is legal, and c is the lowest carrier that isn't home.
   pub ten-exactly : (c : Carrier) → (check n ends starts goals plan ≡ some (missed c))
       ↔ ((firstSix n ends starts goals (length plan) ≡ none) × (legalPlan (yardOf n ends) starts xs ≡ true) × LowestMissed goals (after starts xs) c)
-  unfolding check number
+  unfolding check
   ten-exactly c = (
     λ h. by-check
         (λ r l e. let z : r ≡ missed c = cc in let w = rw z at l in absurd (omega arith))

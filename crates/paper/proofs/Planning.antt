@@ -94,7 +94,6 @@ module _ (n : ℕ) (ends : List Bay) (s g : Placement) (lent : ℕ) where
   -- 7 carries c exactly if 1 to 6 pass and the procedure stops with c.
   pub stopped-exactly : (c : Carrier) → (plan n ends s g lent ≡ refused (stopped c))
       ↔ ((firstSix n ends s g 0 ≡ none) × (outcome ≡ stuck c))
-  unfolding number
   stopped-exactly c = (
     λ h. by-plan
         (λ r l e. let z : r ≡ stopped c = cc in let w = rw z at l in absurd (omega arith))
@@ -107,7 +106,6 @@ module _ (n : ℕ) (ends : List Bay) (s g : Placement) (lent : ℕ) where
   -- 8 carries m exactly if 1 to 6 pass, the procedure gives a list of m crossings, and that is longer than the lent list or over 65,536.
   pub room-exactly : (m : ℕ) → (plan n ends s g lent ≡ refused (room m))
       ↔ ((firstSix n ends s g 0 ≡ none) × ((xs : List Crossing) × (outcome ≡ planned xs) × (length xs ≡ m)) × TooLong lent m)
-  unfolding number
   room-exactly m = (
     λ h. by-plan
         (λ r l e. let z : r ≡ room m = cc in let w = rw z at l in absurd (omega arith))

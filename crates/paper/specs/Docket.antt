@@ -21,7 +21,7 @@ pub data Refusal : Type 0 where
   mismarked unknown : Refusal
   early badMap badScenario : ℕ → Refusal
 
-unfoldable pub number : Refusal → ℕ
+abbrev pub number : Refusal → ℕ
 number size = 1
 number (rail i) = 2
 number (apart b) = 3
@@ -38,7 +38,7 @@ number (early e) = 13
 number (badMap l) = 14
 number (badScenario l) = 15
 
-unfoldable pub carried : Refusal → Option ℕ
+abbrev pub carried : Refusal → Option ℕ
 carried size = none
 carried (rail i) = some i
 carried (apart b) = some b

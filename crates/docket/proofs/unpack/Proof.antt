@@ -1,9 +1,9 @@
--- `crossings::unpack` meets its contract. Quotient and remainder by 2^32 and 2^16 are the paper's own.
+-- `docket::unpack` meets its contract. Quotient and remainder by 2^32 and 2^16 are the paper's own.
 -- Assumes nothing.
 use borrow.Author.Needs.{needs}
 use Rattle.paper.specs.Yard.{unpack}
-use Rattle.crossings.proofs.unpack.Statement.{statement}
-use Rattle.crossings.proofs.unpack.Tie as tie
+use Rattle.docket.proofs.unpack.Statement.{statement}
+use Rattle.docket.proofs.unpack.Tie as tie
 
 cast-t3 : tie.Need-cast-t3
 cast-t3 c = search needs

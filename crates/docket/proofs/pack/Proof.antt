@@ -1,9 +1,9 @@
--- `crossings::pack` meets its contract. The three products and sums fit in 64 bits, since a carrier is below 2^32 and a bay below 2^16; the rest is the paper's definition.
+-- `docket::pack` meets its contract. The three products and sums fit in 64 bits, since a carrier is below 2^32 and a bay below 2^16; the rest is the paper's definition.
 -- Assumes nothing.
 use borrow.Author.Needs.{needs}
 use Rattle.paper.specs.Yard.{pack}
-use Rattle.crossings.proofs.pack.Statement.{statement}
-use Rattle.crossings.proofs.pack.Tie as tie
+use Rattle.docket.proofs.pack.Statement.{statement}
+use Rattle.docket.proofs.pack.Tie as tie
 
 cast-carrier : tie.Need-cast-carrier
 cast-carrier c = search needs
