@@ -17,8 +17,7 @@ use Rattle.paper.specs.Docket.{size, rail, apart, crowd, start, goal, ra
 use Rattle.paper.specs.Answers.{firstSix}
 use Rattle.paper.proofs.Tests.{by-cases, not-both, never-some, and-left, and-right, and-both, or-left, or-right, or-cases, or-none, or-neither, none-both, none-from, none-when, either, some-when, some-from}
 use Rattle.paper.proofs.Members.{In-nil, In-cases, Out-head, Out-left, Out-right, in-count, nodup-count, nothing-in-nil, find-none, In-head, In-tail, find-exactly}
-use Rattle.paper.proofs.Paths.{joined-sym}
-use Rattle.paper.proofs.Rings.{Walk, here, on, walk-cons, reached-walk}
+use Rattle.paper.proofs.Rings.{joined-sym, Walk, here, on, walk-cons, reached-walk}
 use Rattle.paper.proofs.Reach.{enough, connected}
 use Rattle.paper.proofs.Playing.{Apart, Sound, Good, out-of, placeOf-bay, placeOf-there}
 

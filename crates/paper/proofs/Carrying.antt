@@ -16,11 +16,11 @@ use Rattle.paper.specs.Path.{nearestFirst, shortestPath}
 use Rattle.paper.specs.Procedure.{_then_, cross, trade, vacate, swap, step, Outcome, planned, stuck, onward, orStuck, Stage, _next_, go, homeAt, wayHome, carry, carryFrom, procedure}
 use Rattle.paper.proofs.Tests.{by-cases, by-option, not-both, never-some, and-left, and-right, and-both}
 use Rattle.paper.proofs.Members.{In-head, In-tail, In-append-right, out-cons, nothing-in-nil, Out-head, Out-tail}
-use Rattle.paper.proofs.Paths.{Leads, stay, over, shortest-leads}
+use Rattle.paper.proofs.Shortest.{shortest-path}
 use Rattle.paper.proofs.Playing.{Apart, Legal, legal-facts, legal-of, after-append, after-length, plan-head, plan-tail, plan-cons, plan-append, bay-in, placeOf-bay, placeOf-there, move-self, move-other, move-apart, Sound, Good}
-use Rattle.paper.proofs.Vacating.{vacate-vacates, vacate-empty, shortest-nodup}
+use Rattle.paper.proofs.Vacating.{vacate-vacates, vacate-empty}
 use Rattle.paper.proofs.Trading.{traded-bay, trade-first, trade-second, trade-other}
-use Rattle.paper.proofs.Swapping.{cross-some, then-runs, then-split, Chain, leads-tail, swap-trades}
+use Rattle.paper.proofs.Swapping.{cross-some, then-runs, then-split, Chain, way-tail, swap-trades}
 
 pub plan-good : (Y : Yard) → Sound Y → (p : Placement) (xs : List Crossing) → Good Y p → legalPlan Y p xs ≡ true → Good Y (after p xs)
 unfolding after
@@ -284,10 +284,6 @@ home-none : (Y : Yard) (goals : Placement) (k : ℕ) (p : Placement) (b : List C
 unfolding wayHome
 home-none Y goals k p b h = cc
 
-leads-cons : (Y : Yard) {u v : Bay} {l : List Bay} → Leads Y u l v → l ≡ u ∷ drop 1 l
-leads-cons Y stay = refl
-leads-cons Y (over j r) = refl
-
 module _ (Y : Yard) (sound : Sound Y) (goals : Placement) (goals-apart : Apart goals) where
   -- the carriers below r are wayHome
   abbrev pub Home : ℕ → Placement → Type 0
@@ -332,17 +328,20 @@ module _ (Y : Yard) (sound : Sound Y) (goals : Placement) (goals-apart : Apart g
 
   -- Carrier r goes to its goal and the finished ones that it displaced go wayHome.
   pub carry-carries : (r : Carrier) (p : Placement) (xs : List Crossing) → Good Y p → length p ≡ length goals → r < length p
-      → In (bayOf p r) (nearestFirst Y [] (bayOf goals r)) → Home r p → carry Y goals r p ≡ planned xs
+      → In (bayOf goals r) (upTo (Y .bays)) → In (bayOf p r) (nearestFirst Y [] (bayOf goals r)) → Home r p → carry Y goals r p ≡ planned xs
       → (legalPlan Y p xs ≡ true) × Home (suc r) (after p xs)
   unfolding carry
-  carry-carries r p xs good len hr reach at-home h =
-      let leads = shortest-leads Y [] (bayOf p r) (bayOf goals r) reach in
+  carry-carries r p xs good len hr goal-in reach at-home h =
+      let short = shortest-path Y [] (bayOf p r) (bayOf goals r) (good .inside r hr, nothing-in-nil _) (goal-in, nothing-in-nil _) reach in
+      let path = shortestPath Y [] (bayOf p r) (bayOf goals r) in
+      let way = short .way in
       let ahead = drop 1 (shortestPath Y [] (bayOf p r) (bayOf goals r)) in
-      let n : NoDup (bayOf p r ∷ ahead) = rw (leads-cons Y leads) at (shortest-nodup Y [] (bayOf goals r) (bayOf p r) reach) in
+      let cons : path ≡ bayOf p r ∷ ahead = rw (way .starts) in
+      let n : NoDup (bayOf p r ∷ ahead) = rw cons at (short .once) in
       next-split (go Y goals r ahead) (wayHome Y goals (suc r) (dropLast ahead)) p xs h
       (λ a b e h1 q.
-      rw q (came r p good len hr at-home (bayOf p r) a ahead b (leads-tail Y leads) n
-      (go-goes Y sound goals r ahead (bayOf p r) (bayOf goals r) p a good hr refl (leads-tail Y leads) n e) h1))
+      rw q (came r p good len hr at-home (bayOf p r) a ahead b (way-tail Y [] (bayOf p r) path (bayOf goals r) way) n
+      (go-goes Y sound goals r ahead (bayOf p r) (bayOf goals r) p a good hr refl (way-tail Y [] (bayOf p r) path (bayOf goals r) way) n e) h1))
 
   -- every bay is reached from every other
   abbrev pub Connected : Type 0
@@ -359,7 +358,7 @@ module _ (Y : Yard) (sound : Sound Y) (goals : Placement) (goals-apart : Apart g
       next-split (carry Y goals r) (carryFrom Y goals (suc r) k) p xs h
       (λ a b d h1 q.
       let hr : r < length p = omega arith in
-      let t = carry-carries r p a good len hr (conn (bayOf p r) (bayOf goals r) (good .inside r hr) (inside r (omega arith))) at-home d in
+      let t = carry-carries r p a good len hr (inside r (omega arith)) (conn (bayOf p r) (bayOf goals r) (good .inside r hr) (inside r (omega arith))) at-home d in
       let s = all-carried conn inside k (suc r) (after p a) b (plan-good Y sound p a good (t .0)) (after-length p a ∙ len) (omega arith) (t .1) h1 in
       rw q (plan-append Y p a b (t .0) (s .0), λ c i. rw after-append (s .1 c i)))
 

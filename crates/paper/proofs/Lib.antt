@@ -1,7 +1,6 @@
 pub mod Tests
 pub mod Members
 pub mod Firsts
-pub mod Paths
 pub mod Rings
 pub mod Reach
 pub mod Shortest

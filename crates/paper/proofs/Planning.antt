@@ -15,8 +15,8 @@ use Rattle.paper.specs.Yard.{Bay, Carrier, Placement, Crossing, after, l
 use Rattle.paper.specs.Procedure.{Outcome, planned, stuck, procedure}
 use Rattle.paper.specs.Docket.{Refusal, number, apart, stopped, room, yardOf}
 use Rattle.paper.specs.Answers.{accepted, refused, crossingsOf, within, unless, plan, firstSix}
-use Rattle.paper.proofs.Carrying.{procedure-right}
 use Rattle.paper.proofs.Tests.{by-cases, by-option, or-neither, or-left, or-right, never}
+use Rattle.paper.proofs.Carrying.{procedure-right}
 use Rattle.paper.proofs.Admitted.{clean-of, sound-of, good-of, all-reached, six-number}
 
 by-outcome : {P : Type 0} (o : Outcome) → ((xs : List Crossing) → o ≡ planned xs → P) → ((c : Carrier) → o ≡ stuck c → P) → P

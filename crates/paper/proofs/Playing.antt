@@ -12,7 +12,7 @@ use Rattle.paper.specs.Basics.{elem, placeOf, In, Out, upTo}
 use Rattle.paper.specs.Yard.{Bay, Carrier, Yard, Placement, Crossing, crossing, bayOf, carrierAt, move, after, joined, legal, legalPlan}
 use Rattle.paper.proofs.Tests.{by-cases, not-both, and-left, and-right, and-both}
 use Rattle.paper.proofs.Members.{In-head, In-tail, In-cases, In-nil}
-use Rattle.paper.proofs.Paths.{joined-sym}
+use Rattle.paper.proofs.Rings.{joined-sym}
 
 -- no two carriers stand at one bay
 abbrev pub Apart : Placement → Type 0

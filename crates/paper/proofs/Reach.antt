@@ -12,8 +12,7 @@ use Rattle.paper.specs.Yard.{Bay, Yard, joined}
 use Rattle.paper.specs.Path.{nextRing, ringsFrom, nearestFirst, Free}
 use Rattle.paper.proofs.Tests.{by-cases}
 use Rattle.paper.proofs.Members.{count-high, in-count, nothing-in-nil, In-head, In-cases, In-nil, In-append, In-append-left, In-append-right, Out-append, filter-in, filter-passes, in-filter, any-of, in-without, Out-left, Out-right}
-use Rattle.paper.proofs.Paths.{joined-sym}
-use Rattle.paper.proofs.Rings.{Walk, here, on, walk-back, reached-walk}
+use Rattle.paper.proofs.Rings.{joined-sym, Walk, here, on, walk-back, reached-walk}
 
 by-list : {A P : Type 0} (l : List A) → (l ≡ [] → P) → ((x : A) (xs : List A) → l ≡ x ∷ xs → P) → P
 by-list [] f g = f refl

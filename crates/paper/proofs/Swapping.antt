@@ -11,12 +11,12 @@ use lib.Seq.{ext-getD}
 use borrow.Author.Tests.{not-true, ltb-true, ltb-false, eqb-true, eqb-false, ne-eqb}
 use Rattle.paper.specs.Basics.{_and_, filter, elem, without, upTo, In, Out, NoDup}
 use Rattle.paper.specs.Yard.{Bay, Carrier, Yard, Placement, Crossing, crossing, bayOf, isEmpty, move, after, joined, legal, legalPlan, neighbours, junction}
-use Rattle.paper.specs.Path.{nearestFirst, shortestPath}
+use Rattle.paper.specs.Path.{nearestFirst, shortestPath, Free, Route, Way}
 use Rattle.paper.specs.Procedure.{Action, _then_, cross, exchange, undo, Cleared, vacate, bring, clearing, clear, finish, trialLed, trial, swap}
 use Rattle.paper.proofs.Tests.{by-cases, by-option, not-both, never-some, and-left, and-right}
 use Rattle.paper.proofs.Members.{first-of, nothing-in-nil, In-head, In-tail, In-cases, In-one, In-append, Out-head, nodup-left, nodup-drop, nodup-append, nodup-filter, nodup-take, nodup-count, take-in, filter-in, filter-passes}
-use Rattle.paper.proofs.Paths.{joined-sym, Leads, stay, over, shortest-leads}
-use Rattle.paper.proofs.Rings.{reached-sym}
+use Rattle.paper.proofs.Rings.{joined-sym, reached-sym, walk-free, reached-walk}
+use Rattle.paper.proofs.Shortest.{shortest-path}
 use Rattle.paper.proofs.Playing.{Apart, Legal, legal-of, after-append, after-length, plan-append, bay-in, move-self, move-other, move-apart, move-empties, move-out, Sound}
 use Rattle.paper.proofs.Vacating.{plan-apart, Vacated, vacate-vacates}
 use Rattle.paper.proofs.Trading.{traded, traded-length, traded-bay, trade-first, trade-second, trade-other, which, undo-undoes}
@@ -135,13 +135,21 @@ abbrev pub Chain : Yard → Bay → List Bay → Bay → Type 0
 Chain Y u [] v = u ≡ v
 Chain Y u (x ∷ xs) v = (joined Y u x ≡ true) × Chain Y x xs v
 
-pub leads-chain : (Y : Yard) (u : Bay) {w v : Bay} {l : List Bay} → joined Y u w ≡ true → Leads Y w l v → Chain Y u l v
-leads-chain Y u j stay = (j, refl)
-leads-chain Y u j (over {u = w} j′ r) = (j, leads-chain Y w j′ r)
+route-chain : (Y : Yard) (held : List Bay) (u : Bay) (l : List Bay) (v : Bay) → Route Y held u l v → Chain Y u l v
+route-chain Y held u [] v r = r
+route-chain Y held u (x ∷ xs) v r = (r .0, route-chain Y held x xs v (r .2))
 
-pub leads-tail : (Y : Yard) {u v : Bay} {l : List Bay} → Leads Y u l v → Chain Y u (drop 1 l) v
-leads-tail Y stay = refl
-leads-tail Y (over {u = u} j r) = leads-chain Y u j r
+-- the bays ahead on a way: after its first bay, and after its second
+pub way-tail : (Y : Yard) (held : List Bay) (u : Bay) (l : List Bay) (v : Bay) → Way Y held u l v → Chain Y u (drop 1 l) v
+way-tail Y held u l v w = rw (w .starts) (route-chain Y held u (w .rest) v (w .route))
+
+route-second : (Y : Yard) (held : List Bay) (u : Bay) (l : List Bay) (v : Bay) → Route Y held u l v → ltb 1 (length (u ∷ l)) ≡ true
+    → Chain Y (getD (u ∷ l) 1 0) (drop 2 (u ∷ l)) v
+route-second Y held u [] v r h = not-both h refl
+route-second Y held u (x ∷ xs) v r h = route-chain Y held x xs v (r .2)
+
+way-second : (Y : Yard) (held : List Bay) (u : Bay) (l : List Bay) (v : Bay) → Way Y held u l v → ltb 1 (length l) ≡ true → Chain Y (getD l 1 0) (drop 2 l) v
+way-second Y held u l v w h = rw (w .starts) (route-second Y held u (w .rest) v (w .route) (rw (w .starts) at h))
 
 module _ (Y : Yard) (sound : Sound Y) (L M : Carrier) (differ : eqb L M ≡ false) where
   pub record Brought (v : Bay) (p : Placement) (xs : List Crossing) : Type 0 where
@@ -350,17 +358,9 @@ traded-comm L M p differ hL hM =
     (traded-bay M L p hM hL M ∙ ap (bayOf p) (trade-first M L))
     (λ k u v. traded-bay M L p hM hL k ∙ ap (bayOf p) (trade-other M L k v u))
 
-leads-head : (Y : Yard) {u v : Bay} {l : List Bay} → Leads Y u l v → getD l 0 0 ≡ u
-leads-head Y stay = refl
-leads-head Y (over j r) = refl
-
-leads-second : (Y : Yard) {u v : Bay} {l : List Bay} → Leads Y u l v → ltb 1 (length l) ≡ true → Chain Y (getD l 1 0) (drop 2 l) v
-leads-second Y stay h = not-both h refl
-leads-second Y (over j r) h = rw (leads-head Y r) (leads-tail Y r)
-
 module _ (Y : Yard) (sound : Sound Y) (r s : Carrier) (differ : eqb r s ≡ false) (p : Placement) (apart : Apart p) (hr : r < length p) (hs : s < length p)
     (beside : joined Y (bayOf p r) (bayOf p s) ≡ true) where
-  trial-trades : (v : Bay) (xs : List Crossing) → Leads Y (bayOf p r) (shortestPath Y [] (bayOf p r) v) v → trial Y r s v p ≡ some xs → Trades Y r s p xs
+  trial-trades : (v : Bay) (xs : List Crossing) → Way Y [] (bayOf p r) (shortestPath Y [] (bayOf p r) v) v → trial Y r s v p ≡ some xs → Trades Y r s p xs
   unfolding trial
   trial-trades v xs l h =
       let path = shortestPath Y [] (bayOf p r) v in
@@ -368,16 +368,17 @@ module _ (Y : Yard) (sound : Sound Y) (r s : Carrier) (differ : eqb r s ≡ fals
       (λ e.
       let second : getD path 1 0 ≡ bayOf p s = eqb-true (getD path 1 0) (bayOf p s) (and-right _ _ e) in
       let t = trial-with Y sound s r (eqb-comm r s differ) v (drop 2 path) p xs apart hs hr
-      (rw second at (leads-second Y l (and-left _ _ e))) beside (rw e at h) in
+      (rw second at (way-second Y [] (bayOf p r) path v l (and-left _ _ e))) beside (rw e at h) in
       (t .0, t .1 ∙ traded-comm r s p differ hr hs))
-      (λ e. trial-with Y sound r s differ v (drop 1 path) p xs apart hr hs (leads-tail Y l) (joined-sym Y (bayOf p r) (bayOf p s) beside) (rw e at h))
+      (λ e. trial-with Y sound r s differ v (drop 1 path) p xs apart hr hs (way-tail Y [] (bayOf p r) path v l) (joined-sym Y (bayOf p r) (bayOf p s) beside) (rw e at h))
 
   -- A swap is legal, and r and s have traded places.
   pub swap-trades : (xs : List Crossing) → In (bayOf p r) (upTo (Y .bays)) → swap Y r s p ≡ some xs → Trades Y r s p xs
   unfolding swap
   swap-trades xs i h =
       first-of (λ v. trial Y r s v p) (filter (junction Y) (nearestFirst Y [] (bayOf p r))) h
-      (λ v k e. trial-trades v xs
-      (shortest-leads Y [] (bayOf p r) v
-      (reached-sym Y [] (bayOf p r) v (i, nothing-in-nil (bayOf p r)) (filter-in (junction Y) (nearestFirst Y [] (bayOf p r)) v k)))
-      e)
+      (λ v k e.
+      let here : Free Y [] (bayOf p r) = (i, nothing-in-nil (bayOf p r)) in
+      let far = filter-in (junction Y) (nearestFirst Y [] (bayOf p r)) v k in
+      let there : Free Y [] v = walk-free Y [] here ((reached-walk Y [] (bayOf p r) v far) .2) in
+      trial-trades v xs (shortest-path Y [] (bayOf p r) v here there (reached-sym Y [] (bayOf p r) v here far) .way) e)

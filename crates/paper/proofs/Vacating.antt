@@ -8,14 +8,14 @@ use native.Mathlib.Omega.{arith}
 use lib.ListN.{length, getD}
 use lib.Dec.{eqb}
 use borrow.Author.Tests.{not-true, not-false, ne-eqb}
-use Rattle.paper.specs.Basics.{find, elem, upTo, In, Out, NoDup}
+use Rattle.paper.specs.Basics.{find, elem, upTo, In, Out}
 use Rattle.paper.specs.Yard.{Bay, Carrier, Yard, Placement, Crossing, crossing, bayOf, carrierAt, isEmpty, move, after, joined, legalPlan}
 use Rattle.paper.specs.Path.{rings, nearestFirst, ringOf, inward, shortestPath, Free}
 use Rattle.paper.specs.Procedure.{shift, vacate}
 use Rattle.paper.proofs.Tests.{by-cases, by-option, not-both, never-some}
-use Rattle.paper.proofs.Members.{nothing-in-nil, Out-head, Out-tail, In-cases, In-one, find-passes, find-in, find-some}
-use Rattle.paper.proofs.Paths.{ring-step, ring-zero, in-concat, distance-in, distance-least}
-use Rattle.paper.proofs.Rings.{Walk, here, on, ring-free, rings-apart, ring-walk, walk-ring, walk-back, walk-free, first-ring, ringsFrom-length}
+use Rattle.paper.proofs.Members.{Out-head, Out-tail, find-passes}
+use Rattle.paper.proofs.Rings.{ring-zero, in-concat, distance-in, distance-least, Walk, here, on, ring-walk, walk-ring, walk-back, walk-free, first-ring, ringsFrom-length}
+use Rattle.paper.proofs.Shortest.{inward-zero, inward-head, inward-in, apart-from, next, around-free}
 use Rattle.paper.proofs.Playing.{Apart, Legal, legal-facts, legal-of, after-append, after-length, plan-head, plan-tail, plan-cons, plan-append, placeOf-bay, placeOf-there, move-other, move-apart, move-empties, move-out}
 
 pub plan-apart : (Y : Yard) (p : Placement) (xs : List Crossing) → Apart p → legalPlan Y p xs ≡ true → Apart (after p xs)
@@ -78,64 +78,6 @@ module _ (Y : Yard) (p : Placement) (apart : Apart p) where
   shift-shifts a [] h = rw shift-one (record { legal = refl; empties = h; keeps = λ c k o. refl; spares = λ z o k. k })
   shift-shifts a (b ∷ l) h = rw shift-cons (behind a b l (shift p (b ∷ l)) (h .0) (h .1) (h .2) (shift-shifts b l (h .3)))
 
--- a inward begins where it should, and stays in the rings
-pub walk-head : (Y : Yard) (rs : List (List Bay)) (d : ℕ) (u : Bay) → (l : List Bay) × (inward Y rs d u ≡ u ∷ l)
-unfolding inward
-walk-head Y rs zero u = ([], refl)
-walk-head Y rs (suc d) u = (_, refl)
-
-pub walk-zero : (Y : Yard) (rs : List (List Bay)) (u : Bay) → inward Y rs 0 u ≡ u ∷ []
-unfolding inward
-walk-zero Y rs u = refl
-
-module _ (Y : Yard) (held : List Bay) (e : Bay) where
-  -- the next bay of a inward towards e
-  pub record Next (d : ℕ) (u : Bay) : Type 0 where
-    pub bay : Bay
-    pub rail : joined Y u bay ≡ true
-    pub nearer : In bay (getD (rings Y held e) d [])
-    pub found : find (joined Y u) (getD (rings Y held e) d []) ≡ some bay
-    pub on-walk : inward Y (rings Y held e) (suc d) u ≡ u ∷ inward Y (rings Y held e) d bay
-
-  pub next : (d : ℕ) (u : Bay) → In u (getD (rings Y held e) (suc d) []) → Next d u
-  unfolding inward
-  next d u i =
-      let r = getD (rings Y held e) d [] in
-      let s = ring-step Y held (Y .bays) [] (e ∷ []) d u i in
-      let f = find-some (joined Y u) r (s .0) (s .1) (s .2) in
-      record {
-        bay = f .0;
-        rail = find-passes (joined Y u) r (f .1);
-        nearer = find-in (joined Y u) r (f .1);
-        found = f .1;
-        on-walk = rw (f .1);
-      }
-
-  walk-in : (d : ℕ) (u : Bay) → In u (getD (rings Y held e) d []) → (b : Bay) → In b (inward Y (rings Y held e) d u)
-      → (j : ℕ) × (j ≤ d) × In b (getD (rings Y held e) j [])
-  walk-in zero u i b h = (0, omega arith, rw (In-one b u (rw walk-zero at h)) i)
-  walk-in (suc d) u i b h =
-      let n = next d u i in
-      In-cases b u (inward Y (rings Y held e) d (n .bay)) (rw (n .on-walk) at h)
-      (λ k. (suc d, omega arith, rw k i))
-      (λ k. let r = walk-in d (n .bay) (n .nearer) b k in (r .0, omega arith, r .2))
-
-  apart-from : (d : ℕ) (u a : Bay) → In u (getD (rings Y held e) (suc d) []) → In a (getD (rings Y held e) d []) → Out u (inward Y (rings Y held e) d a)
-  apart-from d u a i k =
-      by-cases (elem u (inward Y (rings Y held e) d a))
-      (λ y. let r = walk-in d a k u y in not-both (r .2) (rings-apart Y held (Y .bays) [] (e ∷ []) (r .0) (suc d) u (omega (arith, r .1)) i))
-      (λ o. o)
-
-  walk-nodup : (d : ℕ) (u : Bay) → In u (getD (rings Y held e) d []) → NoDup (inward Y (rings Y held e) d u)
-  walk-nodup zero u i = rw walk-zero (nothing-in-nil u, tt)
-  walk-nodup (suc d) u i =
-      let n = next d u i in
-      rw (n .on-walk) (apart-from d u (n .bay) i (n .nearer), walk-nodup d (n .bay) (n .nearer))
-
-  pub shortest-nodup : (u : Bay) → In u (nearestFirst Y held e) → NoDup (shortestPath Y held u e)
-  unfolding shortestPath
-  shortest-nodup u i = walk-nodup (ringOf Y u (rings Y held e)) u (distance-in Y u (rings Y held e) i)
-
 -- The path to the nearest empty bay e can be shifted along, and no bay of it is held.
 module _ (Y : Yard) (held : List Bay) (p : Placement) (apart : Apart p) (x e : Bay) (free-x : Free Y held x)
     (first : find (isEmpty p) (nearestFirst Y held x) ≡ some e) where
@@ -168,10 +110,6 @@ module _ (Y : Yard) (held : List Bay) (p : Placement) (apart : Apart p) (x e : B
   unfolding far
   far-fits = omega (arith, distance-least Y x (rings Y held e) (x-around .0) (x-around .2), x-around .1)
 
-  around-free : (j : ℕ) (b : Bay) → In b (getD (rings Y held e) j []) → Free Y held b
-  around-free zero b i = rw (ring-zero Y held (Y .bays) [] e b i) free-e
-  around-free (suc j) b i = (ring-free Y held (Y .bays) [] (e ∷ []) j b i) .0
-
   occupied : (i : ℕ) (u : Bay) → Walk Y held x i u → i < far → In u p
   occupied i u w h =
       let r = walk-ring Y held (Y .bays) x w (omega (arith, far-fits, fits)) in
@@ -181,19 +119,19 @@ module _ (Y : Yard) (held : List Bay) (p : Placement) (apart : Apart p) (x e : B
   pub shiftable : (d i : ℕ) (u : Bay) → In u (getD (rings Y held e) d []) → Walk Y held x i u → i + d ≤ far
       → Shiftable Y p apart (inward Y (rings Y held e) d u)
   shiftable zero i u k w h =
-      rw (walk-zero, ring-zero Y held (Y .bays) [] e u k) (not-true (elem e p) (find-passes (isEmpty p) (nearestFirst Y held x) first))
+      rw (inward-zero, ring-zero Y held (Y .bays) [] e u k) (not-true (elem e p) (find-passes (isEmpty p) (nearestFirst Y held x) first))
   shiftable (suc d) i u k w h =
       let n = next Y held e d u k in
-      let t = walk-head Y (rings Y held e) d (n .bay) in
-      let ih = shiftable d (suc i) (n .bay) (n .nearer) (on w (n .rail) (around-free d (n .bay) (n .nearer))) (omega arith) in
+      let t = inward-head Y (rings Y held e) d (n .bay) in
+      let ih = shiftable d (suc i) (n .bay) (n .nearer) (on w (n .rail) (around-free Y held e free-e d (n .bay) (n .nearer))) (omega arith) in
       let apart-u = apart-from Y held e d u (n .bay) k (n .nearer) in
-      rw (n .on-walk, t .1) (occupied i u w (omega arith), n .rail, rw (t .1) at apart-u, rw (t .1) at ih)
+      rw (n .goes-on, t .1) (occupied i u w (omega arith), n .rail, rw (t .1) at apart-u, rw (t .1) at ih)
 
   -- so the shift along the shortestPath path to e does what vacating is for
   pub vacates : Shifted Y p apart x (shortestPath Y held x e) (shift p (shortestPath Y held x e))
   unfolding shortestPath far
   vacates =
-      let t = walk-head Y (rings Y held e) far x in
+      let t = inward-head Y (rings Y held e) far x in
       let s = shiftable far 0 x far-in here (omega arith) in
       rw (t .1) (shift-shifts Y p apart x (t .0) (rw (t .1) at s))
 
@@ -203,13 +141,13 @@ module _ (Y : Yard) (held : List Bay) (p : Placement) (apart : Apart p) (x e : B
 
   pub path-free : (b : Bay) → In b (shortestPath Y held x e) → Free Y held b
   unfolding shortestPath far
-  path-free b y = let r = walk-in Y held e far x far-in b y in around-free (r .0) b (r .2)
+  path-free b y = let r = inward-in Y held e far x far-in b y in around-free Y held e free-e (r .0) b (r .2)
 
   pub path-not-held : (b : Bay) → In b held → Out b (shortestPath Y held x e)
   unfolding shortestPath far
   path-not-held b i =
       by-cases (elem b (shortestPath Y held x e))
-      (λ y. let r = walk-in Y held e far x far-in b y in not-both i ((around-free (r .0) b (r .2)) .1))
+      (λ y. let r = inward-in Y held e far x far-in b y in not-both i ((around-free Y held e free-e (r .0) b (r .2)) .1))
       (λ o. o)
 
 -- What vacating does: legal crossings, after which x is empty; no carrier at a held bay has moved, and none has come to one.
