@@ -1,201 +1,88 @@
--- Demand 3: any sequence of reports on a plan that passes the check, from fresh marks.
-use mathlib.Core.Path.{_≡_, refl, sym, _∙_, ap}
-use mathlib.Core.Bool.{true, false, not}
+-- The user's demands, as theorems about the definitions. Their proofs cite the laws; here they are in one place and in order.
+use mathlib.Core.Path.{_≡_, _∙_, ap}
+use mathlib.Core.Bool.{true, false}
 use mathlib.Core.Logic.{_↔_}
-use mathlib.Core.List.{List, [], _∷_, _++_, map, map-append, append-nil, append-assoc}
-use mathlib.Core.Option.{none}
-use Prim.Native.Nat.{ℕ, zero, suc, _<_, _+_}
+use mathlib.Core.List.{List, _++_, map}
+use mathlib.Core.Option.{none, some}
+use Prim.Native.Nat.{ℕ, suc, _<_, _≤_}
 use native.Mathlib.Omega.{arith}
-use lib.Dec.{eqb}
-use lib.ListN.{length, set, replicate, length-set, length-map, length-replicate}
-use lib.Seq.{getD-set-same, getD-set-other}
-use borrow.Author.Tests.{eqb-true, eqb-false, eq-eqb}
-use Rattle.paper.specs.Basics.{_or_, any, In, NoDup}
-use Rattle.paper.specs.Yard.{Bay, Carrier, Yard, Placement, Crossing, move, after, legalPlan, unpack, crossings, named}
-use Rattle.paper.specs.Dependence.{done, isDone, undoneBefore, doneOf, countOf, fresh}
-use Rattle.paper.specs.Docket.{yardOf, badMarks}
-use Rattle.paper.specs.Answers.{check, Report, accept, already, refuse, accepts, report, marksAfter}
-use Rattle.paper.specs.Log.{Request, answerTo, marksBy, marksFrom, namesFrom, marksOf, namesOf, acceptedOf}
-use Rattle.paper.proofs.Tests.{by-cases, by-option, not-both, or-neither}
-use Rattle.paper.proofs.Members.{In-head, In-nil, In-append, In-append-left, In-append-right, In-one, nodup-append, nothing-in-nil, out-cons}
-use Rattle.paper.proofs.Playing.{after-append, plan-append}
-use Rattle.paper.proofs.Commuting.{AllIndep, Closed, done-set, plan-right, come-last}
-use Rattle.paper.proofs.Marking.{InOrder, order-in, closed-of}
+use lib.ListN.{length, length-map, drop, getD}
+use Rattle.paper.specs.Basics.{In, NoDup}
+use Rattle.paper.specs.Yard.{Bay, Carrier, Placement, Crossing, after, legalPlan, unpack, crossings, pack, most-crossings}
+use Rattle.paper.specs.Procedure.{planned, stuck, procedure}
+use Rattle.paper.specs.Dependence.{isDone, doneOf, countOf, slots}
+use Rattle.paper.specs.Docket.{yardOf, badMarks, stopped, room, Refusal}
+use Rattle.paper.specs.Answers.{check, accept, already, report, accepted, refused, plan, planEnd, written, firstSix, slotsRefusal, slotsEnd, marksEnd}
+use Rattle.paper.specs.Log.{Request, answerTo, marksBy, marksOf, namesOf, acceptedOf}
+use Rattle.paper.proofs.Tests.{not-both}
+use Rattle.paper.proofs.Planning.{TooLong, accepted-exactly, stopped-exactly, room-exactly, accepted-right}
+use Rattle.paper.proofs.Slotting.{Numbering, slots-rise, slots-lowest}
 use Rattle.paper.proofs.Checking.{check-passed}
-use Rattle.paper.proofs.Reporting.{Ready, ready-of, early-lowest, by-report, accept-facts, facts-accept, done-already}
+use Rattle.paper.proofs.Reporting.{Ready, accept-facts, facts-accept, done-already, report-accepts}
+use Rattle.paper.proofs.Logging.{fine, some-ready, all-done, unaccepted, plan-lawful, kept-from-fresh}
+use Rattle.paper.proofs.Handing.{handed-passes}
 
-pub count-append : (c : Carrier) (xs ys : List Crossing) → countOf c (xs ++ ys) ≡ countOf c xs + countOf c ys
-unfolding countOf
-count-append c [] ys = omega arith
-count-append c (x ∷ xs) ys =
-    let ih = count-append c xs ys in by-cases (eqb (x .carrier) c) (λ e. rw e (omega arith)) (λ e. rw e ih)
+-- ## Demand 1: "Each refusal has its number and order, and leaves the lent lists unchanged."
+-- Every definition answers every input; the order of the tests is Answers', the numbers are the table's.
+pub record Demand1 (n : ℕ) (ends : List Bay) (starts goals : Placement) : Type 0 where
+  -- a refused plan, refused slots, and a report that is not accepted leave the lent list as it was,
+  pub plan-refused : (lent : List ℕ) (r : Refusal) → plan n ends starts goals (length lent) ≡ refused r → planEnd n ends starts goals lent ≡ lent
+  pub slots-refused : (crossed lent : List ℕ) (r : Refusal) → slotsRefusal n ends starts goals crossed (length lent) ≡ some r
+      → slotsEnd n ends starts goals crossed lent ≡ lent
+  pub not-accepted : (crossed marks : List ℕ) (name : ℕ) → (report n ends starts goals crossed marks name ≡ accept → ⊥)
+      → marksEnd n ends starts goals crossed marks name ≡ marks
+  -- and acceptance writes the plan, or the slots, and nothing beyond.
+  pub plan-written : (lent : List ℕ) (xs : List Crossing) → plan n ends starts goals (length lent) ≡ accepted xs
+      → planEnd n ends starts goals lent ≡ map pack xs ++ drop (length xs) lent
+  pub slots-written : (crossed lent : List ℕ) → slotsRefusal n ends starts goals crossed (length lent) ≡ none
+      → slotsEnd n ends starts goals crossed lent ≡ slots (crossings crossed) ++ drop (length crossed) lent
 
--- A name set done: where its crossing stands among the done ones, and that it is independent of those behind it.
-record Placed (xs : List Crossing) (ms : List ℕ) (i : ℕ) : Type 0 where
-  before : List Crossing
-  behind : List Crossing
-  without-it : doneOf xs ms ≡ before ++ behind
-  with-it : doneOf xs (set ms i 1) ≡ before ++ (named xs i ∷ behind)
-  apart : AllIndep (named xs i) behind
-
-placed : (xs : List Crossing) (ms : List ℕ) (i : ℕ) → i < length xs → length ms ≡ length xs → isDone ms i ≡ false → Closed xs ms → Placed xs ms i
-unfolding doneOf
-placed [] ms i h len d c = absurd (omega arith)
-placed (x ∷ xs) [] i h len d c = absurd (omega arith)
-placed (x ∷ xs) (m ∷ ms) zero h len d c = record {
-  before = [];
-  behind = doneOf xs ms;
-  without-it = rw d;
-  with-it = refl;
-  apart = c .0 d;
+pub demand-1 : (n : ℕ) (ends : List Bay) (starts goals : Placement) → Demand1 n ends starts goals
+unfolding written slotsEnd
+demand-1 n ends starts goals = record {
+  plan-refused = λ lent r h. rw h;
+  slots-refused = λ crossed lent r h. rw h;
+  not-accepted = λ crossed marks name h. unaccepted marks name (report n ends starts goals crossed marks name) h;
+  plan-written = λ lent xs h. rw h;
+  slots-written = λ crossed lent h. rw h;
 }
-placed (x ∷ xs) (m ∷ ms) (suc i) h len d c =
-    let ih = placed xs ms i (omega arith) (omega arith) d (c .1) in
-    by-cases (done m)
-    (λ e. record {
-      before = x ∷ ih .before;
-      behind = ih .behind;
-      without-it = rw e (ap (λ l. x ∷ l) (ih .without-it));
-      with-it = rw e (ap (λ l. x ∷ l) (ih .with-it));
-      apart = ih .apart;
-    })
-    (λ e. record { before = ih .before; behind = ih .behind; without-it = rw e (ih .without-it); with-it = rw e (ih .with-it); apart = ih .apart })
 
-done-same : (ms : List ℕ) (i : ℕ) → i < length ms → isDone (set ms i 1) i ≡ true
-done-same ms i h = ap done (getD-set-same ms i 1 0 h)
+-- ## Demand 2
+pub record Demand2 (n : ℕ) (ends : List Bay) (starts goals : Placement) : Type 0 where
+  -- "Every plan handed out is legal by the pebble-motion rule of the Push and Rotate paper and ends at the goals."
+  pub legal-home : (lent : ℕ) (xs : List Crossing) → plan n ends starts goals lent ≡ accepted xs
+      → (legalPlan (yardOf n ends) starts xs ≡ true) × (after starts xs ≡ goals)
+  -- "It is the plan of the fixed procedure in document 01;
+  pub the-procedure : (lent : ℕ) (xs : List Crossing) → (plan n ends starts goals lent ≡ accepted xs)
+      ↔ ((firstSix n ends starts goals 0 ≡ none) × (procedure (yardOf n ends) goals starts ≡ planned xs) × (length xs ≤ lent) × (length xs ≤ most-crossings))
+  -- "stopped" and "no room" come exactly when that document says."
+  pub stops : (lent : ℕ) (c : Carrier) → (plan n ends starts goals lent ≡ refused (stopped c))
+      ↔ ((firstSix n ends starts goals 0 ≡ none) × (procedure (yardOf n ends) goals starts ≡ stuck c))
+  pub no-room : (lent m : ℕ) → (plan n ends starts goals lent ≡ refused (room m))
+      ↔ ((firstSix n ends starts goals 0 ≡ none)
+        × ((xs : List Crossing) × (procedure (yardOf n ends) goals starts ≡ planned xs) × (length xs ≡ m))
+        × TooLong lent m)
+  -- "Each crossing's slot is the lowest that dependence permits."
+  pub slots-rise-along : (xs : List Crossing) → Numbering xs (λ i. getD (slots xs) i 0)
+  pub slots-are-lowest : (xs : List Crossing) (t : ℕ → ℕ) → Numbering xs t → (i : ℕ) → i < length xs → getD (slots xs) i 0 ≤ t i
+  -- "With plan and marks in order, a reported name is accepted exactly if it is in the plan, not yet done, and every earlier
+  -- crossing it depends on is done."
+  pub accepts-exactly : (crossed marks : List ℕ) → check n ends starts goals crossed ≡ none → badMarks (crossings crossed) marks ≡ false
+      → (i : ℕ) → (report n ends starts goals crossed marks i ≡ accept)
+      ↔ ((i < length (crossings crossed)) × (isDone marks i ≡ false) × Ready (crossings crossed) marks i)
 
-done-other : (ms : List ℕ) (i e : ℕ) → (e ≡ i → ⊥) → isDone (set ms i 1) e ≡ isDone ms e
-done-other ms i e n = ap done (getD-set-other ms i e 1 0 n)
+pub demand-2 : (n : ℕ) (ends : List Bay) (starts goals : Placement) → Demand2 n ends starts goals
+demand-2 n ends starts goals = record {
+  legal-home = accepted-right n ends starts goals;
+  the-procedure = accepted-exactly n ends starts goals;
+  stops = stopped-exactly n ends starts goals;
+  no-room = room-exactly n ends starts goals;
+  slots-rise-along = slots-rise;
+  slots-are-lowest = slots-lowest;
+  accepts-exactly = λ crossed marks p f. report-accepts n ends starts goals crossed marks p f;
+}
 
-done-stays : (ms : List ℕ) (i e : ℕ) → i < length ms → isDone ms e ≡ true → isDone (set ms i 1) e ≡ true
-done-stays ms i e h d =
-    by-cases (eqb e i) (λ q. rw (eqb-true e i q) (done-same ms i h)) (λ q. done-other ms i e (eqb-false e i q) ∙ d)
-
-order-set : (xs : List Crossing) (ms : List ℕ) (i : ℕ) → i < length ms → InOrder xs ms → Ready xs ms i → InOrder xs (set ms i 1)
-order-set xs ms i h f r e j l k d q =
-    by-cases (eqb j i)
-    (λ z. let s = eqb-true j i z in done-stays ms i e h (r e (omega arith) (rw s at d)))
-    (λ z. done-stays ms i e h (f e j l k d (sym (done-other ms i j (eqb-false j i z)) ∙ q)))
-
--- every mark is 0 or 1
-abbrev Bits : List ℕ → Type 0
-Bits ms = any (λ m. not (eqb m 0 or eqb m 1)) ms ≡ false
-
-bits-set : (ms : List ℕ) (i : ℕ) → Bits ms → Bits (set ms i 1)
-unfolding any _or_
-bits-set [] i b = b
-bits-set (m ∷ ms) zero b =
-    by-cases (not (eqb m 0 or eqb m 1)) (λ e. not-both refl (rw e at b)) (λ e. rw e at b)
-bits-set (m ∷ ms) (suc i) b =
-    by-cases (not (eqb m 0 or eqb m 1)) (λ e. not-both refl (rw e at b)) (λ e. rw e (bits-set ms i (rw e at b)))
-
-bits-fresh : (k : ℕ) → Bits (replicate k 0)
-unfolding any _or_
-bits-fresh zero = refl
-bits-fresh (suc k) = bits-fresh k
-
-fresh-undone : (k i : ℕ) → isDone (replicate k 0) i ≡ false
-fresh-undone zero i = refl
-fresh-undone (suc k) zero = refl
-fresh-undone (suc k) (suc i) = fresh-undone k i
-
-fresh-none : (xs : List Crossing) (k : ℕ) → doneOf xs (replicate k 0) ≡ []
-unfolding doneOf
-fresh-none [] k = refl
-fresh-none (x ∷ xs) zero = refl
-fresh-none (x ∷ xs) (suc k) = fresh-none xs k
-
-all-done : (xs : List Crossing) (ms : List ℕ) → length ms ≡ length xs → ((i : ℕ) → i < length xs → isDone ms i ≡ true) → doneOf xs ms ≡ xs
-unfolding doneOf
-all-done [] ms len f = refl
-all-done (x ∷ xs) [] len f = absurd (omega arith)
-all-done (x ∷ xs) (m ∷ ms) len f =
-    rw (f 0 (omega arith)) (ap (λ l. x ∷ l) (all-done xs ms (omega arith) (λ i h. f (suc i) (omega arith))))
-
--- what holds of the marks and of the names accepted, in the order accepted
-record Kept (Y : Yard) (starts : Placement) (xs : List Crossing) (ms got : List ℕ) : Type 0 where
-  long : length ms ≡ length xs
-  bits : Bits ms
-  order : InOrder xs ms
-  lawful : legalPlan Y starts (map (named xs) got) ≡ true
-  same : after starts (map (named xs) got) ≡ after starts (doneOf xs ms)
-  counts : (c : Carrier) → countOf c (map (named xs) got) ≡ countOf c (doneOf xs ms)
-  names : (i : ℕ) → In i got → (i < length xs) × (isDone ms i ≡ true)
-  marked : (i : ℕ) → isDone ms i ≡ true → In i got
-  once : NoDup got
-
-module _ (Y : Yard) (starts : Placement) (xs : List Crossing) (plan-legal : legalPlan Y starts xs ≡ true) where
-  fine : (ms got : List ℕ) → Kept Y starts xs ms got → badMarks xs ms ≡ false
-  unfolding badMarks
-  fine ms got k = or-neither _ _ (or-neither _ _ (ap not (eq-eqb _ _ (k .long))) (k .bits)) (order-in xs ms (k .order))
-
-  kept-fresh : Kept Y starts xs (replicate (length xs) 0) []
-  unfolding legalPlan
-  kept-fresh = record {
-    long = length-replicate (length xs) 0;
-    bits = bits-fresh (length xs);
-    order = λ e i l h d q. not-both q (fresh-undone (length xs) i);
-    lawful = refl;
-    same = ap (after starts) (sym (fresh-none xs (length xs)));
-    counts = λ c. ap (countOf c) (sym (fresh-none xs (length xs)));
-    names = λ i h. In-nil i h;
-    marked = λ i q. not-both q (fresh-undone (length xs) i);
-    once = tt;
-  }
-
-  -- one more name, not done and ready
-  kept-on : (ms got : List ℕ) (i : ℕ) → Kept Y starts xs ms got → i < length xs → isDone ms i ≡ false → Ready xs ms i
-      → Kept Y starts xs (set ms i 1) (got ++ (i ∷ []))
-  unfolding after
-  kept-on ms got i k h d r =
-      let x = named xs i in
-      let acc = map (named xs) got in
-      let pl = placed xs ms i h (k .long) d (closed-of xs ms (k .order)) in
-      let A = pl .before in
-      let B = pl .behind in
-      let inside : i < length ms = rw (k .long) h in
-      let order′ = order-set xs ms i inside (k .order) r in
-      let ds = done-set Y starts xs (set ms i 1) (closed-of xs (set ms i 1) order′) plan-legal in
-      let new : legalPlan Y starts (A ++ (x ∷ B)) ≡ true = rw (pl .with-it) at (ds .first) in
-      let last = come-last Y (after starts A) x B (pl .apart) (plan-right Y starts A (x ∷ B) new) in
-      let here : after starts acc ≡ after (after starts A) B = k .same ∙ ap (after starts) (pl .without-it) ∙ after-append starts A B in
-      let one : legalPlan Y (after starts acc) (x ∷ []) ≡ true = rw here (plan-right Y (after starts A) B (x ∷ []) (last .0)) in
-      let acc-on : map (named xs) (got ++ (i ∷ [])) ≡ acc ++ (x ∷ []) = map-append (named xs) got (i ∷ []) in
-      record {
-        long = length-set ms i 1 ∙ k .long;
-        bits = bits-set ms i (k .bits);
-        order = order′;
-        lawful = rw acc-on (plan-append Y starts acc (x ∷ []) (k .lawful) one);
-        same = ap (after starts) acc-on ∙ after-append starts acc (x ∷ []) ∙ ap (λ q. move q x) here
-            ∙ sym (after-append (after starts A) B (x ∷ [])) ∙ last .1 ∙ sym (after-append starts A (x ∷ B)) ∙ ap (after starts) (sym (pl .with-it));
-        counts = λ c.
-            let a = k .counts c ∙ ap (countOf c) (pl .without-it) ∙ count-append c A B in
-            let b = count-append c acc (x ∷ []) in
-            let e = ap (countOf c) acc-on in
-            let f = ap (countOf c) (pl .with-it) ∙ count-append c A (x ∷ B) in
-            let g = count-append c (x ∷ []) B in
-            omega arith;
-        names = λ j m. In-append j got (i ∷ []) m
-            (λ q. let w = k .names j q in (w .0, done-stays ms i j inside (w .1)))
-            (λ q. let s = In-one j i q in (rw s h, rw s (done-same ms i inside)));
-        marked = λ j q.
-            by-cases (eqb j i)
-            (λ e. In-append-right j got (i ∷ []) (rw (eqb-true j i e) (In-head i [])))
-            (λ e. In-append-left j got (i ∷ []) (k .marked j (sym (done-other ms i j (eqb-false j i e)) ∙ q)));
-        once = nodup-append got (i ∷ []) (k .once) (nothing-in-nil i, tt)
-            (λ z m. out-cons z i [] (λ e. not-both (k .names z m .1) (rw e d)) (nothing-in-nil z));
-      }
-
-  -- no mark of a name is missing: the lowest undone name that it depends on, or itself, is ready
-  some-ready : (ms : List ℕ) (b i : ℕ) → i < b → i < length xs → isDone ms i ≡ false
-      → (j : ℕ) × (j < length xs) × (isDone ms j ≡ false) × Ready xs ms j
-  some-ready ms zero i l h d = absurd (omega arith)
-  some-ready ms (suc b) i l h d =
-      by-option (undoneBefore xs ms i)
-      (λ u. (i, h, d, ready-of xs ms i u))
-      (λ e u. let f = early-lowest xs ms i e u in some-ready ms b e (omega (arith, f .0)) (omega (arith, f .0)) (f .2))
-
--- Demand 3, for reports on a plan, one after the other from fresh marks.
+-- ## Demand 3: reports on a plan that passes the check, one after the other, from fresh marks, each with a yard, a start and a goal of its own
 pub record Demand3 (n : ℕ) (ends : List Bay) (starts goals : Placement) (plan : List ℕ) (qs : List Request) : Type 0 where
   -- the accepted crossings, in the order accepted, are each legal,
   pub lawful : legalPlan (yardOf n ends) starts (acceptedOf plan qs) ≡ true
@@ -215,42 +102,15 @@ pub record Demand3 (n : ℕ) (ends : List Bay) (starts goals : Placement) (plan 
   pub all-home : ((i : ℕ) → i < length plan → isDone (marksOf plan qs) i ≡ true)
       → (after starts (acceptedOf plan qs) ≡ goals) × ((c : Carrier) → countOf c (acceptedOf plan qs) ≡ countOf c (crossings plan))
 
-pub unaccepted : (ms : List ℕ) (i : ℕ) (r : Report) → (r ≡ accept → ⊥) → marksAfter ms i r ≡ ms
-unfolding marksAfter
-unaccepted ms i accept h = absurd (h refl)
-unaccepted ms i already h = refl
-unaccepted ms i (refuse x) h = refl
-
 module _ (n : ℕ) (ends : List Bay) (starts goals : Placement) (plan : List ℕ) (passes : check n ends starts goals plan ≡ none) where
-  plan-lawful : legalPlan (yardOf n ends) starts (crossings plan) ≡ true
-  plan-lawful = check-passed n ends starts goals plan passes .lawful
-
-  kept-run : (ms got : List ℕ) (qs : List Request) → Kept (yardOf n ends) starts (crossings plan) ms got
-      → Kept (yardOf n ends) starts (crossings plan) (marksFrom plan ms qs) (got ++ namesFrom plan ms qs)
-  unfolding marksFrom namesFrom marksAfter accepts
-  kept-run ms got [] k = rw append-nil k
-  kept-run ms got (q ∷ qs) k =
-      by-report (answerTo plan ms q)
-      (λ e.
-      let i = q .name in
-      let f = accept-facts (q .bays) (q .ends) (q .starts) (q .goals) plan ms i e in
-      let ih = kept-run (set ms i 1) (got ++ (i ∷ [])) qs (kept-on (yardOf n ends) starts (crossings plan) plan-lawful ms got i k (f .2) (f .3) (f .4)) in
-      rw e (rw append-assoc at ih))
-      (λ e. rw e (kept-run ms got qs k))
-      (λ x e. rw e (kept-run ms got qs k))
-
-  kept-from-fresh : (qs : List Request) → Kept (yardOf n ends) starts (crossings plan) (marksOf plan qs) (namesOf plan qs)
-  kept-from-fresh qs =
-      kept-run (fresh plan) [] qs (rw length-map at (kept-fresh (yardOf n ends) starts (crossings plan) plan-lawful))
-
-  -- Demand 3.
   pub demand-3 : (qs : List Request) → Demand3 n ends starts goals plan qs
   demand-3 qs =
       let Y = yardOf n ends in
       let xs = crossings plan in
       let ms = marksOf plan qs in
-      let k = kept-from-fresh qs in
-      let ok = fine Y starts xs plan-lawful ms (namesOf plan qs) k in
+      let k = kept-from-fresh n ends starts goals plan passes qs in
+      let lawful = plan-lawful n ends starts goals plan passes in
+      let ok = fine Y starts xs lawful ms (namesOf plan qs) k in
       let len : length xs ≡ length plan = length-map plan unpack in
       record {
         lawful = k .lawful;
@@ -262,9 +122,14 @@ module _ (n : ℕ) (ends : List Bay) (starts goals : Placement) (plan : List ℕ
         answered = λ i m. let f = k .names i m in done-already n ends starts goals plan ms passes ok i (f .0) (f .1);
         unchanged = λ q h. unaccepted ms (q .name) (answerTo plan ms q) h;
         goes-on = λ i h d.
-            let r = some-ready Y starts xs plan-lawful ms (suc i) i (omega arith) (rw len h) d in
+            let r = some-ready Y starts xs lawful ms (suc i) i (omega arith) (rw len h) d in
             (r .0, facts-accept n ends starts goals plan ms passes ok (r .0) (r .1) (r .2) (r .3));
         all-home = λ f.
             let whole = all-done xs ms (k .long) (λ i h. f i (rw len at h)) in
             (k .same ∙ ap (after starts) whole ∙ check-passed n ends starts goals plan passes .home, λ c. k .counts c ∙ ap (countOf c) whole);
       }
+
+-- Every plan handed out passes the check, so demand 3 is of every such plan.
+pub handed-demand-3 : (n : ℕ) (ends : List Bay) (s g : Placement) (lent : ℕ) (xs : List Crossing) → plan n ends s g lent ≡ accepted xs
+    → (qs : List Request) → Demand3 n ends s g (map pack xs) qs
+handed-demand-3 n ends s g lent xs h qs = demand-3 n ends s g (map pack xs) (handed-passes n ends s g lent xs h .0) qs

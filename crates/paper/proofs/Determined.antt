@@ -1,4 +1,5 @@
--- Determinacy: any two answers that a statement allows are equal.
+-- Any two answers that a statement allows are equal: a statement says `answer ≡ definition` and `end contents ≡ definition`, and
+-- where the answer is an enum, a definition reads it as the paper's and tells any two of them apart.
 use mathlib.Core.Path.{_≡_, sym, _∙_, ap}
 use mathlib.Core.List.{List}
 use mathlib.Core.Option.{Option}
@@ -6,35 +7,40 @@ use Prim.Native.Nat.{ℕ}
 use lib.ListN.{length}
 use Rattle.paper.specs.Yard.{Bay, Placement}
 use Rattle.paper.specs.Docket.{Refusal}
-use Rattle.paper.specs.Answers.{check, slotsRefusal, slotsEnd, Report, report, marksEnd}
+use Rattle.paper.specs.Answers.{Answer, plan, planEnd, check, slotsRefusal, slotsEnd, Report, report, marksEnd}
 
--- a statement of an plan and of what is in the lent lists at the end allows one of each
+-- a statement of an answer and of what a lent list holds at the end allows one of each
 abbrev pub Determined : {A B : Type 0} → (A → B → Type 0) → Type 0
 Determined {A} {B} S = (a a′ : A) (b b′ : B) → S a b → S a′ b′ → (a ≡ a′) × (b ≡ b′)
 
--- a reading of the code's answers as this paper's that tells any two apart
+-- a reading of the code's answers that tells any two apart
 abbrev pub Telling : {A A′ : Type 0} → (A → A′) → Type 0
 Telling {A} {A′} read = (a a′ : A) → read a ≡ read a′ → a ≡ a′
 
--- it is one where the plan can be read back
+-- it does where the answer can be had back
 pub telling-by : {A A′ : Type 0} (read : A → A′) (back : A′ → A) → ((a : A) → back (read a) ≡ a) → Telling read
 telling-by read back h a a′ e = sym (h a) ∙ ap back e ∙ h a′
 
--- plan ≡ definition, end contents ≡ definition
 pub determined : {A B : Type 0} (x : A) (y : B) → Determined (λ (a : A) (b : B). (a ≡ x) × (b ≡ y))
 determined x y a a′ b b′ s t = (s .0 ∙ sym (t .0), s .1 ∙ sym (t .1))
 
--- the same where the plan is an enum that a definition reads as this paper's
 pub determined-by : {A A′ B : Type 0} (read : A → A′) → Telling read → (x : A′) (y : B) → Determined (λ (a : A) (b : B). (read a ≡ x) × (b ≡ y))
 determined-by read tells x y a a′ b b′ s t = (tells a a′ (s .0 ∙ sym (t .0)), s .1 ∙ sym (t .1))
 
--- the three statements of the log
-module _ (n : ℕ) (ends : List Bay) (starts goals : Placement) (plan : List ℕ) where
-  pub check-determined : Determined (λ (a : Option Refusal) (l : List ℕ). (a ≡ check n ends starts goals plan) × (l ≡ plan))
-  check-determined = determined (check n ends starts goals plan) plan
+-- the statements of planning, check, slots and report
+module _ (n : ℕ) (ends : List Bay) (starts goals : Placement) where
+  pub plan-determined : (lent : List ℕ)
+      → Determined (λ (a : Answer) (l : List ℕ). (a ≡ plan n ends starts goals (length lent)) × (l ≡ planEnd n ends starts goals lent))
+  plan-determined lent = determined (plan n ends starts goals (length lent)) (planEnd n ends starts goals lent)
 
-  pub slots-determined : (lent : List ℕ) → Determined (λ (a : Option Refusal) (l : List ℕ). (a ≡ slotsRefusal n ends starts goals plan (length lent)) × (l ≡ slotsEnd n ends starts goals plan lent))
-  slots-determined lent = determined (slotsRefusal n ends starts goals plan (length lent)) (slotsEnd n ends starts goals plan lent)
+  pub check-determined : (crossed : List ℕ)
+      → Determined (λ (a : Option Refusal) (l : List ℕ). (a ≡ check n ends starts goals crossed) × (l ≡ crossed))
+  check-determined crossed = determined (check n ends starts goals crossed) crossed
 
-  pub report-determined : (marks : List ℕ) (name : ℕ) → Determined (λ (a : Report) (l : List ℕ). (a ≡ report n ends starts goals plan marks name) × (l ≡ marksEnd n ends starts goals plan marks name))
-  report-determined marks name = determined (report n ends starts goals plan marks name) (marksEnd n ends starts goals plan marks name)
+  pub slots-determined : (crossed lent : List ℕ)
+      → Determined (λ (a : Option Refusal) (l : List ℕ). (a ≡ slotsRefusal n ends starts goals crossed (length lent)) × (l ≡ slotsEnd n ends starts goals crossed lent))
+  slots-determined crossed lent = determined (slotsRefusal n ends starts goals crossed (length lent)) (slotsEnd n ends starts goals crossed lent)
+
+  pub report-determined : (crossed marks : List ℕ) (name : ℕ)
+      → Determined (λ (a : Report) (l : List ℕ). (a ≡ report n ends starts goals crossed marks name) × (l ≡ marksEnd n ends starts goals crossed marks name))
+  report-determined crossed marks name = determined (report n ends starts goals crossed marks name) (marksEnd n ends starts goals crossed marks name)

@@ -11,7 +11,6 @@ use borrow.Author.Tests.{eqb-true}
 use Rattle.paper.specs.Yard.{Bay, Carrier, Yard, Placement, Crossing, bayOf, move, legalPlan, most-crossings, pack, unpack, crossings, named}
 use Rattle.paper.specs.Docket.{yardOf}
 use Rattle.paper.specs.Answers.{accepted, firstSix, plan, check}
-use Rattle.paper.specs.Log.{Request}
 use Rattle.paper.specs.OnePass.{Fits}
 use Rattle.paper.proofs.Tests.{by-cases}
 use Rattle.paper.proofs.Members.{count-high}
@@ -20,7 +19,6 @@ use Rattle.paper.proofs.Admitted.{clean-of, sound-of, good-of, of-clean
 use Rattle.paper.proofs.Planning.{accepted-right, accepted-exactly}
 use Rattle.paper.proofs.Checking.{passed-check, check-passed}
 use Rattle.paper.proofs.Packing.{unpack-pack, named-is}
-use Rattle.paper.proofs.Demands.{Demand3, demand-3}
 
 module _ (Y : Yard) (sound : Sound Y) (few : Y .bays ≤ 256) where
   -- a legal plan's numbers read as its crossings
@@ -110,8 +108,3 @@ check-fits n ends s g plan h i k =
     let f₁ = rw same at (f .1) in
     let f₂ = rw same at (f .2) in
     (omega arith, omega arith, omega arith)
-
--- Demand 3 of every plan handed out.
-pub handed-demand-3 : (n : ℕ) (ends : List Bay) (s g : Placement) (lent : ℕ) (xs : List Crossing) → plan n ends s g lent ≡ accepted xs
-    → (qs : List Request) → Demand3 n ends s g (map pack xs) qs
-handed-demand-3 n ends s g lent xs h qs = demand-3 n ends s g (map pack xs) (handed-passes n ends s g lent xs h .0) qs

@@ -4,6 +4,7 @@ pub mod Firsts
 pub mod Rings
 pub mod Reach
 pub mod Shortest
+pub mod Nearest
 pub mod Playing
 pub mod Vacating
 pub mod Trading
@@ -17,8 +18,9 @@ pub mod Marking
 pub mod Checking
 pub mod Reporting
 pub mod Packing
-pub mod Demands
+pub mod Logging
 pub mod Handing
+pub mod Demands
 pub mod Determined
 pub mod Fed
 pub mod Fields

@@ -113,9 +113,9 @@ module _ (n : ℕ) (ends : List Bay) (starts goals : Placement) (plan : List ℕ
         rw (passes, fine, lt-leb (length (crossings plan)) i l, d, of-ready (crossings plan) ms i r)
 
     -- A reported name is accepted exactly if it is in the plan, not yet done, and every earlier crossing it depends on is done.
-    pub accepted-exactly : (i : ℕ) → (report n ends starts goals plan ms i ≡ accept)
+    pub report-accepts : (i : ℕ) → (report n ends starts goals plan ms i ≡ accept)
         ↔ ((i < length (crossings plan)) × (isDone ms i ≡ false) × Ready (crossings plan) ms i)
-    accepted-exactly i = (λ h. let f = accept-facts i h in (f .2, f .3, f .4), λ f. facts-accept i (f .0) (f .1) (f .2))
+    report-accepts i = (λ h. let f = accept-facts i h in (f .2, f .3, f .4), λ f. facts-accept i (f .0) (f .1) (f .2))
 
     -- a done name answers "already"
     pub done-already : (i : ℕ) → i < length (crossings plan) → isDone ms i ≡ true → report n ends starts goals plan ms i ≡ already

@@ -16,8 +16,8 @@ use lib.ListN.{length, getD}
 use Rattle.paper.specs.Basics.{_and_, without, any, concat, elem, upTo, In, find, Out}
 use Rattle.paper.specs.Yard.{Bay, Yard, joined}
 use Rattle.paper.specs.Path.{nextRing, ringsFrom, rings, nearestFirst, ringOf, Free}
-use Rattle.paper.proofs.Tests.{by-cases, not-both, and-left, and-right, and-both, or-left, or-right, or-cases, by-option}
-use Rattle.paper.proofs.Members.{In-nil, In-one, In-append, In-append-left, In-append-right, find-in, filter-passes, any-some, In-head, Out-append, filter-in, in-filter, any-of, without-in, without-out, in-without, Out-left, find-none, Out-right}
+use Rattle.paper.proofs.Tests.{by-cases, not-both, and-left, and-right, and-both, or-left, or-right, or-cases, by-option, never-some}
+use Rattle.paper.proofs.Members.{In-nil, In-one, In-append, In-append-left, In-append-right, filter-passes, any-some, In-head, Out-append, filter-in, in-filter, any-of, without-in, without-out, in-without, Out-left, find-none, Out-right}
 
 pub any-weaker : {A : Type 0} (q q′ : A → Bool) → ((x : A) → q x ≡ true → q′ x ≡ true) → (xs : List A) → any q xs ≡ true → any q′ xs ≡ true
 unfolding any
@@ -173,21 +173,29 @@ module _ (q : Bay → Bool) where
   find-later [] ys h = refl
   find-later (x ∷ xs) ys h = by-cases (q x) (λ k. let z = rw k at h in cc) (λ k. rw k (find-later xs ys (rw k at h)))
 
-  -- the first that passes, ring by ring: nothing of an earlier ring passes
-  pub first-ring : (rs : List (List Bay)) {e : Bay} → find q (concat rs) ≡ some e
-      → (d : ℕ) × (d < length rs) × In e (getD rs d []) × ((j : ℕ) (b : Bay) → j < d → In b (getD rs j []) → q b ≡ false)
+  -- The first that passes, ring by ring: it is the first of its ring, and nothing of an earlier ring passes.
+  pub record FirstRing (rs : List (List Bay)) (e : Bay) : Type 0 where
+    pub ring : ℕ
+    pub there : ring < length rs
+    pub found : find q (getD rs ring []) ≡ some e
+    pub earlier : (j : ℕ) (b : Bay) → j < ring → In b (getD rs j []) → q b ≡ false
+
+  pub first-ring : (rs : List (List Bay)) {e : Bay} → find q (concat rs) ≡ some e → FirstRing rs e
   unfolding concat find
-  first-ring [] h = let z : _≡_ {A = ℕ} 0 1 = cc in absurd (omega arith)
+  first-ring [] {e} h = never-some e h
   first-ring (r ∷ rs) {e} h =
       by-option (find q r)
       (λ k.
       let t = first-ring rs (sym (find-later r (concat rs) k) ∙ h) in
-      let earlier : (j : ℕ) (b : Bay) → j < suc (t .0) → In b (getD (r ∷ rs) j []) → q b ≡ false =
-      λ j. elim j [ zero ↦ λ b l i. find-none q r b k i | suc m ↦ λ b l i. t .3 m b (omega arith) i ] in
-      (suc (t .0), omega arith, t .2, earlier))
+      record {
+        ring = suc (t .ring);
+        there = omega (arith, t .there);
+        found = t .found;
+        earlier = λ j. elim j [ zero ↦ λ b l i. find-none q r b k i | suc m ↦ λ b l i. t .earlier m b (omega arith) i ];
+      })
       (λ y k.
       let n : y ≡ e = let z = find-here r (concat rs) k in cc in
-      (0, omega arith, rw n at (find-in q r k), λ j b l i. absurd (omega arith)))
+      record { ring = 0; there = omega arith; found = k ∙ ap some n; earlier = λ j b l i. absurd (omega arith) })
 
 pub in-ring : (u : Bay) (rs : List (List Bay)) (d : ℕ) → In u (getD rs d []) → d < length rs
 in-ring u [] d i = In-nil u i

@@ -13,8 +13,8 @@ use Rattle.paper.specs.Yard.{Bay, Carrier, Yard, Placement, Crossing, cr
 use Rattle.paper.specs.Path.{rings, nearestFirst, ringOf, inward, shortestPath, Free}
 use Rattle.paper.specs.Procedure.{shift, vacate}
 use Rattle.paper.proofs.Tests.{by-cases, by-option, not-both, never-some}
-use Rattle.paper.proofs.Members.{Out-head, Out-tail, find-passes}
-use Rattle.paper.proofs.Rings.{ring-zero, in-concat, distance-in, distance-least, Walk, here, on, ring-walk, walk-ring, walk-back, walk-free, first-ring, ringsFrom-length}
+use Rattle.paper.proofs.Members.{Out-head, Out-tail, find-passes, find-in}
+use Rattle.paper.proofs.Rings.{ring-zero, in-concat, distance-in, distance-least, Walk, here, on, ring-walk, walk-ring, walk-back, walk-free, first-ring, ringsFrom-length, FirstRing}
 use Rattle.paper.proofs.Shortest.{inward-zero, inward-head, inward-in, apart-from, next, around-free}
 use Rattle.paper.proofs.Playing.{Apart, Legal, legal-facts, legal-of, after-append, after-length, plan-head, plan-tail, plan-cons, plan-append, placeOf-bay, placeOf-there, move-other, move-apart, move-empties, move-out}
 
@@ -82,21 +82,20 @@ module _ (Y : Yard) (p : Placement) (apart : Apart p) where
 module _ (Y : Yard) (held : List Bay) (p : Placement) (apart : Apart p) (x e : Bay) (free-x : Free Y held x)
     (first : find (isEmpty p) (nearestFirst Y held x) ≡ some e) where
   -- the ring of e around x
-  found : (d : ℕ) × (d < length (rings Y held x)) × In e (getD (rings Y held x) d [])
-      × ((j : ℕ) (b : Bay) → j < d → In b (getD (rings Y held x) j []) → isEmpty p b ≡ false)
+  found : FirstRing (isEmpty p) (rings Y held x) e
   found = first-ring (isEmpty p) (rings Y held x) first
 
-  fits : found .0 < Y .bays
-  fits = rw ringsFrom-length at (found .1)
+  fits : found .ring < Y .bays
+  fits = rw ringsFrom-length at (found .there)
 
-  to-e : Walk Y held x (found .0) e
-  to-e = ring-walk Y held (Y .bays) x (found .0) e (found .2)
+  to-e : Walk Y held x (found .ring) e
+  to-e = ring-walk Y held (Y .bays) x (found .ring) e (find-in (isEmpty p) (getD (rings Y held x) (found .ring) []) (found .found))
 
   free-e : Free Y held e
   free-e = walk-free Y held free-x to-e
 
   -- x is in a ring around e that is no further out
-  x-around : (i : ℕ) × (i ≤ found .0) × In x (getD (rings Y held e) i [])
+  x-around : (i : ℕ) × (i ≤ found .ring) × In x (getD (rings Y held e) i [])
   x-around = walk-ring Y held (Y .bays) e (walk-back Y held free-x to-e) fits
 
   pub far : ℕ
@@ -106,14 +105,14 @@ module _ (Y : Yard) (held : List Bay) (p : Placement) (apart : Apart p) (x e : B
   unfolding far
   far-in = distance-in Y x (rings Y held e) (in-concat Y x (rings Y held e) (x-around .0) (x-around .2))
 
-  far-fits : far ≤ found .0
+  far-fits : far ≤ found .ring
   unfolding far
   far-fits = omega (arith, distance-least Y x (rings Y held e) (x-around .0) (x-around .2), x-around .1)
 
   occupied : (i : ℕ) (u : Bay) → Walk Y held x i u → i < far → In u p
   occupied i u w h =
       let r = walk-ring Y held (Y .bays) x w (omega (arith, far-fits, fits)) in
-      not-false (elem u p) (found .3 (r .0) u (omega (arith, far-fits, r .1)) (r .2))
+      not-false (elem u p) (found .earlier (r .0) u (omega (arith, far-fits, r .1)) (r .2))
 
   -- from a bay that is i rails from x and d from e
   pub shiftable : (d i : ℕ) (u : Bay) → In u (getD (rings Y held e) d []) → Walk Y held x i u → i + d ≤ far
