@@ -60,8 +60,8 @@ pub record Demand2 (n : ℕ) (ends : List Bay) (starts goals : Placement) : Type
       ↔ ((firstSix n ends starts goals 0 ≡ none) × (procedure (yardOf n ends) goals starts ≡ stuck c))
   pub no-room : (lent m : ℕ) → (plan n ends starts goals lent ≡ refused (room m))
       ↔ ((firstSix n ends starts goals 0 ≡ none)
-        × ((xs : List Crossing) × (procedure (yardOf n ends) goals starts ≡ planned xs) × (length xs ≡ m))
-        × TooLong lent m)
+      × ((xs : List Crossing) × (procedure (yardOf n ends) goals starts ≡ planned xs) × (length xs ≡ m))
+      × TooLong lent m)
   -- "Each crossing's slot is the lowest that dependence permits."
   pub slots-rise-along : (xs : List Crossing) → Numbering xs (λ i. getD (slots xs) i 0)
   pub slots-are-lowest : (xs : List Crossing) (t : ℕ → ℕ) → Numbering xs t → (i : ℕ) → i < length xs → getD (slots xs) i 0 ≤ t i

@@ -1,12 +1,14 @@
 -- Any two answers that a statement allows are equal: a statement says `answer ≡ definition` and `end contents ≡ definition`, and
 -- where the answer is an enum, a definition reads it as the paper's and tells any two of them apart.
-use mathlib.Core.Path.{_≡_, sym, _∙_, ap}
+use mathlib.Core.Path.{_≡_, refl, sym, _∙_, ap, ap₂}
 use mathlib.Core.List.{List}
-use mathlib.Core.Option.{Option}
+use mathlib.Core.Option.{Option, Option·getD}
 use Prim.Native.Nat.{ℕ}
+use lib.Dec.{eqb}
 use lib.ListN.{length}
+use Rattle.paper.specs.Basics.{if_then_else_}
 use Rattle.paper.specs.Yard.{Bay, Placement}
-use Rattle.paper.specs.Docket.{Refusal}
+use Rattle.paper.specs.Docket.{Refusal, size, rail, apart, crowd, start, goal, stopped, room, illegal, missed, mismarked, unknown, early, badMap, badScenario, number, carried}
 use Rattle.paper.specs.Answers.{Answer, plan, planEnd, check, slotsRefusal, slotsEnd, Report, report, marksEnd}
 
 -- a statement of an answer and of what a lent list holds at the end allows one of each
@@ -44,3 +46,44 @@ module _ (n : ℕ) (ends : List Bay) (starts goals : Placement) where
   pub report-determined : (crossed marks : List ℕ) (name : ℕ)
       → Determined (λ (a : Report) (l : List ℕ). (a ≡ report n ends starts goals crossed marks name) × (l ≡ marksEnd n ends starts goals crossed marks name))
   report-determined crossed marks name = determined (report n ends starts goals crossed marks name) (marksEnd n ends starts goals crossed marks name)
+
+-- the refusal of a number and what it carries
+from : ℕ → ℕ → Refusal
+from n v =
+    if eqb n 1 then size
+    else if eqb n 2 then rail v
+    else if eqb n 3 then apart v
+    else if eqb n 4 then crowd
+    else if eqb n 5 then start v
+    else if eqb n 6 then goal v
+    else if eqb n 7 then stopped v
+    else if eqb n 8 then room v
+    else if eqb n 9 then illegal v
+    else if eqb n 10 then missed v
+    else if eqb n 11 then mismarked
+    else if eqb n 12 then unknown
+    else if eqb n 13 then early v
+    else if eqb n 14 then badMap v
+    else badScenario v
+
+had-back : (r : Refusal) → from (number r) (Option·getD (carried r) 0) ≡ r
+unfolding from
+had-back size = refl
+had-back (rail i) = refl
+had-back (apart b) = refl
+had-back crowd = refl
+had-back (start c) = refl
+had-back (goal c) = refl
+had-back (stopped c) = refl
+had-back (room l) = refl
+had-back (illegal i) = refl
+had-back (missed c) = refl
+had-back mismarked = refl
+had-back unknown = refl
+had-back (early e) = refl
+had-back (badMap l) = refl
+had-back (badScenario l) = refl
+
+-- A refusal is known by its number and what it carries.
+pub docket-tells : (r q : Refusal) → number r ≡ number q → carried r ≡ carried q → r ≡ q
+docket-tells r q e f = sym (had-back r) ∙ ap₂ (λ n c. from n (Option·getD c 0)) e f ∙ had-back q

@@ -28,3 +28,5 @@ pub mod Stepping
 pub mod Buffering
 pub mod Printing
 pub mod Worked
+pub mod Read
+pub mod Harder
