@@ -13,7 +13,7 @@ use borrow.Author.Tests.{not-true, ltb-true, lt-ltb, eqb-true, eqb-false, ne-eqb
 use Rattle.paper.specs.Basics.{_and_, elem, placeOf, upTo, In, Out, NoDup}
 use Rattle.paper.specs.Yard.{Bay, Carrier, Yard, Placement, Crossing, crossing, bayOf, carrierAt, move, after, joined, legalPlan}
 use Rattle.paper.specs.Path.{nearestFirst, shortestPath}
-use Rattle.paper.specs.Procedure.{_then_, cross, trade, vacate, swap, step, Outcome, planned, stuck, onward, orStuck, Stage, _next_, go, homeAt, wayHome, carry, carryFrom, procedure}
+use Rattle.paper.specs.Procedure.{_then_, cross, trade, vacate, swap, step, Outcome, planned, stuck, onward, orStuck, Stage, _next_, go, homeAt, wayHome, carry, carryFrom, procedure, holding}
 use Rattle.paper.proofs.Tests.{by-cases, by-option, not-both, never-some, and-left, and-right, and-both}
 use Rattle.paper.proofs.Members.{In-head, In-tail, In-append-right, out-cons, nothing-in-nil, Out-head, Out-tail}
 use Rattle.paper.proofs.Shortest.{shortest-path}
@@ -49,10 +49,10 @@ module _ (Y : Yard) (sound : Sound Y) where
     in-take : (c : Carrier) → c < finished → In (bayOf p c) (take finished p)
     in-take c h = rw (getD-take finished p c 0 h) at (bay-in (take finished p) c (rw length-take (omega arith)))
 
-    by-vacating : (xs : List Crossing) → (vacate Y (bayOf p r ∷ take finished p) w then cross r w) p ≡ some xs → Stepped finished r w p xs
+    by-vacating : (xs : List Crossing) → (vacate Y (holding finished r p) w then cross r w) p ≡ some xs → Stepped finished r w p xs
     unfolding after legalPlan
     by-vacating xs h =
-        then-split (vacate Y (bayOf p r ∷ take finished p) w) (cross r w) p xs h
+        then-split (vacate Y (holding finished r p) w) (cross r w) p xs h
         (λ ms ys e h1 q.
         let held = bayOf p r ∷ take finished p in
         let vac = vacate-vacates Y held w p ms (good .apart) (sound .inside (bayOf p r) w rail) e in
@@ -83,16 +83,16 @@ module _ (Y : Yard) (sound : Sound Y) where
         }
 
     -- where vacating fails there is a carrier
-    occupied : (vacate Y (bayOf p r ∷ take finished p) w then cross r w) p ≡ none → In w p
+    occupied : (vacate Y (holding finished r p) w then cross r w) p ≡ none → In w p
     unfolding cross after
     occupied e =
         by-cases (elem w p) (λ i. i)
-        (λ o. let z = then-runs (vacate Y (bayOf p r ∷ take finished p) w) (cross r w) p [] _ (vacate-empty Y _ w p o) refl in never-some _ (sym e ∙ z))
+        (λ o. let z = then-runs (vacate Y (holding finished r p) w) (cross r w) p [] _ (vacate-empty Y _ w p o) refl in never-some _ (sym e ∙ z))
 
     pub step-steps : (xs : List Crossing) → step Y finished r w p ≡ some xs → Stepped finished r w p xs
     unfolding step
     step-steps xs h =
-        by-option ((vacate Y (bayOf p r ∷ take finished p) w then cross r w) p)
+        by-option ((vacate Y (holding finished r p) w then cross r w) p)
         (λ e. by-swapping xs (occupied e) (rw e at h))
         (λ ys e. let q = rw e at h in by-vacating xs (e ∙ q))
 

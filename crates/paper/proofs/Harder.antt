@@ -4,7 +4,7 @@ use mathlib.Core.Path.{_≡_, refl}
 use mathlib.Core.List.{List, [], _∷_, map}
 use Prim.Native.Nat.{ℕ}
 use Rattle.paper.specs.Yard.{Bay, Placement, crossing}
-use Rattle.paper.specs.Docket.{stopped, room}
+use Rattle.paper.specs.Docket.{stopped}
 use Rattle.paper.specs.Answers.{Answer, accepted, refused, plan}
 use Rattle.paper.proofs.Worked.{computing}
 

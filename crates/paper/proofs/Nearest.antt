@@ -1,6 +1,6 @@
 -- The nearest empty bay is what the document says: the rings come in the order of distance, and each of them rises.
-use mathlib.Core.Path.{_≡_, refl, _∙_, ap}
-use mathlib.Core.Bool.{true, not}
+use mathlib.Core.Path.{_≡_, refl, _∙_, ap, sym}
+use mathlib.Core.Bool.{true, not, Bool}
 use mathlib.Core.List.{List, [], _∷_, _++_}
 use mathlib.Core.Logic.{_↔_}
 use mathlib.Core.Option.{none, some}
@@ -9,15 +9,15 @@ use native.Mathlib.Omega.{arith}
 use lib.Dec.{ltb}
 use lib.ListN.{length, getD, length-append}
 use borrow.Author.Tests.{not-true, not-false, ltb-true, ltb-false}
-use Rattle.paper.specs.Basics.{elem, In, Out}
+use Rattle.paper.specs.Basics.{concat, firstOf, lowestOf, elem, In, Out, find}
 use Rattle.paper.specs.Yard.{Bay, Yard, Placement, isEmpty, joined}
 use Rattle.paper.specs.Path.{Free, Route, Way, rings, nearestFirst}
 use Rattle.paper.specs.Procedure.{nearestEmpty}
-use Rattle.paper.proofs.Tests.{by-cases, by-option, not-both}
-use Rattle.paper.proofs.Members.{find-in, find-passes, find-none, none-find}
-use Rattle.paper.proofs.Rings.{Walk, here, on, ring-walk, walk-ring, first-ring, ringsFrom-length, reached-walk}
+use Rattle.paper.proofs.Tests.{by-cases, by-option, not-both, never-some}
+use Rattle.paper.proofs.Members.{lowest-in, lowest-passes, lowest-least}
+use Rattle.paper.proofs.Rings.{Walk, here, on, ring-walk, walk-ring, first-ring, ringsFrom-length, reached-walk, no-ring, ring-none}
 use Rattle.paper.proofs.Reach.{enough}
-use Rattle.paper.proofs.Shortest.{find-lowest, rings-rise, route-walk}
+use Rattle.paper.proofs.Shortest.{Rising, lowest-first, rings-rise, route-walk}
 
 module _ (Y : Yard) (held : List Bay) where
   route-more : (u : Bay) (l : List Bay) (w v : Bay) → Route Y held u l w → joined Y w v ≡ true → Free Y held v → Route Y held u (l ++ (v ∷ [])) v
@@ -63,13 +63,14 @@ module _ (Y : Yard) (held : List Bay) where
           (r .0, omega (arith, r .1), r .2)
 
       found-nearest : (e : Bay) → nearestEmpty Y held p x ≡ some e → Nearest e
+      unfolding nearestEmpty
       found-nearest e h =
           let rs = rings Y held x in
           let f = first-ring (isEmpty p) rs h in
           let d = f .ring in
           let ring = getD rs d [] in
           let fits : d < Y .bays = rw ringsFrom-length at (f .there) in
-          let w = walk-way free-x (ring-walk Y held (Y .bays) x d e (find-in (isEmpty p) ring (f .found))) in
+          let w = walk-way free-x (ring-walk Y held (Y .bays) x d e (lowest-in (isEmpty p) ring (f .found))) in
           let len : length (w .0) ≡ suc d = w .1 in
           let near : (b : Bay) (m : List Bay) → Out b p → Way Y held x m b → suc d ≤ length m =
           λ b m o v. by-cases (ltb (Y .bays) (length m))
@@ -80,7 +81,7 @@ module _ (Y : Yard) (held : List Bay) where
           (λ k. not-both (ap not o) (f .earlier (r .0) b (ltb-true (r .0) d k) (r .2)))
           (λ k. omega (arith, r .1, ltb-false (r .0) d k))) in
           record {
-            empty = not-true (elem e p) (find-passes (isEmpty p) ring (f .found));
+            empty = not-true (elem e p) (lowest-passes (isEmpty p) ring (f .found));
             path = w .0;
             way = w .2;
             nearest = λ b m o v. let g = near b m o v in omega arith;
@@ -89,7 +90,7 @@ module _ (Y : Yard) (held : List Bay) where
                 let same : r .0 ≡ d = by-cases (ltb (r .0) d)
                 (λ k. not-both (ap not o) (f .earlier (r .0) b (ltb-true (r .0) d k) (r .2)))
                 (λ k. omega (arith, r .1, ltb-false (r .0) d k)) in
-                find-lowest (isEmpty p) ring e b (rings-rise Y held x d) (f .found) (rw same at (r .2)) (ap not o);
+                lowest-least (isEmpty p) ring (f .found) b (rw same at (r .2)) (ap not o);
           }
 
       way-in : (b : Bay) (m : List Bay) → Way Y held x m b → In b (nearestFirst Y held x)
@@ -97,16 +98,43 @@ module _ (Y : Yard) (held : List Bay) where
 
       -- There is an answer exactly if an empty bay is reached, and it is the nearest one.
       pub nearest-exactly : (e : Bay) → (nearestEmpty Y held p x ≡ some e) ↔ Nearest e
+      unfolding nearestEmpty
       nearest-exactly e = (
         found-nearest e,
         λ n. by-option (nearestEmpty Y held p x)
-            (λ h. not-both (ap not (n .empty)) (find-none (isEmpty p) (nearestFirst Y held x) e h (way-in e (n .path) (n .way))))
+            (λ h. not-both (ap not (n .empty)) (no-ring (isEmpty p) (rings Y held x) h e (way-in e (n .path) (n .way))))
             (λ f h. h ∙ ap some (nearest-one f e (found-nearest f h) n)),
       )
 
       pub none-near-exactly : (nearestEmpty Y held p x ≡ none) ↔ ((b : Bay) (m : List Bay) → Way Y held x m b → In b p)
+      unfolding nearestEmpty
       none-near-exactly = (
-        λ h b m w. not-false (elem b p) (find-none (isEmpty p) (nearestFirst Y held x) b h (way-in b m w)),
-        λ f. none-find (isEmpty p) (nearestFirst Y held x)
+        λ h b m w. not-false (elem b p) (no-ring (isEmpty p) (rings Y held x) h b (way-in b m w)),
+        λ f. ring-none (isEmpty p) (rings Y held x)
             (λ b i. let w = walk-way free-x ((reached-walk Y held x b i) .2) in ap not (f b (w .0) (w .2))),
       )
+
+-- ## For code: the nearest empty bay is the first empty one of all that are reached, nearest first
+
+module _ (q : Bay → Bool) where
+  find-here : (xs ys : List Bay) {e : Bay} → find q xs ≡ some e → find q (xs ++ ys) ≡ some e
+  unfolding find
+  find-here [] ys {e} h = never-some e h
+  find-here (x ∷ xs) ys h = by-cases (q x) (λ k. rw k (rw k at h)) (λ k. rw k (find-here xs ys (rw k at h)))
+
+  find-later : (xs ys : List Bay) → find q xs ≡ none → find q (xs ++ ys) ≡ find q ys
+  unfolding find
+  find-later [] ys h = refl
+  find-later (x ∷ xs) ys h = by-cases (q x) (λ k. never-some x (sym (rw k at h))) (λ k. rw k (find-later xs ys (rw k at h)))
+
+  rings-find : (rs : List (List Bay)) → ((d : ℕ) → Rising (getD rs d [])) → firstOf (lowestOf q) rs ≡ find q (concat rs)
+  unfolding firstOf concat find
+  rings-find [] r = refl
+  rings-find (l ∷ rs) r =
+      by-option (find q l)
+      (λ k. rw (lowest-first q l (r 0), k) (rings-find rs (λ d. r (suc d)) ∙ sym (find-later l (concat rs) k)))
+      (λ e k. rw (lowest-first q l (r 0), k) (sym (find-here l (concat rs) k)))
+
+pub nearest-first : (Y : Yard) (held : List Bay) (p : Placement) (x : Bay) → nearestEmpty Y held p x ≡ find (isEmpty p) (nearestFirst Y held x)
+unfolding nearestEmpty
+nearest-first Y held p x = rings-find (isEmpty p) (rings Y held x) (rings-rise Y held x)

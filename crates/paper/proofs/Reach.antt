@@ -9,7 +9,7 @@ use lib.ListN.{length}
 use borrow.Author.Tests.{not-true}
 use Rattle.paper.specs.Basics.{without, filter, any, concat, elem, countFrom, upTo, In, Out}
 use Rattle.paper.specs.Yard.{Bay, Yard, joined}
-use Rattle.paper.specs.Path.{nextRing, ringsFrom, nearestFirst, Free}
+use Rattle.paper.specs.Path.{nextRing, ringsFrom, nearestFirst, Free, unseen}
 use Rattle.paper.proofs.Tests.{by-cases}
 use Rattle.paper.proofs.Members.{count-high, in-count, nothing-in-nil, In-head, In-cases, In-nil, In-append, In-append-left, In-append-right, Out-append, filter-in, filter-passes, in-filter, any-of, in-without, Out-left, Out-right}
 use Rattle.paper.proofs.Rings.{joined-sym, Walk, here, on, walk-back, reached-walk}
@@ -59,9 +59,9 @@ count-length a (suc k) = ap suc (count-length (suc a) k)
 module _ (Y : Yard) (held : List Bay) where
   -- how many bays are neither held nor in the list
   left : List Bay → ℕ
-  left seen = length (without (held ++ seen) (upTo (Y .bays)))
+  left seen = length (unseen Y held seen)
 
-  left-shrinks : (seen more : List Bay) (z : Bay) → In z more → In z (without (held ++ seen) (upTo (Y .bays))) → left (more ++ seen) < left seen
+  left-shrinks : (seen more : List Bay) (z : Bay) → In z more → In z (unseen Y held seen) → left (more ++ seen) < left seen
   unfolding left without
   left-shrinks seen more z i k =
       filter-lt (λ y. not (elem y (held ++ seen))) (λ y. not (elem y (held ++ (more ++ seen))))
@@ -75,7 +75,7 @@ module _ (Y : Yard) (held : List Bay) where
 
   next-empty : (seen : List Bay) → nextRing Y held seen [] ≡ []
   unfolding nextRing any
-  next-empty seen = filter-none (without (held ++ seen) (upTo (Y .bays)))
+  next-empty seen = filter-none (unseen Y held seen)
 
   -- an empty ring has nothing behind it
   no-more : (k : ℕ) (seen : List Bay) (w : Bay) → In w (concat (ringsFrom Y held k seen [])) → ⊥
@@ -86,17 +86,17 @@ module _ (Y : Yard) (held : List Bay) where
   in-next : (seen ring : List Bay) (w b : Bay) → In w ring → joined Y w b ≡ true → Free Y held b → Out b seen → In b (nextRing Y held seen ring)
   unfolding nextRing
   in-next seen ring w b i e f o =
-      in-filter (λ c. any (joined Y c) ring) (without (held ++ seen) (upTo (Y .bays))) b
+      in-filter (λ c. any (joined Y c) ring) (unseen Y held seen) b
       (in-without (held ++ seen) (upTo (Y .bays)) b (f .0) (Out-append b held seen (f .1) o))
       (any-of (joined Y b) ring w i (joined-sym Y w b e))
 
-  next-in : (seen ring : List Bay) (b : Bay) → In b (nextRing Y held seen ring) → In b (without (held ++ seen) (upTo (Y .bays)))
+  next-in : (seen ring : List Bay) (b : Bay) → In b (nextRing Y held seen ring) → In b (unseen Y held seen)
   unfolding nextRing
-  next-in seen ring b i = filter-in (λ c. any (joined Y c) ring) (without (held ++ seen) (upTo (Y .bays))) b i
+  next-in seen ring b i = filter-in (λ c. any (joined Y c) ring) (unseen Y held seen) b i
 
-  some-left : (seen : List Bay) (b : Bay) → In b (without (held ++ seen) (upTo (Y .bays))) → 0 < left seen
+  some-left : (seen : List Bay) (b : Bay) → In b (unseen Y held seen) → 0 < left seen
   unfolding left
-  some-left seen b i = by-list (without (held ++ seen) (upTo (Y .bays))) (λ e. In-nil b (rw e at i)) (λ x xs e. rw e (omega arith))
+  some-left seen b i = by-list (unseen Y held seen) (λ e. In-nil b (rw e at i)) (λ x xs e. rw e (omega arith))
 
   first-of-rings : (k : ℕ) (seen ring : List Bay) (b : Bay) → In b ring → 0 < k → In b (concat (ringsFrom Y held k seen ring))
   unfolding ringsFrom concat

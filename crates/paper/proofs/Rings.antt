@@ -5,7 +5,7 @@ use mathlib.Core.List.{List, [], _∷_, _++_}
 use Prim.Native.Nat.{ℕ, zero, suc, _≤_}
 use native.Mathlib.Omega.{arith}
 use lib.ListN.{getD}
-use mathlib.Core.Path.{_≡_, refl, sym, _∙_, ap}
+use mathlib.Core.Path.{_≡_, refl, _∙_, ap}
 use mathlib.Core.Bool.{Bool, true, false}
 use mathlib.Core.Logic.{_⊎_, inl, inr, ⊎-elim}
 use mathlib.Core.List.{List, [], _∷_, _++_}
@@ -13,11 +13,11 @@ use mathlib.Core.Option.{none, some}
 use Prim.Native.Nat.{ℕ, zero, suc, _<_, _≤_}
 use native.Mathlib.Omega.{arith}
 use lib.ListN.{length, getD}
-use Rattle.paper.specs.Basics.{_and_, without, any, concat, elem, upTo, In, find, Out}
+use Rattle.paper.specs.Basics.{_and_, any, concat, elem, upTo, In, Out, firstOf, lowestOf}
 use Rattle.paper.specs.Yard.{Bay, Yard, joined}
-use Rattle.paper.specs.Path.{nextRing, ringsFrom, rings, nearestFirst, ringOf, Free}
-use Rattle.paper.proofs.Tests.{by-cases, not-both, and-left, and-right, and-both, or-left, or-right, or-cases, by-option, never-some}
-use Rattle.paper.proofs.Members.{In-nil, In-one, In-append, In-append-left, In-append-right, filter-passes, any-some, In-head, Out-append, filter-in, in-filter, any-of, without-in, without-out, in-without, Out-left, find-none, Out-right}
+use Rattle.paper.specs.Path.{nextRing, ringsFrom, rings, nearestFirst, ringOf, Free, unseen}
+use Rattle.paper.proofs.Tests.{by-cases, not-both, and-left, and-right, and-both, or-left, or-right, or-cases, by-option, never-some, none-both}
+use Rattle.paper.proofs.Members.{In-nil, In-one, In-append, In-append-left, In-append-right, filter-passes, any-some, In-head, Out-append, filter-in, in-filter, any-of, without-in, without-out, in-without, Out-left, Out-right, lowest-none, lowest-passes, lowest-in}
 
 pub any-weaker : {A : Type 0} (q q′ : A → Bool) → ((x : A) → q x ≡ true → q′ x ≡ true) → (xs : List A) → any q xs ≡ true → any q′ xs ≡ true
 unfolding any
@@ -47,7 +47,7 @@ module _ (Y : Yard) where
     ring-step zero seen ring d u i = In-nil u i
     ring-step (suc zero) seen ring zero u i = In-nil u i
     ring-step (suc (suc k)) seen ring zero u i =
-        any-some (joined Y u) ring (filter-passes _ (without (held ++ (ring ++ seen)) (upTo (Y .bays))) u i)
+        any-some (joined Y u) ring (filter-passes _ (unseen Y held (ring ++ seen)) u i)
     ring-step (suc k) seen ring (suc d) u i = ring-step k (ring ++ seen) (nextRing Y held (ring ++ seen) ring) d u i
 
     pub ring-zero : (k : ℕ) (seen : List Bay) (v u : Bay) → In u (getD (ringsFrom Y held k seen (v ∷ [])) 0 []) → u ≡ v
@@ -88,7 +88,7 @@ module _ (Y : Yard) (held : List Bay) where
   ring-free zero seen ring d b i = In-nil b i
   ring-free (suc zero) seen ring zero b i = In-nil b i
   ring-free (suc (suc k)) seen ring zero b i =
-      let j = filter-in _ (without (held ++ (ring ++ seen)) (upTo (Y .bays))) b i in
+      let j = filter-in _ (unseen Y held (ring ++ seen)) b i in
       let o = without-out (held ++ (ring ++ seen)) (upTo (Y .bays)) b j in
       ((without-in (held ++ (ring ++ seen)) (upTo (Y .bays)) b j, Out-left b held (ring ++ seen) o), Out-right b held (ring ++ seen) o)
   ring-free (suc k) seen ring (suc d) b i =
@@ -125,7 +125,7 @@ module _ (Y : Yard) (held : List Bay) where
       (λ o. inr (
         1,
         omega arith,
-        in-filter (λ c. any (joined Y c) ring) (without (held ++ (ring ++ seen)) (upTo (Y .bays))) b
+        in-filter (λ c. any (joined Y c) ring) (unseen Y held (ring ++ seen)) b
             (in-without (held ++ (ring ++ seen)) (upTo (Y .bays)) b (f .0) (Out-append b held (ring ++ seen) (f .1) o))
             (any-of (joined Y b) ring w i (joined-sym Y w b e)),
       ))
@@ -163,39 +163,45 @@ module _ (Y : Yard) (held : List Bay) where
   walk-back f (on {w = w} {v = v} r e f′) = walk-cons (joined-sym Y w v e) (walk-free f r) (walk-back f r)
 
 module _ (q : Bay → Bool) where
-  pub find-here : (xs ys : List Bay) {e : Bay} → find q xs ≡ some e → find q (xs ++ ys) ≡ some e
-  unfolding find
-  find-here [] ys h = cc
-  find-here (x ∷ xs) ys h = by-cases (q x) (λ k. rw k (rw k at h)) (λ k. rw k (find-here xs ys (rw k at h)))
-
-  pub find-later : (xs ys : List Bay) → find q xs ≡ none → find q (xs ++ ys) ≡ find q ys
-  unfolding find
-  find-later [] ys h = refl
-  find-later (x ∷ xs) ys h = by-cases (q x) (λ k. let z = rw k at h in cc) (λ k. rw k (find-later xs ys (rw k at h)))
-
-  -- The first that passes, ring by ring: it is the first of its ring, and nothing of an earlier ring passes.
+  -- Ring by ring, the lowest that passes: it is the lowest of its ring, and nothing of an earlier ring passes.
   pub record FirstRing (rs : List (List Bay)) (e : Bay) : Type 0 where
     pub ring : ℕ
     pub there : ring < length rs
-    pub found : find q (getD rs ring []) ≡ some e
+    pub found : lowestOf q (getD rs ring []) ≡ some e
     pub earlier : (j : ℕ) (b : Bay) → j < ring → In b (getD rs j []) → q b ≡ false
 
-  pub first-ring : (rs : List (List Bay)) {e : Bay} → find q (concat rs) ≡ some e → FirstRing rs e
-  unfolding concat find
+  pub first-ring : (rs : List (List Bay)) {e : Bay} → firstOf (lowestOf q) rs ≡ some e → FirstRing rs e
+  unfolding firstOf
   first-ring [] {e} h = never-some e h
   first-ring (r ∷ rs) {e} h =
-      by-option (find q r)
+      by-option (lowestOf q r)
       (λ k.
-      let t = first-ring rs (sym (find-later r (concat rs) k) ∙ h) in
+      let t = first-ring rs (rw k at h) in
       record {
         ring = suc (t .ring);
         there = omega (arith, t .there);
         found = t .found;
-        earlier = λ j. elim j [ zero ↦ λ b l i. find-none q r b k i | suc m ↦ λ b l i. t .earlier m b (omega arith) i ];
+        earlier = λ j. elim j [ zero ↦ λ b l i. lowest-none q r k b i | suc m ↦ λ b l i. t .earlier m b (omega arith) i ];
       })
       (λ y k.
-      let n : y ≡ e = let z = find-here r (concat rs) k in cc in
+      let n : y ≡ e = let z = rw k at h in cc in
       record { ring = 0; there = omega arith; found = k ∙ ap some n; earlier = λ j b l i. absurd (omega arith) })
+
+  -- none where nothing of any ring passes
+  pub no-ring : (rs : List (List Bay)) → firstOf (lowestOf q) rs ≡ none → (b : Bay) → In b (concat rs) → q b ≡ false
+  unfolding firstOf concat
+  no-ring [] h b i = In-nil b i
+  no-ring (r ∷ rs) h b i =
+      let t = none-both (lowestOf q r) (firstOf (lowestOf q) rs) h in
+      In-append b r (concat rs) i (λ k. lowest-none q r (t .0) b k) (λ k. no-ring rs (t .1) b k)
+
+  pub ring-none : (rs : List (List Bay)) → ((b : Bay) → In b (concat rs) → q b ≡ false) → firstOf (lowestOf q) rs ≡ none
+  unfolding firstOf concat
+  ring-none [] f = refl
+  ring-none (r ∷ rs) f =
+      by-option (lowestOf q r)
+      (λ k. rw k (ring-none rs (λ b i. f b (In-append-right b r (concat rs) i))))
+      (λ y k. not-both (lowest-passes q r k) (f y (In-append-left y r (concat rs) (lowest-in q r k))))
 
 pub in-ring : (u : Bay) (rs : List (List Bay)) (d : ℕ) → In u (getD rs d []) → d < length rs
 in-ring u [] d i = In-nil u i

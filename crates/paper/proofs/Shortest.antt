@@ -5,16 +5,16 @@ use mathlib.Core.Bool.{Bool, true}
 use mathlib.Core.List.{List, [], _∷_, _++_}
 use mathlib.Core.Logic.{inl, inr, ⊎-elim, _↔_}
 use mathlib.Core.Option.{none, some}
-use Prim.Native.Nat.{ℕ, zero, suc, _<_, _≤_}
+use Prim.Native.Nat.{ℕ, zero, suc, _<_, _≤_, min}
 use native.Mathlib.Omega.{arith}
 use lib.Dec.{ltb}
 use lib.ListN.{length, getD}
 use borrow.Author.Tests.{ltb-true, ltb-false}
-use Rattle.paper.specs.Basics.{elem, without, filter, find, countFrom, In, Out, NoDup}
+use Rattle.paper.specs.Basics.{elem, without, filter, find, countFrom, In, Out, NoDup, lowestOf}
 use Rattle.paper.specs.Yard.{Bay, Yard, joined}
 use Rattle.paper.specs.Path.{Free, Route, Way, NotAbove, nextRing, ringsFrom, rings, nearestFirst, ringOf, inward, shortestPath, pathBetween}
-use Rattle.paper.proofs.Tests.{by-cases, not-both, some-when, none-when}
-use Rattle.paper.proofs.Members.{In-nil, In-one, In-cases, find-passes, find-in, find-some, filter-in, count-low, nothing-in-nil}
+use Rattle.paper.proofs.Tests.{by-cases, not-both, some-when, none-when, by-option}
+use Rattle.paper.proofs.Members.{In-nil, In-one, In-cases, lowest-passes, lowest-in, lowest-some, lowest-least, nothing-in-nil, count-low, filter-in}
 use Rattle.paper.proofs.Rings.{joined-sym, distance-in, distance-least, Walk, here, on, walk-cons, walk-back, walk-free, ring-walk, walk-ring, ring-free, rings-apart, ringsFrom-length, in-ring, ring-step, ring-zero}
 use Rattle.paper.proofs.Reach.{enough}
 
@@ -40,7 +40,7 @@ module _ (Y : Yard) (held : List Bay) (v : Bay) where
     pub bay : Bay
     pub rail : joined Y u bay ≡ true
     pub nearer : In bay (getD (rings Y held v) d [])
-    pub found : find (joined Y u) (getD (rings Y held v) d []) ≡ some bay
+    pub found : lowestOf (joined Y u) (getD (rings Y held v) d []) ≡ some bay
     pub goes-on : inward Y (rings Y held v) (suc d) u ≡ u ∷ inward Y (rings Y held v) d bay
 
   pub next : (d : ℕ) (u : Bay) → In u (getD (rings Y held v) (suc d) []) → Next d u
@@ -48,11 +48,11 @@ module _ (Y : Yard) (held : List Bay) (v : Bay) where
   next d u i =
       let r = getD (rings Y held v) d [] in
       let s = ring-step Y held (Y .bays) [] (v ∷ []) d u i in
-      let f = find-some (joined Y u) r (s .0) (s .1) (s .2) in
+      let f = lowest-some (joined Y u) r (s .0) (s .1) (s .2) in
       record {
         bay = f .0;
-        rail = find-passes (joined Y u) r (f .1);
-        nearer = find-in (joined Y u) r (f .1);
+        rail = lowest-passes (joined Y u) r (f .1);
+        nearer = lowest-in (joined Y u) r (f .1);
         found = f .1;
         goes-on = rw (f .1);
       }
@@ -93,46 +93,10 @@ module _ (Y : Yard) (held : List Bay) (v : Bay) where
 
 -- ## Lowest
 
-unfoldable pub Rising : List ℕ → Type 0
-Rising [] = Unit {0}
-Rising (x ∷ xs) = ((y : ℕ) → In y xs → x < y) × Rising xs
-
-rising-count : (a k : ℕ) → Rising (countFrom a k)
-unfolding Rising countFrom
-rising-count a zero = tt
-rising-count a (suc k) = (λ y i. let l = count-low (suc a) k y i in omega arith, rising-count (suc a) k)
-
-rising-filter : (q : ℕ → Bool) (xs : List ℕ) → Rising xs → Rising (filter q xs)
-unfolding Rising filter
-rising-filter q [] r = tt
-rising-filter q (x ∷ xs) r =
-    by-cases (q x)
-    (λ e. rw e (λ y i. r .0 y (filter-in q xs y i), rising-filter q xs (r .1)))
-    (λ e. rw e (rising-filter q xs (r .1)))
-
--- what is found in a rising list is the lowest that passes
-pub find-lowest : (q : ℕ → Bool) (xs : List ℕ) (y a : ℕ) → Rising xs → find q xs ≡ some y → In a xs → q a ≡ true → y ≤ a
-unfolding Rising find
-find-lowest q [] y a r e i h = In-nil a i
-find-lowest q (x ∷ xs) y a r e i h =
-    by-cases (q x)
-    (λ k. let z : x ≡ y = let w = rw k at e in cc in
-    In-cases a x xs i (λ d. omega arith) (λ d. let l = r .0 a d in omega arith))
-    (λ k. In-cases a x xs i (λ d. not-both (rw d at h) k) (λ d. find-lowest q xs y a (r .1) (rw k at e) d h))
-
 module _ (Y : Yard) (held : List Bay) where
   pub route-walk : (u : Bay) (l : List Bay) (v : Bay) → Route Y held u l v → Walk Y held u (length l) v
   route-walk u [] v r = rw r here
   route-walk u (x ∷ xs) v r = walk-cons Y held (r .0) (r .1) (route-walk x xs v (r .2))
-
-  rising-from : (k : ℕ) (seen ring : List Bay) (d : ℕ) → Rising ring → Rising (getD (ringsFrom Y held k seen ring) d [])
-  unfolding ringsFrom nextRing without
-  rising-from zero seen ring d r = unfold Rising in tt
-  rising-from (suc k) seen ring zero r = r
-  rising-from (suc k) seen ring (suc d) r = rising-from k (ring ++ seen) _ d (rising-filter _ _ (rising-filter _ _ (rising-count 0 (Y .bays))))
-
-  pub rings-rise : (x : Bay) (d : ℕ) → Rising (getD (rings Y held x) d [])
-  rings-rise x d = rising-from (Y .bays) [] (x ∷ []) d (unfold Rising in (λ y j. In-nil y j, tt))
 
   module _ (v : Bay) where
     -- a neighbour of ring d + 1 from which d rails lead to v is in ring d
@@ -155,7 +119,7 @@ module _ (Y : Yard) (held : List Bay) where
         let n = next Y held v d u i in
         let k : length l ≡ d = omega arith in
         let near : In x (getD (rings Y held v) d []) = nearer d u x fu i (r .0) (r .1) (rw k at (route-walk x l v (r .2))) in
-        let low : n .bay ≤ x = find-lowest (joined Y u) (getD (rings Y held v) d []) (n .bay) x (rings-rise v d) (n .found) near (r .0) in
+        let low : n .bay ≤ x = lowest-least (joined Y u) (getD (rings Y held v) d []) (n .found) x near (r .0) in
         let rest : NotAbove (inward Y (rings Y held v) d (n .bay)) (x ∷ l) =
         by-cases (ltb (n .bay) x)
         (λ e. let t = inward-head Y (rings Y held v) d (n .bay) in rw (t .1) (inl (ltb-true (n .bay) x e)))
@@ -247,3 +211,55 @@ module _ (Y : Yard) (held : List Bay) (u v : Bay) where
       λ h l w. not-both (way-reached l w) (none-when (elem u (nearestFirst Y held v)) (shortestPath Y held u v) h),
       λ f. by-cases (elem u (nearestFirst Y held v)) (λ i. absurd (f _ (shortest-path i .way))) (λ o. rw o),
     )
+
+-- ## For code: in a rising list the lowest that passes is the first
+
+unfoldable pub Rising : List ℕ → Type 0
+Rising [] = Unit {0}
+Rising (x ∷ xs) = ((y : ℕ) → In y xs → x < y) × Rising xs
+
+rising-count : (a k : ℕ) → Rising (countFrom a k)
+unfolding Rising countFrom
+rising-count a zero = tt
+rising-count a (suc k) = (λ y i. let l = count-low (suc a) k y i in omega arith, rising-count (suc a) k)
+
+rising-filter : (q : ℕ → Bool) (xs : List ℕ) → Rising xs → Rising (filter q xs)
+unfolding Rising filter
+rising-filter q [] r = tt
+rising-filter q (x ∷ xs) r =
+    by-cases (q x)
+    (λ e. rw e (λ y i. r .0 y (filter-in q xs y i), rising-filter q xs (r .1)))
+    (λ e. rw e (rising-filter q xs (r .1)))
+
+-- what is found in a rising list is the lowest that passes
+pub find-lowest : (q : ℕ → Bool) (xs : List ℕ) (y a : ℕ) → Rising xs → find q xs ≡ some y → In a xs → q a ≡ true → y ≤ a
+unfolding Rising find
+find-lowest q [] y a r e i h = In-nil a i
+find-lowest q (x ∷ xs) y a r e i h =
+    by-cases (q x)
+    (λ k. let z : x ≡ y = let w = rw k at e in cc in
+    In-cases a x xs i (λ d. omega arith) (λ d. let l = r .0 a d in omega arith))
+    (λ k. In-cases a x xs i (λ d. not-both (rw d at h) k) (λ d. find-lowest q xs y a (r .1) (rw k at e) d h))
+
+pub lowest-first : (q : ℕ → Bool) (xs : List ℕ) → Rising xs → lowestOf q xs ≡ find q xs
+unfolding Rising lowestOf find
+lowest-first q [] r = refl
+lowest-first q (x ∷ xs) r =
+    by-cases (q x)
+    (λ e. by-option (lowestOf q xs)
+    (λ k. rw (e, k))
+    (λ y k.
+    let l : x < y = r .0 y (lowest-in q xs k) in
+    let m : min x y ≡ x = omega arith in
+    rw (e, k, m)))
+    (λ e. rw e (lowest-first q xs (r .1)))
+
+module _ (Y : Yard) (held : List Bay) where
+  rising-from : (k : ℕ) (seen ring : List Bay) (d : ℕ) → Rising ring → Rising (getD (ringsFrom Y held k seen ring) d [])
+  unfolding ringsFrom nextRing without
+  rising-from zero seen ring d r = unfold Rising in tt
+  rising-from (suc k) seen ring zero r = r
+  rising-from (suc k) seen ring (suc d) r = rising-from k (ring ++ seen) _ d (rising-filter _ _ (rising-filter _ _ (rising-count 0 (Y .bays))))
+
+  pub rings-rise : (x : Bay) (d : ℕ) → Rising (getD (rings Y held x) d [])
+  rings-rise x d = rising-from (Y .bays) [] (x ∷ []) d (unfold Rising in (λ y j. In-nil y j, tt))

@@ -12,7 +12,7 @@ use borrow.Author.Tests.{not-true, ltb-true, ltb-false, eqb-true, eqb-false, ne-
 use Rattle.paper.specs.Basics.{_and_, filter, elem, without, upTo, In, Out, NoDup}
 use Rattle.paper.specs.Yard.{Bay, Carrier, Yard, Placement, Crossing, crossing, bayOf, isEmpty, move, after, joined, legal, legalPlan, neighbours, junction}
 use Rattle.paper.specs.Path.{nearestFirst, shortestPath, Free, Route, Way}
-use Rattle.paper.specs.Procedure.{Action, _then_, cross, exchange, undo, Cleared, vacate, bring, clearing, clear, finish, trialLed, trial, swap}
+use Rattle.paper.specs.Procedure.{Action, _then_, cross, exchange, undo, Cleared, vacate, bring, clearing, clear, finish, trialLed, trial, swap, clearingHeld, theirBays}
 use Rattle.paper.proofs.Tests.{by-cases, by-option, not-both, never-some, and-left, and-right}
 use Rattle.paper.proofs.Members.{first-of, nothing-in-nil, In-head, In-tail, In-cases, In-one, In-append, Out-head, nodup-left, nodup-drop, nodup-append, nodup-filter, nodup-take, nodup-count, take-in, filter-in, filter-passes}
 use Rattle.paper.proofs.Rings.{joined-sym, reached-sym, walk-free, reached-walk}
@@ -205,11 +205,11 @@ module _ (Y : Yard) (sound : Sound Y) (L M : Carrier) (differ : eqb L M ≡ fals
       let none-moved : [] ≡ xs = cc in
       rw (← none-moved) (record { legal = refl; leads = ch; follows = rw ch at j })
   bring-brings (x ∷ ahead) v p xs apart hL hM ch j h =
-      then-split (vacate Y (bayOf p L ∷ bayOf p M ∷ []) x) (cross L x then cross M (bayOf p L) then bring Y L M ahead) p xs h
+      then-split (vacate Y (theirBays L M p) x) (cross L x then cross M (bayOf p L) then bring Y L M ahead) p xs h
       (λ ms ys e h1 q1. cross-split L x (cross M (bayOf p L) then bring Y L M ahead) (after p ms) ys h1
       (λ zs h2 q2. cross-split M (bayOf p L) (bring Y L M ahead) _ zs h2
       (λ rest h3 q3.
-      let held = bayOf p L ∷ bayOf p M ∷ [] in
+      let held = theirBays L M p in
       let vac = vacate-vacates Y held x p ms apart (sound .inside (bayOf p L) x (ch .0)) e in
       let kL : bayOf (after p ms) L ≡ bayOf p L = vac .keeps L hL (In-head (bayOf p L) (bayOf p M ∷ [])) in
       let kM : bayOf (after p ms) M ≡ bayOf p M = vac .keeps M hM (In-tail (bayOf p M) (bayOf p L) (bayOf p M ∷ []) (In-head (bayOf p M) [])) in
@@ -235,7 +235,7 @@ module _ (Y : Yard) (sound : Sound Y) where
     unfolding after legalPlan
     as-kept p kept n f = record { legal = refl; stays = λ k h i. refl; kept-empty = f; nodup = n }
 
-    cleared-more : (x : Bay) (kept : List Bay) (p : Placement) (ms : List Crossing) (c : Cleared) → Vacated Y (v ∷ b ∷ kept) x p ms
+    cleared-more : (x : Bay) (kept : List Bay) (p : Placement) (ms : List Crossing) (c : Cleared) → Vacated Y (clearingHeld v b kept) x p ms
         → ClearedIs v b (after p ms) c → ClearedIs v b p (record { moves = ms ++ c .moves; kept = c .kept })
     cleared-more x kept p ms c vac r =
         let near : (z : Bay) → In z (v ∷ b ∷ []) → In z (v ∷ b ∷ kept) =
@@ -258,10 +258,10 @@ module _ (Y : Yard) (sound : Sound Y) where
     clearing-clears (x ∷ xs) kept p apart n f g =
         by-cases (leb 2 (length kept))
         (λ e. rw e (as-kept p kept (nodup-left kept (x ∷ xs) n) f))
-        (λ e. by-option (vacate Y (v ∷ b ∷ kept) x p)
+        (λ e. by-option (vacate Y (clearingHeld v b kept) x p)
         (λ h. rw (e, h) (clearing-clears xs kept p apart (nodup-drop kept x xs n) f (λ z i. g z (In-tail z x xs i))))
         (λ ms h.
-        let vac = vacate-vacates Y (v ∷ b ∷ kept) x p ms apart (sound .inside v x (g x (In-head x xs))) h in
+        let vac = vacate-vacates Y (clearingHeld v b kept) x p ms apart (sound .inside v x (g x (In-head x xs))) h in
         rw (e, h) (cleared-more x kept p ms (clearing Y v b (kept ++ (x ∷ [])) xs (after p ms)) vac
         (clearing-clears xs (kept ++ (x ∷ [])) (after p ms) (plan-apart Y p ms apart (vac .legal)) (rw append-assoc n)
         (λ z i. In-append z kept (x ∷ []) i

@@ -4,7 +4,7 @@ use mathlib.Core.Bool.{Bool, true, false, not}
 use mathlib.Core.List.{List, [], _∷_, _++_}
 use mathlib.Core.Option.{Option, none, some}
 use mathlib.Core.Path.{_≡_}
-use Prim.Native.Nat.{ℕ, zero, suc}
+use Prim.Native.Nat.{ℕ, zero, suc, min}
 use lib.Dec.{eqb}
 
 infix 10 if_then_else_
@@ -76,6 +76,14 @@ unfoldable pub firstBad : {A : Type 0} → (List A → A → Bool) → ℕ → L
 firstBad bad i before [] = none
 firstBad bad i before (x ∷ xs) =
     let rest = firstBad bad (suc i) (before ++ (x ∷ [])) xs in if bad before x then some i else rest
+
+-- the lowest member that passes the test
+unfoldable pub lowestOf : (ℕ → Bool) → List ℕ → Option ℕ
+lowestOf q [] = none
+lowestOf q (x ∷ xs) =
+    let rest = lowestOf q xs in
+    let low = if-some rest then (λ y. some (min x y)) else some x in
+    if q x then low else rest
 
 -- x is a member
 unfoldable pub elem : ℕ → List ℕ → Bool

@@ -9,7 +9,7 @@ use mathlib.Core.Path.{_≡_}
 use Prim.Native.Nat.{ℕ, zero, suc, _<_}
 use lib.Dec.{eqb}
 use lib.ListN.{length, getD}
-use Rattle.paper.specs.Basics.{if_then_else_, _and_, when, filter, any, find, concat, elem, without, upTo, In, Out}
+use Rattle.paper.specs.Basics.{if_then_else_, _and_, when, filter, any, lowestOf, concat, elem, without, upTo, In, Out}
 use Rattle.paper.specs.Yard.{Bay, Rail, Yard, joined}
 
 -- ## In words
@@ -51,9 +51,13 @@ NotAbove (a ∷ s) (b ∷ t) = (a < b) ⊎ ((a ≡ b) × NotAbove s t)
 -- ## By rings
 
 module _ (Y : Yard) where
-  -- the bays, neither held nor seen yet, that have a neighbour in the ring: rising
+  -- the bays that are neither held nor seen yet
+  abbrev pub unseen : List Bay → List Bay → List Bay
+  unseen held seen = without (held ++ seen) (upTo (Y .bays))
+
+  -- those of them that have a neighbour in the ring
   unfoldable pub nextRing : List Bay → List Bay → List Bay → List Bay
-  nextRing held seen ring = filter (λ b. any (joined Y b) ring) (without (held ++ seen) (upTo (Y .bays)))
+  nextRing held seen ring = filter (λ b. any (joined Y b) ring) (unseen held seen)
 
   unfoldable pub ringsFrom : List Bay → ℕ → List Bay → List Bay → List (List Bay)
   ringsFrom held zero seen ring = []
@@ -75,7 +79,7 @@ module _ (Y : Yard) where
   -- from u, which is d rails from the middle: each next bay is the lowest neighbour in the ring one nearer
   unfoldable pub inward : List (List Bay) → ℕ → Bay → List Bay
   inward rs zero u = u ∷ []
-  inward rs (suc d) u = u ∷ inward rs d (Option·getD (find (joined Y u) (getD rs d [])) u)
+  inward rs (suc d) u = u ∷ inward rs d (Option·getD (lowestOf (joined Y u) (getD rs d [])) u)
 
   -- "Shortest path: fewest rails; among equals, the lowest list of bays compared from the first bay on."
   -- From u to v through bays not held, where there is one.

@@ -7,9 +7,9 @@ use mathlib.Core.Option.{Option, none, some}
 use Prim.Native.Nat.{ℕ, zero, suc, min, max}
 use lib.Dec.{eqb, ltb, leb}
 use lib.ListN.{length, getD, take, drop}
-use Rattle.paper.specs.Basics.{if_then_else_, if-some_then_else_, _and_, _>>=_, orElse, filter, find, firstOf, elem, without}
+use Rattle.paper.specs.Basics.{if_then_else_, if-some_then_else_, _and_, _>>=_, orElse, filter, lowestOf, firstOf, elem, without}
 use Rattle.paper.specs.Yard.{Bay, Carrier, Yard, Placement, Crossing, crossing, bayOf, carrierAt, isEmpty, after, neighbours, junction}
-use Rattle.paper.specs.Path.{nearestFirst, shortestPath}
+use Rattle.paper.specs.Path.{rings, nearestFirst, shortestPath}
 
 abbrev pub Action : Type 0
 Action = Placement → Option (List Crossing)
@@ -33,8 +33,8 @@ shift p (a ∷ b ∷ rest) = shift p (b ∷ rest) ++ (crossing (carrierAt p a) a
 
 module _ (Y : Yard) where
   -- "the nearest empty bay that is reached from x through bays not held, itself not held; ties go to the lowest number"
-  abbrev pub nearestEmpty : List Bay → Placement → Bay → Option Bay
-  nearestEmpty held p x = find (isEmpty p) (nearestFirst Y held x)
+  unfoldable pub nearestEmpty : List Bay → Placement → Bay → Option Bay
+  nearestEmpty held p x = firstOf (lowestOf (isEmpty p)) (rings Y held x)
 
   -- Vacate(x, held): "if x is empty, done. If x is held, fail. Otherwise take the nearest empty bay [..] None: fail."
   unfoldable pub vacate : List Bay → Bay → Action
@@ -58,6 +58,18 @@ trade L M c = if eqb c L then M else if eqb c M then L else c
 unfoldable pub undo : Carrier → Carrier → List Crossing → List Crossing
 undo L M xs = map (λ x. crossing (trade L M (x .carrier)) (x .to) (x .from)) (reverse xs)
 
+-- the two carriers' bays
+abbrev pub theirBays : Carrier → Carrier → Placement → List Bay
+theirBays L M p = bayOf p L ∷ bayOf p M ∷ []
+
+-- "holding v, b and those kept"
+abbrev pub clearingHeld : Bay → Bay → List Bay → List Bay
+clearingHeld v b kept = v ∷ b ∷ kept
+
+-- "holding r's bay and the present bays of finished carriers", who are those below `finished`
+abbrev pub holding : ℕ → Carrier → Placement → List Bay
+holding finished r p = bayOf p r ∷ take finished p
+
 -- what clearing comes to: the crossings made, and the bays kept
 pub record Cleared : Type 0 where
   pub moves : List Crossing
@@ -73,7 +85,7 @@ module _ (Y : Yard) where
   bring L M [] p = some []
   bring L M (x ∷ xs) p =
       let u = bayOf p L in
-      (vacate Y (u ∷ bayOf p M ∷ []) x then cross L x then cross M u then bring L M xs) p
+      (vacate Y (theirBays L M p) x then cross L x then cross M u then bring L M xs) p
 
   -- "While fewer than two: go once through the other neighbours of v except b, in rising order; vacate each, holding v, b and
   -- those kept; on success keep it."
@@ -82,7 +94,7 @@ module _ (Y : Yard) where
   clearing v b kept (x ∷ xs) p =
       let passed = clearing v b kept xs p in
       if leb 2 (length kept) then record { moves = []; kept = kept }
-      else if-some vacate Y (v ∷ b ∷ kept) x p
+      else if-some vacate Y (clearingHeld v b kept) x p
       then (λ ms. following ms (clearing v b (kept ++ (x ∷ [])) xs (after p ms)))
       else passed
 
@@ -127,7 +139,7 @@ module _ (Y : Yard) where
   -- finished carriers, then cross. If vacating fails, swap r with the carrier there."
   unfoldable pub step : ℕ → Carrier → Bay → Action
   step finished r w p =
-      orElse ((vacate Y (bayOf p r ∷ take finished p) w then cross r w) p) (swap r (carrierAt p w) p)
+      orElse ((vacate Y (holding finished r p) w then cross r w) p) (swap r (carrierAt p w) p)
 
 -- the crossings, or the carrier that could not step
 pub data Outcome : Type 0 where
