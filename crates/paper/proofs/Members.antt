@@ -10,7 +10,7 @@ use lib.ListN.{take}
 use lib.Dec.{eqb, ltb}
 use borrow.Author.Tests.{not-true, eqb-true, eqb-false, eq-eqb, ltb-true, ltb-false}
 use Rattle.paper.specs.Basics.{without, filter, any, find, firstOf, elem, countFrom, In, NoDup, Out, upTo, lowestOf}
-use Rattle.paper.proofs.Tests.{by-cases, by-option, not-both, never-some}
+use Rattle.paper.proofs.Tests.{some-same, by-cases, by-option, not-both, never-some}
 
 module _ {A : Type 0} (q : A → Bool) where
   pub find-passes : (xs : List A) {x : A} → find q xs ≡ some x → q x ≡ true
@@ -257,43 +257,27 @@ find-exactly q n y = (
       rw same at h),
 )
 
+min-either : (P : ℕ → Type 0) (x y : ℕ) → P x → P y → P (min x y)
+min-either P x y a b =
+    by-cases (ltb x y)
+    (λ l. let e : min x y ≡ x = omega (arith, ltb-true x y l) in rw e a)
+    (λ l. let e : min x y ≡ y = omega (arith, ltb-false x y l) in rw e b)
+
 -- the lowest that passes
 module _ (q : ℕ → Bool) where
   pub lowest-some : (xs : List ℕ) (x : ℕ) → In x xs → q x ≡ true → (y : ℕ) × (lowestOf q xs ≡ some y)
   unfolding lowestOf
   lowest-some [] x i h = In-nil x i
   lowest-some (y ∷ ys) x i h =
-      by-cases (q y)
-      (λ e. by-option (lowestOf q ys) (λ k. (y, rw (e, k))) (λ z k. (min y z, rw (e, k))))
-      (λ e. In-cases x y ys i (λ k. not-both (rw k at h) e) (λ k. let r = lowest-some ys x k h in (r .0, rw e (r .1))))
+      by-option (lowestOf q (y ∷ ys))
+      (λ n. by-cases (q y)
+      (λ e. by-option (lowestOf q ys) (λ k. never-some _ (sym (rw (e, k) at n))) (λ z k. never-some _ (sym (rw (e, k) at n))))
+      (λ e. In-cases x y ys i
+      (λ k. not-both (rw k at h) e)
+      (λ k. let r = lowest-some ys x k h in never-some (r .0) (sym (rw e at n) ∙ r .1))))
+      (λ z k. (z, k))
 
-  -- what is found passes, is a member, and no member that passes is lower
-  pub lowest-passes : (xs : List ℕ) {y : ℕ} → lowestOf q xs ≡ some y → q y ≡ true
-  unfolding lowestOf
-  lowest-passes [] {y} h = never-some y h
-  lowest-passes (x ∷ xs) {y} h =
-      by-cases (q x)
-      (λ e. by-option (lowestOf q xs)
-      (λ k. let z : x ≡ y = let w = rw (e, k) at h in cc in rw z at e)
-      (λ z k. let m : min x z ≡ y = let w = rw (e, k) at h in cc in one-of x z y m e (lowest-passes xs k)))
-      (λ e. lowest-passes xs (rw e at h))
-    where
-      one-of : (x z y : ℕ) → min x z ≡ y → q x ≡ true → q z ≡ true → q y ≡ true
-      one-of x z y m a b = by-cases (ltb x z) (λ l. let s : x ≡ y = omega (arith, ltb-true x z l) in rw s at a) (λ l. let s : z ≡ y = omega (arith, ltb-false x z l) in rw s at b)
-
-  pub lowest-in : (xs : List ℕ) {y : ℕ} → lowestOf q xs ≡ some y → In y xs
-  unfolding lowestOf
-  lowest-in [] {y} h = never-some y h
-  lowest-in (x ∷ xs) {y} h =
-      by-cases (q x)
-      (λ e. by-option (lowestOf q xs)
-      (λ k. let z : x ≡ y = let w = rw (e, k) at h in cc in rw z (In-head y xs))
-      (λ z k. let m : min x z ≡ y = let w = rw (e, k) at h in cc in one-of x z y m (lowest-in xs k)))
-      (λ e. In-tail y x xs (lowest-in xs (rw e at h)))
-    where
-      one-of : (x z y : ℕ) → min x z ≡ y → In z xs → In y (x ∷ xs)
-      one-of x z y m i = by-cases (ltb x z) (λ l. let s : y ≡ x = omega (arith, ltb-true x z l) in rw s (In-head x xs)) (λ l. let s : y ≡ z = omega (arith, ltb-false x z l) in rw s (In-tail z x xs i))
-
+  -- no member that passes is lower than what is found; it passes, and is a member
   pub lowest-least : (xs : List ℕ) {y : ℕ} → lowestOf q xs ≡ some y → (a : ℕ) → In a xs → q a ≡ true → y ≤ a
   unfolding lowestOf
   lowest-least [] {y} h a i p = In-nil a i
@@ -301,12 +285,32 @@ module _ (q : ℕ → Bool) where
       by-cases (q x)
       (λ e. by-option (lowestOf q xs)
       (λ k.
-      let z : x ≡ y = let w = rw (e, k) at h in cc in
+      let m = some-same (rw (e, k) at h) in
       In-cases a x xs i (λ s. omega arith) (λ j. let r = lowest-some xs a j p in never-some (r .0) (sym k ∙ r .1)))
       (λ z k.
-      let m : min x z ≡ y = let w = rw (e, k) at h in cc in
+      let m = some-same (rw (e, k) at h) in
       In-cases a x xs i (λ s. omega arith) (λ j. let l = lowest-least xs k a j p in omega arith)))
       (λ e. In-cases a x xs i (λ s. not-both (rw s at p) e) (λ j. lowest-least xs (rw e at h) a j p))
+
+  pub lowest-passes : (xs : List ℕ) {y : ℕ} → lowestOf q xs ≡ some y → q y ≡ true
+  unfolding lowestOf
+  lowest-passes [] {y} h = never-some y h
+  lowest-passes (x ∷ xs) {y} h =
+      by-cases (q x)
+      (λ e. by-option (lowestOf q xs)
+      (λ k. rw (some-same (rw (e, k) at h)) at e)
+      (λ z k. rw (some-same (rw (e, k) at h)) at (min-either (λ a. q a ≡ true) x z e (lowest-passes xs k))))
+      (λ e. lowest-passes xs (rw e at h))
+
+  pub lowest-in : (xs : List ℕ) {y : ℕ} → lowestOf q xs ≡ some y → In y xs
+  unfolding lowestOf
+  lowest-in [] {y} h = never-some y h
+  lowest-in (x ∷ xs) {y} h =
+      by-cases (q x)
+      (λ e. by-option (lowestOf q xs)
+      (λ k. let m = some-same (rw (e, k) at h) in rw (← m) (In-head x xs))
+      (λ z k. let m = some-same (rw (e, k) at h) in rw (← m) (min-either (λ a. In a (x ∷ xs)) x z (In-head x xs) (In-tail z x xs (lowest-in xs k)))))
+      (λ e. In-tail y x xs (lowest-in xs (rw e at h)))
 
   pub lowest-none : (xs : List ℕ) → lowestOf q xs ≡ none → (a : ℕ) → In a xs → q a ≡ false
   lowest-none xs h a i = by-cases (q a) (λ e. let r = lowest-some xs a i e in never-some (r .0) (sym h ∙ r .1)) (λ e. e)

@@ -11,8 +11,8 @@ use Rattle.paper.specs.Basics.{without, filter, any, concat, elem, count
 use Rattle.paper.specs.Yard.{Bay, Yard, joined}
 use Rattle.paper.specs.Path.{nextRing, ringsFrom, nearestFirst, Free, unseen}
 use Rattle.paper.proofs.Tests.{by-cases}
-use Rattle.paper.proofs.Members.{count-high, in-count, nothing-in-nil, In-head, In-cases, In-nil, In-append, In-append-left, In-append-right, Out-append, filter-in, filter-passes, in-filter, any-of, in-without, Out-left, Out-right}
-use Rattle.paper.proofs.Rings.{joined-sym, Walk, here, on, walk-back, reached-walk}
+use Rattle.paper.proofs.Members.{count-high, in-count, nothing-in-nil, In-head, In-cases, In-nil, In-append, In-append-left, In-append-right, Out-append, filter-in, filter-passes, in-filter, any-of, Out-left, Out-right}
+use Rattle.paper.proofs.Rings.{free-unseen, joined-sym, Walk, here, on, walk-back, reached-walk}
 
 by-list : {A P : Type 0} (l : List A) → (l ≡ [] → P) → ((x : A) (xs : List A) → l ≡ x ∷ xs → P) → P
 by-list [] f g = f refl
@@ -87,7 +87,7 @@ module _ (Y : Yard) (held : List Bay) where
   unfolding nextRing
   in-next seen ring w b i e f o =
       in-filter (λ c. any (joined Y c) ring) (unseen Y held seen) b
-      (in-without (held ++ seen) (upTo (Y .bays)) b (f .0) (Out-append b held seen (f .1) o))
+      (free-unseen Y held seen b f o)
       (any-of (joined Y b) ring w i (joined-sym Y w b e))
 
   next-in : (seen ring : List Bay) (b : Bay) → In b (nextRing Y held seen ring) → In b (unseen Y held seen)

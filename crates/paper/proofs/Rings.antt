@@ -82,15 +82,22 @@ module _ (Y : Yard) (held : List Bay) where
     here : Walk u 0 u
     on : {d : ℕ} {w v : Bay} → Walk u d w → joined Y w v ≡ true → Free Y held v → Walk u (suc d) v
 
+  -- what is neither held nor seen is free, and the other way round
+  pub unseen-free : (seen : List Bay) (b : Bay) → In b (unseen Y held seen) → Free Y held b × Out b seen
+  unseen-free seen b i =
+      let o = without-out _ (upTo (Y .bays)) b i in
+      ((without-in _ (upTo (Y .bays)) b i, Out-left b held seen o), Out-right b held seen o)
+
+  pub free-unseen : (seen : List Bay) (b : Bay) → Free Y held b → Out b seen → In b (unseen Y held seen)
+  free-unseen seen b f o = in-without (held ++ seen) (upTo (Y .bays)) b (f .0) (Out-append b held seen (f .1) o)
+
   -- a later ring holds free bays only, none seen before
   pub ring-free : (k : ℕ) (seen ring : List Bay) (d : ℕ) (b : Bay) → In b (getD (ringsFrom Y held k seen ring) (suc d) []) → Free Y held b × Out b (ring ++ seen)
   unfolding ringsFrom nextRing
   ring-free zero seen ring d b i = In-nil b i
   ring-free (suc zero) seen ring zero b i = In-nil b i
   ring-free (suc (suc k)) seen ring zero b i =
-      let j = filter-in _ (unseen Y held (ring ++ seen)) b i in
-      let o = without-out (held ++ (ring ++ seen)) (upTo (Y .bays)) b j in
-      ((without-in (held ++ (ring ++ seen)) (upTo (Y .bays)) b j, Out-left b held (ring ++ seen) o), Out-right b held (ring ++ seen) o)
+      unseen-free (ring ++ seen) b (filter-in _ (unseen Y held (ring ++ seen)) b i)
   ring-free (suc k) seen ring (suc d) b i =
       let r = ring-free k (ring ++ seen) (nextRing Y held (ring ++ seen) ring) d b i in
       (r .0, Out-right b (nextRing Y held (ring ++ seen) ring) (ring ++ seen) (r .1))
@@ -126,7 +133,7 @@ module _ (Y : Yard) (held : List Bay) where
         1,
         omega arith,
         in-filter (λ c. any (joined Y c) ring) (unseen Y held (ring ++ seen)) b
-            (in-without (held ++ (ring ++ seen)) (upTo (Y .bays)) b (f .0) (Out-append b held (ring ++ seen) (f .1) o))
+            (free-unseen (ring ++ seen) b f o)
             (any-of (joined Y b) ring w i (joined-sym Y w b e)),
       ))
   ring-grow (suc (suc k)) seen ring (suc d) w b h i e f =

@@ -17,7 +17,7 @@ use Rattle.paper.proofs.Tests.{by-cases, by-option, not-both, never-som
 use Rattle.paper.proofs.Members.{first-of, nothing-in-nil, In-head, In-tail, In-cases, In-one, In-append, Out-head, nodup-left, nodup-drop, nodup-append, nodup-filter, nodup-take, nodup-count, take-in, filter-in, filter-passes}
 use Rattle.paper.proofs.Rings.{joined-sym, reached-sym, walk-free, reached-walk}
 use Rattle.paper.proofs.Shortest.{shortest-path}
-use Rattle.paper.proofs.Playing.{Apart, Legal, legal-of, after-append, after-length, plan-append, bay-in, move-self, move-other, move-apart, move-empties, move-out, Sound}
+use Rattle.paper.proofs.Playing.{Apart, Legal, legal-of, after-append, after-length, plan-append, bay-in, move-self, move-other, move-apart, move-empties, move-out, Sound, plan-cons}
 use Rattle.paper.proofs.Vacating.{plan-apart, Vacated, vacate-vacates}
 use Rattle.paper.proofs.Trading.{traded, traded-length, traded-bay, trade-first, trade-second, trade-other, which, undo-undoes}
 

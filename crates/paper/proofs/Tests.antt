@@ -20,6 +20,9 @@ not-both e f = absurd (true≢false (sym e ∙ f))
 pub never-some : {A P : Type 0} (a : A) → none ≡ some a → P
 never-some a h = let z : _≡_ {A = ℕ} 0 1 = cc in absurd (omega arith)
 
+pub some-same : {A : Type 0} {a b : A} → some a ≡ some b → a ≡ b
+some-same h = cc
+
 pub and-left : (a b : Bool) → a and b ≡ true → a ≡ true
 unfolding _and_
 and-left true b e = refl
