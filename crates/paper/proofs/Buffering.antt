@@ -1,5 +1,5 @@
--- Any layout can be fed byte by byte by keeping the line so far: what code does that holds the file in a lent list and remembers where the line began.
--- Assumes nothing.
+-- Any layout can be fed byte by byte by keeping the line so far, as code does that holds the file and remembers where the line
+-- began.
 use mathlib.Core.Path.{_≡_, refl, sym, _∙_, ap}
 use mathlib.Core.Bool.{false}
 use mathlib.Core.List.{[], _∷_, _++_, foldl, append-nil, append-assoc}

@@ -1,4 +1,5 @@
--- A step of a carrier, its way to its goal, and the way home.
+-- Every finished carrier is home again after each carrier's turn: one that r meets on its path is swapped one bay back, so its
+-- goal is the next bay of the path, and the way home brings it there before anything else can displace it.
 use mathlib.Core.Path.{_≡_, refl, sym, _∙_, ap}
 use mathlib.Core.Bool.{true, false, not}
 use mathlib.Core.Logic.{_⊎_, inl, inr, ⊎-elim}
@@ -184,7 +185,7 @@ placeOf-in (c ∷ p) b h =
 
 module _ (Y : Yard) (sound : Sound Y) (goals : Placement) (goals-apart : Apart goals) (finished : ℕ) (hf : finished ≤ length goals)
     (u₀ : Bay) (path₀ : List Bay) (v₀ : Bay) (chain : Chain Y u₀ path₀ v₀) (nodup : NoDup (u₀ ∷ path₀)) where
-  -- each finished carrier is wayHome, or one bay back on the path, and its goal is none of these bays
+  -- each finished carrier is home, or one bay back on the path, and its goal is none of these bays
   abbrev Settled : List Bay → Placement → Type 0
   Settled vs p = (c : Carrier) → c < finished → (bayOf p c ≡ bayOf goals c) ⊎ (Pair u₀ path₀ (bayOf p c) (bayOf goals c) × Out (bayOf goals c) vs)
 
@@ -285,13 +286,13 @@ unfolding wayHome
 home-none Y goals k p b h = cc
 
 module _ (Y : Yard) (sound : Sound Y) (goals : Placement) (goals-apart : Apart goals) where
-  -- the carriers below r are wayHome
+  -- the carriers below r are home
   abbrev pub Home : ℕ → Placement → Type 0
   Home r p = (c : Carrier) → c < r → bayOf p c ≡ bayOf goals c
 
   module _ (r : Carrier) (p : Placement) (good : Good Y p) (len : length p ≡ length goals) (hr : r < length p) (at-home : Home r p)
       (u : Bay) (a : List Crossing) where
-    -- r at its goal, and those finished before it at wayHome or one bay back
+    -- r at its goal, and those finished before it at home or one bay back
     come : (ahead : List Bay) → Gone Y sound goals r u ahead (bayOf goals r) p a → (chain : Chain Y u ahead (bayOf goals r)) (n : NoDup (u ∷ ahead))
         → Settled Y sound goals goals-apart (suc r) (omega arith) u ahead (bayOf goals r) chain n (bayOf goals r ∷ []) (after p a)
     come ahead gone chain n c h =
@@ -326,7 +327,7 @@ module _ (Y : Yard) (sound : Sound Y) (goals : Placement) (goals-apart : Apart g
         ))
         (chain-last Y u ahead (bayOf goals r) chain)
 
-  -- Carrier r goes to its goal and the finished ones that it displaced go wayHome.
+  -- Carrier r goes to its goal and the finished ones that it displaced go home.
   pub carry-carries : (r : Carrier) (p : Placement) (xs : List Crossing) → Good Y p → length p ≡ length goals → r < length p
       → In (bayOf goals r) (upTo (Y .bays)) → In (bayOf p r) (nearestFirst Y [] (bayOf goals r)) → Home r p → carry Y goals r p ≡ planned xs
       → (legalPlan Y p xs ≡ true) × Home (suc r) (after p xs)

@@ -1,4 +1,4 @@
--- What the check's answers mean.
+-- The check passes exactly if 1 to 6 do, the plan is legal and ends at the goals; else 9 and 10 carry the first and the lowest.
 use Prim.Native.Nat.{zero}
 use mathlib.Core.Logic.{_↔_}
 use mathlib.Core.Path.{_≡_, refl, sym, _∙_, ap}

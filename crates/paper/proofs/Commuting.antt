@@ -1,4 +1,5 @@
--- Dependence: crossings that do not depend on each other may trade places; done sets.
+-- Two crossings that do not depend on each other share neither a carrier nor a bay, so either may come first. Hence a set of
+-- done crossings that is closed downwards can be played before the others.
 use mathlib.Core.Path.{_≡_, refl, sym, _∙_, ap}
 use mathlib.Core.Bool.{true, false}
 use mathlib.Core.List.{List, [], _∷_, _++_}

@@ -98,7 +98,7 @@ pub record Demand3 (n : ℕ) (ends : List Bay) (starts goals : Placement) (plan 
   pub unchanged : (q : Request) → (answerTo plan (marksOf plan qs) q ≡ accept → ⊥) → marksBy plan (marksOf plan qs) q ≡ marksOf plan qs
   -- While one is undone, some name would be accepted in a report with that check's yard, start and goal.
   pub goes-on : (i : ℕ) → i < length plan → isDone (marksOf plan qs) i ≡ false → (j : ℕ) × (report n ends starts goals plan (marksOf plan qs) j ≡ accept)
-  -- With all done, every carrier is wayHome and has made its plan's count of crossings.
+  -- With all done, every carrier is home and has made its plan's count of crossings.
   pub all-home : ((i : ℕ) → i < length plan → isDone (marksOf plan qs) i ≡ true)
       → (after starts (acceptedOf plan qs) ≡ goals) × ((c : Carrier) → countOf c (acceptedOf plan qs) ≡ countOf c (crossings plan))
 

@@ -1,5 +1,5 @@
--- Bytes fed one by one read the same as the file's lines read in order, for any layout whose lines can be read byte by byte.
--- Assumes nothing.
+-- Bytes fed one by one read as the file's lines do, for any layout whose lines can be read byte by byte: a CR is held back
+-- until the next byte shows whether it belongs to the line's end.
 use mathlib.Core.Path.{_≡_, refl, sym, _∙_, ap}
 use mathlib.Core.Bool.{Bool, true, false}
 use mathlib.Core.List.{List, [], _∷_, foldl}

@@ -1,5 +1,5 @@
--- What is kept of a field or of a given text, byte by byte, decides the tests of the layout.
--- Assumes nothing.
+-- What is kept of a field or of a given text, byte by byte, decides the layout's tests of it: counts are kept up to one past
+-- the limit, which is all that a test asks.
 use mathlib.Core.Path.{_≡_, refl, sym, _∙_, ap, ap₂}
 use mathlib.Core.Bool.{Bool, true, false, not}
 use mathlib.Core.List.{[], _∷_, foldl}

@@ -1,4 +1,4 @@
--- Every plan that the planner hands out passes the check: so demand 3 is of every such plan.
+-- Every plan that the planner hands out passes the check, and what passes the check names carriers and bays of the yard.
 use mathlib.Core.Path.{_≡_, refl, ap₂}
 use mathlib.Core.Bool.{true}
 use mathlib.Core.List.{List, [], _∷_, map}

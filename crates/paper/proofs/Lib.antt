@@ -6,6 +6,7 @@ pub mod Reach
 pub mod Shortest
 pub mod Nearest
 pub mod Playing
+pub mod Reversing
 pub mod Vacating
 pub mod Trading
 pub mod Swapping

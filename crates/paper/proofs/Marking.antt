@@ -1,4 +1,5 @@
--- Marks in order: the document's words, the same step by step, and the one-pass form.
+-- Marks are in order exactly if no done crossing comes behind an undone one it depends on; one pass that remembers what undone
+-- crossings have touched finds that, since whatever touches a bay depends on all that touched it before.
 use mathlib.Core.Path.{_≡_, refl, sym, ap, fun-ext}
 use mathlib.Core.Bool.{Bool, true, false, not}
 use mathlib.Core.List.{List, [], _∷_}

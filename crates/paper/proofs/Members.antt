@@ -1,4 +1,4 @@
--- Members of lists: what is found, filtered, counted, and stands there once.
+-- Members of lists: what is found, filtered, lowest, counted, and stands there once.
 use mathlib.Core.Logic.{_↔_}
 use mathlib.Core.Path.{_≡_, refl, sym, _∙_, ap}
 use mathlib.Core.Bool.{Bool, true, false, not}

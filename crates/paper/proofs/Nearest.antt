@@ -1,4 +1,5 @@
--- The nearest empty bay is what the document says: the rings come in the order of distance, and each of them rises.
+-- The nearest empty bay is what the document says: the rings come in the order of distance, and of the first that has an empty
+-- bay the lowest is taken.
 use mathlib.Core.Path.{_≡_, refl, _∙_, ap, sym}
 use mathlib.Core.Bool.{true, not, Bool}
 use mathlib.Core.List.{List, [], _∷_, _++_}

@@ -1,4 +1,4 @@
--- A crossing and its 64-bit number.
+-- A crossing and its 64-bit number are had back from each other: bays are below 2^16, so the three parts do not overlap.
 use mathlib.Core.Path.{_≡_}
 use mathlib.Core.List.{List}
 use Prim.Native.Nat.{ℕ, _<_, _^_}

@@ -1,5 +1,5 @@
--- What is printed reads back.
--- Assumes nothing.
+-- What is printed reads back: no digit is a space or a bracket, so each line splits where it was joined, and digits spell their
+-- number.
 use mathlib.Core.Path.{_≡_, refl, sym, _∙_, ap}
 use mathlib.Core.Bool.{Bool, true, false, not}
 use mathlib.Core.List.{List, [], _∷_, _++_, map, append-nil, append-assoc}
@@ -119,7 +119,7 @@ unfolding lines ended
 lines-ended [] h = refl
 lines-ended (l ∷ ls) h = lines-append l (ended ls) (h .0) ∙ ap (λ r. l ∷ r) (lines-ended ls (h .1))
 
--- ## An actionLine
+-- ## An action
 abbrev moved : ℕ → ℕ → ℕ → Text → Text
 moved c a b end =
     40 ∷ 109 ∷ 111 ∷ 118 ∷ 101 ∷ 32 ∷ 99 ∷ (decimal c ++ (32 ∷ 98 ∷ (decimal a ++ (32 ∷ 98 ∷ (decimal b ++ end)))))

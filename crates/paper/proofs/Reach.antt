@@ -1,4 +1,5 @@
--- As many rings as there are bays are enough: whatever can be reached at all is in one of them.
+-- As many rings as there are bays are enough: each ring that is not empty uses up a bay, so whatever can be reached at all is
+-- in one of them.
 use mathlib.Core.Path.{_≡_, refl, ap}
 use mathlib.Core.Bool.{Bool, true, false, not}
 use mathlib.Core.Logic.{_⊎_, inl, inr, ⊎-elim}
@@ -139,7 +140,7 @@ module _ (Y : Yard) (held : List Bay) where
   closed : (x w b : Bay) → In x (upTo (Y .bays)) → Out x held → In w (nearestFirst Y held x) → joined Y w b ≡ true → Free Y held b → In b (nearestFirst Y held x)
   closed x w b ix ox i e f = ⊎-elim (λ y. In-nil b y) (λ y. y) (closed-from (Y .bays) [] (x ∷ []) w b (few x ix ox) i e f)
 
-  -- whatever a inward of any length reaches is reached
+  -- whatever a walk of any length reaches is reached
   pub enough : (x : Bay) → Free Y held x → {d : ℕ} {b : Bay} → Walk Y held x d b → In b (nearestFirst Y held x)
   enough x fx here = start x (fx .0)
   enough x fx (on {w = w} {v = v} r e f) = closed x w v (fx .0) (fx .1) (enough x fx r) e f

@@ -1,4 +1,4 @@
--- What the report's answers mean, with plan and marks in order.
+-- A report's answers with plan and marks in order, each exactly when the document says.
 use mathlib.Core.Path.{_≡_, refl, ap}
 use mathlib.Core.Bool.{true, false, not}
 use mathlib.Core.Logic.{_↔_}
@@ -37,7 +37,7 @@ of-ready xs ms i r =
     (λ q. let l = count-high 0 i e k in not-both (r e (omega arith) (and-left _ _ q)) (not-true _ (and-right _ _ q)))
     (λ q. q))
 
--- 13 carried the lowest undone name of an earlier crossing that it depends on
+-- 13 carries the lowest undone name of an earlier crossing that it depends on
 pub early-lowest : (xs : List Crossing) (ms : List ℕ) (i e : ℕ) → undoneBefore xs ms i ≡ some e
     → (e < i) × (depend (named xs i) (named xs e) ≡ true) × (isDone ms e ≡ false)
     × ((a : ℕ) → a < e → depend (named xs i) (named xs a) ≡ true → isDone ms a ≡ true)
@@ -50,7 +50,7 @@ early-lowest xs ms i e h =
       λ a l d. by-cases (isDone ms a) (λ z. z) (λ z. not-both (and-both _ _ d (ap not z)) (f .2 a l)),
     )
 
--- the two answers that are no firstSix, and a firstSix
+-- the two answers that are no refusal, and a refusal
 pub by-report : {P : Type 0} (r : Report) → (r ≡ accept → P) → (r ≡ already → P) → ((x : Refusal) → r ≡ refuse x → P) → P
 by-report accept f g h = f refl
 by-report already f g h = g refl

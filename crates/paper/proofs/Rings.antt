@@ -55,7 +55,7 @@ module _ (Y : Yard) where
     ring-zero zero seen v u i = In-nil u i
     ring-zero (suc k) seen v u i = In-one u v i
 
-  -- a bay that is in some ring is in the ring of its ringOf
+  -- a bay that is in some ring is in the ring that `ringOf` says
   pub distance-in : (u : Bay) (rs : List (List Bay)) → In u (concat rs) → In u (getD rs (ringOf Y u rs) [])
   unfolding ringOf concat
   distance-in u [] h = h
@@ -155,7 +155,7 @@ module _ (Y : Yard) (held : List Bay) where
       (λ t. (t .0, omega arith, t .2))
       (ring-grow (suc k) [] (x ∷ []) (s .0) w v (omega arith) (s .2) e f)
 
-  -- a inward with one more bay in front
+  -- a walk with one more bay in front
   pub walk-cons : {u w v : Bay} {d : ℕ} → joined Y u w ≡ true → Free Y held w → Walk w d v → Walk u (suc d) v
   walk-cons e f here = on here e f
   walk-cons e f (on r e′ f′) = on (walk-cons e f r) e′ f′
@@ -164,7 +164,7 @@ module _ (Y : Yard) (held : List Bay) where
   walk-free f here = f
   walk-free f (on r e f′) = f′
 
-  -- the inward the other way
+  -- the walk the other way
   pub walk-back : {u v : Bay} {d : ℕ} → Free Y held u → Walk u d v → Walk v d u
   walk-back f here = here
   walk-back f (on {w = w} {v = v} r e f′) = walk-cons (joined-sym Y w v e) (walk-free f r) (walk-back f r)

@@ -1,4 +1,5 @@
--- Slots: what document 01 says of them, that they are the lowest, and the one-pass form.
+-- The slots rise strictly along dependence and are the lowest that do: each is one more than the highest it must exceed. One
+-- pass with the last slot of each carrier and bay finds them, since slots at a bay only rise.
 use mathlib.Core.Path.{_≡_, refl, sym, _∙_, ap, ap₂, fun-ext}
 use mathlib.Core.Bool.{Bool, true, false}
 use mathlib.Core.Option.{none, some}
@@ -212,7 +213,7 @@ at-zeros k = fun-ext (go k)
 pub slots-start : (k n : ℕ) (xs : List Crossing) → slots xs ≡ slotsPass (at (replicate k 0)) (at (replicate n 0)) xs
 slots-start k n xs = rw (at-zeros k, at-zeros n) (slots-pass xs)
 
--- The lent slot list: unchanged on a firstSix; else the slots, and beyond them what stood there.
+-- The lent slot list: unchanged on a refusal; else the slots, and beyond them what stood there.
 module _ (n : ℕ) (ends : List Bay) (starts goals : Placement) (plan lent : List ℕ) where
   pub slots-refused : (r : Refusal) → slotsRefusal n ends starts goals plan (length lent) ≡ some r → slotsEnd n ends starts goals plan lent ≡ lent
   unfolding slotsEnd

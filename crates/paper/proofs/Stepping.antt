@@ -1,5 +1,4 @@
--- The scenario byte by byte is the scenario line by line.
--- Assumes nothing.
+-- The scenario read byte by byte is the scenario read line by line, in whatever pieces the bytes come.
 use mathlib.Core.Path.{_≡_, refl, sym, _∙_, ap, ap₂}
 use mathlib.Core.Bool.{Bool, true, false}
 use mathlib.Core.List.{List, [], _∷_, _++_, foldl, foldl-append}

@@ -1,4 +1,5 @@
--- A swap is legal, and the two carriers have traded places after it.
+-- After a swap exactly r and s have traded places. Bring and clear are some legal list; the exchange trades the two where they
+-- stand; and the undo is that list reversed with the two names traded, so it leads everybody else back.
 use mathlib.Core.Path.{_≡_, refl, sym, _∙_, ap}
 use mathlib.Core.Bool.{true, false, not}
 use mathlib.Core.List.{List, [], _∷_, _++_, append-assoc}
@@ -17,7 +18,7 @@ use Rattle.paper.proofs.Tests.{by-cases, by-option, not-both, never-som
 use Rattle.paper.proofs.Members.{first-of, nothing-in-nil, In-head, In-tail, In-cases, In-one, In-append, Out-head, nodup-left, nodup-drop, nodup-append, nodup-filter, nodup-take, nodup-count, take-in, filter-in, filter-passes}
 use Rattle.paper.proofs.Rings.{joined-sym, reached-sym, walk-free, reached-walk}
 use Rattle.paper.proofs.Shortest.{shortest-path}
-use Rattle.paper.proofs.Playing.{Apart, Legal, legal-of, after-append, after-length, plan-append, bay-in, move-self, move-other, move-apart, move-empties, move-out, Sound, plan-cons}
+use Rattle.paper.proofs.Playing.{Apart, Legal, legal-of, after-append, after-length, plan-append, bay-in, move-self, move-other, move-apart, move-empties, move-out, Sound}
 use Rattle.paper.proofs.Vacating.{plan-apart, Vacated, vacate-vacates}
 use Rattle.paper.proofs.Trading.{traded, traded-length, traded-bay, trade-first, trade-second, trade-other, which, undo-undoes}
 

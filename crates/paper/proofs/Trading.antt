@@ -1,4 +1,5 @@
--- Two carriers trading places: crossings played with the two names traded do the same to the traded placement.
+-- With the names of two carriers traded in placements and crossings alike, what was legal is legal and leads to the traded
+-- placement: no rule looks at a carrier's name.
 use mathlib.Core.Path.{_≡_, refl, sym, _∙_, ap}
 use mathlib.Core.Bool.{true, false}
 use mathlib.Core.List.{List, [], _∷_, map, map-map, reverse}
@@ -10,7 +11,8 @@ use borrow.Author.Tests.{eqb-true, eqb-false, eq-eqb}
 use Rattle.paper.specs.Yard.{Carrier, Yard, Placement, Crossing, crossing, bayOf, move, after, legalPlan}
 use Rattle.paper.specs.Procedure.{trade, undo}
 use Rattle.paper.proofs.Tests.{by-cases}
-use Rattle.paper.proofs.Playing.{Apart, Legal, legal-facts, legal-of, after-length, plan-head, plan-tail, out-of, out-no, flip, back, back-again, back-legal}
+use Rattle.paper.proofs.Playing.{Apart, Legal, legal-facts, legal-of, after-length, plan-head, plan-tail, out-of, out-no}
+use Rattle.paper.proofs.Reversing.{flip, back, back-again, back-legal}
 
 -- the two have each other's bay
 unfoldable pub traded : Carrier → Carrier → Placement → Placement

@@ -1,4 +1,5 @@
--- Vacating is legal, empties the bay, and moves no carrier at a held bay.
+-- A vacate is legal, empties its bay and moves nobody who is held: on the path to the nearest empty bay every bay but the last
+-- is occupied, so carriers can move on one by one from its far end.
 use mathlib.Core.Path.{_≡_, refl, _∙_, ap}
 use mathlib.Core.Bool.{true, false}
 use mathlib.Core.List.{List, [], _∷_, _++_}
@@ -127,7 +128,7 @@ module _ (Y : Yard) (held : List Bay) (p : Placement) (apart : Apart p) (x e : B
       let apart-u = apart-from Y held e d u (n .bay) k (n .nearer) in
       rw (n .goes-on, t .1) (occupied i u w (omega arith), n .rail, rw (t .1) at apart-u, rw (t .1) at ih)
 
-  -- so the shift along the shortestPath path to e does what vacating is for
+  -- so the shift along the shortest path to e does what vacating is for
   pub vacates : Shifted Y p apart x (shortestPath Y held x e) (shift p (shortestPath Y held x e))
   unfolding shortestPath far
   vacates =
@@ -161,7 +162,7 @@ at-once : (Y : Yard) (held : List Bay) (x : Bay) (p : Placement) → isEmpty p x
 unfolding after legalPlan
 at-once Y held x p a = record { legal = refl; empties = not-true (elem x p) a; keeps = λ c k m. refl; spares = λ z m o. o }
 
--- (b)
+-- What a vacate that succeeds does.
 pub vacate-vacates : (Y : Yard) (held : List Bay) (x : Bay) (p : Placement) (xs : List Crossing)
     → Apart p → In x (upTo (Y .bays)) → vacate Y held x p ≡ some xs → Vacated Y held x p xs
 unfolding vacate
