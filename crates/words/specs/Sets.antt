@@ -3,7 +3,7 @@
 use mathlib.Core.Path.{_≡_}
 use mathlib.Core.Bool.{Bool, true, false, not}
 use mathlib.Core.List.{List}
-use Prim.Native.Nat.{ℕ, _+_, _-_, _*_, _/_, _%_, _^_, _≤_, _<_}
+use Prim.Native.Nat.{ℕ, zero, suc, _+_, _-_, _*_, _/_, _%_, _^_, _≤_, _<_}
 use lib.Bits.{bitAnd}
 use lib.Dec.{eqb}
 use lib.ListN.{length, getD}
@@ -56,3 +56,16 @@ pub record Settled (next seen seen′ ring : List ℕ) : Type 0 where
 pub record Kept (rows : List ℕ) (d : ℕ) (ring rows′ : List ℕ) : Type 0 where
   pub row : (b : ℕ) → b < span → memRow rows′ d b ≡ mem ring b
   pub others : (e b : ℕ) → (e ≡ d → ⊥) → b < span → memRow rows′ e b ≡ memRow rows e b
+
+-- the test passes for one of 0 to k − 1
+unfoldable pub anyBelow : (ℕ → Bool) → ℕ → Bool
+anyBelow f zero = false
+anyBelow f (suc k) = anyBelow f k or f k
+
+-- a is in the set, and b is in row a of the table
+abbrev pub reaches : List ℕ → List ℕ → ℕ → ℕ → Bool
+reaches table set b a = mem set a and memRow table a b
+
+-- what is found is in a row of the table whose number is in the set and below k
+pub record Beside (table set found : List ℕ) (k : ℕ) : Type 0 where
+  pub same : (b : ℕ) → b < span → mem found b ≡ anyBelow (reaches table set b) k

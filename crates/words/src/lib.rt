@@ -5,7 +5,7 @@ ghost use Prim.Native.Nat.{ℕ, _+_, _-_, _*_, _/_, _^_, _≤_, _<_};
 ghost use lib.ListN.{length, getD};
 ghost use lib.Dec.{eqb};
 ghost use Rattle.paper.specs.Basics.{_and_, _or_};
-ghost use Rattle.words.specs.Sets.{mem, memRow, members, words, span, Lowest, Settled, Kept};
+ghost use Rattle.words.specs.Sets.{mem, memRow, members, words, span, Lowest, Settled, Kept, Beside};
 
 // The words of a row, and the bays that they hold.
 pub const WORDS: usize = 4;
@@ -160,4 +160,17 @@ pub fn next_from(ws: &[u64], a: usize) -> usize
         s = 0;
     }
     SPAN
+}
+
+// The bays that stand in the rows of the set's members.
+pub fn beside(table: &[u64], set: &[u64], found: &mut [u64])
+    requires { ⌜ (length (now set) ≡ words) × (length (now found) ≡ words) × ((a : ℕ) → a < span → mem (now set) a ≡ true → a * words + words ≤ length (now table)) ⌝ }
+    ensures { λ _. ⌜ Beside (now (table .entry)) (now (set .entry)) (now (found .exit)) span ⌝ }
+{
+    clear(found);
+    let mut a = next_from(set, 0);
+    while a < SPAN {
+        join_row(found, table, a);
+        a = next_from(set, a + 1);
+    }
 }
