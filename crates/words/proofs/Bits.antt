@@ -153,11 +153,12 @@ pub on-and : (a b k : ℕ) → on (bitAnd a b) k ≡ on a k and on b k
 unfolding on
 on-and a b k = ap (λ (n : ℕ). eqb n 1) (bit-and a b k) ∙ min-and (bit a k) (bit b k) (bit-le a k) (bit-le b k)
 
+pub on-not : (b k : ℕ) → k < 64 → b < 2 ^ 64 → on (2 ^ 64 - 1 - b) k ≡ not (on b k)
+unfolding on
+on-not b k h l = ap (λ (n : ℕ). eqb n 1) (bit-not 64 k b h l) ∙ less-not (bit b k) (bit-le b k)
+
 pub on-less : (a b k : ℕ) → k < 64 → b < 2 ^ 64 → on (lessWord a b) k ≡ on a k and not (on b k)
-on-less a b k h l =
-    let e : on (2 ^ 64 - 1 - b) k ≡ not (on b k) =
-    unfold on in ap (λ (n : ℕ). eqb n 1) (bit-not 64 k b h l) ∙ less-not (bit b k) (bit-le b k) in
-    on-and a (2 ^ 64 - 1 - b) k ∙ ap (λ (t : Bool). on a k and t) e
+on-less a b k h l = on-and a (2 ^ 64 - 1 - b) k ∙ ap (λ (t : Bool). on a k and t) (on-not b k h l)
 
 pub on-zero : (k : ℕ) → on 0 k ≡ false
 unfolding on

@@ -144,6 +144,22 @@ pub fn lowest_common(s: &[u64], a: usize, t: &[u64], b: usize) -> usize
     SPAN
 }
 
+// The lowest bay that is not in the set; SPAN where there is none.
+pub fn lowest_missing(ws: &[u64]) -> usize
+    requires { ⌜ length (now ws) ≡ words ⌝ }
+    ensures { λ r. ⌜ Lowest (λ x. not (mem (now (ws .entry)) x)) 0 span r ⌝ }
+{
+    let mut i = 0;
+    while i < WORDS {
+        let out = !ws[i];
+        if out != 0 {
+            return i * 64 + u64::trailing_zeros(out) as usize;
+        }
+        i += 1;
+    }
+    SPAN
+}
+
 // The lowest bay of the set from a on; SPAN where there is none.
 pub fn next_from(ws: &[u64], a: usize) -> usize
     requires { ⌜ (length (now ws) ≡ words) × (a ≤ span) ⌝ }
