@@ -9,7 +9,7 @@ use native.Mathlib.Nat.{pow-suc}
 use lib.Bits.{bitOr}
 use lib.Count.{ones, ones-step}
 use lib.Dec.{eqb}
-use lib.ListN.{length, getD, set, List·getD-eq-default}
+use lib.ListN.{length, getD, set, replicate, List·getD-eq-default}
 use lib.Pow.{pow-lt}
 use lib.Seq.{getD-set-same, getD-set-other}
 use borrow.Author.Tests.{eq-eqb, ne-eqb}
@@ -22,6 +22,19 @@ use Rattle.words.proofs.Bits.{bit-half, bit-low, on-or, on-less, on-zer
 pub mem-out : (ws : List ℕ) (x : ℕ) → 64 * length ws ≤ x → mem ws x ≡ false
 unfolding mem
 mem-out ws x h = rw (List·getD-eq-default ws 0 {n = x / 64} (omega arith)) (on-zero (x % 64))
+
+-- a fresh array of words has no member
+abbrev pub zeros : ℕ → List ℕ
+zeros k = replicate k 0
+
+zero-word : (k i : ℕ) → getD (zeros k) i 0 ≡ 0
+zero-word zero i = refl
+zero-word (suc k) zero = refl
+zero-word (suc k) (suc i) = zero-word k i
+
+pub mem-zeros : (k x : ℕ) → mem (zeros k) x ≡ false
+unfolding mem
+mem-zeros k x = rw (zero-word k (x / 64)) (on-zero (x % 64))
 
 -- a row of a table lies on whole words
 pub mem-row : (ws : List ℕ) (a b : ℕ) → memRow ws a b ≡ on (getD ws (a * words + b / 64) 0) (b % 64)
