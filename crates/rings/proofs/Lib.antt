@@ -1,0 +1,3 @@
+pub mod Besides
+pub mod Searching
+pub mod Reading

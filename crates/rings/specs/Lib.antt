@@ -1,0 +1,4 @@
+pub mod Table
+pub mod Neighbours
+pub mod Search
+pub mod Ways
