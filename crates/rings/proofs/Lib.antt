@@ -1,3 +1,2 @@
-pub mod Besides
 pub mod Searching
 pub mod Reading

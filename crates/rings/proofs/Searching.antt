@@ -18,13 +18,11 @@ use Rattle.paper.proofs.Tests.{by-cases, not-both, and-left, and-right, and-bot
 use Rattle.paper.proofs.Members.{In-head, In-append, In-append-left, In-append-right, filter-in, filter-passes, in-filter, any-of, any-some, without-out, in-without, count-high, in-count}
 use Rattle.paper.proofs.Paths.{joined-sym, ring-zero}
 use Rattle.paper.proofs.Rings.{ring-free, ringsFrom-length}
-use Rattle.words.specs.Sets.{mem, memRow, Lowest, Kept, words, span}
-use Rattle.words.proofs.Loops.{Done, none-set}
-use Rattle.words.proofs.Sets.{row-zero}
-use Rattle.rings.specs.Table.{Table}
-use Rattle.rings.specs.Neighbours.{anyBelow, reaches, NextRing}
-use Rattle.rings.specs.Search.{Shown, around, ringOn, Searched}
-use Rattle.rings.proofs.Besides.{equal-tests, anyBelow-some, anyBelow-of}
+use Rattle.words.specs.Sets.{mem, memRow, Lowest, Kept, Settled, span, words, anyBelow, reaches, Beside}
+use Rattle.words.proofs.Sets.{row-zero, zeros, mem-zeros}
+use Rattle.words.proofs.Besides.{equal-tests, anyBelow-some, anyBelow-of}
+use Rattle.yard.specs.Table.{Table}
+use Rattle.rings.specs.Search.{NextRing, Shown, around, ringOn, Searched}
 
 pub elem-append : (b : ℕ) (xs ys : List ℕ) → elem b (xs ++ ys) ≡ elem b xs or elem b ys
 elem-append b xs ys =
@@ -131,6 +129,16 @@ ring-dry Y held x d (suc i) e h = elim (decLt (suc i) (Y .bays)) [
       ring-more Y held x i k ∙ rw before (filter-none (λ b. false) _ (λ b. refl))
   | no k ↦ ring-beyond Y held x (suc i) (omega arith)
 ]
+
+-- what is beside the ring, settled and kept, is the next ring
+pub ring-kept : (table : List ℕ) (d : ℕ) (seen ring rows seen′ ring′ rows′ next : List ℕ) → Beside table ring next span → Settled next seen seen′ ring′
+    → Kept rows (d + 1) ring′ rows′ → NextRing table d seen ring rows seen′ ring′ rows′
+ring-kept table d seen ring rows seen′ ring′ rows′ next p s k = record {
+  ringed = λ b h. s .ringed b h ∙ rw (p .same b h);
+  all-seen = s .all-seen;
+  row = k .row;
+  others = k .others;
+}
 
 -- ## Where the search stands
 
@@ -255,21 +263,8 @@ module _ {n : ℕ} {table held : List ℕ} (s : Shown n table held) (x : Bay) wh
       not-both (g .ringing b (omega arith) ∙ i) (l .before b (omega arith) (omega arith))) in
       searched wanted d seen ring rows g (λ f i k. ring-dry (s .yard) (s .bays) x d i none k)
 
--- ## The empty set, and the set of one bay
+-- ## The set of one bay
 
-abbrev fourZeros : List ℕ
-fourZeros = 0 ∷ 0 ∷ 0 ∷ 0 ∷ []
-
-all-zero : (k : ℕ) → getD fourZeros k 0 ≡ 0
-all-zero zero = refl
-all-zero (suc zero) = refl
-all-zero (suc (suc zero)) = refl
-all-zero (suc (suc (suc zero))) = refl
-all-zero (suc (suc (suc (suc k)))) = refl
-
-pub zeros : (y : ℕ) → mem (0 ∷ 0 ∷ 0 ∷ 0 ∷ []) y ≡ false
-zeros = none-set fourZeros words (record { at = λ k h. all-zero k }) (omega arith)
-
-pub only : (g : List ℕ) (x : ℕ) → ((y : ℕ) → mem g y ≡ mem (0 ∷ 0 ∷ 0 ∷ 0 ∷ []) y or eqb y x) → (b : ℕ) → mem g b ≡ eqb b x
+pub only : (g : List ℕ) (x : ℕ) → ((y : ℕ) → mem g y ≡ mem (zeros words) y or eqb y x) → (b : ℕ) → mem g b ≡ eqb b x
 unfolding _or_
-only g x h b = h b ∙ rw (zeros b)
+only g x h b = h b ∙ rw (mem-zeros words b)

@@ -1,4 +1,2 @@
-pub mod Table
-pub mod Neighbours
 pub mod Search
 pub mod Ways

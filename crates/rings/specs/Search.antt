@@ -1,15 +1,22 @@
 -- What the words of a ring search stand for: a yard with its held bays, and its rings, one to a row.
 -- Assumes nothing.
 use mathlib.Core.Path.{_≡_}
-use mathlib.Core.Bool.{Bool, true, false}
+use mathlib.Core.Bool.{false, not}
 use mathlib.Core.List.{List, []}
-use Prim.Native.Nat.{ℕ, _≤_, _<_}
+use Prim.Native.Nat.{ℕ, _+_, _≤_, _<_}
 use lib.ListN.{getD}
-use Rattle.paper.specs.Basics.{elem, In}
+use Rattle.paper.specs.Basics.{_and_, _or_, elem, In}
 use Rattle.paper.specs.Yard.{Bay, Yard}
 use Rattle.paper.specs.Path.{rings}
-use Rattle.words.specs.Sets.{mem, memRow, words, span}
-use Rattle.rings.specs.Table.{Table}
+use Rattle.words.specs.Sets.{mem, memRow, span, anyBelow, reaches}
+use Rattle.yard.specs.Table.{Table}
+
+-- from ring d and the bays seen so far to ring d + 1, which becomes row d + 1
+pub record NextRing (table : List ℕ) (d : ℕ) (seen ring rows seen′ ring′ rows′ : List ℕ) : Type 0 where
+  pub ringed : (b : ℕ) → b < span → mem ring′ b ≡ anyBelow (reaches table ring b) span and not (mem seen b)
+  pub all-seen : (b : ℕ) → b < span → mem seen′ b ≡ mem seen b or mem ring′ b
+  pub row : (b : ℕ) → b < span → memRow rows′ (d + 1) b ≡ mem ring′ b
+  pub others : (e b : ℕ) → (e ≡ d + 1 → ⊥) → b < span → memRow rows′ e b ≡ memRow rows e b
 
 -- ring d around x
 abbrev pub around : Yard → List Bay → Bay → ℕ → List Bay

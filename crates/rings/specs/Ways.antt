@@ -10,7 +10,7 @@ use Rattle.paper.specs.Basics.{find, elem, In}
 use Rattle.paper.specs.Yard.{Bay, Yard}
 use Rattle.paper.specs.Path.{rings, nearestFirst, inward, shortestPath, pathBetween}
 use Rattle.words.specs.Sets.{mem, memRow, span}
-use Rattle.rings.specs.Table.{Table}
+use Rattle.yard.specs.Table.{Table}
 use Rattle.rings.specs.Search.{Shown, around}
 use Rattle.rings.specs.declared.Nearest.{Nearest}
 use Rattle.rings.specs.declared.Nearest.the-variants.{At, Nowhere}

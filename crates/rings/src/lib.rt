@@ -9,8 +9,7 @@ ghost use lib.ListN.{length, take};
 ghost use Rattle.paper.specs.Basics.{find};
 ghost use Rattle.paper.specs.Path.{nearestFirst};
 ghost use Rattle.words.specs.Sets.{mem, words, span};
-ghost use Rattle.rings.specs.Neighbours.{Beside, NextRing};
-ghost use Rattle.rings.specs.Search.{Shown, Searched};
+ghost use Rattle.rings.specs.Search.{NextRing, Shown, Searched};
 ghost use Rattle.rings.specs.Ways.{Inside, pathIn, nearestOf, PathFound, WayFound};
 
 // The nearest bay, if any.
@@ -31,19 +30,6 @@ pub enum Way {
     NoWay,
 }
 
-// The bays that a rail joins to a bay of the set.
-fn beside(table: &[u64], n: usize, set: &[u64], found: &mut [u64])
-    requires { ⌜ (length (now table) ≡ n * words) × (length (now set) ≡ words) × (length (now found) ≡ words) × ((b : ℕ) → b < span → mem (now set) b ≡ true → b < n) ⌝ }
-    ensures { λ _. ⌜ Beside (now (table .entry)) (now (set .entry)) (now (found .exit)) span ⌝ }
-{
-    words::clear(found);
-    let mut a = words::next_from(set, 0);
-    while a < words::SPAN {
-        words::join_row(found, table, a);
-        a = words::next_from(set, a + 1);
-    }
-}
-
 // One more ring, which becomes row d + 1.
 fn next_ring(
     table: &[u64],
@@ -57,7 +43,7 @@ fn next_ring(
     ensures { λ _. ⌜ NextRing (now (table .entry)) d (now (seen .entry)) (now (ring .entry)) (now (rows .entry)) (now (seen .exit)) (now (ring .exit)) (now (rows .exit)) ⌝ }
 {
     let mut next = [0u64; words::WORDS];
-    beside(table, n, ring, &mut next);
+    words::beside(table, ring, &mut next);
     words::settle(&next, seen, ring);
     words::keep(rows, d + 1, ring);
 }

@@ -3,8 +3,6 @@
 use native.Mathlib.Omega.{arith}
 use borrow.Author.Needs.{needs}
 use Rattle.rings.proofs.Reading.{nearest-at, nearest-nowhere}
-use Rattle.rings.proofs.Reading.{nearest-at, nearest-nowhere}
-use Rattle.rings.proofs.Reading.{nearest-at, nearest-nowhere}
 use Rattle.rings.proofs.find_nearest.Statement.{statement}
 use Rattle.rings.proofs.find_nearest.Tie as tie
 use Rattle.rings.proofs.find_nearest.Reads as reads

@@ -7,11 +7,6 @@ use lib.ListN.{length, set, length-set}
 use borrow.Author.Needs.{needs}
 use Rattle.rings.specs.Ways.{Inside}
 use Rattle.rings.proofs.Reading.{Walked, walked-none, walked-more, walked-all, walked-inside}
-use Rattle.rings.proofs.Reading.{Walked, walked-none, walked-more, walked-all, walked-inside}
-use Rattle.rings.proofs.Reading.{Walked, walked-none, walked-more, walked-all, walked-inside}
-use Rattle.rings.proofs.Reading.{Walked, walked-none, walked-more, walked-all, walked-inside}
-use Rattle.rings.proofs.Reading.{Walked, walked-none, walked-more, walked-all, walked-inside}
-use Rattle.rings.proofs.Reading.{Walked, walked-none, walked-more, walked-all, walked-inside}
 use Rattle.rings.proofs.inward.Statement.{statement}
 use Rattle.rings.proofs.inward.Tie as tie
 use Rattle.rings.proofs.inward.Reads as reads

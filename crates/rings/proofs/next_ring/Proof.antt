@@ -1,22 +1,18 @@
 -- `rings::next_ring` meets its contract. What is beside the ring and was not seen is the next ring; it is kept as the next row.
 -- Assumes nothing.
+use native.Mathlib.Omega.{arith}
 use borrow.Author.Needs.{needs}
-use Rattle.rings.proofs.Besides.{ring-kept}
-use Rattle.rings.proofs.Besides.{ring-kept}
-use Rattle.rings.proofs.Besides.{ring-kept}
-use Rattle.rings.proofs.Besides.{ring-kept}
-use Rattle.rings.proofs.Besides.{ring-kept}
+use Rattle.rings.proofs.Searching.{ring-kept}
 use Rattle.rings.proofs.next_ring.Statement.{statement}
 use Rattle.rings.proofs.next_ring.Tie as tie
 use Rattle.rings.proofs.next_ring.Reads as reads
 use Rattle.rings.proofs.next_ring.Lts as lts
-use Rattle.rings.proofs.beside.Reads as beside-reads
 
 slice-aggregate-beside : tie.Need-slice-aggregate-beside
 slice-aggregate-beside c = search needs
 
 beside-requires : tie.Need-beside-requires
-beside-requires c κs = search needs
+beside-requires c κs = (search needs, search needs, λ a h m. let l = c .before .before .before .before .before .before .pre .5 a h m in omega (arith, l, c .before .before .before .before .before .before .pre .0))
 
 slice-aggregate-settle : tie.Need-slice-aggregate-settle
 slice-aggregate-settle c = search needs

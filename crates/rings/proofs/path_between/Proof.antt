@@ -5,10 +5,6 @@ use native.Mathlib.Omega.{arith}
 use borrow.Author.Needs.{needs}
 use Rattle.rings.proofs.Searching.{only}
 use Rattle.rings.proofs.Reading.{inside, path-first, path-none}
-use Rattle.rings.proofs.Searching.{only}
-use Rattle.rings.proofs.Reading.{inside, path-first, path-none}
-use Rattle.rings.proofs.Searching.{only}
-use Rattle.rings.proofs.Reading.{inside, path-first, path-none}
 use Rattle.rings.proofs.path_between.Statement.{statement}
 use Rattle.rings.proofs.path_between.Tie as tie
 use Rattle.rings.proofs.path_between.Reads as reads

@@ -7,11 +7,8 @@ use lib.ListN.{length}
 use borrow.Author.Needs.{needs}
 use Rattle.words.specs.Sets.{words}
 use Rattle.rings.specs.Search.{Shown}
-use Rattle.rings.proofs.Searching.{Searching, searching-first, searching-inside, searching-more, searched-wanted, searched-all, searched-dry, zeros}
-use Rattle.rings.proofs.Searching.{Searching, searching-first, searching-inside, searching-more, searched-wanted, searched-all, searched-dry, zeros}
-use Rattle.rings.proofs.Searching.{Searching, searching-first, searching-inside, searching-more, searched-wanted, searched-all, searched-dry, zeros}
-use Rattle.rings.proofs.Searching.{Searching, searching-first, searching-inside, searching-more, searched-wanted, searched-all, searched-dry, zeros}
-use Rattle.rings.proofs.Searching.{Searching, searching-first, searching-inside, searching-more, searched-wanted, searched-all, searched-dry, zeros}
+use Rattle.words.proofs.Sets.{mem-zeros}
+use Rattle.rings.proofs.Searching.{Searching, searching-first, searching-inside, searching-more, searched-wanted, searched-all, searched-dry}
 use Rattle.rings.proofs.search.Statement.{statement}
 use Rattle.rings.proofs.search.Tie as tie
 use Rattle.rings.proofs.search.Reads as reads
@@ -52,7 +49,7 @@ keep-requires-2 : tie.Need-keep-requires-2 Inv-loop μ-loop
 keep-requires-2 c κs = search needs
 
 loop-holds : tie.Need-loop-holds Inv-loop μ-loop
-loop-holds c = (refl, omega arith, omega arith, omega arith, λ s. searching-first s _ _ _ _ _ _ _ _ _ (c .before .before .before .before .before .before .before .before .before .before .before .before .before .before .before .before .before .before .before .pre .1) (c .before .before .before .before .before .before .before .before .before .before .before .before .keep .ensures) (c .before .before .before .before .before .before .before .before .before .add .ensures) zeros (c .before .before .before .before .before .before .add2 .ensures) (c .before .before .keep2 .ensures))
+loop-holds c = (refl, omega arith, omega arith, omega arith, λ s. searching-first s _ _ _ _ _ _ _ _ _ (c .before .before .before .before .before .before .before .before .before .before .before .before .before .before .before .before .before .before .before .pre .1) (c .before .before .before .before .before .before .before .before .before .before .before .before .keep .ensures) (c .before .before .before .before .before .before .before .before .before .add .ensures) (mem-zeros words) (c .before .before .before .before .before .before .add2 .ensures) (c .before .before .keep2 .ensures))
 
 lowest-common-requires : tie.Need-lowest-common-requires Inv-loop μ-loop
 lowest-common-requires c κs = search needs

@@ -6,7 +6,6 @@ use borrow.Author.Needs.{needs}
 use Rattle.words.specs.Sets.{mem}
 use Rattle.rings.specs.Ways.{nearestOf}
 use Rattle.rings.proofs.Reading.{way-none, way-to, way-missing, end-inside}
-use Rattle.rings.proofs.Reading.{way-none, way-to, way-missing, end-inside}
 use Rattle.rings.proofs.way_to_nearest.Statement.{statement}
 use Rattle.rings.proofs.way_to_nearest.Tie as tie
 use Rattle.rings.proofs.way_to_nearest.Reads as reads

@@ -4,10 +4,6 @@ use native.Mathlib.Omega.{arith}
 use lib.ListN.{length-set}
 use borrow.Author.Needs.{needs}
 use Rattle.vacate.proofs.Playing.{stands-there, crossed}
-use Rattle.vacate.proofs.Playing.{stands-there, crossed}
-use Rattle.vacate.proofs.Playing.{stands-there, crossed}
-use Rattle.vacate.proofs.Playing.{stands-there, crossed}
-use Rattle.vacate.proofs.Playing.{stands-there, crossed}
 use Rattle.vacate.proofs.cross.Statement.{statement}
 use Rattle.vacate.proofs.cross.Tie as tie
 use Rattle.vacate.proofs.cross.Reads as reads

@@ -9,7 +9,6 @@ use Rattle.paper.specs.Yard.{isEmpty}
 use Rattle.words.specs.Sets.{span}
 use Rattle.rings.specs.Ways.{endOf}
 use Rattle.vacate.proofs.Vacating.{vacates-empty, vacates-held, vacates-none, can-shift, vacates-filled}
-use Rattle.vacate.proofs.Vacating.{vacates-empty, vacates-held, vacates-none}
 use Rattle.vacate.proofs.vacate.Statement.{statement}
 use Rattle.vacate.proofs.vacate.Tie as tie
 use Rattle.vacate.proofs.vacate.Reads as reads
