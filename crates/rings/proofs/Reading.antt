@@ -1,0 +1,239 @@
+-- The lowest wanted bay of the first ring that has one is the nearest, ties to the lowest; and the lowest neighbour in the ring one
+-- nearer is the path's next bay. Both are the paper's, since its rings rise.
+-- Assumes nothing.
+use mathlib.Core.Path.{_≡_, refl, sym, ap, _∙_}
+use mathlib.Core.Bool.{Bool, true, false}
+use mathlib.Core.List.{List, [], _∷_, _++_, append-assoc}
+use mathlib.Core.Option.{Option, none, some}
+use Prim.Native.Nat.{ℕ, zero, suc, _+_, _-_, _*_, _≤_, _<_}
+use native.Mathlib.Decide.{ℕ-discrete, decLt}
+use native.Mathlib.Nat.{zero-add}
+use native.Mathlib.Numerals.{add-one}
+use native.Mathlib.Omega.{arith}
+use lib.Dec.{eqb, ltb}
+use lib.ListN.{length, getD, set, take}
+use lib.Seq.{take-suc-set}
+use borrow.Author.Tests.{eq-eqb, ne-eqb, lt-ltb, le-ltb}
+use Rattle.paper.specs.Basics.{if_then_else_, _and_, find, concat, elem, In}
+use Rattle.paper.specs.Yard.{Bay, Yard, joined}
+use Rattle.paper.specs.Path.{Free, rings, nearestFirst, ringOf, inward, shortestPath, pathBetween}
+use Rattle.paper.proofs.Tests.{by-cases, not-both, and-left, and-right, and-both, never-some}
+use Rattle.paper.proofs.Members.{count-high, in-count, In-nil, find-passes, find-in, find-some, none-find}
+use Rattle.paper.proofs.Paths.{distance-in, distance-least, in-concat}
+use Rattle.paper.proofs.Rings.{find-here, find-later, reached-sym, reached-walk, walk-free}
+use Rattle.paper.proofs.Shortest.{Rising, find-lowest, rising-rings}
+use Rattle.paper.proofs.Vacating.{Next, next, walk-zero}
+use Rattle.words.specs.Sets.{mem, memRow, Lowest, span}
+use Rattle.words.proofs.Sets.{row-zero}
+use Rattle.rings.specs.Search.{Shown, around, ringOn, Searched}
+use Rattle.rings.specs.Ways.{Inside, pathIn, PathFound, WayFound}
+use Rattle.rings.specs.declared.Path.the-variants.{First, NoPath}
+use Rattle.rings.specs.declared.Way.the-variants.{To, NoWay}
+use Rattle.rings.proofs.Searching.{ring-inside, in-yard}
+
+-- ## The first that passes, in rings
+
+module _ (q : ℕ → Bool) where
+  find-rings : (rs : List (List ℕ)) (r e : ℕ) → ((i b : ℕ) → i < r → In b (getD rs i []) → q b ≡ false) → find q (getD rs r []) ≡ some e → find q (concat rs) ≡ some e
+  unfolding concat
+  find-rings [] r e f h = unfold find in h
+  find-rings (l ∷ rs) zero e f h = find-here q l (concat rs) h
+  find-rings (l ∷ rs) (suc r) e f h =
+      find-later q l (concat rs) (none-find q l (λ b i. f 0 b (omega arith) i))
+      ∙ find-rings rs r e (λ i b k y. f (suc i) b (omega arith) y) h
+
+  find-is : (l : List ℕ) (e : ℕ) → Rising l → In e l → q e ≡ true → ((b : ℕ) → In b l → b < e → q b ≡ false) → find q l ≡ some e
+  find-is l e r i h f =
+      let y = find-some q l e i h in
+      let low : y .0 ≤ e = find-lowest q l (y .0) e r (y .1) i h in
+      elim (decLt (y .0) e) [
+        | yes k ↦ not-both (find-passes q l (y .1)) (f (y .0) (find-in q l (y .1)) k)
+        | no k ↦ let same : y .0 ≡ e = omega arith in y .1 ∙ ap some same
+      ]
+
+pub one-rises : (x : ℕ) → Rising (x ∷ [])
+unfolding Rising
+one-rises x = (λ y i. In-nil y i, tt)
+
+-- span stands for no bay
+abbrev pub orNone : ℕ → Option ℕ
+orNone r = if ltb r span then some r else none
+
+module _ {n : ℕ} {table held : List ℕ} (s : Shown n table held) (x : Bay) (most : n ≤ span) (hx : x < n) where
+  rises : (d : ℕ) → Rising (ringOn s x d)
+  rises d = rising-rings (s .yard) (s .bays) (s .yard .bays) [] (x ∷ []) d (one-rises x)
+
+  -- the lowest wanted bay of the ring where the search ended
+  pub nearest-lowest : (q : Bay → Bool) (wanted rows : List ℕ) (r e : ℕ) → ((b : ℕ) → b < n → mem wanted b ≡ q b) → Searched s x wanted rows r
+      → Lowest (λ b. memRow rows r b and memRow wanted 0 b) 0 span e → orNone e ≡ find q (nearestFirst (s .yard) (s .bays) x)
+  nearest-lowest q wanted rows r e w f l =
+      let rs = rings (s .yard) (s .bays) x in
+      let low : (d b : ℕ) → In b (ringOn s x d) → b < n = in-yard s x most hx in
+      let early : (i b : ℕ) → i < r → In b (getD rs i []) → q b ≡ false = λ i b k y. sym (w b (low i b y)) ∙ f .before i b k y in
+      let lower : (b : ℕ) → In b (getD rs r []) → b < e → mem wanted b ≡ false =
+      λ b i k.
+      let hb : b < n = low r b i in
+      let z : memRow rows r b and memRow wanted 0 b ≡ false = l .before b (omega arith) k in
+      by-cases (mem wanted b) (λ t. not-both (and-both _ _ (f .rowing r b (omega arith) (omega arith) ∙ i) (row-zero wanted b ∙ t)) z) (λ t. t) in
+      elim (decLt e span) [
+        | yes k ↦
+            let z = l .hit k in
+            let i : In e (getD rs r []) = sym (f .rowing r e (omega arith) k) ∙ and-left _ _ z in
+            let t : q e ≡ true = sym (w e (low r e i)) ∙ sym (row-zero wanted e) ∙ and-right _ _ z in
+            rw (lt-ltb e span k) (sym (find-rings q rs r e early (find-is q (getD rs r []) e (rises r) i t (λ b y m. sym (w b (low r b y)) ∙ lower b y m))))
+        | no k ↦
+            let missing : (b : ℕ) → In b (getD rs r []) → mem wanted b ≡ false = λ b i. let hb : b < n = low r b i in lower b i (omega arith) in
+            rw (le-ltb e span (omega arith)) (sym (none-find q (concat rs) (λ b i.
+            let d : ℕ = ringOf (s .yard) b rs in
+            let y : In b (getD rs d []) = distance-in (s .yard) b rs i in
+            elim (decLt d r) [
+              | yes m ↦ early d b m y
+              | no m ↦ elim (ℕ-discrete d r) [
+                | yes v ↦ let y′ : In b (getD rs r []) = rw v at y in sym (w b (low r b y′)) ∙ missing b y′
+                | no v ↦ In-nil b (rw (f .last missing d (omega arith)) at y)
+              ]
+            ])))
+      ]
+
+  -- the search for the one bay u ends at the ring of u, where u is reached at all
+  pub search-finds : (wanted rows : List ℕ) (u r : ℕ) → ((b : ℕ) → mem wanted b ≡ eqb b u) → Searched s x wanted rows r
+      → In u (nearestFirst (s .yard) (s .bays) x) → In u (ringOn s x r) × (ringOf (s .yard) u (rings (s .yard) (s .bays) x) ≡ r)
+  search-finds wanted rows u r w f i =
+      let rs = rings (s .yard) (s .bays) x in
+      let d : ℕ = ringOf (s .yard) u rs in
+      let y : In u (getD rs d []) = distance-in (s .yard) u rs i in
+      let there : mem wanted u ≡ true = w u ∙ eq-eqb u u refl in
+      elim (decLt d r) [
+        | yes m ↦ not-both there (f .before d u m y)
+        | no m ↦ elim (ℕ-discrete d r) [
+          | yes v ↦ (rw v at y, v)
+          | no v ↦ by-cases (elem u (ringOn s x r))
+              (λ k. let least : d ≤ r = distance-least (s .yard) u rs r k in absurd (omega arith))
+              (λ k. In-nil u (rw (f .last (λ b z. w b ∙ ne-eqb b u (λ q. not-both (rw q at z) k)) d (omega arith)) at y))
+        ]
+      ]
+
+-- ## The path inward
+
+module _ {n : ℕ} {table rows : List ℕ} {d x : ℕ} (t : Inside n table rows d x) where
+  abbrev goalRings : List (List Bay)
+  goalRings = rings (t .yard) (t .held) (t .goal)
+
+  -- i bays of the path are in the room, and u is the next
+  pub record Walked (i u : ℕ) (room : List ℕ) : Type 0 where
+    pub near : In u (getD goalRings (d - i) [])
+    pub so-far : pathIn t ≡ take i room ++ inward (t .yard) goalRings (d - i) u
+
+  pub walked-inside : (i u : ℕ) (room : List ℕ) → Walked i u room → u < n
+  walked-inside i u room w =
+      let h : t .goal < t .yard .bays = rw (t .joins .bays) (t .home) in
+      rw (t .joins .bays) at (ring-inside (t .yard) (t .held) (t .goal) (d - i) u h (w .near))
+
+  pub walked-none : (room : List ℕ) → Walked 0 x room
+  walked-none room = let e : d - 0 ≡ d = omega arith in record { near = rw e (t .start); so-far = rw e }
+
+  -- the lowest neighbour in the ring one nearer is the path's next bay
+  lowest-next : (k u r : ℕ) → n ≤ span → k ≤ d → u < n → (s : Next (t .yard) (t .held) (t .goal) k u)
+      → Lowest (λ b. memRow table u b and memRow rows k b) 0 span r → (s .bay ≡ r) × In r (getD goalRings k [])
+  lowest-next k u r most hk hu s l =
+      let home : t .goal < t .yard .bays = rw (t .joins .bays) (t .home) in
+      let hb : s .bay < n = rw (t .joins .bays) at (ring-inside (t .yard) (t .held) (t .goal) k (s .bay) home (s .nearer)) in
+      let one : memRow table u (s .bay) ≡ true = t .joins .same u (s .bay) hu (omega arith) ∙ s .rail in
+      let two : memRow rows k (s .bay) ≡ true = t .rowing k (s .bay) hk (omega arith) ∙ s .nearer in
+      let both : memRow table u (s .bay) and memRow rows k (s .bay) ≡ true = and-both _ _ one two in
+      let r-low : r ≤ s .bay = elim (decLt (s .bay) r) [ yes m ↦ not-both both (l .before (s .bay) (omega arith) m) | no m ↦ omega arith ] in
+      let hit : memRow table u r and memRow rows k r ≡ true = l .hit (omega arith) in
+      let r-in : In r (getD goalRings k []) = sym (t .rowing k r hk (omega arith)) ∙ and-right _ _ hit in
+      let r-joined : joined (t .yard) u r ≡ true = sym (t .joins .same u r hu (omega arith)) ∙ and-left _ _ hit in
+      let b-low : s .bay ≤ r = find-lowest (joined (t .yard) u) (getD goalRings k []) (s .bay) r
+      (rising-rings (t .yard) (t .held) (t .yard .bays) [] (t .goal ∷ []) k (one-rises (t .goal))) (s .found) r-in r-joined in
+      (omega arith, r-in)
+
+  pub walked-more : (i u r : ℕ) (room : List ℕ) → n ≤ span → i < d → i < length room → Walked i u room
+      → Lowest (λ b. memRow table u b and memRow rows (d - 1 - i) b) 0 span r → Walked (i + 1) r (set room i u)
+  walked-more i u r room most h len w l =
+      let e : d - i ≡ suc (d - 1 - i) = omega arith in
+      let f : d - (i + 1) ≡ d - 1 - i = omega arith in
+      let s = next (t .yard) (t .held) (t .goal) (d - 1 - i) u (rw e at (w .near)) in
+      let z = lowest-next (d - 1 - i) u r most (omega arith) (walked-inside i u room w) s l in
+      record {
+        near = rw f (z .1);
+        so-far = w .so-far ∙ rw (e, s .on-walk, z .0, f, add-one, take-suc-set room i u len, append-assoc);
+      }
+
+  pub walked-all : (i u : ℕ) (room : List ℕ) → i ≡ d → i < length room → Walked i u room → take (d + 1) (set room i u) ≡ pathIn t
+  walked-all i u room e len w =
+      let z : d - i ≡ 0 = omega arith in
+      let f : d + 1 ≡ suc i = omega arith in
+      rw (f, take-suc-set room i u len) (sym (w .so-far ∙ rw (z, walk-zero)))
+
+-- ## What the functions answer
+
+module _ {n : ℕ} {table held : List ℕ} (s : Shown n table held) (most : n ≤ span) where
+  pub nearest-at : (x : Bay) (hx : x < n) (q : Bay → Bool) (wanted rows : List ℕ) (r e : ℕ) → ((b : ℕ) → b < n → mem wanted b ≡ q b) → Searched s x wanted rows r
+      → Lowest (λ b. memRow rows r b and memRow wanted 0 b) 0 span e → e < span → some e ≡ find q (nearestFirst (s .yard) (s .bays) x)
+  nearest-at x hx q wanted rows r e w f l k = rw (lt-ltb e span k) at (nearest-lowest s x most hx q wanted rows r e w f l)
+
+  pub nearest-nowhere : (x : Bay) (hx : x < n) (q : Bay → Bool) (wanted rows : List ℕ) (r e : ℕ) → ((b : ℕ) → b < n → mem wanted b ≡ q b) → Searched s x wanted rows r
+      → Lowest (λ b. memRow rows r b and memRow wanted 0 b) 0 span e → span ≤ e → none ≡ find q (nearestFirst (s .yard) (s .bays) x)
+  nearest-nowhere x hx q wanted rows r e w f l k = rw (le-ltb e span k) at (nearest-lowest s x most hx q wanted rows r e w f l)
+
+  module _ (u v : Bay) (hv : v < n) (wanted rows : List ℕ) (d : ℕ) (w : (b : ℕ) → mem wanted b ≡ eqb b u) (f : Searched s v wanted rows d) (hu : u < n) where
+    abbrev pub inside : true ≡ memRow rows d u → Inside n table rows d u
+    inside k = record {
+      yard = s .yard;
+      held = s .bays;
+      goal = v;
+      joins = s .joins;
+      home = hv;
+      rowing = f .rowing;
+      start = sym (f .rowing d u (omega arith) (omega arith)) ∙ sym k;
+    }
+
+    pub path-first : (k : true ≡ memRow rows d u) (room : List ℕ) → take (d + 1) room ≡ pathIn (inside k) → PathFound s u v room (First (d + 1))
+    unfolding pathBetween shortestPath
+    path-first k room e =
+        let Y = s .yard in
+        let i : In u (nearestFirst Y (s .bays) v) = in-concat Y u (rings Y (s .bays) v) d (inside k .start) in
+        let same : ringOf Y u (rings Y (s .bays) v) ≡ d = search-finds s v most hv wanted rows u d w f i .1 in
+        record { fits = omega (arith, f .far); same = rw (i, same) (ap some e) }
+
+    pub path-none : (room : List ℕ) → false ≡ memRow rows d u → PathFound s u v room NoPath
+    unfolding pathBetween
+    path-none room k =
+        let Y = s .yard in
+        let out : elem u (ringOn s v d) ≡ false = sym (f .rowing d u (omega arith) (omega arith)) ∙ sym k in
+        let o : elem u (nearestFirst Y (s .bays) v) ≡ false =
+        by-cases (elem u (nearestFirst Y (s .bays) v)) (λ i. not-both (search-finds s v most hv wanted rows u d w f i .0) out) (λ o. o) in
+        record { fits = omega arith; same = rw o }
+
+-- ## The way to the nearest
+
+module _ {n : ℕ} {table held : List ℕ} (s : Shown n table held) (x : Bay) (q : Bay → Bool) where
+  pub way-none : (room : List ℕ) → none ≡ find q (nearestFirst (s .yard) (s .bays) x) → WayFound s x q room NoWay
+  way-none room h = record { nearest = h; fits = omega arith; path = λ e k. never-some e k }
+
+  module _ (e : Bay) (found : some e ≡ find q (nearestFirst (s .yard) (s .bays) x)) (most : n ≤ span) (hx : x < n) (unheld : mem held x ≡ false) where
+    pub free-x : Free (s .yard) (s .bays) x
+    free-x = (in-count 0 (s .yard .bays) x (omega arith) (rw (s .joins .bays) (omega arith)), sym (s .holds x (omega arith)) ∙ unheld)
+
+    reached : In e (nearestFirst (s .yard) (s .bays) x)
+    reached = find-in q (nearestFirst (s .yard) (s .bays) x) (sym found)
+
+    pub end-inside : e < n
+    end-inside =
+        let w = reached-walk (s .yard) (s .bays) x e reached in
+        let h = count-high 0 (s .yard .bays) e (walk-free (s .yard) (s .bays) free-x (w .2) .0) in
+        rw (s .joins .bays) at (rw zero-add at h)
+
+    -- who is reached from x is a bay from which x is reached
+    x-reached : elem x (nearestFirst (s .yard) (s .bays) e) ≡ true
+    x-reached = reached-sym (s .yard) (s .bays) x e free-x reached
+
+    pub way-to : (room : List ℕ) (m : ℕ) → PathFound s x e room (First m) → take m room ≡ shortestPath (s .yard) (s .bays) x e
+    unfolding pathBetween
+    way-to room m p = let z : some (take m room) ≡ some (shortestPath (s .yard) (s .bays) x e) = rw x-reached at (p .same) in cc
+
+    pub way-missing : {P : Type 0} (room : List ℕ) → PathFound s x e room NoPath → P
+    unfolding pathBetween
+    way-missing room p = never-some (shortestPath (s .yard) (s .bays) x e) (rw x-reached at (p .same))

@@ -1,0 +1,270 @@
+-- Each ring is what stands beside the ring before it, neither held nor seen: so the rows that the search makes are the paper's rings.
+-- Once a ring is empty all further ones are, so the search may stop there.
+-- Assumes nothing.
+use mathlib.Core.Path.{_≡_, refl, sym, ap, _∙_}
+use mathlib.Core.Bool.{Bool, true, false, not}
+use mathlib.Core.List.{List, [], _∷_, _++_}
+use Prim.Native.Nat.{ℕ, zero, suc, _+_, _*_, _≤_, _<_}
+use native.Mathlib.Decide.{ℕ-discrete, decLt}
+use native.Mathlib.Numerals.{add-one}
+use native.Mathlib.Omega.{arith}
+use lib.Dec.{eqb}
+use lib.ListN.{getD, List·getD-eq-default}
+use borrow.Author.Tests.{not-true}
+use Rattle.paper.specs.Basics.{if_then_else_, _and_, _or_, any, filter, elem, without, upTo, In}
+use Rattle.paper.specs.Yard.{Bay, Yard, joined}
+use Rattle.paper.specs.Path.{nextRing, ringsFrom, rings}
+use Rattle.paper.proofs.Tests.{by-cases, not-both, and-left, and-right, and-both, or-left, or-right, or-cases}
+use Rattle.paper.proofs.Members.{In-head, In-append, In-append-left, In-append-right, filter-in, filter-passes, in-filter, any-of, any-some, without-out, in-without, count-high, in-count}
+use Rattle.paper.proofs.Paths.{joined-sym, ring-zero}
+use Rattle.paper.proofs.Rings.{ring-free, ringsFrom-length}
+use Rattle.words.specs.Sets.{mem, memRow, Lowest, Kept, Settled, span, words, anyBelow, reaches, Beside}
+use Rattle.words.proofs.Sets.{row-zero, zeros, mem-zeros}
+use Rattle.words.proofs.Besides.{equal-tests, anyBelow-some, anyBelow-of}
+use Rattle.yard.specs.Table.{Table}
+use Rattle.rings.specs.Search.{NextRing, Shown, around, ringOn, Searched}
+
+pub elem-append : (b : ℕ) (xs ys : List ℕ) → elem b (xs ++ ys) ≡ elem b xs or elem b ys
+elem-append b xs ys =
+    equal-tests _ _
+    (λ i. In-append b xs ys i (λ k. or-left _ _ k) (λ k. or-right _ _ k))
+    (λ i. or-cases _ _ i (λ k. In-append-left b xs ys k) (λ k. In-append-right b xs ys k))
+
+-- ## The rings one after the other
+
+module _ (Y : Yard) (held : List Bay) where
+  -- ring d, and all bays up to ring d, counted from a ring and the bays seen before it
+  unfoldable pub ringFrom : ℕ → List Bay → List Bay → List Bay
+  ringFrom zero seen ring = ring
+  ringFrom (suc d) seen ring = ringFrom d (ring ++ seen) (nextRing Y held (ring ++ seen) ring)
+
+  unfoldable pub seenFrom : ℕ → List Bay → List Bay → List Bay
+  seenFrom zero seen ring = ring ++ seen
+  seenFrom (suc d) seen ring = seenFrom d (ring ++ seen) (nextRing Y held (ring ++ seen) ring)
+
+  ringFrom-suc : (d : ℕ) (seen ring : List Bay) → ringFrom (suc d) seen ring ≡ nextRing Y held (seenFrom d seen ring) (ringFrom d seen ring)
+  unfolding ringFrom seenFrom
+  ringFrom-suc zero seen ring = refl
+  ringFrom-suc (suc d) seen ring = ringFrom-suc d (ring ++ seen) (nextRing Y held (ring ++ seen) ring)
+
+  seenFrom-suc : (d : ℕ) (seen ring : List Bay) → seenFrom (suc d) seen ring ≡ ringFrom (suc d) seen ring ++ seenFrom d seen ring
+  unfolding ringFrom seenFrom
+  seenFrom-suc zero seen ring = refl
+  seenFrom-suc (suc d) seen ring = seenFrom-suc d (ring ++ seen) (nextRing Y held (ring ++ seen) ring)
+
+  ring-at : (k d : ℕ) (seen ring : List Bay) → d < k → getD (ringsFrom Y held k seen ring) d [] ≡ ringFrom d seen ring
+  unfolding ringsFrom ringFrom
+  ring-at zero d seen ring h = absurd (omega arith)
+  ring-at (suc k) zero seen ring h = refl
+  ring-at (suc k) (suc d) seen ring h = ring-at k d (ring ++ seen) (nextRing Y held (ring ++ seen) ring) (omega arith)
+
+  module _ (x : Bay) where
+    -- the bays up to d rails from x
+    abbrev pub within : ℕ → List Bay
+    within d = seenFrom d [] (x ∷ [])
+
+    ring-more : (d : ℕ) → suc d < Y .bays → around Y held x (suc d) ≡ nextRing Y held (within d) (around Y held x d)
+    ring-more d h =
+        ring-at (Y .bays) (suc d) [] (x ∷ []) h ∙ ringFrom-suc d [] (x ∷ [])
+        ∙ ap (nextRing Y held (within d)) (sym (ring-at (Y .bays) d [] (x ∷ []) (omega arith)))
+
+    within-more : (d : ℕ) → suc d < Y .bays → within (suc d) ≡ around Y held x (suc d) ++ within d
+    within-more d h = seenFrom-suc d [] (x ∷ []) ∙ ap (λ (l : List Bay). l ++ within d) (sym (ring-at (Y .bays) (suc d) [] (x ∷ []) h))
+
+    pub ring-first : 0 < Y .bays → around Y held x 0 ≡ x ∷ []
+    unfolding ringFrom
+    ring-first h = ring-at (Y .bays) 0 [] (x ∷ []) h
+
+    ring-beyond : (d : ℕ) → Y .bays ≤ d → around Y held x d ≡ []
+    ring-beyond d h = List·getD-eq-default (rings Y held x) [] {n = d} (rw ringsFrom-length h)
+
+    pub ring-inside : (d b : ℕ) → x < Y .bays → In b (around Y held x d) → b < Y .bays
+    ring-inside zero b h i = rw (ring-zero Y held (Y .bays) [] x b i) h
+    ring-inside (suc d) b h i = let r = count-high 0 (Y .bays) b ((ring-free Y held (Y .bays) [] (x ∷ []) d b i) .0 .0) in omega arith
+
+  -- beside the ring and not seen, in words, is the paper's next ring
+  next-ring : (n : ℕ) (table ringW seenW : List ℕ) (ring seen : List Bay) → Table Y n table → n ≤ span
+      → ((b : ℕ) → b < span → mem ringW b ≡ elem b ring) → ((b : ℕ) → b < span → mem seenW b ≡ elem b (held ++ seen))
+      → ((b : ℕ) → In b ring → b < n)
+      → (b : ℕ) → b < span → anyBelow (reaches table ringW b) span and not (mem seenW b) ≡ elem b (nextRing Y held seen ring)
+  unfolding nextRing
+  next-ring n table ringW seenW ring seen t most r s inn b h =
+      let others : List Bay = without (held ++ seen) (upTo (Y .bays)) in
+      equal-tests _ _
+      (λ e.
+      let k = anyBelow-some (reaches table ringW b) span (and-left _ _ e) in
+      let a : ℕ = k .0 in
+      let a-in : In a ring = sym (r a (k .1)) ∙ and-left _ _ (k .2) in
+      let j : joined Y a b ≡ true = sym (t .same a b (inn a a-in) h) ∙ and-right _ _ (k .2) in
+      let l : b < n = t .inside a b j .1 in
+      in-filter (λ c. any (joined Y c) ring) others b
+      (in-without (held ++ seen) (upTo (Y .bays)) b (in-count 0 (Y .bays) b (omega arith) (rw (t .bays) (omega arith))) (sym (s b h) ∙ not-true _ (and-right _ _ e)))
+      (any-of (joined Y b) ring a a-in (joined-sym Y a b j)))
+      (λ e.
+      let i = filter-in (λ c. any (joined Y c) ring) others b e in
+      let k = any-some (joined Y b) ring (filter-passes (λ c. any (joined Y c) ring) others b e) in
+      let a : ℕ = k .0 in
+      let a-low : a < n = inn a (k .1) in
+      and-both _ _
+      (anyBelow-of (reaches table ringW b) span a (omega arith)
+      (and-both _ _ (r a (omega arith) ∙ k .1) (t .same a b a-low h ∙ joined-sym Y b a (k .2))))
+      (ap not (s b h ∙ without-out (held ++ seen) (upTo (Y .bays)) b i)))
+
+no-member : (l : List ℕ) → ((b : ℕ) → In b l → ⊥) → l ≡ []
+no-member [] f = refl
+no-member (x ∷ l) f = absurd (f x (In-head x l))
+
+filter-none : (q : ℕ → Bool) (l : List ℕ) → ((b : ℕ) → q b ≡ false) → filter q l ≡ []
+unfolding filter
+filter-none q [] f = refl
+filter-none q (x ∷ l) f = rw (f x) (filter-none q l f)
+
+-- after an empty ring all are empty
+ring-dry : (Y : Yard) (held : List Bay) (x : Bay) (d i : ℕ) → around Y held x d ≡ [] → d < i → around Y held x i ≡ []
+unfolding nextRing any
+ring-dry Y held x d zero e h = absurd (omega arith)
+ring-dry Y held x d (suc i) e h = elim (decLt (suc i) (Y .bays)) [
+  | yes k ↦
+      let before : around Y held x i ≡ [] = elim (ℕ-discrete d i) [ yes q ↦ rw q at e | no q ↦ ring-dry Y held x d i e (omega arith) ] in
+      ring-more Y held x i k ∙ rw before (filter-none (λ b. false) _ (λ b. refl))
+  | no k ↦ ring-beyond Y held x (suc i) (omega arith)
+]
+
+-- what is beside the ring, settled and kept, is the next ring
+pub ring-kept : (table : List ℕ) (d : ℕ) (seen ring rows seen′ ring′ rows′ next : List ℕ) → Beside table ring next span → Settled next seen seen′ ring′
+    → Kept rows (d + 1) ring′ rows′ → NextRing table d seen ring rows seen′ ring′ rows′
+ring-kept table d seen ring rows seen′ ring′ rows′ next p s k = record {
+  ringed = λ b h. s .ringed b h ∙ rw (p .same b h);
+  all-seen = s .all-seen;
+  row = k .row;
+  others = k .others;
+}
+
+-- ## Where the search stands
+
+same-test : (t : Bool) → (if t then true else false) ≡ t
+same-test true = refl
+same-test false = refl
+
+pub elem-one : (b x : ℕ) → elem b (x ∷ []) ≡ eqb b x
+unfolding elem
+elem-one b x = same-test (eqb b x)
+
+regroup : (a b c : Bool) → (a or b) or c ≡ a or (c or b)
+unfolding _or_
+regroup true b c = refl
+regroup false true true = refl
+regroup false true false = refl
+regroup false false true = refl
+regroup false false false = refl
+
+module _ {n : ℕ} {table held : List ℕ} (s : Shown n table held) (x : Bay) where
+  -- the search stands at ring d, and no ring before it has a wanted bay
+  pub record Searching (wanted : List ℕ) (d : ℕ) (seen ring rows : List ℕ) : Type 0 where
+    pub far : d < n
+    pub seeing : (b : ℕ) → b < span → mem seen b ≡ elem b (s .bays ++ within (s .yard) (s .bays) x d)
+    pub ringing : (b : ℕ) → b < span → mem ring b ≡ elem b (ringOn s x d)
+    pub rowing : (i b : ℕ) → i ≤ d → b < span → memRow rows i b ≡ elem b (ringOn s x i)
+    pub before : (i b : ℕ) → i < d → In b (ringOn s x i) → mem wanted b ≡ false
+
+  pub in-yard : n ≤ span → x < n → (d b : ℕ) → In b (ringOn s x d) → b < n
+  in-yard most hx d b i =
+      let hx′ : x < s .yard .bays = rw (s .joins .bays) hx in
+      rw (s .joins .bays) at (ring-inside (s .yard) (s .bays) x d b hx′ i)
+
+  pub searching-inside : (wanted : List ℕ) (d : ℕ) (seen ring rows : List ℕ) → n ≤ span → x < n → Searching wanted d seen ring rows
+      → (b : ℕ) → b < span → mem ring b ≡ true → b < n
+  searching-inside wanted d seen ring rows most hx g b h m = in-yard most hx d b (sym (g .ringing b h) ∙ m)
+
+  pub searching-first : (wanted seen₀ seen₁ seen ring₀ ring rows₀ rows : List ℕ) → x < n
+      → Kept seen₀ 0 held seen₁ → ((y : ℕ) → mem seen y ≡ mem seen₁ y or eqb y x)
+      → ((y : ℕ) → mem ring₀ y ≡ false) → ((y : ℕ) → mem ring y ≡ mem ring₀ y or eqb y x)
+      → Kept rows₀ 0 ring rows → Searching wanted 0 seen ring rows
+  searching-first wanted seen₀ seen₁ seen ring₀ ring rows₀ rows h k sn z r w =
+      let Y = s .yard in
+      let first : ringOn s x 0 ≡ x ∷ [] = ring-first Y (s .bays) x (rw (s .joins .bays) (omega arith)) in
+      let ringing : (b : ℕ) → b < span → mem ring b ≡ elem b (ringOn s x 0) = λ b l. r b ∙ rw (z b, first, elem-one b x) (unfold _or_ in refl) in
+      record {
+        far = omega arith;
+        seeing = λ b l.
+            let same : mem seen₁ b ≡ mem held b = sym (row-zero seen₁ b) ∙ k .row b l in
+            let start : within Y (s .bays) x 0 ≡ x ∷ [] = unfold seenFrom in refl in
+            sn b ∙ rw (same, s .holds b l, start, elem-append, elem-one b x);
+        ringing = ringing;
+        rowing = λ i b g l. let e : i ≡ 0 = omega arith in rw e (w .row b l ∙ ringing b l);
+        before = λ i b g. absurd (omega arith);
+      }
+
+  -- no wanted bay is in row d
+  missed : (rows wanted : List ℕ) (d r b : ℕ) → Lowest (λ y. memRow rows d y and memRow wanted 0 y) 0 span r → span ≤ r → b < span → memRow rows d b ≡ true → mem wanted b ≡ false
+  missed rows wanted d r b l h k m =
+      let y : memRow rows d b and mem wanted b ≡ false = rw (row-zero wanted b) at (l .before b (omega arith) (omega arith)) in
+      by-cases (mem wanted b) (λ t. not-both (and-both _ _ m t) y) (λ t. t)
+
+  pub searching-more : (wanted : List ℕ) (d : ℕ) (seen ring rows seen′ ring′ rows′ : List ℕ) (r : ℕ) → n ≤ span → x < n → d + 1 < n → Searching wanted d seen ring rows
+      → Lowest (λ y. memRow rows d y and memRow wanted 0 y) 0 span r → span ≤ r
+      → NextRing table d seen ring rows seen′ ring′ rows′ → Searching wanted (d + 1) seen′ ring′ rows′
+  searching-more wanted d seen ring rows seen′ ring′ rows′ r most hx h g l m e =
+      let Y = s .yard in
+      let bays = s .bays in
+      let near : suc d < Y .bays = rw (s .joins .bays) (omega arith) in
+      let ringing′ : (b : ℕ) → b < span → mem ring′ b ≡ elem b (ringOn s x (d + 1)) =
+      λ b k. e .ringed b k
+      ∙ next-ring Y bays n table ring seen (ringOn s x d) (within Y bays x d) (s .joins) most (g .ringing) (g .seeing)
+      (λ c i. in-yard most hx d c i) b k
+      ∙ rw (add-one, ring-more Y bays x d near)
+      in
+      record {
+        far = h;
+        seeing = λ b k.
+            e .all-seen b k ∙ rw (g .seeing b k, ringing′ b k, add-one, within-more Y bays x d near, elem-append, elem-append, elem-append)
+            (regroup (elem b bays) (elem b (within Y bays x d)) (elem b (ringOn s x (suc d))));
+        ringing = ringing′;
+        rowing = λ i b j k. elim (ℕ-discrete i (d + 1)) [
+          | yes q ↦ rw q (e .row b k ∙ ringing′ b k)
+          | no q ↦ e .others i b q k ∙ g .rowing i b (omega arith) k
+        ];
+        before = λ i b k y. elim (ℕ-discrete i d) [
+          | yes q ↦
+              let y′ : In b (ringOn s x d) = rw q at y in
+              let low : b < n = in-yard most hx d b y′ in
+              missed rows wanted d r b l m (omega arith) (g .rowing d b (omega arith) (omega arith) ∙ y′)
+          | no q ↦ g .before i b (omega arith) y
+        ];
+      }
+
+  -- ## Where the search ends
+
+  searched : (wanted : List ℕ) (d : ℕ) (seen ring rows : List ℕ) → Searching wanted d seen ring rows
+      → (((b : ℕ) → In b (ringOn s x d) → mem wanted b ≡ false) → (i : ℕ) → d < i → ringOn s x i ≡ []) → Searched s x wanted rows d
+  searched wanted d seen ring rows g f = record { far = g .far; rowing = g .rowing; before = g .before; last = f }
+
+  -- the ring has a wanted bay
+  pub searched-wanted : (wanted : List ℕ) (d : ℕ) (seen ring rows : List ℕ) (r : ℕ) → Searching wanted d seen ring rows
+      → Lowest (λ y. memRow rows d y and memRow wanted 0 y) 0 span r → r < span → Searched s x wanted rows d
+  searched-wanted wanted d seen ring rows r g l h =
+      searched wanted d seen ring rows g
+      (λ f.
+      let z : memRow rows d r and mem wanted r ≡ true = rw (row-zero wanted r) at (l .hit h) in
+      let i : In r (ringOn s x d) = sym (g .rowing d r (omega arith) h) ∙ and-left _ _ z in
+      not-both (and-right _ _ z) (f r i))
+
+  -- there are as many rings as bays
+  pub searched-all : (wanted : List ℕ) (d : ℕ) (seen ring rows : List ℕ) → Searching wanted d seen ring rows → n ≤ d + 1 → Searched s x wanted rows d
+  searched-all wanted d seen ring rows g h =
+      searched wanted d seen ring rows g (λ f i k. ring-beyond (s .yard) (s .bays) x i (rw (s .joins .bays) (omega arith)))
+
+  -- the ring is empty
+  pub searched-dry : (wanted : List ℕ) (d : ℕ) (seen ring rows : List ℕ) (r : ℕ) → n ≤ span → x < n → Searching wanted d seen ring rows
+      → Lowest (mem ring) 0 span r → span ≤ r → Searched s x wanted rows d
+  searched-dry wanted d seen ring rows r most hx g l h =
+      let none : ringOn s x d ≡ [] = no-member (ringOn s x d) (λ b i.
+      let low : b < n = in-yard most hx d b i in
+      not-both (g .ringing b (omega arith) ∙ i) (l .before b (omega arith) (omega arith))) in
+      searched wanted d seen ring rows g (λ f i k. ring-dry (s .yard) (s .bays) x d i none k)
+
+-- ## The set of one bay
+
+pub only : (g : List ℕ) (x : ℕ) → ((y : ℕ) → mem g y ≡ mem (zeros words) y or eqb y x) → (b : ℕ) → mem g b ≡ eqb b x
+unfolding _or_
+only g x h b = h b ∙ rw (mem-zeros words b)

@@ -1,0 +1,54 @@
+-- `rings::next_ring` meets its contract. What is beside the ring and was not seen is the next ring; it is kept as the next row.
+-- Assumes nothing.
+use native.Mathlib.Omega.{arith}
+use borrow.Author.Needs.{needs}
+use Rattle.rings.proofs.Searching.{ring-kept}
+use Rattle.rings.proofs.next_ring.Statement.{statement}
+use Rattle.rings.proofs.next_ring.Tie as tie
+use Rattle.rings.proofs.next_ring.Reads as reads
+use Rattle.rings.proofs.next_ring.Lts as lts
+
+slice-aggregate-beside : tie.Need-slice-aggregate-beside
+slice-aggregate-beside c = search needs
+
+beside-requires : tie.Need-beside-requires
+beside-requires c κs = (search needs, search needs, λ a h m. let l = c .before .before .before .before .before .before .pre .5 a h m in omega (arith, l, c .before .before .before .before .before .before .pre .0))
+
+slice-aggregate-settle : tie.Need-slice-aggregate-settle
+slice-aggregate-settle c = search needs
+
+settle-requires : tie.Need-settle-requires
+settle-requires c κs = search needs
+
+add-keep : tie.Need-add-keep
+add-keep c = search needs
+
+keep-requires : tie.Need-keep-requires
+keep-requires c κs = search needs
+
+same-length : tie.Need-same-length
+same-length c = search needs
+
+same-length-2 : tie.Need-same-length-2
+same-length-2 c = search needs
+
+same-length-3 : tie.Need-same-length-3
+same-length-3 c = search needs
+
+returns : tie.Need-returns
+returns c = ring-kept _ _ _ _ _ _ _ _ _ (c .before .before .before .before .before .before .before .before .before .before .before .before .before .before .beside .ensures) (c .before .before .before .before .before .before .before .before .before .settle .ensures) (c .before .before .keep .ensures)
+
+pub next-ring-spec : {M : Type 1} → statement M
+next-ring-spec =
+    tie.close
+    (tie.spec
+    slice-aggregate-beside
+    beside-requires
+    slice-aggregate-settle
+    settle-requires
+    add-keep
+    keep-requires
+    same-length
+    same-length-2
+    same-length-3
+    returns)

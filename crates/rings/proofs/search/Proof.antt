@@ -1,0 +1,133 @@
+-- `rings::search` meets its contract. At each turn the rows up to d are the rings and none before d has a wanted bay; the loop ends at the first that has one, at an empty ring, or at ring n − 1, behind which there is none.
+-- Assumes nothing.
+use mathlib.Core.Path.{_≡_, refl}
+use Prim.Native.Nat.{_-_, _<_}
+use native.Mathlib.Omega.{arith}
+use lib.ListN.{length}
+use borrow.Author.Needs.{needs}
+use Rattle.words.specs.Sets.{words}
+use Rattle.rings.specs.Search.{Shown}
+use Rattle.words.proofs.Sets.{mem-zeros}
+use Rattle.rings.proofs.Searching.{Searching, searching-first, searching-inside, searching-more, searched-wanted, searched-all, searched-dry}
+use Rattle.rings.proofs.search.Statement.{statement}
+use Rattle.rings.proofs.search.Tie as tie
+use Rattle.rings.proofs.search.Reads as reads
+use Rattle.rings.proofs.search.Lts as lts
+use Rattle.rings.proofs.next_ring.Reads as next-ring-reads
+
+abbrev Inv-loop : tie.InvT-loop
+Inv-loop table n held wanted rows₀ middle seen₀ ring₀ d₀ rows seen ring d = (length rows ≡ length rows₀) × (length seen ≡ words) × (length ring ≡ words) × (d < n) × ((s : Shown n table held) → Searching s middle wanted d seen ring rows)
+
+abbrev μ-loop : tie.MeasureT-loop
+μ-loop table n held wanted rows₀ middle seen₀ ring₀ d₀ rows seen ring d = n - d
+
+cast-middle : tie.Need-cast-middle Inv-loop μ-loop
+cast-middle c = search needs
+
+slice-aggregate-keep : tie.Need-slice-aggregate-keep Inv-loop μ-loop
+slice-aggregate-keep c = search needs
+
+keep-requires : tie.Need-keep-requires Inv-loop μ-loop
+keep-requires c κs = search needs
+
+slice-aggregate-add : tie.Need-slice-aggregate-add Inv-loop μ-loop
+slice-aggregate-add c = search needs
+
+add-requires : tie.Need-add-requires Inv-loop μ-loop
+add-requires c κs = search needs
+
+slice-aggregate-add-2 : tie.Need-slice-aggregate-add-2 Inv-loop μ-loop
+slice-aggregate-add-2 c = search needs
+
+add-requires-2 : tie.Need-add-requires-2 Inv-loop μ-loop
+add-requires-2 c κs = search needs
+
+slice-aggregate-keep-2 : tie.Need-slice-aggregate-keep-2 Inv-loop μ-loop
+slice-aggregate-keep-2 c = search needs
+
+keep-requires-2 : tie.Need-keep-requires-2 Inv-loop μ-loop
+keep-requires-2 c κs = search needs
+
+loop-holds : tie.Need-loop-holds Inv-loop μ-loop
+loop-holds c = (refl, omega arith, omega arith, omega arith, λ s. searching-first s _ _ _ _ _ _ _ _ _ (c .before .before .before .before .before .before .before .before .before .before .before .before .before .before .before .before .before .before .before .pre .1) (c .before .before .before .before .before .before .before .before .before .before .before .before .keep .ensures) (c .before .before .before .before .before .before .before .before .before .add .ensures) (mem-zeros words) (c .before .before .before .before .before .before .add2 .ensures) (c .before .before .keep2 .ensures))
+
+lowest-common-requires : tie.Need-lowest-common-requires Inv-loop μ-loop
+lowest-common-requires c κs = search needs
+
+same-length : tie.Need-same-length Inv-loop μ-loop
+same-length c = search needs
+
+returns : tie.Need-returns Inv-loop μ-loop
+returns c = λ s. searched-wanted s _ _ _ _ _ _ _ (c .before .before .before .loop .inv .4 s) (c .before .lowest-common .ensures) (c .if1 .taken)
+
+slice-aggregate-next-from : tie.Need-slice-aggregate-next-from Inv-loop μ-loop
+slice-aggregate-next-from c = search needs
+
+next-from-requires : tie.Need-next-from-requires Inv-loop μ-loop
+next-from-requires c κs = search needs
+
+same-length-2 : tie.Need-same-length-2 Inv-loop μ-loop
+same-length-2 c = search needs
+
+returns-2 : tie.Need-returns-2 Inv-loop μ-loop
+returns-2 c = λ s. searched-dry s _ _ _ _ _ _ _ (c .before .before .before .before .before .before .before .before .before .before .before .before .before .before .before .before .before .before .before .before .before .before .before .before .before .before .pre .0) (c .before .before .before .before .before .before .before .before .before .before .before .before .before .before .before .before .before .before .before .before .before .before .before .before .before .before .pre .1) (c .before .before .before .before .before .before .loop .inv .4 s) (c .before .next-from .ensures) (omega arith)
+
+add-if3 : tie.Need-add-if3 Inv-loop μ-loop
+add-if3 c = search needs
+
+same-length-3 : tie.Need-same-length-3 Inv-loop μ-loop
+same-length-3 c = search needs
+
+returns-3 : tie.Need-returns-3 Inv-loop μ-loop
+returns-3 c = λ s. searched-all s _ _ _ _ _ _ (c .before .before .before .before .before .before .before .loop .inv .4 s) (c .if3 .taken)
+
+slice-aggregate-next-ring : tie.Need-slice-aggregate-next-ring Inv-loop μ-loop
+slice-aggregate-next-ring c = search needs
+
+slice-aggregate-next-ring-2 : tie.Need-slice-aggregate-next-ring-2 Inv-loop μ-loop
+slice-aggregate-next-ring-2 c = search needs
+
+next-ring-requires : tie.Need-next-ring-requires Inv-loop μ-loop
+next-ring-requires c κs = let p = c .before .before .before .before .before .before .before .before .before .before .before .before .before .before .before .before .before .before .before .before .before .before .before .before .before .before .before .before .before .before .pre in (search needs, search needs, search needs, search needs, omega arith, searching-inside (p .6) _ _ _ _ _ _ (p .0) (p .1) (c .before .before .before .before .before .before .before .before .before .before .loop .inv .4 (p .6)))
+
+add-d : tie.Need-add-d Inv-loop μ-loop
+add-d c = omega (arith, c .before .before .before .before .before .before .before .before .before .before .before .before .before .before .before .before .before .before .before .before .before .before .before .before .before .before .before .before .before .before .before .before .before .before .before .pre .0, c .before .before .before .before .before .before .before .before .before .before .before .before .before .before .before .loop .inv .3)
+
+loop-less : tie.Need-loop-less Inv-loop μ-loop
+loop-less c = search needs
+
+loop-again : tie.Need-loop-again Inv-loop μ-loop
+loop-again c = (omega arith, omega arith, omega arith, omega arith, λ s. searching-more s _ _ _ _ _ _ _ _ _ _ (c .before .before .before .before .before .before .before .before .before .before .before .before .before .before .before .before .before .before .before .before .before .before .before .before .before .before .before .before .before .before .before .before .before .before .before .pre .0) (c .before .before .before .before .before .before .before .before .before .before .before .before .before .before .before .before .before .before .before .before .before .before .before .before .before .before .before .before .before .before .before .before .before .before .before .pre .1) (omega arith) (c .before .before .before .before .before .before .before .before .before .before .before .before .before .before .before .loop .inv .4 s) (c .before .before .before .before .before .before .before .before .before .before .before .before .before .lowest-common .ensures) (c .before .before .before .before .before .before .before .before .before .before .before .before .if1 .left) (c .before .before .before .before .next-ring .ensures))
+
+pub search-spec : {M : Type 1} → statement M
+search-spec =
+    tie.close
+    (tie.spec
+    Inv-loop
+    μ-loop
+    cast-middle
+    slice-aggregate-keep
+    keep-requires
+    slice-aggregate-add
+    add-requires
+    slice-aggregate-add-2
+    add-requires-2
+    slice-aggregate-keep-2
+    keep-requires-2
+    loop-holds
+    lowest-common-requires
+    same-length
+    returns
+    slice-aggregate-next-from
+    next-from-requires
+    same-length-2
+    returns-2
+    add-if3
+    same-length-3
+    returns-3
+    slice-aggregate-next-ring
+    slice-aggregate-next-ring-2
+    next-ring-requires
+    add-d
+    loop-less
+    loop-again)

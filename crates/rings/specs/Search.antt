@@ -1,0 +1,41 @@
+-- What the words of a ring search stand for: a yard with its held bays, and its rings, one to a row.
+-- Assumes nothing.
+use mathlib.Core.Path.{_≡_}
+use mathlib.Core.Bool.{false, not}
+use mathlib.Core.List.{List, []}
+use Prim.Native.Nat.{ℕ, _+_, _≤_, _<_}
+use lib.ListN.{getD}
+use Rattle.paper.specs.Basics.{_and_, _or_, elem, In}
+use Rattle.paper.specs.Yard.{Bay, Yard}
+use Rattle.paper.specs.Path.{rings}
+use Rattle.words.specs.Sets.{mem, memRow, span, anyBelow, reaches}
+use Rattle.yard.specs.Table.{Table}
+
+-- from ring d and the bays seen so far to ring d + 1, which becomes row d + 1
+pub record NextRing (table : List ℕ) (d : ℕ) (seen ring rows seen′ ring′ rows′ : List ℕ) : Type 0 where
+  pub ringed : (b : ℕ) → b < span → mem ring′ b ≡ anyBelow (reaches table ring b) span and not (mem seen b)
+  pub all-seen : (b : ℕ) → b < span → mem seen′ b ≡ mem seen b or mem ring′ b
+  pub row : (b : ℕ) → b < span → memRow rows′ (d + 1) b ≡ mem ring′ b
+  pub others : (e b : ℕ) → (e ≡ d + 1 → ⊥) → b < span → memRow rows′ e b ≡ memRow rows e b
+
+-- ring d around x
+abbrev pub around : Yard → List Bay → Bay → ℕ → List Bay
+around Y held x d = getD (rings Y held x) d []
+
+-- The words show a yard and the bays held in it. A contract speaks of every yard and list that they show.
+pub record Shown (n : ℕ) (table held : List ℕ) : Type 0 where
+  pub yard : Yard
+  pub bays : List Bay
+  pub joins : Table yard n table
+  pub holds : (b : ℕ) → b < span → mem held b ≡ elem b bays
+
+module _ {n : ℕ} {table held : List ℕ} (s : Shown n table held) (x : Bay) where
+  abbrev pub ringOn : ℕ → List Bay
+  ringOn d = around (s .yard) (s .bays) x d
+
+  -- What the search answers: the rows up to r are the rings; r is the first ring with a wanted bay, or else the last ring.
+  pub record Searched (wanted rows : List ℕ) (r : ℕ) : Type 0 where
+    pub far : r < n
+    pub rowing : (i b : ℕ) → i ≤ r → b < span → memRow rows i b ≡ elem b (ringOn i)
+    pub before : (i b : ℕ) → i < r → In b (ringOn i) → mem wanted b ≡ false
+    pub last : ((b : ℕ) → In b (ringOn r) → mem wanted b ≡ false) → (i : ℕ) → r < i → ringOn i ≡ []

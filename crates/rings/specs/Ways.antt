@@ -1,0 +1,74 @@
+-- What is read from the rows of a search: the nearest bay of a set, and the shortest path.
+-- Assumes nothing.
+use mathlib.Core.Path.{_≡_}
+use mathlib.Core.Bool.{Bool, true, false}
+use mathlib.Core.List.{List, []}
+use mathlib.Core.Option.{Option, none, some}
+use Prim.Native.Nat.{ℕ, _≤_, _<_}
+use lib.ListN.{take}
+use Rattle.paper.specs.Basics.{find, elem, In}
+use Rattle.paper.specs.Yard.{Bay, Yard}
+use Rattle.paper.specs.Path.{rings, nearestFirst, inward, shortestPath, pathBetween}
+use Rattle.words.specs.Sets.{mem, memRow, span}
+use Rattle.yard.specs.Table.{Table}
+use Rattle.rings.specs.Search.{Shown, around}
+use Rattle.rings.specs.declared.Nearest.{Nearest}
+use Rattle.rings.specs.declared.Nearest.the-variants.{At, Nowhere}
+use Rattle.rings.specs.declared.Path.{Path}
+use Rattle.rings.specs.declared.Path.the-variants.{First, NoPath}
+use Rattle.rings.specs.declared.Way.{Way}
+use Rattle.rings.specs.declared.Way.the-variants.{To, NoWay}
+
+-- ## How the answers read
+
+abbrev pub nearestOf : Nearest → Option Bay
+nearestOf Nowhere = none
+nearestOf (At b) = some (b .0)
+
+-- the first bays of the lent room are the path
+abbrev pub pathOf : Path → List ℕ → Option (List Bay)
+pathOf NoPath room = none
+pathOf (First m) room = some (take m room)
+
+-- how many bays it has
+abbrev pub pathLength : Path → ℕ
+pathLength NoPath = 0
+pathLength (First m) = m
+
+-- the nearest bay, to which the way leads, and how many bays it has
+abbrev pub endOf : Way → Option Bay
+endOf NoWay = none
+endOf (To e m) = some (e .0)
+
+abbrev pub wayLength : Way → ℕ
+wayLength NoWay = 0
+wayLength (To e m) = m
+
+-- ## The path inward
+
+-- The rows are the rings around some bay, up to the ring of x.
+pub record Inside (n : ℕ) (table rows : List ℕ) (d x : ℕ) : Type 0 where
+  pub yard : Yard
+  pub held : List Bay
+  pub goal : Bay
+  pub joins : Table yard n table
+  pub home : goal < n
+  pub rowing : (i b : ℕ) → i ≤ d → b < span → memRow rows i b ≡ elem b (around yard held goal i)
+  pub start : In x (around yard held goal d)
+
+abbrev pub pathIn : {n : ℕ} {table rows : List ℕ} {d x : ℕ} → Inside n table rows d x → List Bay
+pathIn {d = d} {x = x} t = inward (t .yard) (rings (t .yard) (t .held) (t .goal)) d x
+
+-- ## What the public functions answer
+
+module _ {n : ℕ} {table held : List ℕ} (s : Shown n table held) where
+  -- the paper's path from u to v, or that there is none
+  pub record PathFound (u v : Bay) (room : List ℕ) (r : Path) : Type 0 where
+    pub fits : pathLength r ≤ n
+    pub same : pathOf r room ≡ pathBetween (s .yard) (s .bays) u v
+
+  -- the nearest bay of which q holds, and the shortest path to it
+  pub record WayFound (x : Bay) (q : Bay → Bool) (room : List ℕ) (r : Way) : Type 0 where
+    pub nearest : endOf r ≡ find q (nearestFirst (s .yard) (s .bays) x)
+    pub fits : wayLength r ≤ n
+    pub path : (e : Bay) → endOf r ≡ some e → take (wayLength r) room ≡ shortestPath (s .yard) (s .bays) x e

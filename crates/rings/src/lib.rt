@@ -1,0 +1,165 @@
+// Ring by ring around a bay, through bays not held: rows of words, of which row i is ring i. The nearest bay of a set and the
+// shortest path are read from them. The rows and the room for the path are lent, so that nothing is cleared that is not used.
+use docket::Bay;
+ghost use mathlib.Core.Path.{_≡_};
+ghost use mathlib.Core.Bool.{Bool, true, false};
+ghost use mathlib.Core.List.{List};
+ghost use Prim.Native.Nat.{ℕ, _+_, _*_, _≤_, _<_};
+ghost use lib.ListN.{length, take};
+ghost use Rattle.paper.specs.Basics.{find};
+ghost use Rattle.paper.specs.Path.{nearestFirst};
+ghost use Rattle.words.specs.Sets.{mem, words, span};
+ghost use Rattle.rings.specs.Search.{NextRing, Shown, Searched};
+ghost use Rattle.rings.specs.Ways.{Inside, pathIn, nearestOf, PathFound, WayFound};
+
+// The nearest bay, if any.
+pub enum Nearest {
+    At(Bay),
+    Nowhere,
+}
+
+// So many first bays of the lent room are the path, if there is one.
+pub enum Path {
+    First(usize),
+    NoPath,
+}
+
+// The bay to which the way leads, and the number of its bays, if there is one.
+pub enum Way {
+    To(Bay, usize),
+    NoWay,
+}
+
+// One more ring, which becomes row d + 1.
+fn next_ring(
+    table: &[u64],
+    n: usize,
+    d: usize,
+    seen: &mut [u64],
+    ring: &mut [u64],
+    rows: &mut [u64],
+)
+    requires { ⌜ (length (now table) ≡ n * words) × (length (now seen) ≡ words) × (length (now ring) ≡ words) × (n * words ≤ length (now rows)) × (d + 1 < n) × ((b : ℕ) → b < span → mem (now ring) b ≡ true → b < n) ⌝ }
+    ensures { λ _. ⌜ NextRing (now (table .entry)) d (now (seen .entry)) (now (ring .entry)) (now (rows .entry)) (now (seen .exit)) (now (ring .exit)) (now (rows .exit)) ⌝ }
+{
+    let mut next = [0u64; words::WORDS];
+    words::beside(table, ring, &mut next);
+    words::settle(&next, seen, ring);
+    words::keep(rows, d + 1, ring);
+}
+
+// Ring by ring around x, until a ring has a wanted bay or there is no further one; answers the number of that ring.
+pub fn search(
+    table: &[u64],
+    n: usize,
+    held: &[u64],
+    x: Bay,
+    wanted: &[u64],
+    rows: &mut [u64],
+) -> usize
+    requires { ⌜ (n ≤ span) × (x .0 < n) × (length (now table) ≡ n * words) × (length (now held) ≡ words) × (length (now wanted) ≡ words) × (n * words ≤ length (now rows)) × Shown n (now table) (now held) ⌝ }
+    ensures { λ r. ⌜ ((s : Shown n (now (table .entry)) (now (held .entry))) → Searched s (x .0) (now (wanted .entry)) (now (rows .exit)) r) ⌝ }
+{
+    let middle = x.0 as usize;
+    let mut seen = [0u64; words::WORDS];
+    let mut ring = [0u64; words::WORDS];
+    words::keep(&mut seen, 0, held);
+    words::add(&mut seen, middle);
+    words::add(&mut ring, middle);
+    words::keep(rows, 0, &ring);
+    let mut d = 0;
+    loop {
+        if words::lowest_common(rows, d, wanted, 0) < words::SPAN {
+            return d;
+        }
+        if words::next_from(&ring, 0) == words::SPAN {
+            return d;
+        }
+        if n <= d + 1 {
+            return d;
+        }
+        next_ring(table, n, d, &mut seen, &mut ring, rows);
+        d += 1;
+    }
+}
+
+// The path from x, d rails from the bay in the middle of the rows: each next bay is the lowest neighbour in the ring one nearer.
+fn inward(table: &[u64], n: usize, rows: &[u64], d: usize, x: Bay, path: &mut [u16])
+    requires { ⌜ (n ≤ span) × (d < n) × (length (now table) ≡ n * words) × (n * words ≤ length (now rows)) × (n ≤ length (now path)) × Inside n (now table) (now rows) d (x .0) ⌝ }
+    ensures { λ _. ⌜ ((t : Inside n (now (table .entry)) (now (rows .entry)) d (x .0)) → take (d + 1) (now (path .exit)) ≡ pathIn t) ⌝ }
+{
+    let mut u = x.0 as usize;
+    let mut i = 0;
+    while i < d {
+        path[i] = u as u16;
+        u = words::lowest_common(table, u, rows, d - 1 - i);
+        i += 1;
+    }
+    path[i] = u as u16;
+}
+
+// The nearest wanted bay that is reached from x through bays not held; ties go to the lowest number.
+pub fn find_nearest(
+    table: &[u64],
+    n: usize,
+    held: &[u64],
+    x: Bay,
+    wanted: &[u64],
+    rows: &mut [u64],
+) -> Nearest
+    requires { ⌜ (n ≤ span) × (x .0 < n) × (length (now table) ≡ n * words) × (length (now held) ≡ words) × (length (now wanted) ≡ words) × (n * words ≤ length (now rows)) × Shown n (now table) (now held) ⌝ }
+    ensures { λ r. ⌜ ((s : Shown n (now (table .entry)) (now (held .entry))) (q : ℕ → Bool) → ((b : ℕ) → b < n → mem (now (wanted .entry)) b ≡ q b) → nearestOf r ≡ find q (nearestFirst (s .yard) (s .bays) (x .0))) ⌝ }
+{
+    let d = search(table, n, held, x, wanted, rows);
+    let b = words::lowest_common(rows, d, wanted, 0);
+    if b < words::SPAN {
+        return Nearest::At(Bay(b as u16));
+    }
+    Nearest::Nowhere
+}
+
+// The shortest path from u to v through bays not held.
+pub fn path_between(
+    table: &[u64],
+    n: usize,
+    held: &[u64],
+    u: Bay,
+    v: Bay,
+    rows: &mut [u64],
+    path: &mut [u16],
+) -> Path
+    requires { ⌜ (n ≤ span) × (u .0 < n) × (v .0 < n) × (length (now table) ≡ n * words) × (length (now held) ≡ words) × (n * words ≤ length (now rows)) × (n ≤ length (now path)) × Shown n (now table) (now held) ⌝ }
+    ensures { λ r. ⌜ ((s : Shown n (now (table .entry)) (now (held .entry))) → PathFound s (u .0) (v .0) (now (path .exit)) r) ⌝ }
+{
+    let from = u.0 as usize;
+    let mut start = [0u64; words::WORDS];
+    words::add(&mut start, from);
+    let d = search(table, n, held, v, &start, rows);
+    if words::is_in(rows, d * words::SPAN + from) {
+        inward(table, n, rows, d, u, path);
+        return Path::First(d + 1);
+    }
+    Path::NoPath
+}
+
+// The shortest path from x to the nearest wanted bay, through bays not held.
+pub fn way_to_nearest(
+    table: &[u64],
+    n: usize,
+    held: &[u64],
+    x: Bay,
+    wanted: &[u64],
+    rows: &mut [u64],
+    path: &mut [u16],
+) -> Way
+    requires { ⌜ (n ≤ span) × (x .0 < n) × (length (now table) ≡ n * words) × (length (now held) ≡ words) × (length (now wanted) ≡ words) × (n * words ≤ length (now rows)) × (n ≤ length (now path)) × (mem (now held) (x .0) ≡ false) × Shown n (now table) (now held) ⌝ }
+    ensures { λ r. ⌜ ((s : Shown n (now (table .entry)) (now (held .entry))) (q : ℕ → Bool) → ((b : ℕ) → b < n → mem (now (wanted .entry)) b ≡ q b) → WayFound s (x .0) q (now (path .exit)) r) ⌝ }
+{
+    let Nearest::At(e) = find_nearest(table, n, held, x, wanted, rows) else {
+        return Way::NoWay;
+    };
+    let Path::First(m) = path_between(table, n, held, x, e, rows, path) else {
+        return Way::NoWay;
+    };
+    Way::To(e, m)
+}

@@ -1,0 +1,4 @@
+pub mod Playing
+pub mod Shifting
+pub mod Vacating
+pub mod Answers

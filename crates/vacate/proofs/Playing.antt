@@ -1,0 +1,153 @@
+-- A crossing changes the bay of one carrier, so only the two bays' entries change with it; and lists of crossings played one after
+-- the other are their concatenation played.
+-- Assumes nothing.
+use mathlib.Core.Path.{_≡_, refl, sym, ap, _∙_}
+use mathlib.Core.Bool.{Bool, true, false, not}
+use mathlib.Core.List.{List, [], _∷_, _++_, map, map-append}
+use mathlib.Core.Option.{Option, none, some}
+use Prim.Native.Nat.{ℕ, zero, suc, _+_, _*_, _≤_, _<_}
+use native.Mathlib.Decide.{ℕ-discrete}
+use native.Mathlib.Omega.{arith}
+use lib.Dec.{eqb}
+use lib.ListN.{length, getD, set, length-set, length-append, length-map}
+use lib.Seq.{getD-set-same, getD-set-other, sets}
+use borrow.Author.Tests.{eq-eqb, ne-eqb}
+use Rattle.paper.specs.Basics.{_and_, _or_, any, elem, placeOf, In, Out}
+use Rattle.paper.specs.Yard.{Bay, Carrier, Yard, Placement, Crossing, crossing, bayOf, carrierAt, move, after, joined, pack}
+use Rattle.paper.proofs.Tests.{by-cases, not-both}
+use Rattle.paper.proofs.Members.{Out-head, Out-tail}
+use Rattle.paper.proofs.Playing.{Apart, Legal, after-append, placeOf-bay, placeOf-there, bay-in, move-self, move-other, move-apart, move-empties, move-out}
+use Rattle.words.specs.Sets.{mem}
+use Rattle.vacate.specs.Placed.{Placed, Played, Unchanged}
+
+pub sets-append : (l : List ℕ) (i : ℕ) (xs ys : List ℕ) → sets l i (xs ++ ys) ≡ sets (sets l i xs) (i + length xs) ys
+sets-append l i [] ys = let e : i ≡ i + 0 = omega arith in ap (λ (k : ℕ). sets l k ys) e
+sets-append l i (x ∷ xs) ys =
+    let e : suc i + length xs ≡ i + suc (length xs) = omega arith in
+    sets-append (set l i x) (suc i) xs ys ∙ ap (λ (k : ℕ). sets (sets (set l i x) (suc i) xs) k ys) e
+
+-- nothing played
+pub played-none : (n : ℕ) (p standing empty out : List ℕ) (at : ℕ) → Placed n p standing empty → Played [] n p p standing empty out at out at
+unfolding after
+played-none n p standing empty out at k = record { moved = refl; placed = k; stored = refl; counted = omega arith }
+
+-- one list of crossings after another
+pub played-then : {n : ℕ} {xs ys : List Crossing} {p q p′ standing standing′ empty empty′ out out₁ out′ : List ℕ} {at m r : ℕ}
+    → Played xs n p q standing empty out at out₁ m → Played ys n q p′ standing′ empty′ out₁ m out′ r → Played (xs ++ ys) n p p′ standing′ empty′ out at out′ r
+played-then {xs = xs} {ys = ys} {p = p} {out = out} {at = at} a b = record {
+  moved = b .moved ∙ ap (λ (q : List ℕ). after q ys) (a .moved) ∙ sym (after-append p xs ys);
+  placed = b .placed;
+  stored = b .stored ∙ rw (a .stored, a .counted, map-append, sets-append, length-map);
+  counted = b .counted ∙ rw (a .counted, length-append) (omega arith);
+}
+
+pub unchanged : (p standing empty out : List ℕ) → Unchanged p standing empty out p standing empty out
+unchanged p standing empty out = record { same-placement = refl; same-standing = refl; same-empty = refl; same-list = refl }
+
+-- ## One crossing
+
+-- the carrier at z is the one whose bay it is
+pub carrier-is : (p : Placement) (z : Bay) (c : Carrier) → Apart p → c < length p → bayOf p c ≡ z → carrierAt p z ≡ c
+carrier-is p z c apart h e =
+    let i : In z p = rw e at (bay-in p c h) in
+    apart (carrierAt p z) c (placeOf-there p z i) h (placeOf-bay p z i ∙ sym e)
+
+-- at an empty bay there is none
+pub carrier-none : (p : Placement) (z : Bay) → Out z p → carrierAt p z ≡ length p
+unfolding placeOf
+carrier-none [] z o = refl
+carrier-none (y ∷ p) z o = rw (ne-eqb z y (Out-head z y p o)) (ap suc (carrier-none p z (Out-tail z y p o)))
+
+pub stands-there : {n : ℕ} {p standing empty : List ℕ} {a : Bay} → Placed n p standing empty → In a p → a < n → getD standing a 0 < length p
+stands-there {p = p} {a = a} k i h = rw (k .stands a h) (placeOf-there p a i)
+
+neither : (t : Bool) → (not t and not false) or false ≡ not t
+unfolding _and_ _or_
+neither true = refl
+neither false = refl
+
+-- a yard with the one rail, in which the crossing is legal
+abbrev oneRail : Bay → Bay → Yard
+oneRail a b = record { bays = 0; rails = (a, b) ∷ [] }
+
+one-joined : (a b : Bay) → joined (oneRail a b) a b ≡ true
+unfolding joined any _and_ _or_
+one-joined a b = rw (eq-eqb a a refl, eq-eqb b b refl)
+
+module _ (n : ℕ) (p standing empty : List ℕ) (a b : Bay) (k : Placed n p standing empty) (i : In a p) (o : Out b p) where
+  abbrev it : Crossing
+  it = crossing (carrierAt p a) a b
+
+  legal-it : Legal (oneRail a b) p it
+  legal-it = record { there = placeOf-there p a i; stands = placeOf-bay p a i; rail = one-joined a b; free = o }
+
+  apart-it : Apart (move p it)
+  apart-it = move-apart (oneRail a b) p it legal-it (k .apart)
+
+  leaves : Out a (move p it)
+  leaves = move-empties (oneRail a b) p it legal-it (k .apart)
+
+  arrives : In b (move p it)
+  arrives =
+      let h : carrierAt p a < length (move p it) = rw length-set (placeOf-there p a i) in
+      rw (move-self (oneRail a b) p it legal-it) at (bay-in (move p it) (carrierAt p a) h)
+
+  -- other bays have whom they had
+  same-at : (z : Bay) → (z ≡ a → ⊥) → (z ≡ b → ⊥) → (elem z (move p it) ≡ elem z p) × (carrierAt (move p it) z ≡ carrierAt p z)
+  same-at z na nb =
+      by-cases (elem z p)
+      (λ y.
+      let d : ℕ = carrierAt p z in
+      let hd : d < length p = placeOf-there p z y in
+      let at-z : bayOf p d ≡ z = placeOf-bay p z y in
+      let other : eqb d (carrierAt p a) ≡ false = ne-eqb d (carrierAt p a) (λ e. na (sym at-z ∙ ap (bayOf p) e ∙ placeOf-bay p a i)) in
+      let still : bayOf (move p it) d ≡ z = move-other (oneRail a b) p it legal-it d other ∙ at-z in
+      let h : d < length (move p it) = rw length-set hd in
+      ((rw still at (bay-in (move p it) d h)) ∙ sym y, carrier-is (move p it) z d apart-it h still))
+      (λ y.
+      let out : Out z (move p it) = move-out (oneRail a b) p it legal-it z y nb in
+      (out ∙ sym y, carrier-none (move p it) z out ∙ length-set p (carrierAt p a) b ∙ sym (carrier-none p z y)))
+
+  crossed-placed : (empty₁ empty′ : List ℕ) → a < n → b < n → n ≤ length standing → ((z : ℕ) → mem empty₁ z ≡ mem empty z and not (eqb z b)) → ((z : ℕ) → mem empty′ z ≡ mem empty₁ z or eqb z a)
+      → Placed n (set p (getD standing a 0) b) (set (set standing b (getD standing a 0)) a (length p)) empty′
+  unfolding _and_ _or_
+  crossed-placed empty₁ empty′ ha hb hw f g =
+      let differ : a ≡ b → ⊥ = λ e. not-both (rw e at i) o in
+      rw (k .stands a ha) (record {
+        apart = apart-it;
+        inside = λ c h. elim (ℕ-discrete c (carrierAt p a)) [
+          | yes e ↦ rw (e, getD-set-same p (carrierAt p a) b 0 (placeOf-there p a i)) hb
+          | no e ↦ rw (getD-set-other p (carrierAt p a) c b 0 e) (k .inside c (rw length-set at h))
+        ];
+        few = rw length-set (k .few);
+        stands = λ z h. elim (ℕ-discrete z a) [
+          | yes e ↦
+              rw (e, getD-set-same (set standing b (carrierAt p a)) a (length p) 0 (rw length-set (omega arith)))
+              (sym (carrier-none (move p it) a leaves ∙ length-set p (carrierAt p a) b))
+          | no e ↦ getD-set-other (set standing b (carrierAt p a)) a z (length p) 0 e ∙ (elim (ℕ-discrete z b) [
+            | yes d ↦
+                rw (d, getD-set-same standing b (carrierAt p a) 0 (omega arith))
+                (sym (carrier-is (move p it) b (carrierAt p a) apart-it (rw length-set (placeOf-there p a i)) (move-self (oneRail a b) p it legal-it)))
+            | no d ↦ getD-set-other standing b z (carrierAt p a) 0 d ∙ k .stands z h ∙ sym (same-at z e d .1)
+          ])
+        ];
+        empties = λ z h. elim (ℕ-discrete z a) [
+          | yes e ↦ g z ∙ rw (f z, e, leaves, eq-eqb a a refl, ne-eqb a b differ, k .empties a ha, i)
+          | no e ↦ elim (ℕ-discrete z b) [
+            | yes d ↦ g z ∙ rw (f z, d, arrives, eq-eqb b b refl, ne-eqb b a (λ q. differ (sym q)), k .empties b hb, o)
+            | no d ↦ g z ∙ rw (f z, ne-eqb z b d, ne-eqb z a e, k .empties z h, same-at z e d .0) (neither (elem z p))
+          ]
+        ];
+      })
+
+pub crossed : (n : ℕ) (p standing empty empty₁ empty′ : List ℕ) (a b : Bay) (out : List ℕ) (at number : ℕ) (out′ : List ℕ) (r : ℕ) → Placed n p standing empty → In a p → Out b p
+    → a < n → b < n → n ≤ length standing → ((z : ℕ) → mem empty₁ z ≡ mem empty z and not (eqb z b)) → ((z : ℕ) → mem empty′ z ≡ mem empty₁ z or eqb z a)
+    → number ≡ pack (crossing (getD standing a 0) a b) → out′ ≡ set out at number → r ≡ at + 1
+    → Played (crossing (carrierAt p a) a b ∷ []) n p (set p (getD standing a 0) b) (set (set standing b (getD standing a 0)) a (length p)) empty′ out at out′ r
+unfolding after
+crossed n p standing empty empty₁ empty′ a b out at number out′ r k i o ha hb hw f g e s c = record {
+  moved = rw (k .stands a ha);
+  placed = crossed-placed n p standing empty a b k i o empty₁ empty′ ha hb hw f g;
+  stored = s ∙ rw (e, k .stands a ha);
+  counted = c;
+}

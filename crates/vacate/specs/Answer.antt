@@ -1,0 +1,42 @@
+-- How the answer of vacating reads as the paper's.
+-- Assumes nothing.
+use mathlib.Core.Path.{_≡_}
+use mathlib.Core.List.{List}
+use mathlib.Core.Option.{Option, none, some}
+use Prim.Native.Nat.{ℕ, _+_, _<_}
+use lib.ListN.{length}
+use Rattle.paper.specs.Basics.{if_then_else_, _>>=_, elem}
+use Rattle.paper.specs.Yard.{Bay, Yard, Placement, Crossing, isEmpty}
+use Rattle.paper.specs.Procedure.{nearestEmpty, vacate}
+use Rattle.rings.specs.Search.{Shown}
+use Rattle.vacate.specs.Placed.{Unchanged, Acted}
+use Rattle.vacate.specs.declared.Vacated.{Vacated}
+use Rattle.vacate.specs.declared.Vacated.the-variants.{Empty, Filled, Failed}
+
+-- the count of crossings afterwards, if it succeeded
+abbrev pub countAfter : ℕ → Vacated → Option ℕ
+countAfter at Empty = some at
+countAfter at (Filled e m) = some m
+countAfter at Failed = none
+
+-- the bay that was filled, if anything moved
+abbrev pub filled : Vacated → Option Bay
+filled Empty = none
+filled (Filled e m) = some (e .0)
+filled Failed = none
+
+-- the bay that the paper's vacate fills
+abbrev pub bayFilled : Yard → List Bay → Bay → Placement → Option Bay
+bayFilled Y held x p = if isEmpty p x then none else if elem x held then none else nearestEmpty Y held p x
+
+module _ {n : ℕ} {table held : List ℕ} (s : Shown n table held) (x : Bay) (p standing empty out : List ℕ) (at : ℕ) where
+  -- the paper's vacate at p
+  abbrev pub vacating : Option (List Crossing)
+  vacating = vacate (s .yard) (s .bays) x p
+
+  pub record Vacates (p′ standing′ empty′ out′ : List ℕ) (r : Vacated) : Type 0 where
+    pub counts : countAfter at r ≡ (vacating >>= λ xs. some (at + length xs))
+    pub fills : filled r ≡ bayFilled (s .yard) (s .bays) x p
+    pub acted : Acted vacating n p standing empty out at p′ standing′ empty′ out′
+    pub still : filled r ≡ none → Unchanged p standing empty out p′ standing′ empty′ out′
+    pub short : (xs : List Crossing) → vacating ≡ some xs → length xs < n

@@ -1,0 +1,54 @@
+-- A placement kept three ways: the bay of each carrier, the carrier at each bay, and the set of empty bays. Crossings are played on
+-- it, counted, and stored where there is room.
+-- Assumes nothing.
+use mathlib.Core.Path.{_≡_}
+use mathlib.Core.List.{List, map}
+use mathlib.Core.Option.{Option, none, some}
+use Prim.Native.Nat.{ℕ, _+_, _≤_, _<_}
+use lib.ListN.{length, getD}
+use lib.Seq.{sets}
+use Rattle.paper.specs.Basics.{In}
+use Rattle.paper.specs.Yard.{Bay, Carrier, Yard, Placement, Crossing, carrierAt, bayOf, isEmpty, after, pack}
+use Rattle.paper.specs.Procedure.{shift}
+use Rattle.paper.proofs.Playing.{Apart}
+use Rattle.paper.proofs.Vacating.{Shiftable}
+use Rattle.words.specs.Sets.{mem}
+
+-- Who stands at each of the n bays and which are empty say the same as the placement; at an empty bay stands the carrier `length p`,
+-- which there is not.
+pub record Placed (n : ℕ) (p standing empty : List ℕ) : Type 0 where
+  pub apart : Apart p
+  pub inside : (c : ℕ) → c < length p → bayOf p c < n
+  pub few : length p ≤ n
+  pub stands : (b : ℕ) → b < n → getD standing b 0 ≡ carrierAt p b
+  pub empties : (b : ℕ) → b < n → mem empty b ≡ isEmpty p b
+
+-- The crossings xs were played on p, counted from `at` on, and each stored at its count where the list is so long.
+pub record Played (xs : List Crossing) (n : ℕ) (p p′ standing′ empty′ out : List ℕ) (at : ℕ) (out′ : List ℕ) (r : ℕ) : Type 0 where
+  pub moved : p′ ≡ after p xs
+  pub placed : Placed n p′ standing′ empty′
+  pub stored : out′ ≡ sets out at (map pack xs)
+  pub counted : r ≡ at + length xs
+
+-- nothing is changed
+pub record Unchanged (p standing empty out p′ standing′ empty′ out′ : List ℕ) : Type 0 where
+  pub same-placement : p′ ≡ p
+  pub same-standing : standing′ ≡ standing
+  pub same-empty : empty′ ≡ empty
+  pub same-list : out′ ≡ out
+
+-- An action of the paper in code: where it fails nothing is changed, and else its crossings were played.
+pub record Acted (o : Option (List Crossing)) (n : ℕ) (p standing empty out : List ℕ) (at : ℕ) (p′ standing′ empty′ out′ : List ℕ) : Type 0 where
+  pub fails : o ≡ none → Unchanged p standing empty out p′ standing′ empty′ out′
+  pub plays : (xs : List Crossing) → o ≡ some xs → Played xs n p p′ standing′ empty′ out at out′ (at + length xs)
+
+-- the carriers on the path can be shifted, in some yard of which the path's bays are among the n
+pub record CanShift (n : ℕ) (p path : List ℕ) : Type 0 where
+  pub yard : Yard
+  pub apart : Apart p
+  pub shiftable : Shiftable yard p apart path
+  pub within : (b : ℕ) → In b path → b < n
+
+-- (the code's shift has the same name)
+abbrev pub shifts : Placement → List Bay → List Crossing
+shifts p path = shift p path

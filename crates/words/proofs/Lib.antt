@@ -1,0 +1,4 @@
+pub mod Bits
+pub mod Sets
+pub mod Loops
+pub mod Besides

@@ -1,0 +1,206 @@
+-- What a loop over the words has done, and what it has left; done for all words, it is done for all bays.
+use mathlib.Core.Path.{_≡_, refl, sym, ap, _∙_}
+use mathlib.Core.Bool.{Bool, false, not}
+use mathlib.Core.List.{List}
+use Prim.Native.Nat.{ℕ, _+_, _-_, _*_, _/_, _%_, _^_, _≤_, _<_}
+use native.Mathlib.Decide.{ℕ-discrete, decLt}
+use native.Mathlib.Omega.{arith}
+use lib.Bits.{bitAnd, bitOr}
+use lib.Count.{trailingZeros, trailing-le}
+use lib.ListN.{length, getD, set}
+use lib.Seq.{getD-set-same, getD-set-other}
+use Rattle.paper.specs.Basics.{_and_, _or_}
+use Rattle.words.specs.Sets.{on, mem, memRow, words, span, lessWord, Lowest, Settled, Kept}
+use Rattle.words.proofs.Bits.{on-or, on-and, on-less, on-not, on-zero, on-lowest, on-below, on-shr}
+use Rattle.words.proofs.Sets.{mem-out, mem-row, or-false}
+
+-- the words below i are f's; those from i on are f's
+pub record Done (l : List ℕ) (i : ℕ) (f : ℕ → ℕ) : Type 0 where
+  pub at : (k : ℕ) → k < i → getD l k 0 ≡ f k
+
+pub record Left (l : List ℕ) (i : ℕ) (f : ℕ → ℕ) : Type 0 where
+  pub at : (k : ℕ) → i ≤ k → getD l k 0 ≡ f k
+
+pub done-none : (l : List ℕ) (f : ℕ → ℕ) → Done l 0 f
+done-none l f = record { at = λ k h. absurd (omega arith) }
+
+pub done-more : (l : List ℕ) (i v : ℕ) (f : ℕ → ℕ) → Done l i f → i < length l → v ≡ f i → Done (set l i v) (i + 1) f
+done-more l i v f d h e = record {
+  at = λ k m. elim (ℕ-discrete k i) [
+    | yes q ↦ rw (q, getD-set-same l i v 0 h) e
+    | no q ↦ getD-set-other l i k v 0 q ∙ d .at k (omega arith)
+  ];
+}
+
+pub left-all : (l : List ℕ) → Left l 0 (λ k. getD l k 0)
+left-all l = record { at = λ k h. refl }
+
+pub left-more : (l : List ℕ) (i v : ℕ) (f : ℕ → ℕ) → Left l i f → Left (set l i v) (i + 1) f
+left-more l i v f d = record { at = λ k m. getD-set-other l i k v 0 (λ q. omega arith) ∙ d .at k (omega arith) }
+
+-- ---- from the words to the bays
+
+-- the words below i fit a word
+pub record Fit (l : List ℕ) (i : ℕ) : Type 0 where
+  pub at : (k : ℕ) → k < i → getD l k 0 < 2 ^ 64
+
+pub fit-none : (l : List ℕ) → Fit l 0
+fit-none l = record { at = λ k h. absurd (omega arith) }
+
+pub fit-more : (l : List ℕ) (i : ℕ) → Fit l i → getD l i 0 < 2 ^ 64 → Fit l (i + 1)
+fit-more l i f h = record { at = λ k m. elim (ℕ-discrete k i) [ yes q ↦ rw q h | no q ↦ f .at k (omega arith) ] }
+
+pub none-set : (ws : List ℕ) (i : ℕ) → Done ws i (λ k. 0) → length ws ≤ i → (x : ℕ) → mem ws x ≡ false
+none-set ws i d l x = elim (decLt (x / 64) (length ws)) [
+  | yes h ↦ unfold mem in rw (d .at (x / 64) (omega arith)) (on-zero (x % 64))
+  | no h ↦ mem-out ws x (omega arith)
+]
+
+module _ (a b c : List ℕ) (i : ℕ) where
+  pub both-set : Done c i (λ k. bitOr (getD a k 0) (getD b k 0)) → (x : ℕ) → x / 64 < i → mem c x ≡ mem a x or mem b x
+  unfolding mem
+  both-set d x h = rw (d .at (x / 64) h) (on-or _ _ (x % 64))
+
+  pub rest-set : Done c i (λ k. lessWord (getD a k 0) (getD b k 0)) → Fit b i → (x : ℕ) → x / 64 < i
+      → mem c x ≡ mem a x and not (mem b x)
+  unfolding mem
+  rest-set d f x h = rw (d .at (x / 64) h) (on-less _ _ (x % 64) (omega arith) (f .at (x / 64) h))
+
+  -- for sets of equal length, past whose words no bay is
+  module _ (all : length c ≤ i) (same : length b ≡ length a) (kept : length c ≡ length a) where
+    pub union-all : Done c i (λ k. bitOr (getD a k 0) (getD b k 0)) → (x : ℕ) → mem c x ≡ mem a x or mem b x
+    union-all d x = elim (decLt (x / 64) i) [
+      | yes h ↦ both-set d x h
+      | no h ↦
+          rw (mem-out a x (omega arith), mem-out b x (omega arith), mem-out c x (omega arith)) (sym (or-false false false refl))
+    ]
+
+    pub minus-all : Done c i (λ k. lessWord (getD a k 0) (getD b k 0)) → Fit b i → (x : ℕ) → mem c x ≡ mem a x and not (mem b x)
+    minus-all d f x = elim (decLt (x / 64) i) [
+      | yes h ↦ rest-set d f x h
+      | no h ↦ rw (mem-out a x (omega arith), mem-out c x (omega arith)) (unfold _and_ in refl)
+    ]
+
+pub row-joined : (acc₀ table acc : List ℕ) (a i : ℕ) → words ≤ i
+    → Done acc i (λ k. bitOr (getD acc₀ k 0) (getD table (a * words + k) 0))
+    → (b : ℕ) → b < span → mem acc b ≡ mem acc₀ b or memRow table a b
+row-joined acc₀ table acc a i l d b h =
+    rw mem-row (unfold mem in rw (d .at (b / 64) (omega arith)) (on-or _ _ (b % 64)))
+
+pub settled : (next seen₀ seen ring : List ℕ) (i : ℕ) → words ≤ i
+    → Done ring i (λ k. lessWord (getD next k 0) (getD seen₀ k 0)) → Done seen i (λ k. bitOr (getD seen₀ k 0) (lessWord (getD next k 0) (getD seen₀ k 0)))
+    → Fit seen₀ i → Settled next seen₀ seen ring
+settled next seen₀ seen ring i l r s f = record {
+  ringed = λ b h. rest-set next seen₀ ring i r f b (omega arith);
+  all-seen = λ b h. both-set seen₀ ring seen i
+      (record { at = λ k m. s .at k m ∙ ap (λ (n : ℕ). bitOr (getD seen₀ k 0) n) (sym (r .at k m)) }) b (omega arith);
+}
+
+-- ---- one row of a table is written
+
+pub record Writing (rows₀ : List ℕ) (d : ℕ) (ring rows : List ℕ) (i : ℕ) : Type 0 where
+  pub written : (k : ℕ) → k < i → getD rows (d * words + k) 0 ≡ getD ring k 0
+  pub others : (e k : ℕ) → (e ≡ d → ⊥) → k < words → getD rows (e * words + k) 0 ≡ getD rows₀ (e * words + k) 0
+
+pub writing-none : (rows : List ℕ) (d : ℕ) (ring : List ℕ) → Writing rows d ring rows 0
+writing-none rows d ring = record { written = λ k h. absurd (omega arith); others = λ e k n h. refl }
+
+pub writing-more : (rows₀ : List ℕ) (d : ℕ) (ring rows : List ℕ) (i : ℕ) → Writing rows₀ d ring rows i → i < words
+    → d * words + words ≤ length rows → Writing rows₀ d ring (set rows (d * words + i) (getD ring i 0)) (i + 1)
+writing-more rows₀ d ring rows i w h l = record {
+  written = λ k m. elim (ℕ-discrete k i) [
+    | yes q ↦ rw (q, getD-set-same rows (d * words + i) (getD ring i 0) 0 (omega arith))
+    | no q ↦
+        getD-set-other rows (d * words + i) (d * words + k) (getD ring i 0) 0 (λ z. q (omega arith)) ∙ w .written k (omega arith)
+  ];
+  others = λ e k n m.
+      getD-set-other rows (d * words + i) (e * words + k) (getD ring i 0) 0 (λ z. n (omega arith)) ∙ w .others e k n m;
+}
+
+pub writing-all : (rows₀ : List ℕ) (d : ℕ) (ring rows : List ℕ) (i : ℕ) → Writing rows₀ d ring rows i → words ≤ i → Kept rows₀ d ring rows
+writing-all rows₀ d ring rows i w h = record {
+  row = λ b l. mem-row rows d b ∙ ap (λ (v : ℕ). on v (b % 64)) (w .written (b / 64) (omega arith)) ∙ unfold mem in refl;
+  others = λ e b n l.
+      mem-row rows e b ∙ ap (λ (v : ℕ). on v (b % 64)) (w .others e (b / 64) n (omega arith)) ∙ sym (mem-row rows₀ e b);
+}
+
+-- ---- the search for the lowest, word by word
+
+module _ (f : ℕ → Bool) (a i w s : ℕ) where
+  -- a word with a bit set holds the lowest
+  pub lowest-here : (m : ℕ) → a ≤ i * 64 + s → s < 64 → i * 64 + 64 ≤ m → 0 < w → w < 2 ^ 64
+      → ((k : ℕ) → s + k < 64 → f (i * 64 + s + k) ≡ on w k) → trailingZeros 64 w < 64 - s
+      → ((k : ℕ) → a ≤ k → k < i * 64 + s → f k ≡ false)
+      → Lowest f a m (i * 64 + s + trailingZeros 64 w)
+  lowest-here m h hs hm p l e t b =
+      let z = on-lowest w p l in
+      record {
+        from = omega arith;
+        upto = omega arith;
+        hit = λ q. e (trailingZeros 64 w) (omega arith) ∙ z .1;
+        before = λ k g q. elim (decLt k (i * 64 + s)) [
+          | yes u ↦ b k g u
+          | no u ↦
+              let j : ℕ = k - (i * 64 + s) in
+              let same : i * 64 + s + j ≡ k = omega arith in
+              ap f (sym same) ∙ e j (omega arith) ∙ on-below w j (omega arith)
+        ];
+      }
+
+  -- a word with no bit set holds none
+  pub lowest-on : s < 64 → w ≡ 0 → ((k : ℕ) → s + k < 64 → f (i * 64 + s + k) ≡ on w k)
+      → ((k : ℕ) → a ≤ k → k < i * 64 + s → f k ≡ false)
+      → (k : ℕ) → a ≤ k → k < (i + 1) * 64 → f k ≡ false
+  lowest-on hs z e b k g q = elim (decLt k (i * 64 + s)) [
+    | yes u ↦ b k g u
+    | no u ↦
+        let j : ℕ = k - (i * 64 + s) in
+        let same : i * 64 + s + j ≡ k = omega arith in
+        ap f (sym same) ∙ e j (omega arith) ∙ rw z (on-zero j)
+  ]
+
+-- the same for a search from 0 on, which begins at each word's first bit
+pub lowest-whole : (f : ℕ → Bool) (i w m : ℕ) → i * 64 + 64 ≤ m → 0 < w → w < 2 ^ 64
+    → ((k : ℕ) → 0 + k < 64 → f (i * 64 + 0 + k) ≡ on w k) → ((k : ℕ) → 0 ≤ k → k < i * 64 → f k ≡ false)
+    → Lowest f 0 m (i * 64 + trailingZeros 64 w)
+lowest-whole f i w m hm p l e b =
+    let z : i * 64 + 0 ≡ i * 64 = omega arith in
+    let r : Lowest f 0 m (i * 64 + 0 + trailingZeros 64 w) =
+    lowest-here f 0 i w 0 m (omega arith) (omega arith) hm p l e (on-lowest w p l .0) (λ k g q. b k g (omega arith)) in
+    rw z at r
+
+pub common-word : (s : List ℕ) (a : ℕ) (t : List ℕ) (b i k : ℕ) → 0 + k < 64
+    → memRow s a (i * 64 + 0 + k) and memRow t b (i * 64 + 0 + k)
+    ≡ on (bitAnd (getD s (a * words + i) 0) (getD t (b * words + i) 0)) k
+common-word s a t b i k h =
+    let x : ℕ = i * 64 + 0 + k in
+    let q : x / 64 ≡ i = omega arith in
+    let r : x % 64 ≡ k = omega arith in
+    rw (mem-row s a x, mem-row t b x, q, r, on-and)
+
+pub missing-word : (ws : List ℕ) (i k : ℕ) → getD ws i 0 < 2 ^ 64 → 0 + k < 64
+    → not (mem ws (i * 64 + 0 + k)) ≡ on (2 ^ 64 - 1 - getD ws i 0) k
+unfolding mem
+missing-word ws i k f h =
+    let x : ℕ = i * 64 + 0 + k in
+    let q : x / 64 ≡ i = omega arith in
+    let r : x % 64 ≡ k = omega arith in
+    rw (q, r) (sym (on-not (getD ws i 0) k (omega arith) f))
+
+pub next-word : (ws : List ℕ) (i s k : ℕ) → s < 64 → s + k < 64 → mem ws (i * 64 + s + k) ≡ on (getD ws i 0 / 2 ^ s) k
+unfolding mem
+next-word ws i s k hs h =
+    let x : ℕ = i * 64 + s + k in
+    let q : x / 64 ≡ i = omega arith in
+    let r : x % 64 ≡ s + k = omega arith in
+    rw (q, r) (sym (on-shr (getD ws i 0) s k))
+
+-- the place found fits a word
+pub place-fits : (i s w : ℕ) → i < words → s < 64 → i * 64 + s + trailingZeros 64 w < 2 ^ 64
+place-fits i s w h k = omega (arith, trailing-le 64 w)
+
+pub whole-fits : (i w : ℕ) → i < words → i * 64 + trailingZeros 64 w < 2 ^ 64
+whole-fits i w h = omega (arith, trailing-le 64 w)
+
+pub zeros-fit : (w : ℕ) → trailingZeros 64 w < 2 ^ 64
+zeros-fit w = omega (arith, trailing-le 64 w)

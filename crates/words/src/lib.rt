@@ -1,0 +1,192 @@
+// Sets of bays as 64-bit words, and tables with a set in each row. A set has any count of words; a row has WORDS.
+ghost use mathlib.Core.Path.{_≡_};
+ghost use mathlib.Core.Bool.{Bool, true, false, not};
+ghost use Prim.Native.Nat.{ℕ, _+_, _-_, _*_, _/_, _^_, _≤_, _<_};
+ghost use lib.ListN.{length, getD};
+ghost use lib.Dec.{eqb};
+ghost use Rattle.paper.specs.Basics.{_and_, _or_};
+ghost use Rattle.words.specs.Sets.{mem, memRow, members, words, span, Lowest, Settled, Kept, Beside};
+
+// The words of a row, and the bays that they hold.
+pub const WORDS: usize = 4;
+
+pub const SPAN: usize = 256;
+
+// Nothing is in the set any more.
+pub fn clear(ws: &mut [u64])
+    ensures { λ _. ⌜ ((x : ℕ) → mem (now (ws .exit)) x ≡ false) ⌝ }
+{
+    let mut i = 0;
+    while i < ws.len() {
+        ws[i] = 0;
+        i += 1;
+    }
+}
+
+// Bay x joins the set.
+pub fn add(ws: &mut [u64], x: usize)
+    requires { ⌜ x / 64 < length (now ws) ⌝ }
+    ensures { λ _. ⌜ ((y : ℕ) → mem (now (ws .exit)) y ≡ mem (now (ws .entry)) y or eqb y x) ⌝ }
+{
+    let i = x / 64;
+    let b = x % 64;
+    ws[i] = ws[i] | (1u64 << b);
+}
+
+// Bay x leaves the set.
+pub fn remove(ws: &mut [u64], x: usize)
+    requires { ⌜ x / 64 < length (now ws) ⌝ }
+    ensures { λ _. ⌜ ((y : ℕ) → mem (now (ws .exit)) y ≡ mem (now (ws .entry)) y and not (eqb y x)) ⌝ }
+{
+    let i = x / 64;
+    let b = x % 64;
+    ws[i] = ws[i] & !(1u64 << b);
+}
+
+// Whether bay x is in the set.
+pub fn is_in(ws: &[u64], x: usize) -> bool
+    requires { ⌜ x / 64 < length (now ws) ⌝ }
+    ensures { λ r. ⌜ r ≡ mem (now (ws .entry)) x ⌝ }
+{
+    let i = x / 64;
+    (ws[i] >> (x % 64)) % 2 == 1
+}
+
+// The bays of b join a.
+pub fn union(a: &mut [u64], b: &[u64])
+    requires { ⌜ length (now b) ≡ length (now a) ⌝ }
+    ensures { λ _. ⌜ ((x : ℕ) → mem (now (a .exit)) x ≡ mem (now (a .entry)) x or mem (now (b .entry)) x) ⌝ }
+{
+    let mut i = 0;
+    while i < a.len() {
+        a[i] = a[i] | b[i];
+        i += 1;
+    }
+}
+
+// The bays of b leave a.
+pub fn minus(a: &mut [u64], b: &[u64])
+    requires { ⌜ length (now b) ≡ length (now a) ⌝ }
+    ensures { λ _. ⌜ ((x : ℕ) → mem (now (a .exit)) x ≡ mem (now (a .entry)) x and not (mem (now (b .entry)) x)) ⌝ }
+{
+    let mut i = 0;
+    while i < a.len() {
+        a[i] = a[i] & !b[i];
+        i += 1;
+    }
+}
+
+// How many bays are in the set.
+pub fn count(ws: &[u64]) -> u64
+    requires { ⌜ 64 * length (now ws) < 2 ^ 64 ⌝ }
+    ensures { λ r. ⌜ r ≡ length (members (now (ws .entry))) ⌝ }
+{
+    let mut n: u64 = 0;
+    let mut i = 0;
+    while i < ws.len() {
+        n += u64::count_ones(ws[i]) as u64;
+        i += 1;
+    }
+    n
+}
+
+// The bays of row a of the table join the set.
+pub fn join_row(acc: &mut [u64], table: &[u64], a: usize)
+    requires { ⌜ (length (now acc) ≡ words) × (a * words + words ≤ length (now table)) ⌝ }
+    ensures { λ _. ⌜ ((b : ℕ) → b < span → mem (now (acc .exit)) b ≡ mem (now (acc .entry)) b or memRow (now (table .entry)) a b) ⌝ }
+{
+    let mut i = 0;
+    while i < WORDS {
+        acc[i] = acc[i] | table[a * WORDS + i];
+        i += 1;
+    }
+}
+
+// The bays of next that are not seen yet are the ring, and are seen.
+pub fn settle(next: &[u64], seen: &mut [u64], ring: &mut [u64])
+    requires { ⌜ (length (now next) ≡ words) × (length (now seen) ≡ words) × (length (now ring) ≡ words) ⌝ }
+    ensures { λ _. ⌜ Settled (now (next .entry)) (now (seen .entry)) (now (seen .exit)) (now (ring .exit)) ⌝ }
+{
+    let mut i = 0;
+    while i < WORDS {
+        let fresh = next[i] & !seen[i];
+        seen[i] = seen[i] | fresh;
+        ring[i] = fresh;
+        i += 1;
+    }
+}
+
+// Row d of the table becomes the ring.
+pub fn keep(rows: &mut [u64], d: usize, ring: &[u64])
+    requires { ⌜ (length (now ring) ≡ words) × (d * words + words ≤ length (now rows)) ⌝ }
+    ensures { λ _. ⌜ Kept (now (rows .entry)) d (now (ring .entry)) (now (rows .exit)) ⌝ }
+{
+    let mut i = 0;
+    while i < WORDS {
+        rows[d * WORDS + i] = ring[i];
+        i += 1;
+    }
+}
+
+// The lowest bay that is in row a of s and in row b of t; SPAN where there is none.
+pub fn lowest_common(s: &[u64], a: usize, t: &[u64], b: usize) -> usize
+    requires { ⌜ (a * words + words ≤ length (now s)) × (b * words + words ≤ length (now t)) ⌝ }
+    ensures { λ r. ⌜ Lowest (λ x. memRow (now (s .entry)) a x and memRow (now (t .entry)) b x) 0 span r ⌝ }
+{
+    let mut i = 0;
+    while i < WORDS {
+        let both = s[a * WORDS + i] & t[b * WORDS + i];
+        if both != 0 {
+            return i * 64 + u64::trailing_zeros(both) as usize;
+        }
+        i += 1;
+    }
+    SPAN
+}
+
+// The lowest bay that is not in the set; SPAN where there is none.
+pub fn lowest_missing(ws: &[u64]) -> usize
+    requires { ⌜ length (now ws) ≡ words ⌝ }
+    ensures { λ r. ⌜ Lowest (λ x. not (mem (now (ws .entry)) x)) 0 span r ⌝ }
+{
+    let mut i = 0;
+    while i < WORDS {
+        let out = !ws[i];
+        if out != 0 {
+            return i * 64 + u64::trailing_zeros(out) as usize;
+        }
+        i += 1;
+    }
+    SPAN
+}
+
+// The lowest bay of the set from a on; SPAN where there is none.
+pub fn next_from(ws: &[u64], a: usize) -> usize
+    requires { ⌜ (length (now ws) ≡ words) × (a ≤ span) ⌝ }
+    ensures { λ r. ⌜ Lowest (mem (now (ws .entry))) a span r ⌝ }
+{
+    let mut i = a / 64;
+    let mut s = a % 64;
+    while i < WORDS {
+        let rest = ws[i] >> s;
+        if rest != 0 {
+            return i * 64 + s + u64::trailing_zeros(rest) as usize;
+        }
+        i += 1;
+        s = 0;
+    }
+    SPAN
+}
+
+// The bays that stand in the rows of the set's members.
+pub fn beside(table: &[u64], set: &[u64], found: &mut [u64])
+    requires { ⌜ (length (now set) ≡ words) × (length (now found) ≡ words) × ((a : ℕ) → a < span → mem (now set) a ≡ true → a * words + words ≤ length (now table)) ⌝ }
+    ensures { λ _. ⌜ Beside (now (table .entry)) (now (set .entry)) (now (found .exit)) span ⌝ }
+{
+    clear(found);
+    let mut a = next_from(set, 0);
+    while a < SPAN {
+        join_row(found, table, a);
+        a = next_from(set, a + 1);
+    }
+}
