@@ -118,12 +118,12 @@ module _ (Y : Yard) (held : List Bay) where
 -- ## For code: the nearest empty bay is the first empty one of all that are reached, nearest first
 
 module _ (q : Bay → Bool) where
-  find-here : (xs ys : List Bay) {e : Bay} → find q xs ≡ some e → find q (xs ++ ys) ≡ some e
+  pub find-here : (xs ys : List Bay) {e : Bay} → find q xs ≡ some e → find q (xs ++ ys) ≡ some e
   unfolding find
   find-here [] ys {e} h = never-some e h
   find-here (x ∷ xs) ys h = by-cases (q x) (λ k. rw k (rw k at h)) (λ k. rw k (find-here xs ys (rw k at h)))
 
-  find-later : (xs ys : List Bay) → find q xs ≡ none → find q (xs ++ ys) ≡ find q ys
+  pub find-later : (xs ys : List Bay) → find q xs ≡ none → find q (xs ++ ys) ≡ find q ys
   unfolding find
   find-later [] ys h = refl
   find-later (x ∷ xs) ys h = by-cases (q x) (λ k. never-some x (sym (rw k at h))) (λ k. rw k (find-later xs ys (rw k at h)))

@@ -19,10 +19,12 @@ use Rattle.paper.specs.Yard.{Bay, Yard, joined}
 use Rattle.paper.specs.Path.{Free, rings, nearestFirst, ringOf, inward, shortestPath, pathBetween}
 use Rattle.paper.proofs.Tests.{by-cases, not-both, and-left, and-right, and-both, never-some}
 use Rattle.paper.proofs.Members.{count-high, in-count, In-nil, find-passes, find-in, find-some, none-find}
-use Rattle.paper.proofs.Paths.{distance-in, distance-least, in-concat}
-use Rattle.paper.proofs.Rings.{find-here, find-later, reached-sym, reached-walk, walk-free}
-use Rattle.paper.proofs.Shortest.{Rising, find-lowest, rising-rings}
-use Rattle.paper.proofs.Vacating.{Next, next, walk-zero}
+use Rattle.paper.proofs.Rings.{distance-in, distance-least, in-concat}
+use Rattle.paper.proofs.Nearest.{find-here, find-later}
+use Rattle.paper.proofs.Rings.{reached-sym, reached-walk, walk-free}
+use Rattle.paper.proofs.Shortest.{Rising, find-lowest, rings-rise}
+use Rattle.paper.proofs.Shortest.{Next, next, inward-zero}
+use Rattle.paper.proofs.Members.{lowest-least}
 use Rattle.words.specs.Sets.{mem, memRow, Lowest, span}
 use Rattle.words.proofs.Sets.{row-zero}
 use Rattle.rings.specs.Search.{Shown, around, ringOn, Searched}
@@ -51,17 +53,13 @@ module _ (q : ℕ → Bool) where
         | no k ↦ let same : y .0 ≡ e = omega arith in y .1 ∙ ap some same
       ]
 
-pub one-rises : (x : ℕ) → Rising (x ∷ [])
-unfolding Rising
-one-rises x = (λ y i. In-nil y i, tt)
-
 -- span stands for no bay
 abbrev pub orNone : ℕ → Option ℕ
 orNone r = if ltb r span then some r else none
 
 module _ {n : ℕ} {table held : List ℕ} (s : Shown n table held) (x : Bay) (most : n ≤ span) (hx : x < n) where
   rises : (d : ℕ) → Rising (ringOn s x d)
-  rises d = rising-rings (s .yard) (s .bays) (s .yard .bays) [] (x ∷ []) d (one-rises x)
+  rises d = rings-rise (s .yard) (s .bays) x d
 
   -- the lowest wanted bay of the ring where the search ended
   pub nearest-lowest : (q : Bay → Bool) (wanted rows : List ℕ) (r e : ℕ) → ((b : ℕ) → b < n → mem wanted b ≡ q b) → Searched s x wanted rows r
@@ -145,8 +143,7 @@ module _ {n : ℕ} {table rows : List ℕ} {d x : ℕ} (t : Inside n table rows 
       let hit : memRow table u r and memRow rows k r ≡ true = l .hit (omega arith) in
       let r-in : In r (getD goalRings k []) = sym (t .rowing k r hk (omega arith)) ∙ and-right _ _ hit in
       let r-joined : joined (t .yard) u r ≡ true = sym (t .joins .same u r hu (omega arith)) ∙ and-left _ _ hit in
-      let b-low : s .bay ≤ r = find-lowest (joined (t .yard) u) (getD goalRings k []) (s .bay) r
-      (rising-rings (t .yard) (t .held) (t .yard .bays) [] (t .goal ∷ []) k (one-rises (t .goal))) (s .found) r-in r-joined in
+      let b-low : s .bay ≤ r = lowest-least (joined (t .yard) u) (getD goalRings k []) (s .found) r r-in r-joined in
       (omega arith, r-in)
 
   pub walked-more : (i u r : ℕ) (room : List ℕ) → n ≤ span → i < d → i < length room → Walked i u room
@@ -158,14 +155,14 @@ module _ {n : ℕ} {table rows : List ℕ} {d x : ℕ} (t : Inside n table rows 
       let z = lowest-next (d - 1 - i) u r most (omega arith) (walked-inside i u room w) s l in
       record {
         near = rw f (z .1);
-        so-far = w .so-far ∙ rw (e, s .on-walk, z .0, f, add-one, take-suc-set room i u len, append-assoc);
+        so-far = w .so-far ∙ rw (e, s .goes-on, z .0, f, add-one, take-suc-set room i u len, append-assoc);
       }
 
   pub walked-all : (i u : ℕ) (room : List ℕ) → i ≡ d → i < length room → Walked i u room → take (d + 1) (set room i u) ≡ pathIn t
   walked-all i u room e len w =
       let z : d - i ≡ 0 = omega arith in
       let f : d + 1 ≡ suc i = omega arith in
-      rw (f, take-suc-set room i u len) (sym (w .so-far ∙ rw (z, walk-zero)))
+      rw (f, take-suc-set room i u len) (sym (w .so-far ∙ rw (z, inward-zero)))
 
 -- ## What the functions answer
 

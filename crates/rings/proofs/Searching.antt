@@ -16,7 +16,7 @@ use Rattle.paper.specs.Yard.{Bay, Yard, joined}
 use Rattle.paper.specs.Path.{nextRing, ringsFrom, rings}
 use Rattle.paper.proofs.Tests.{by-cases, not-both, and-left, and-right, and-both, or-left, or-right, or-cases}
 use Rattle.paper.proofs.Members.{In-head, In-append, In-append-left, In-append-right, filter-in, filter-passes, in-filter, any-of, any-some, without-out, in-without, count-high, in-count}
-use Rattle.paper.proofs.Paths.{joined-sym, ring-zero}
+use Rattle.paper.proofs.Rings.{joined-sym, ring-zero}
 use Rattle.paper.proofs.Rings.{ring-free, ringsFrom-length}
 use Rattle.words.specs.Sets.{mem, memRow, Lowest, Kept, Settled, span, words, anyBelow, reaches, Beside}
 use Rattle.words.proofs.Sets.{row-zero, zeros, mem-zeros}

@@ -5,6 +5,7 @@ use native.Mathlib.Omega.{arith}
 use lib.ListN.{length, take}
 use lib.Seq.{length-take-le}
 use borrow.Author.Needs.{needs}
+use Rattle.paper.proofs.Nearest.{nearest-first}
 use Rattle.paper.specs.Yard.{isEmpty}
 use Rattle.words.specs.Sets.{span}
 use Rattle.rings.specs.Ways.{endOf}
@@ -55,7 +56,7 @@ same-length-4 : tie.Need-same-length-4
 same-length-4 c = search needs
 
 returns-3 : tie.Need-returns-3
-returns-3 c = let p = c .before .before .before .before .before .before .before .before .before .before .before .before .before .before .before .before .before .before .before .before .before .before .pre in λ s. vacates-none s (p .0) _ (p .1) (p .7) _ _ (sym (c .before .before .before .before .before .before .before .before .before .before .before .if1 .left) ∙ c .before .before .before .before .before .before .before .before .before .before .before .before .is-in .ensures) (sym (c .before .before .before .before .before .before .before .before .before .if2 .left) ∙ c .before .before .before .before .before .before .before .before .before .before .is-in2 .ensures) (ap endOf (sym (c .enum-told .given .1)) ∙ c .before .before .before .before .before .way-to-nearest .ensures s (isEmpty _) (p .7 .empties) .nearest)
+returns-3 c = let p = c .before .before .before .before .before .before .before .before .before .before .before .before .before .before .before .before .before .before .before .before .before .before .pre in λ s. vacates-none s (p .0) _ (p .1) (p .7) _ _ (sym (c .before .before .before .before .before .before .before .before .before .before .before .if1 .left) ∙ c .before .before .before .before .before .before .before .before .before .before .before .before .is-in .ensures) (sym (c .before .before .before .before .before .before .before .before .before .if2 .left) ∙ c .before .before .before .before .before .before .before .before .before .before .is-in2 .ensures) (ap endOf (sym (c .enum-told .given .1)) ∙ c .before .before .before .before .before .way-to-nearest .ensures s (isEmpty _) (p .7 .empties) .nearest ∙ sym (nearest-first _ _ _ _))
 
 array-share-prefix-path : tie.Need-array-share-prefix-path
 array-share-prefix-path c = let p = c .before .before .before .before .before .before .before .before .before .before .before .before .before .before .before .before .before .before .before .before .before .before .before .pre in let t = rw (c .before .e .given .1) at (c .before .before .before .before .before .before .way-to-nearest .ensures (p .8) (isEmpty _) (p .7 .empties)) in let kept : length (c .before .before .before .before .before .before .way-to-nearest .last .1 .1 .1 .1 .1 .1 .0) ≡ span = c .before .before .before .before .before .before .way-to-nearest .kept .1 .1 .1 .1 .1 .1 .0 in omega (arith, t .fits, p .0, kept)
@@ -64,7 +65,7 @@ slice-aggregate-shift : tie.Need-slice-aggregate-shift
 slice-aggregate-shift c = let p = c .before .before .before .before .before .before .before .before .before .before .before .before .before .before .before .before .before .before .before .before .before .before .before .before .pre in let t = rw (c .before .before .e .given .1) at (c .before .before .before .before .before .before .before .way-to-nearest .ensures (p .8) (isEmpty _) (p .7 .empties)) in let kept : length (c .before .before .before .before .before .before .before .way-to-nearest .last .1 .1 .1 .1 .1 .1 .0) ≡ span = c .before .before .before .before .before .before .before .way-to-nearest .kept .1 .1 .1 .1 .1 .1 .0 in sym (length-take-le _ _ (omega (arith, t .fits, p .0, kept)))
 
 shift-requires : tie.Need-shift-requires
-shift-requires c κs = let p = c .before .before .before .before .before .before .before .before .before .before .before .before .before .before .before .before .before .before .before .before .before .before .before .before .before .before .before .before .pre in let t = rw (c .before .before .before .before .before .before .e .given .1) at (c .before .before .before .before .before .before .before .before .before .before .before .way-to-nearest .ensures (p .8) (isEmpty _) (p .7 .empties)) in let kept : length (c .before .before .before .before .before .before .before .before .before .before .before .way-to-nearest .last .1 .1 .1 .1 .1 .1 .0) ≡ span = c .before .before .before .before .before .before .before .before .before .before .before .way-to-nearest .kept .1 .1 .1 .1 .1 .1 .0 in let len : length (take (c .before .before .before .before .before .before .e .given .0 .1 .0) (c .before .before .before .before .before .before .before .before .before .before .before .way-to-nearest .last .1 .1 .1 .1 .1 .1 .0)) ≡ c .before .before .before .before .before .before .e .given .0 .1 .0 = length-take-le _ _ (omega (arith, t .fits, p .0, kept)) in (p .0, p .4, omega (arith, len, t .fits, p .0, p .6), p .7, can-shift (p .8) (p .0) _ (p .1) (p .7) (c .before .before .before .before .before .before .before .before .before .before .before .before .before .before .before .before .before .before .before .before .before .before .before .before .before .before .before .before .args .out .now) (c .before .before .before .before .before .before .before .before .before .before .before .before .before .before .before .before .before .before .before .before .before .before .before .before .before .before .before .before .args .at) (sym (c .before .before .before .before .before .before .before .before .before .before .before .before .before .before .before .before .before .if1 .left) ∙ c .before .before .before .before .before .before .before .before .before .before .before .before .before .before .before .before .before .before .is-in .ensures) (sym (c .before .before .before .before .before .before .before .before .before .before .before .before .before .before .before .if2 .left) ∙ c .before .before .before .before .before .before .before .before .before .before .before .before .before .before .before .before .is-in2 .ensures) _ (t .nearest) _ (t .path _ refl))
+shift-requires c κs = let p = c .before .before .before .before .before .before .before .before .before .before .before .before .before .before .before .before .before .before .before .before .before .before .before .before .before .before .before .before .pre in let t = rw (c .before .before .before .before .before .before .e .given .1) at (c .before .before .before .before .before .before .before .before .before .before .before .way-to-nearest .ensures (p .8) (isEmpty _) (p .7 .empties)) in let kept : length (c .before .before .before .before .before .before .before .before .before .before .before .way-to-nearest .last .1 .1 .1 .1 .1 .1 .0) ≡ span = c .before .before .before .before .before .before .before .before .before .before .before .way-to-nearest .kept .1 .1 .1 .1 .1 .1 .0 in let len : length (take (c .before .before .before .before .before .before .e .given .0 .1 .0) (c .before .before .before .before .before .before .before .before .before .before .before .way-to-nearest .last .1 .1 .1 .1 .1 .1 .0)) ≡ c .before .before .before .before .before .before .e .given .0 .1 .0 = length-take-le _ _ (omega (arith, t .fits, p .0, kept)) in (p .0, p .4, omega (arith, len, t .fits, p .0, p .6), p .7, can-shift (p .8) (p .0) _ (p .1) (p .7) (c .before .before .before .before .before .before .before .before .before .before .before .before .before .before .before .before .before .before .before .before .before .before .before .before .before .before .before .before .args .out .now) (c .before .before .before .before .before .before .before .before .before .before .before .before .before .before .before .before .before .before .before .before .before .before .before .before .before .before .before .before .args .at) (sym (c .before .before .before .before .before .before .before .before .before .before .before .before .before .before .before .before .before .if1 .left) ∙ c .before .before .before .before .before .before .before .before .before .before .before .before .before .before .before .before .before .before .is-in .ensures) (sym (c .before .before .before .before .before .before .before .before .before .before .before .before .before .before .before .if2 .left) ∙ c .before .before .before .before .before .before .before .before .before .before .before .before .before .before .before .before .is-in2 .ensures) _ (t .nearest ∙ sym (nearest-first _ _ _ _)) _ (t .path _ refl))
 
 same-length-5 : tie.Need-same-length-5
 same-length-5 c = search needs
@@ -82,7 +83,7 @@ same-length-9 : tie.Need-same-length-9
 same-length-9 c = search needs
 
 returns-4 : tie.Need-returns-4
-returns-4 c = let p = c .before .before .before .before .before .before .before .before .before .before .before .before .before .before .before .before .before .before .before .before .before .before .before .before .before .before .before .before .before .before .before .before .before .before .before .before .before .pre in let t = rw (c .before .before .before .before .before .before .before .before .before .before .before .before .before .before .before .e .given .1) at (c .before .before .before .before .before .before .before .before .before .before .before .before .before .before .before .before .before .before .before .before .way-to-nearest .ensures (p .8) (isEmpty _) (p .7 .empties)) in let kept : length (c .before .before .before .before .before .before .before .before .before .before .before .before .before .before .before .before .before .before .before .before .way-to-nearest .last .1 .1 .1 .1 .1 .1 .0) ≡ span = c .before .before .before .before .before .before .before .before .before .before .before .before .before .before .before .before .before .before .before .before .way-to-nearest .kept .1 .1 .1 .1 .1 .1 .0 in let len : length (take (c .before .before .before .before .before .before .before .before .before .before .before .before .before .before .before .e .given .0 .1 .0) (c .before .before .before .before .before .before .before .before .before .before .before .before .before .before .before .before .before .before .before .before .way-to-nearest .last .1 .1 .1 .1 .1 .1 .0)) ≡ c .before .before .before .before .before .before .before .before .before .before .before .before .before .before .before .e .given .0 .1 .0 = length-take-le _ _ (omega (arith, t .fits, p .0, kept)) in λ s. let v = rw (c .before .before .before .before .before .before .before .before .before .before .before .before .before .before .before .e .given .1) at (c .before .before .before .before .before .before .before .before .before .before .before .before .before .before .before .before .before .before .before .before .way-to-nearest .ensures s (isEmpty _) (p .7 .empties)) in vacates-filled s (p .0) _ (p .1) (p .7) _ _ (sym (c .before .before .before .before .before .before .before .before .before .before .before .before .before .before .before .before .before .before .before .before .before .before .before .before .before .before .if1 .left) ∙ c .before .before .before .before .before .before .before .before .before .before .before .before .before .before .before .before .before .before .before .before .before .before .before .before .before .before .before .is-in .ensures) (sym (c .before .before .before .before .before .before .before .before .before .before .before .before .before .before .before .before .before .before .before .before .before .before .before .before .if2 .left) ∙ c .before .before .before .before .before .before .before .before .before .before .before .before .before .before .before .before .before .before .before .before .before .before .before .before .before .is-in2 .ensures) _ (v .nearest) _ (v .path _ refl) _ _ _ _ _ _ refl refl (omega (arith, len, t .fits)) (c .before .before .before .before .before .before .before .before .shift .ensures)
+returns-4 c = let p = c .before .before .before .before .before .before .before .before .before .before .before .before .before .before .before .before .before .before .before .before .before .before .before .before .before .before .before .before .before .before .before .before .before .before .before .before .before .pre in let t = rw (c .before .before .before .before .before .before .before .before .before .before .before .before .before .before .before .e .given .1) at (c .before .before .before .before .before .before .before .before .before .before .before .before .before .before .before .before .before .before .before .before .way-to-nearest .ensures (p .8) (isEmpty _) (p .7 .empties)) in let kept : length (c .before .before .before .before .before .before .before .before .before .before .before .before .before .before .before .before .before .before .before .before .way-to-nearest .last .1 .1 .1 .1 .1 .1 .0) ≡ span = c .before .before .before .before .before .before .before .before .before .before .before .before .before .before .before .before .before .before .before .before .way-to-nearest .kept .1 .1 .1 .1 .1 .1 .0 in let len : length (take (c .before .before .before .before .before .before .before .before .before .before .before .before .before .before .before .e .given .0 .1 .0) (c .before .before .before .before .before .before .before .before .before .before .before .before .before .before .before .before .before .before .before .before .way-to-nearest .last .1 .1 .1 .1 .1 .1 .0)) ≡ c .before .before .before .before .before .before .before .before .before .before .before .before .before .before .before .e .given .0 .1 .0 = length-take-le _ _ (omega (arith, t .fits, p .0, kept)) in λ s. let v = rw (c .before .before .before .before .before .before .before .before .before .before .before .before .before .before .before .e .given .1) at (c .before .before .before .before .before .before .before .before .before .before .before .before .before .before .before .before .before .before .before .before .way-to-nearest .ensures s (isEmpty _) (p .7 .empties)) in vacates-filled s (p .0) _ (p .1) (p .7) _ _ (sym (c .before .before .before .before .before .before .before .before .before .before .before .before .before .before .before .before .before .before .before .before .before .before .before .before .before .before .if1 .left) ∙ c .before .before .before .before .before .before .before .before .before .before .before .before .before .before .before .before .before .before .before .before .before .before .before .before .before .before .before .is-in .ensures) (sym (c .before .before .before .before .before .before .before .before .before .before .before .before .before .before .before .before .before .before .before .before .before .before .before .before .if2 .left) ∙ c .before .before .before .before .before .before .before .before .before .before .before .before .before .before .before .before .before .before .before .before .before .before .before .before .before .is-in2 .ensures) _ (v .nearest ∙ sym (nearest-first _ _ _ _)) _ (v .path _ refl) _ _ _ _ _ _ refl refl (omega (arith, len, t .fits)) (c .before .before .before .before .before .before .before .before .shift .ensures)
 
 pub vacate-spec : {M : Type 1} → statement M
 vacate-spec =
