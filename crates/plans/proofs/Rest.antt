@@ -4,7 +4,7 @@ use mathlib.Core.List.{List, [], _∷_}
 use Prim.Native.Nat.{ℕ, suc, _<_, _≤_}
 use lib.ListN.{length, drop, length-map, drop-of-length-le}
 use lib.Seq.{drop-cons}
-use Rattle.paper.specs.Yard.{crossing, crossings, named}
+use Rattle.paper.specs.Yard.{Crossing, crossing, crossings, named}
 use Rattle.paper.specs.OnePass.{Fits}
 use Rattle.paper.proofs.Packing.{named-is}
 
@@ -16,6 +16,6 @@ pub rest-none : (plan : List ℕ) (i : ℕ) → length plan ≤ i → drop i (cr
 rest-none plan i h = drop-of-length-le (crossings plan) {i = i} (rw length-map h)
 
 -- where the numbers of a plan fit, so does the crossing of each name
-pub fits-named : (k n : ℕ) (plan : List ℕ) → Fits k n plan → (i : ℕ) → i < length plan
-    → (named (crossings plan) i .carrier < k) × (named (crossings plan) i .from < n) × (named (crossings plan) i .to < n)
-fits-named k n plan fits i more = rw (named-is plan i) (fits i more)
+pub fits-named : (k n : ℕ) (plan : List ℕ) → Fits k n plan → (i : ℕ) → i < length plan → (x : Crossing) → x ≡ named (crossings plan) i
+    → (x .carrier < k) × (x .from < n) × (x .to < n)
+fits-named k n plan fits i more x is = rw (is, named-is plan i) (fits i more)

@@ -23,7 +23,7 @@ pub fn slot_pass(plan: &[u64], out: &mut [u32])
     let mut bays: [u32; 256] = [0; 256];
     let mut i = 0;
     while i < plan.len() {
-        let x = docket::unpack(plan[i]);
+        let x = plans::crossing_at(plan, i);
         let carrier = x.carrier.0 as usize;
         let from = x.from.0 as usize;
         let to = x.to.0 as usize;
