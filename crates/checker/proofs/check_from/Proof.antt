@@ -1,0 +1,37 @@
+-- `checker::check_from` meets its contract. There are no more carriers than places in the working array.
+-- Assumes nothing.
+use mathlib.Core.Path.{_≡_, refl, sym}
+use mathlib.Core.List.{List, [], _∷_}
+use Prim.Native.Nat.{ℕ, _≤_}
+use native.Mathlib.Omega.{arith}
+use borrow.Author.Needs.{needs}
+use denote.Ref.{now}
+use lib.ListN.{length, take, replicate, length-replicate}
+use lib.Seq.{length-take-le}
+use Rattle.checker.proofs.check_from.Statement.{statement}
+use Rattle.checker.proofs.check_from.Tie as tie
+
+-- as many places as are taken of it
+enough : (k : ℕ) → k ≤ 256 → length {A = ℕ} (take k (replicate 256 0)) ≡ k
+enough k h = length-take-le k (replicate 256 0) (rw (length-replicate {A = ℕ} 256 0) h)
+
+array-borrow-prefix-at : tie.Need-array-borrow-prefix-at
+array-borrow-prefix-at c = search needs
+
+slice-aggregate-check-crossings : tie.Need-slice-aggregate-check-crossings
+slice-aggregate-check-crossings c = sym (enough (length (now (c .before .before .before .before .args .start))) (omega arith))
+
+check-crossings-requires : tie.Need-check-crossings-requires
+check-crossings-requires c κs = (enough (length (now (c .before .before .before .before .args .start))) (omega arith), c .before .before .before .before .pre .0, c .before .before .before .before .pre .1, c .before .before .before .before .pre .2)
+
+returns : tie.Need-returns
+returns c = search needs
+
+pub check-from-spec : {M : Type 1} → statement M
+check-from-spec =
+    tie.close
+    (tie.spec
+    array-borrow-prefix-at
+    slice-aggregate-check-crossings
+    check-crossings-requires
+    returns)

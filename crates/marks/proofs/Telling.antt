@@ -1,0 +1,78 @@
+-- What a report answers, test by test in the document's order: each law is one way out.
+use mathlib.Core.Path.{_≡_, refl, sym, _∙_, ap}
+use mathlib.Core.Bool.{Bool, true, false, not}
+use mathlib.Core.List.{List}
+use mathlib.Core.Option.{none, some}
+use Prim.Native.Nat.{ℕ, _≤_, _<_}
+use native.Mathlib.Omega.{arith}
+use borrow.Author.Tests.{eq-eqb, ne-eqb, le-leb, lt-leb, eqb-false}
+use lib.Dec.{eqb}
+use lib.ListN.{length, getD, length-map}
+use Rattle.paper.specs.Basics.{_and_, _or_, find, upTo}
+use Rattle.paper.specs.Yard.{Crossing, unpack, crossings, named}
+use Rattle.paper.specs.Dependence.{depend, isDone, undoneBefore}
+use Rattle.paper.specs.Docket.{unknown, early, mismarked, badMarks}
+use Rattle.paper.specs.Answers.{Report, accept, already, refuse, tell}
+use Rattle.paper.proofs.Tests.{by-cases, and-both, or-left, or-right, or-neither}
+use Rattle.marks.specs.Reading.{toldInOrder}
+
+-- a byte above 1 is neither 0 nor 1, and no other
+abbrev pub odd : ℕ → Bool
+odd m = not (eqb m 0 or eqb m 1)
+
+pub odd-high : (m : ℕ) → 1 < m → odd m ≡ true
+odd-high m h = ap not (or-neither _ _ (ne-eqb m 0 (omega arith)) (ne-eqb m 1 (omega arith)))
+
+pub odd-low : (m : ℕ) → m ≤ 1 → odd m ≡ false
+odd-low m h =
+    by-cases (eqb m 0)
+    (λ e. ap not (or-left _ _ e))
+    (λ e. ap not (or-right _ _ (eq-eqb m 1 (let n = eqb-false m 0 e in omega arith))))
+
+-- the earlier crossing e keeps the crossing x waiting
+abbrev pub waitsFor : List Crossing → List ℕ → Crossing → ℕ → Bool
+waitsFor xs marks x e = depend x (named xs e) and not (isDone marks e)
+
+module _ (xs : List Crossing) (marks : List ℕ) (x : Crossing) (e : ℕ) where
+  pub waits : depend x (named xs e) ≡ true → (getD marks e 0 ≡ 1 → ⊥) → waitsFor xs marks x e ≡ true
+  waits d n = and-both _ _ d (ap not (ne-eqb _ _ n))
+
+  and-no : (b : Bool) → b and false ≡ false
+  unfolding _and_
+  and-no true = refl
+  and-no false = refl
+
+  pub waits-not-done : getD marks e 0 ≡ 1 → waitsFor xs marks x e ≡ false
+  unfolding _and_
+  waits-not-done h = ap (λ v. depend x (named xs e) and not v) (eq-eqb _ _ h) ∙ and-no (depend x (named xs e))
+
+  pub waits-not-free : depend x (named xs e) ≡ false → waitsFor xs marks x e ≡ false
+  unfolding _and_
+  waits-not-free d = ap (λ v. v and not (isDone marks e)) d
+
+module _ (xs : List Crossing) (marks : List ℕ) (name : ℕ) where
+  pub told-mismarked : badMarks xs marks ≡ true → refuse mismarked ≡ tell xs marks name
+  unfolding tell
+  told-mismarked b = rw b
+
+  pub told-on : badMarks xs marks ≡ false → tell xs marks name ≡ toldInOrder xs marks name
+  unfolding tell toldInOrder
+  told-on b = rw b
+
+  pub told-unknown : length xs ≤ name → refuse unknown ≡ toldInOrder xs marks name
+  unfolding toldInOrder
+  told-unknown h = rw (le-leb (length xs) name h)
+
+  module _ (h : name < length xs) where
+    pub told-already : getD marks name 0 ≡ 1 → already ≡ toldInOrder xs marks name
+    unfolding toldInOrder
+    told-already d = rw (lt-leb (length xs) name h, eq-eqb _ _ d)
+
+    module _ (d : getD marks name 0 ≡ 1 → ⊥) where
+      pub told-early : (e : ℕ) → some e ≡ undoneBefore xs marks name → refuse (early e) ≡ toldInOrder xs marks name
+      unfolding toldInOrder
+      told-early e u = rw (lt-leb (length xs) name h, ne-eqb _ _ d, ← u)
+
+      pub told-accept : none ≡ undoneBefore xs marks name → accept ≡ toldInOrder xs marks name
+      unfolding toldInOrder
+      told-accept u = rw (lt-leb (length xs) name h, ne-eqb _ _ d, ← u)

@@ -1,0 +1,178 @@
+// The marks of a plan that has passed the check: whether they are in order, what a report on them answers, and the one mark that it changes.
+// Each step is one pass over the plan. The plan's carriers and bays are below 256, so what a pass remembers of them are two small arrays.
+ghost use mathlib.Core.Path.{_≡_};
+ghost use mathlib.Core.Bool.{not};
+ghost use Prim.Native.Nat.{_≤_, _<_};
+ghost use lib.Dec.{eqb};
+ghost use lib.ListN.{length};
+ghost use Rattle.paper.specs.Basics.{_and_, _or_, any, find, upTo};
+ghost use Rattle.paper.specs.Yard.{crossings, named};
+ghost use Rattle.paper.specs.Dependence.{depend, isDone, outOfOrder};
+ghost use Rattle.paper.specs.Docket.{badMarks};
+ghost use Rattle.paper.specs.Answers.{accept, tell as told, marksAfter};
+ghost use Rattle.paper.specs.OnePass.{Fits};
+ghost use Rattle.paper.proofs.Marking.{flag};
+ghost use Rattle.docket.specs.Reading.{crossingOf};
+ghost use Rattle.marks.specs.Reading.{earlierOf, reportOf, toldInOrder};
+use docket::Crossing;
+use docket::Refusal;
+use plans::Named;
+
+// Whether an undone crossing has touched the carrier or one of the bays.
+fn touched(carriers: &[u8; 256], bays: &[u8; 256], carrier: usize, from: usize, to: usize) -> bool
+    requires { ⌜ (carrier < 256) × (from < 256) × (to < 256) ⌝ }
+    ensures { λ r. ⌜ r ≡ flag (now (carriers .entry)) carrier or flag (now (bays .entry)) from or flag (now (bays .entry)) to ⌝ }
+{
+    if carriers[carrier] == 1 {
+        return true;
+    }
+    if bays[from] == 1 {
+        return true;
+    }
+    bays[to] == 1
+}
+
+// Whether a crossing is marked done before an earlier one it depends on.
+fn order_pass(plan: &[u64], marks: &[u8]) -> bool
+    requires { ⌜ (length (now marks) ≡ length (now plan)) × Fits 256 256 (now plan) ⌝ }
+    ensures { λ r. ⌜ r ≡ outOfOrder (crossings (now (plan .entry))) (now (marks .entry)) ⌝ }
+{
+    let mut carriers: [u8; 256] = [0; 256];
+    let mut bays: [u8; 256] = [0; 256];
+    let mut i = 0;
+    while i < plan.len() {
+        let x = plans::crossing_at(plan, i);
+        let carrier = x.carrier.0 as usize;
+        let from = x.from.0 as usize;
+        let to = x.to.0 as usize;
+        if marks[i] == 1 {
+            if touched(&carriers, &bays, carrier, from, to) {
+                return true;
+            }
+        } else {
+            carriers[carrier] = 1;
+            bays[from] = 1;
+            bays[to] = 1;
+        }
+        i += 1;
+    }
+    false
+}
+
+// Whether a mark is neither 0 nor 1.
+fn odd_mark(marks: &[u8]) -> bool
+    ensures { λ r. ⌜ r ≡ any (λ m. not (eqb m 0 or eqb m 1)) (now (marks .entry)) ⌝ }
+{
+    let mut i = 0;
+    while i < marks.len() {
+        if marks[i] > 1 {
+            return true;
+        }
+        i += 1;
+    }
+    false
+}
+
+// Whether the report is refused with 11.
+pub fn bad_marks(plan: &[u64], marks: &[u8]) -> bool
+    requires { ⌜ Fits 256 256 (now plan) ⌝ }
+    ensures { λ r. ⌜ r ≡ badMarks (crossings (now (plan .entry))) (now (marks .entry)) ⌝ }
+{
+    if marks.len() != plan.len() {
+        return true;
+    }
+    if odd_mark(marks) {
+        return true;
+    }
+    order_pass(plan, marks)
+}
+
+// Whether two crossings depend on each other: the same carrier, or a bay that both touch.
+fn depends(x: Crossing, y: Crossing) -> bool
+    ensures { λ r. ⌜ r ≡ depend (crossingOf x) (crossingOf y) ⌝ }
+{
+    if x.carrier.0 == y.carrier.0 {
+        return true;
+    }
+    if x.from.0 == y.from.0 {
+        return true;
+    }
+    if x.from.0 == y.to.0 {
+        return true;
+    }
+    if x.to.0 == y.from.0 {
+        return true;
+    }
+    x.to.0 == y.to.0
+}
+
+// The earlier crossings that a crossing depends on: the lowest name among the undone ones, or none is undone.
+enum Earlier {
+    Undone(u64),
+    AllDone,
+}
+
+// Of the crossings before `name`, the lowest that x depends on and that is undone.
+fn undone_before(plan: &[u64], marks: &[u8], x: Crossing, name: usize) -> Earlier
+    requires { ⌜ (name ≤ length (now plan)) × (length (now marks) ≡ length (now plan)) ⌝ }
+    ensures { λ r. ⌜ earlierOf r ≡ find (λ e. depend (crossingOf x) (named (crossings (now (plan .entry))) e) and not (isDone (now (marks .entry)) e)) (upTo name) ⌝ }
+{
+    let mut e = 0;
+    while e < name {
+        if depends(x, plans::crossing_at(plan, e)) {
+            if marks[e] != 1 {
+                return Earlier::Undone(e as u64);
+            }
+        }
+        e += 1;
+    }
+    Earlier::AllDone
+}
+
+// What a report answers.
+pub enum Reported {
+    Accepted,
+    Already,
+    Refused(Refusal),
+}
+
+// Once the marks are in order: 12; then "already" for a done name; then 13; else "accepted".
+pub fn tell_in_order(plan: &[u64], marks: &[u8], name: u64) -> Reported
+    requires { ⌜ length (now marks) ≡ length (now plan) ⌝ }
+    ensures { λ r. ⌜ reportOf r ≡ toldInOrder (crossings (now (plan .entry))) (now (marks .entry)) name ⌝ }
+{
+    let Named::Crossing(x) = plans::find(plan, name) else {
+        return Reported::Refused(Refusal::Unknown);
+    };
+    let at = name as usize;
+    if marks[at] == 1 {
+        return Reported::Already;
+    }
+    let earlier = undone_before(plan, marks, x, at);
+    match earlier {
+        Earlier::Undone(e) => Reported::Refused(Refusal::Early(e)),
+        Earlier::AllDone => Reported::Accepted,
+    }
+}
+
+// Once the check has passed: 11, and then the rest.
+pub fn tell(plan: &[u64], marks: &[u8], name: u64) -> Reported
+    requires { ⌜ Fits 256 256 (now plan) ⌝ }
+    ensures { λ r. ⌜ reportOf r ≡ told (crossings (now (plan .entry))) (now (marks .entry)) name ⌝ }
+{
+    if bad_marks(plan, marks) {
+        return Reported::Refused(Refusal::Mismarked);
+    }
+    tell_in_order(plan, marks, name)
+}
+
+// An accepted report changes the mark of the reported name; any other answer changes none.
+pub fn mark_accepted(marks: &mut [u8], name: u64, answer: Reported)
+    requires { ⌜ (reportOf answer ≡ accept → name < length (now marks)) ⌝ }
+    ensures { λ _. ⌜ now (marks .exit) ≡ marksAfter (now (marks .entry)) name (reportOf answer) ⌝ }
+{
+    let at = name as usize;
+    if let Reported::Accepted = answer {
+        marks[at] = 1;
+    }
+}

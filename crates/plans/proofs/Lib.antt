@@ -1,0 +1,3 @@
+pub mod Rest
+pub mod Found
+pub mod Searching

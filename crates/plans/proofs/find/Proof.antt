@@ -1,0 +1,38 @@
+-- `plans::find` meets its contract: a name below the plan's length has its crossing, any other has none.
+-- Assumes nothing.
+use mathlib.Core.Path.{_≡_, sym, ap, _∙_}
+use mathlib.Core.Option.{some}
+use borrow.Author.Needs.{needs}
+use borrow.Author.Tests.{lt-leb, le-leb}
+use denote.Ref.{now}
+use lib.ListN.{length, length-map}
+use Rattle.paper.specs.Yard.{unpack, crossings}
+use Rattle.plans.specs.Reading.{foundIn}
+use Rattle.plans.proofs.find.Statement.{statement}
+use Rattle.plans.proofs.find.Tie as tie
+use Rattle.plans.proofs.find.Reads as reads
+use Rattle.plans.proofs.find.Lts as lts
+use Rattle.plans.proofs.crossing_at.Reads as crossing-at-reads
+
+-- src/lib.rt:31:25
+crossing-at-requires : tie.Need-crossing-at-requires
+crossing-at-requires c κs = search needs
+
+-- src/lib.rt:26:1
+returns : tie.Need-returns
+unfolding foundIn
+returns c =
+    let s = c .before .before .before in
+    let plan = now (s .args .plan) in
+    rw (lt-leb (length (crossings plan)) (s .args .name) (rw length-map (c .before .if1 .taken))) (ap some (c .crossing-at .ensures))
+
+-- src/lib.rt:26:1
+returns-2 : tie.Need-returns-2
+unfolding foundIn
+returns-2 c =
+    let s = c .before .before in
+    let plan = now (s .args .plan) in
+    rw (le-leb (length (crossings plan)) (s .args .name) (rw length-map (c .if1 .left)))
+
+pub find-spec : {M : Type 1} → statement M
+find-spec = tie.close (tie.spec crossing-at-requires returns returns-2)

@@ -1,0 +1,128 @@
+-- Why a plan can be played with a set of occupied bays beside the placement: a legal crossing takes one bay out of the set and puts one in,
+-- and what is left of the plan, played from where the carriers are now, decides.
+use mathlib.Core.Path.{_≡_, refl, sym, _∙_, ap}
+use mathlib.Core.Bool.{Bool, true, false, not}
+use mathlib.Core.List.{List, [], _∷_, _++_}
+use mathlib.Core.Option.{none, some}
+use Prim.Native.Nat.{ℕ, suc, _≤_, _<_, _+_}
+use native.Mathlib.Omega.{arith}
+use native.Mathlib.Numerals.{add-one}
+use borrow.Author.Tests.{eqb-true, eqb-false, eq-eqb}
+use lib.Dec.{eqb}
+use lib.ListN.{length, getD, take, drop, length-set}
+use lib.Seq.{take-suc, take-length}
+use Rattle.paper.specs.Basics.{if_then_else_, _and_, _or_, elem, In, Out}
+use Rattle.paper.specs.Yard.{Yard, Bay, Carrier, Placement, Crossing, bayOf, carrierAt, move, after, legal, crossings, named}
+use Rattle.paper.specs.Docket.{firstIllegal}
+use Rattle.paper.proofs.Tests.{by-cases, not-both, never-some, or-right}
+use Rattle.paper.proofs.Playing.{Legal, legal-facts, bay-in, placeOf-there, placeOf-bay, move-self, move-other, move-apart, move-empties, move-out}
+use Rattle.plans.proofs.Rest.{rest-next, rest-none}
+use Rattle.words.specs.Sets.{mem, span}
+use Rattle.replay.specs.Playing.{Standing, Occupied, Played}
+
+-- The set: empty at first, one bay more with each carrier.
+elem-snoc : (b y : ℕ) (l : List ℕ) → elem b (l ++ (y ∷ [])) ≡ elem b l or eqb b y
+unfolding elem _or_
+elem-snoc b y [] = by-cases (eqb b y) (λ e. rw e) (λ e. rw e)
+elem-snoc b y (z ∷ l) = by-cases (eqb b z) (λ e. rw e) (λ e. rw e (elem-snoc b y l))
+
+abbrev pub OccupiedTo : Placement → List ℕ → ℕ → Type 0
+OccupiedTo at occupied c = Occupied (take c at) occupied
+
+pub occupied-none : (at : Placement) (occupied : List ℕ) → ((b : ℕ) → mem occupied b ≡ false) → OccupiedTo at occupied 0
+unfolding elem
+occupied-none at occupied h b l = h b
+
+pub occupied-more : (at : Placement) (occupied occupied′ : List ℕ) (c : ℕ) → c < length at
+    → ((b : ℕ) → mem occupied′ b ≡ mem occupied b or eqb b (getD at c 0))
+    → OccupiedTo at occupied c → OccupiedTo at occupied′ (c + 1)
+occupied-more at occupied occupied′ c h more o b l =
+    rw (add-one c, take-suc at c 0 h, elem-snoc b (getD at c 0) (take c at)) (more b ∙ ap (λ v. v or eqb b (getD at c 0)) (o b l))
+
+pub occupied-all : (at : Placement) (occupied : List ℕ) (c : ℕ) → c ≤ length at → length at ≤ c → OccupiedTo at occupied c → Occupied at occupied
+occupied-all at occupied c l h o =
+    let e : c ≡ length at = omega arith in
+    let whole : take c at ≡ at = ap (λ k. take k at) e ∙ take-length at in
+    rw whole at o
+
+-- A legal crossing: its bay to comes into the set, its bay from goes out, every other stays.
+module _ (Y : Yard) (at : Placement) (x : Crossing) (l : Legal Y at x) where
+  into : In (x .to) (move at x)
+  into = rw (move-self Y at x l) at (bay-in (move at x) (x .carrier) (rw length-set (l .there)))
+
+  other-stays : (b : Bay) → (b ≡ x .from → ⊥) → In b at → In b (move at x)
+  other-stays b n i =
+      let c = carrierAt at b in
+      let there : c < length at = placeOf-there at b i in
+      let here : bayOf at c ≡ b = placeOf-bay at b i in
+      by-cases (eqb c (x .carrier))
+      (λ e. absurd (n (sym here ∙ ap (bayOf at) (eqb-true c (x .carrier) e) ∙ l .stands)))
+      (λ e. rw (move-other Y at x l c e ∙ here) at (bay-in (move at x) c (rw length-set there)))
+
+  moved-set : ((i j : Carrier) → i < length at → j < length at → bayOf at i ≡ bayOf at j → i ≡ j) → (b : Bay)
+      → (elem b at and not (eqb b (x .from))) or eqb b (x .to) ≡ elem b (move at x)
+  unfolding _and_ _or_
+  moved-set apart b =
+      by-cases (eqb b (x .to))
+      (λ e. or-right (elem b at and not (eqb b (x .from))) (eqb b (x .to)) e ∙ sym (rw (eqb-true b (x .to) e) into))
+      (λ e. by-cases (eqb b (x .from))
+      (λ f. rw (eqb-true b (x .from) f) (rw (move-empties Y at x l apart) (no-more (elem (x .from) at) (eq-eqb (x .from) (x .from) refl) (rw (eqb-true b (x .from) f) at e))))
+      (λ f. by-cases (elem b at)
+      (λ i. rw (e, f, i, other-stays b (eqb-false b (x .from) f) i))
+      (λ o. rw (e, f, o, move-out Y at x l b o (eqb-false b (x .to) e)))))
+    where
+      no-more : (p : Bool) {q r : Bool} → q ≡ true → r ≡ false → (p and not q) or r ≡ false
+      no-more true h k = rw (h, k)
+      no-more false h k = rw k
+
+-- What holds once the first `i` crossings are played.
+pub record Walked (Y : Yard) (table : List ℕ) (at₀ : Placement) (plan : List ℕ) (at : Placement) (occupied : List ℕ) (i : ℕ) : Type 0 where
+  pub stands : Standing Y table at occupied
+  pub decides : firstIllegal Y at₀ 0 (crossings plan) ≡ firstIllegal Y at i (drop i (crossings plan))
+  pub moved : after at₀ (crossings plan) ≡ after at (drop i (crossings plan))
+
+pub walked-start : (Y : Yard) (table : List ℕ) (at : Placement) (plan occupied : List ℕ) → Standing Y table at occupied → Walked Y table at plan at occupied 0
+walked-start Y table at plan occupied s = record { stands = s; decides = refl; moved = refl }
+
+module _ (Y : Yard) (table : List ℕ) (at₀ : Placement) (plan : List ℕ) (at : Placement) (occupied : List ℕ) (i : ℕ) (w : Walked Y table at₀ plan at occupied i) where
+  module _ (more : i < length plan) (x : Crossing) (is : x ≡ named (crossings plan) i) where
+    next : drop i (crossings plan) ≡ x ∷ drop (suc i) (crossings plan)
+    next = rw is (rest-next plan i more)
+
+    pub walked-on : legal Y at x ≡ true → (occupied′ occupied″ : List ℕ)
+        → ((b : ℕ) → mem occupied′ b ≡ mem occupied b and not (eqb b (x .from)))
+        → ((b : ℕ) → mem occupied″ b ≡ mem occupied′ b or eqb b (x .to))
+        → Walked Y table at₀ plan (move at x) occupied″ (i + 1)
+    unfolding firstIllegal after
+    walked-on t occupied′ occupied″ out back =
+        let l = legal-facts Y at x t in
+        let s = w .stands in
+        record {
+          stands = record {
+            rails = s .rails;
+            few = s .few;
+            apart = move-apart Y at x l (s .apart);
+            inside = λ c k. by-cases (eqb c (x .carrier))
+                (λ e. rw (eqb-true c (x .carrier) e, move-self Y at x l) (s .rails .inside (x .from) (x .to) (l .rail) .1))
+                (λ e. rw (move-other Y at x l c e) (s .inside c (rw length-set at k)));
+            held = λ b k.
+                back b ∙ ap (λ v. v or eqb b (x .to)) (out b ∙ ap (λ v. v and not (eqb b (x .from))) (s .held b k))
+                ∙ moved-set Y at x l (s .apart) b;
+          };
+          decides = w .decides ∙ ap (firstIllegal Y at i) next ∙ rw (t, add-one i);
+          moved = w .moved ∙ ap (after at) next ∙ rw (add-one i);
+        }
+
+    pub walked-illegal : legal Y at x ≡ false → (at′ : Placement) → Played Y at₀ (crossings plan) (some i) at′
+    unfolding firstIllegal
+    walked-illegal f at′ = record {
+      first = sym (w .decides ∙ ap (firstIllegal Y at i) next ∙ rw f);
+      moved = λ h. never-some i (sym h);
+    }
+
+  pub walked-end : length plan ≤ i → Played Y at₀ (crossings plan) none at
+  unfolding firstIllegal after
+  walked-end h = record {
+    first = sym (w .decides ∙ ap (firstIllegal Y at i) (rest-none plan i h));
+    moved = λ e. sym (w .moved ∙ ap (after at) (rest-none plan i h));
+  }

@@ -1,0 +1,84 @@
+-- `replay::is_legal` meets its contract. Each way out is one law of proofs/Judging.
+-- Assumes nothing.
+use mathlib.Core.Path.{_≡_, refl, sym, _∙_, ap}
+use mathlib.Core.Bool.{Bool, true, false, not}
+use mathlib.Core.List.{List}
+use Prim.Native.Nat.{ℕ}
+use native.Mathlib.Omega.{arith}
+use borrow.Author.Needs.{needs}
+use borrow.Author.Tests.{not-true, not-false}
+use denote.Ref.{now}
+use Rattle.docket.specs.Reading.{crossingOf}
+use Rattle.replay.proofs.Judging.{nobody-there, stands-elsewhere, from-outside, to-outside, no-rail, by-the-set}
+use Rattle.replay.proofs.is_legal.Statement.{statement}
+use Rattle.replay.proofs.is_legal.Tie as tie
+
+cast-carrier : tie.Need-cast-carrier
+cast-carrier c = search needs
+
+returns : tie.Need-returns
+returns c = let s = c .before .before .before in nobody-there (now (s .args .table)) (now (s .args .at)) (now (s .args .occupied)) (crossingOf (s .args .x)) (c .if1 .taken)
+
+mul-if2 : tie.Need-mul-if2
+mul-if2 c = search needs
+
+shared-slice-read-if2 : tie.Need-shared-slice-read-if2
+shared-slice-read-if2 c = search needs
+
+returns-2 : tie.Need-returns-2
+returns-2 c = let s = c .before .before .before .before .before .before in stands-elsewhere (now (s .args .table)) (now (s .args .at)) (now (s .args .occupied)) (crossingOf (s .args .x)) (c .if2 .taken)
+
+cast-from : tie.Need-cast-from
+cast-from c = search needs
+
+cast-to : tie.Need-cast-to
+cast-to c = search needs
+
+returns-3 : tie.Need-returns-3
+returns-3 c = let s = c .before .before .before .before .before .before .before .before .before in from-outside (now (s .args .table)) (now (s .args .at)) (now (s .args .occupied)) (crossingOf (s .args .x)) (c .if3 .taken)
+
+returns-4 : tie.Need-returns-4
+returns-4 c = let s = c .before .before .before .before .before .before .before .before .before .before in to-outside (now (s .args .table)) (now (s .args .at)) (now (s .args .occupied)) (crossingOf (s .args .x)) (c .if4 .taken)
+
+mul-is-in : tie.Need-mul-is-in
+mul-is-in c = search needs
+
+add-is-in : tie.Need-add-is-in
+add-is-in c = search needs
+
+is-in-requires : tie.Need-is-in-requires
+is-in-requires c κs = search needs
+
+returns-5 : tie.Need-returns-5
+returns-5 c =
+    let s = c .before .before .before .before .before .before .before .before .before .before .before .before .before in
+    no-rail (now (s .args .table)) (now (s .args .at)) (now (s .args .occupied)) (crossingOf (s .args .x)) (c .before .before .before .before .before .before .before .before .before .before .if1 .left) (c .before .before .before .before .before .before .before .if2 .left) (c .before .before .before .before .if3 .left) (c .before .before .before .if4 .left) (sym (c .before .is-in .ensures) ∙ not-true _ (c .if5 .taken))
+
+is-in-requires-2 : tie.Need-is-in-requires-2
+is-in-requires-2 c κs = search needs
+
+returns-6 : tie.Need-returns-6
+returns-6 c =
+    let s = c .before .before .before .before .before .before .before .before .before .before .before .before .before .before .before in
+    by-the-set (now (s .args .table)) (now (s .args .at)) (now (s .args .occupied)) (crossingOf (s .args .x)) (c .before .before .before .before .before .before .before .before .before .before .before .before .if1 .left) (c .before .before .before .before .before .before .before .before .before .if2 .left) (c .before .before .before .before .before .before .if3 .left) (c .before .before .before .before .before .if4 .left) (sym (c .before .before .before .is-in .ensures) ∙ not-false _ (c .before .before .if5 .left))
+    (not (c .is-in2 .result)) (ap not (c .is-in2 .ensures))
+
+pub is-legal-spec : {M : Type 1} → statement M
+is-legal-spec =
+    tie.close
+    (tie.spec
+    cast-carrier
+    returns
+    mul-if2
+    shared-slice-read-if2
+    returns-2
+    cast-from
+    cast-to
+    returns-3
+    returns-4
+    mul-is-in
+    add-is-in
+    is-in-requires
+    returns-5
+    is-in-requires-2
+    returns-6)

@@ -1,0 +1,52 @@
+-- What playing a plan starts from and what it leaves, and how the code's answers read as the paper's.
+-- Assumes nothing.
+use mathlib.Core.Path.{_≡_}
+use mathlib.Core.Bool.{Bool, true}
+use mathlib.Core.List.{List}
+use mathlib.Core.Option.{Option, none, some}
+use Prim.Native.Nat.{ℕ, _≤_, _<_}
+use lib.ListN.{length}
+use Rattle.paper.specs.Basics.{elem}
+use Rattle.paper.specs.Yard.{Yard, Bay, Carrier, Placement, Crossing, bayOf, after, legal}
+use Rattle.paper.specs.Docket.{firstIllegal}
+use Rattle.paper.proofs.Playing.{Apart}
+use Rattle.words.specs.Sets.{mem, span}
+use Rattle.yard.specs.Table.{Table}
+use Rattle.replay.specs.declared.Legality.{Legality}
+use Rattle.replay.specs.declared.Legality.the-variants.{Legal, Illegal}
+use Rattle.replay.specs.declared.Away.{Away}
+use Rattle.replay.specs.declared.Away.the-variants.{Nobody, Lowest}
+
+-- the set holds the bays of the placement, and no other
+abbrev pub Occupied : Placement → List ℕ → Type 0
+Occupied at occupied = (b : Bay) → b < span → mem occupied b ≡ elem b at
+
+-- The table is the yard's, the placement has its carriers at bays of the yard, one to a bay, and the set is the placement's.
+pub record Standing (Y : Yard) (table : List ℕ) (at : Placement) (occupied : List ℕ) : Type 0 where
+  pub rails : Table Y (Y .bays) table
+  pub few : Y .bays ≤ span
+  pub apart : Apart at
+  pub inside : (c : Carrier) → c < length at → bayOf at c < Y .bays
+  pub held : Occupied at occupied
+
+-- whether a crossing is legal; what passes has its places in the table, the set and the placement
+pub record Judged (table : List ℕ) (at : Placement) (occupied : List ℕ) (x : Crossing) (r : Bool) : Type 0 where
+  pub fits : r ≡ true → (x .carrier < length at) × (x .from < span) × (x .to < span)
+  pub right : (Y : Yard) → Standing Y table at occupied → r ≡ legal Y at x
+
+-- the first illegal crossing, and where the carriers stand if there is none
+pub record Played (Y : Yard) (at : Placement) (xs : List Crossing) (found : Option ℕ) (at′ : Placement) : Type 0 where
+  pub first : found ≡ firstIllegal Y at 0 xs
+  pub moved : found ≡ none → at′ ≡ after at xs
+
+-- the same for every yard whose table, placement and set these are
+abbrev pub PlayedFrom : List ℕ → Placement → List ℕ → List Crossing → Option ℕ → Placement → Type 0
+PlayedFrom table at occupied xs found at′ = (Y : Yard) → Standing Y table at occupied → Played Y at xs found at′
+
+abbrev pub legalityOf : Legality → Option ℕ
+legalityOf Legal = none
+legalityOf (Illegal i) = some i
+
+abbrev pub awayOf : Away → Option ℕ
+awayOf Nobody = none
+awayOf (Lowest c) = some (c .0)

@@ -1,0 +1,106 @@
+// A lent plan played from a placement, crossing by crossing, each tested in constant time: the table of joined bays for the rail,
+// the set of occupied bays for the bay that it enters, the placement for the rest.
+ghost use mathlib.Core.Path.{_≡_};
+ghost use Prim.Native.Nat.{ℕ, _≤_, _<_};
+ghost use lib.ListN.{length, getD};
+ghost use Rattle.paper.specs.Yard.{crossings};
+ghost use Rattle.paper.specs.Docket.{notHome};
+ghost use Rattle.docket.specs.Reading.{crossingOf};
+ghost use Rattle.words.specs.Sets.{span};
+ghost use Rattle.replay.specs.Playing.{Occupied, Judged, PlayedFrom, legalityOf, awayOf};
+use docket::Carrier;
+use docket::Crossing;
+use words::SPAN;
+use words::WORDS;
+use yard::Yard;
+
+// Whether a crossing is legal at the placement.
+fn is_legal(table: &[u64; Yard::TABLE], at: &[u16], occupied: &[u64; WORDS], x: Crossing) -> bool
+    ensures { λ r. ⌜ Judged (now (table .entry)) (now (at .entry)) (now (occupied .entry)) (crossingOf x) r ⌝ }
+{
+    let carrier = x.carrier.0 as usize;
+    if at.len() <= carrier {
+        return false;
+    }
+    if at[carrier] != x.from.0 {
+        return false;
+    }
+    let from = x.from.0 as usize;
+    let to = x.to.0 as usize;
+    if SPAN <= from {
+        return false;
+    }
+    if SPAN <= to {
+        return false;
+    }
+    if !words::is_in(table, from * SPAN + to) {
+        return false;
+    }
+    !words::is_in(occupied, to)
+}
+
+// Whether all crossings of a plan are legal in their turn, or the name of the first that is not.
+pub enum Legality {
+    Legal,
+    Illegal(u64),
+}
+
+// Plays the plan as far as it is legal.
+pub fn play(
+    table: &[u64; Yard::TABLE],
+    at: &mut [u16],
+    occupied: &mut [u64; WORDS],
+    plan: &[u64],
+) -> Legality
+    ensures { λ r. ⌜ PlayedFrom (now (table .entry)) (now (at .entry)) (now (occupied .entry)) (crossings (now (plan .entry))) (legalityOf r) (now (at .exit)) ⌝ }
+{
+    let mut i = 0;
+    while i < plan.len() {
+        let x = plans::crossing_at(plan, i);
+        if !is_legal(table, at, occupied, x) {
+            return Legality::Illegal(i as u64);
+        }
+        let carrier = x.carrier.0 as usize;
+        let from = x.from.0 as usize;
+        let to = x.to.0 as usize;
+        at[carrier] = x.to.0;
+        words::remove(occupied, from);
+        words::add(occupied, to);
+        i += 1;
+    }
+    Legality::Legal
+}
+
+// The set of the bays of a placement.
+pub fn occupy(at: &[u16], occupied: &mut [u64; WORDS])
+    requires { ⌜ ((c : ℕ) → c < length (now at) → getD (now at) c 0 < span) ⌝ }
+    ensures { λ _. ⌜ Occupied (now (at .entry)) (now (occupied .exit)) ⌝ }
+{
+    words::clear(occupied);
+    let mut c = 0;
+    while c < at.len() {
+        words::add(occupied, at[c] as usize);
+        c += 1;
+    }
+}
+
+// Who is not home.
+pub enum Away {
+    Nobody,
+    Lowest(Carrier),
+}
+
+// The lowest carrier that is not at its goal.
+pub fn lowest_away(at: &[u16], goal: &[u16]) -> Away
+    requires { ⌜ (length (now at) ≡ length (now goal)) × (length (now goal) ≤ span) ⌝ }
+    ensures { λ r. ⌜ awayOf r ≡ notHome (now (goal .entry)) (now (at .entry)) ⌝ }
+{
+    let mut c = 0;
+    while c < goal.len() {
+        if at[c] != goal[c] {
+            return Away::Lowest(Carrier(c as u32));
+        }
+        c += 1;
+    }
+    Away::Nobody
+}
