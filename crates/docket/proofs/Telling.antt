@@ -1,0 +1,82 @@
+-- What the code's crossings and refusals read as tells any two of them apart, so a statement about the reading fixes the value;
+-- and a crossing and its number are had back from each other.
+use mathlib.Core.Path.{_≡_, refl, sym, _∙_, ap}
+use Prim.Native.Nat.{ℕ, _<_, _^_}
+use Rattle.paper.specs.Yard.{Crossing, pack, unpack}
+use Rattle.paper.specs.Docket as paper
+use Rattle.paper.proofs.Determined.{Telling, telling-by}
+use Rattle.paper.proofs.Packing.{unpack-pack, pack-unpack}
+use Rattle.docket.specs.Reading.{crossingOf, refusalOf}
+use Rattle.docket.specs.declared.Crossing.{Crossing as Held}
+use Rattle.docket.specs.declared.Refusal.{Refusal}
+use Rattle.docket.specs.declared.Refusal.the-variants.{
+  Size,
+  Rail,
+  Apart,
+  Crowd,
+  Start,
+  Goal,
+  Stopped,
+  Room,
+  Illegal,
+  Missed,
+  Mismarked,
+  Unknown,
+  Early,
+  BadMap,
+  BadScenario,
+}
+
+pub crossing-tells : Telling crossingOf
+crossing-tells a b e =
+    let c : a .carrier .0 ≡ b .carrier .0 = ap (λ x. x .carrier) e in
+    let f : a .from .0 ≡ b .from .0 = ap (λ x. x .from) e in
+    let t : a .to .0 ≡ b .to .0 = ap (λ x. x .to) e in
+    λ i. record { carrier = record { 0 = c i }; from = record { 0 = f i }; to = record { 0 = t i } }
+
+-- whatever `unpack` may answer on what `pack` may answer is the crossing,
+pub unpacked-packed : (x r : Held) (w : ℕ) → x .from .0 < 2 ^ 16 → x .to .0 < 2 ^ 16 → w ≡ pack (crossingOf x) → crossingOf r ≡ unpack w → r ≡ x
+unpacked-packed x r w f t p u = crossing-tells r x (u ∙ ap unpack p ∙ unpack-pack (crossingOf x) f t)
+
+-- and the other way round.
+pub packed-unpacked : (w v : ℕ) (r : Held) → crossingOf r ≡ unpack w → v ≡ pack (crossingOf r) → v ≡ w
+packed-unpacked w v r u p = p ∙ ap pack u ∙ pack-unpack w
+
+-- the code's refusal for the paper's
+back : paper.Refusal → Refusal
+back paper.size = Size
+back (paper.rail i) = Rail i
+back (paper.apart b) = Apart (record { 0 = b })
+back paper.crowd = Crowd
+back (paper.start c) = Start (record { 0 = c })
+back (paper.goal c) = Goal (record { 0 = c })
+back (paper.stopped c) = Stopped (record { 0 = c })
+back (paper.room l) = Room l
+back (paper.illegal i) = Illegal i
+back (paper.missed c) = Missed (record { 0 = c })
+back paper.mismarked = Mismarked
+back paper.unknown = Unknown
+back (paper.early e) = Early e
+back (paper.badMap l) = BadMap l
+back (paper.badScenario l) = BadScenario l
+
+had-back : (r : Refusal) → back (refusalOf r) ≡ r
+unfolding back
+had-back Size = refl
+had-back (Rail i) = refl
+had-back (Apart b) = refl
+had-back Crowd = refl
+had-back (Start c) = refl
+had-back (Goal c) = refl
+had-back (Stopped c) = refl
+had-back (Room l) = refl
+had-back (Illegal i) = refl
+had-back (Missed c) = refl
+had-back Mismarked = refl
+had-back Unknown = refl
+had-back (Early e) = refl
+had-back (BadMap l) = refl
+had-back (BadScenario l) = refl
+
+pub refusal-tells : Telling refusalOf
+refusal-tells = telling-by refusalOf back had-back
