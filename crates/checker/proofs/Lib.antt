@@ -1,1 +1,2 @@
 pub mod NineTen
+pub mod Six

@@ -4,6 +4,7 @@ ghost use mathlib.Core.Path.{_≡_};
 ghost use Prim.Native.Nat.{ℕ, _≤_, _<_};
 ghost use lib.ListN.{length, getD};
 ghost use Rattle.paper.specs.Yard.{crossings};
+ghost use Rattle.paper.specs.Answers.{check as checkOf};
 ghost use Rattle.words.specs.Sets.{span};
 ghost use Rattle.replay.specs.Playing.{legalityOf};
 ghost use Rattle.checker.specs.Reading.{checkedOf, nineTen, NineTen};
@@ -11,6 +12,7 @@ use docket::Refusal;
 use replay::Away;
 use replay::Legality;
 use words::WORDS;
+use yard::Opened;
 use yard::Yard;
 
 // What the check answers.
@@ -64,12 +66,24 @@ fn check_crossings(
     judge(legality, at, goal)
 }
 
-// The same, from 1 to 6 on.
-pub fn check_from(table: &[u64; Yard::TABLE], start: &[u16], goal: &[u16], plan: &[u64]) -> Checked
+// The same, with a working array of its own.
+fn check_from(table: &[u64; Yard::TABLE], start: &[u16], goal: &[u16], plan: &[u64]) -> Checked
     requires { ⌜ (length (now start) ≡ length (now goal)) × (length (now goal) ≤ span) × ((c : ℕ) → c < length (now start) → getD (now start) c 0 < span) ⌝ }
     ensures { λ r. ⌜ NineTen (now (table .entry)) (now (start .entry)) (now (goal .entry)) (crossings (now (plan .entry))) (checkedOf r) ⌝ }
 {
     let carriers = start.len();
     let mut at = [0u16; Yard::BAYS];
     check_crossings(table, start, goal, plan, &mut at[..carriers])
+}
+
+// The check tests 1 to 6, then 9, 10.
+pub fn check(bays: u64, rails: &[u16], start: &[u16], goal: &[u16], plan: &[u64]) -> Checked
+    ensures { λ r. ⌜ checkedOf r ≡ checkOf bays (now (rails .entry)) (now (start .entry)) (now (goal .entry)) (now (plan .entry)) ⌝ }
+{
+    let mut table = [0u64; Yard::TABLE];
+    let opened = Yard::open(bays, rails, start, goal, plan.len() as u64, &mut table);
+    match opened {
+        Opened::Refused(r) => Checked::Refused(r),
+        Opened::Open(_) => check_from(&table, start, goal, plan),
+    }
 }

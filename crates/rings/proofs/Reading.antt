@@ -5,32 +5,30 @@ use mathlib.Core.Path.{_≡_, refl, sym, ap, _∙_}
 use mathlib.Core.Bool.{Bool, true, false}
 use mathlib.Core.List.{List, [], _∷_, _++_, append-assoc}
 use mathlib.Core.Option.{Option, none, some}
-use Prim.Native.Nat.{ℕ, zero, suc, _+_, _-_, _*_, _≤_, _<_}
+use Prim.Native.Nat.{ℕ, zero, suc, _+_, _-_, _≤_, _<_}
 use native.Mathlib.Decide.{ℕ-discrete, decLt}
-use native.Mathlib.Nat.{zero-add}
 use native.Mathlib.Numerals.{add-one}
 use native.Mathlib.Omega.{arith}
 use lib.Dec.{eqb, ltb}
 use lib.ListN.{length, getD, set, take}
 use lib.Seq.{take-suc-set}
 use borrow.Author.Tests.{eq-eqb, ne-eqb, lt-ltb, le-ltb}
+use Rattle.paper.proofs.Members.{lowest-least}
 use Rattle.paper.specs.Basics.{if_then_else_, _and_, find, concat, elem, In}
-use Rattle.paper.specs.Yard.{Bay, Yard, joined}
-use Rattle.paper.specs.Path.{Free, rings, nearestFirst, ringOf, inward, shortestPath, pathBetween}
+use Rattle.paper.specs.Yard.{Bay, joined}
+use Rattle.paper.specs.Path.{rings, nearestFirst, ringOf, inward, shortestPath, pathBetween}
 use Rattle.paper.proofs.Tests.{by-cases, not-both, and-left, and-right, and-both, never-some}
-use Rattle.paper.proofs.Members.{count-high, in-count, In-nil, find-passes, find-in, find-some, none-find}
+use Rattle.paper.proofs.Members.{In-nil, find-passes, find-in, find-some, none-find}
 use Rattle.paper.proofs.Rings.{distance-in, distance-least, in-concat}
 use Rattle.paper.proofs.Nearest.{find-here, find-later}
-use Rattle.paper.proofs.Rings.{reached-sym, reached-walk, walk-free}
 use Rattle.paper.proofs.Shortest.{Rising, find-lowest, rings-rise}
 use Rattle.paper.proofs.Shortest.{Next, next, inward-zero}
-use Rattle.paper.proofs.Members.{lowest-least}
 use Rattle.words.specs.Sets.{mem, memRow, Lowest, span}
 use Rattle.words.proofs.Sets.{row-zero}
-use Rattle.rings.specs.Search.{Shown, around, ringOn, Searched}
+use Rattle.rings.specs.Search.{Shown, ringOn, Searched}
 use Rattle.rings.specs.Ways.{Inside, pathIn, PathFound, WayFound}
 use Rattle.rings.specs.declared.Path.the-variants.{First, NoPath}
-use Rattle.rings.specs.declared.Way.the-variants.{To, NoWay}
+use Rattle.rings.specs.declared.Way.the-variants.{NoWay}
 use Rattle.rings.proofs.Searching.{ring-inside, in-yard}
 
 -- ## The first that passes, in rings
@@ -209,28 +207,3 @@ module _ {n : ℕ} {table held : List ℕ} (s : Shown n table held) (most : n �
 module _ {n : ℕ} {table held : List ℕ} (s : Shown n table held) (x : Bay) (q : Bay → Bool) where
   pub way-none : (room : List ℕ) → none ≡ find q (nearestFirst (s .yard) (s .bays) x) → WayFound s x q room NoWay
   way-none room h = record { nearest = h; fits = omega arith; path = λ e k. never-some e k }
-
-  module _ (e : Bay) (found : some e ≡ find q (nearestFirst (s .yard) (s .bays) x)) (most : n ≤ span) (hx : x < n) (unheld : mem held x ≡ false) where
-    pub free-x : Free (s .yard) (s .bays) x
-    free-x = (in-count 0 (s .yard .bays) x (omega arith) (rw (s .joins .bays) (omega arith)), sym (s .holds x (omega arith)) ∙ unheld)
-
-    reached : In e (nearestFirst (s .yard) (s .bays) x)
-    reached = find-in q (nearestFirst (s .yard) (s .bays) x) (sym found)
-
-    pub end-inside : e < n
-    end-inside =
-        let w = reached-walk (s .yard) (s .bays) x e reached in
-        let h = count-high 0 (s .yard .bays) e (walk-free (s .yard) (s .bays) free-x (w .2) .0) in
-        rw (s .joins .bays) at (rw zero-add at h)
-
-    -- who is reached from x is a bay from which x is reached
-    x-reached : elem x (nearestFirst (s .yard) (s .bays) e) ≡ true
-    x-reached = reached-sym (s .yard) (s .bays) x e free-x reached
-
-    pub way-to : (room : List ℕ) (m : ℕ) → PathFound s x e room (First m) → take m room ≡ shortestPath (s .yard) (s .bays) x e
-    unfolding pathBetween
-    way-to room m p = let z : some (take m room) ≡ some (shortestPath (s .yard) (s .bays) x e) = rw x-reached at (p .same) in cc
-
-    pub way-missing : {P : Type 0} (room : List ℕ) → PathFound s x e room NoPath → P
-    unfolding pathBetween
-    way-missing room p = never-some (shortestPath (s .yard) (s .bays) x e) (rw x-reached at (p .same))

@@ -1,15 +1,15 @@
 -- What is read from the rows of a search: the nearest bay of a set, and the shortest path.
 -- Assumes nothing.
 use mathlib.Core.Path.{_≡_}
-use mathlib.Core.Bool.{Bool, true, false}
-use mathlib.Core.List.{List, []}
+use mathlib.Core.Bool.{Bool}
+use mathlib.Core.List.{List}
 use mathlib.Core.Option.{Option, none, some}
-use Prim.Native.Nat.{ℕ, _≤_, _<_}
+use Prim.Native.Nat.{ℕ, _-_, _≤_, _<_}
 use lib.ListN.{take}
-use Rattle.paper.specs.Basics.{find, elem, In}
+use Rattle.paper.specs.Basics.{_and_, find, elem, In, Out}
 use Rattle.paper.specs.Yard.{Bay, Yard}
 use Rattle.paper.specs.Path.{rings, nearestFirst, inward, shortestPath, pathBetween}
-use Rattle.words.specs.Sets.{mem, memRow, span}
+use Rattle.words.specs.Sets.{mem, memRow, span, anyBelow, reaches}
 use Rattle.yard.specs.Table.{Table}
 use Rattle.rings.specs.Search.{Shown, around}
 use Rattle.rings.specs.declared.Nearest.{Nearest}
@@ -58,6 +58,47 @@ pub record Inside (n : ℕ) (table rows : List ℕ) (d x : ℕ) : Type 0 where
 
 abbrev pub pathIn : {n : ℕ} {table rows : List ℕ} {d x : ℕ} → Inside n table rows d x → List Bay
 pathIn {d = d} {x = x} t = inward (t .yard) (rings (t .yard) (t .held) (t .goal)) d x
+
+-- ## The path outward
+
+-- The rows below d are the rings around some bay, and e is in its ring d.
+pub record Ended (n : ℕ) (table rows : List ℕ) (d e : ℕ) : Type 0 where
+  pub yard : Yard
+  pub held : List Bay
+  pub start : Bay
+  pub joins : Table yard n table
+  pub home : start < n
+  pub unheld : Out start held
+  pub rowing : (i b : ℕ) → i < d → b < span → memRow rows i b ≡ elem b (around yard held start i)
+  pub there : In e (around yard held start d)
+
+-- bay b is on a shortest path from the start to e, i rails on
+abbrev pub onPath : {n : ℕ} {table rows : List ℕ} {d e : ℕ} → Ended n table rows d e → ℕ → Bay → Bool
+onPath {d = d} {e = e} t i b = elem b (around (t .yard) (t .held) (t .start) i) and elem b (around (t .yard) (t .held) e (d - i))
+
+-- the rows from row i on hold the bays on such paths
+pub record Narrowed {n : ℕ} {table rows : List ℕ} {d e : ℕ} (t : Ended n table rows d e) (i : ℕ) (rows′ : List ℕ) : Type 0 where
+  pub rowing : (k b : ℕ) → i ≤ k → k ≤ d → b < span → memRow rows′ k b ≡ onPath t k b
+
+-- The rows from row 1 on hold the bays on the shortest paths from x to some bay, d rails on.
+pub record Outside (n : ℕ) (table rows : List ℕ) (d x : ℕ) : Type 0 where
+  pub yard : Yard
+  pub held : List Bay
+  pub goal : Bay
+  pub joins : Table yard n table
+  pub home : x < n
+  pub unheld : Out x held
+  pub there : In goal (around yard held x d)
+  pub rowing : (i b : ℕ) → 1 ≤ i → i ≤ d → b < span → memRow rows i b ≡ elem b (around yard held x i) and elem b (around yard held goal (d - i))
+
+abbrev pub pathOut : {n : ℕ} {table rows : List ℕ} {d x : ℕ} → Outside n table rows d x → List Bay
+pathOut {d = d} {x = x} t = inward (t .yard) (rings (t .yard) (t .held) (t .goal)) d x
+
+-- row i keeps of its bays those beside the kept ones, and these are the kept ones now
+pub record KeptBeside (table : List ℕ) (i : ℕ) (rows kept rows′ kept′ : List ℕ) : Type 0 where
+  pub met : (b : ℕ) → b < span → mem kept′ b ≡ anyBelow (reaches table kept b) span and memRow rows i b
+  pub row : (b : ℕ) → b < span → memRow rows′ i b ≡ mem kept′ b
+  pub others : (k b : ℕ) → (k ≡ i → ⊥) → b < span → memRow rows′ k b ≡ memRow rows k b
 
 -- ## What the public functions answer
 

@@ -3,14 +3,13 @@
 use docket::Bay;
 ghost use mathlib.Core.Path.{_≡_};
 ghost use mathlib.Core.Bool.{Bool, true, false};
-ghost use mathlib.Core.List.{List};
 ghost use Prim.Native.Nat.{ℕ, _+_, _*_, _≤_, _<_};
 ghost use lib.ListN.{length, take};
-ghost use Rattle.paper.specs.Basics.{find};
+ghost use Rattle.paper.specs.Basics.{_and_, find};
 ghost use Rattle.paper.specs.Path.{nearestFirst};
-ghost use Rattle.words.specs.Sets.{mem, words, span};
+ghost use Rattle.words.specs.Sets.{mem, memRow, words, span};
 ghost use Rattle.rings.specs.Search.{NextRing, Shown, Searched};
-ghost use Rattle.rings.specs.Ways.{Inside, pathIn, nearestOf, PathFound, WayFound};
+ghost use Rattle.rings.specs.Ways.{Inside, pathIn, Ended, Narrowed, Outside, pathOut, KeptBeside, nearestOf, PathFound, WayFound};
 
 // The nearest bay, if any.
 pub enum Nearest {
@@ -98,6 +97,61 @@ fn inward(table: &[u64], n: usize, rows: &[u64], d: usize, x: Bay, path: &mut [u
     path[i] = u as u16;
 }
 
+// Only the bays of row i stay in the set.
+fn meet_row(set: &mut [u64], rows: &[u64], i: usize)
+    requires { ⌜ (length (now set) ≡ words) × (i * words + words ≤ length (now rows)) ⌝ }
+    ensures { λ _. ⌜ ((b : ℕ) → b < span → mem (now (set .exit)) b ≡ mem (now (set .entry)) b and memRow (now (rows .entry)) i b) ⌝ }
+{
+    let mut k = 0;
+    while k < words::WORDS {
+        set[k] = set[k] & rows[i * words::WORDS + k];
+        k += 1;
+    }
+}
+
+// Row i keeps only the bays beside those kept, and these are the kept ones now.
+fn keep_beside(table: &[u64], i: usize, rows: &mut [u64], kept: &mut [u64])
+    requires { ⌜ (length (now kept) ≡ words) × (i * words + words ≤ length (now rows)) × ((a : ℕ) → a < span → mem (now kept) a ≡ true → a * words + words ≤ length (now table)) ⌝ }
+    ensures { λ _. ⌜ KeptBeside (now (table .entry)) i (now (rows .entry)) (now (kept .entry)) (now (rows .exit)) (now (kept .exit)) ⌝ }
+{
+    let mut found = [0u64; words::WORDS];
+    words::beside(table, kept, &mut found);
+    meet_row(&mut found, rows, i);
+    words::keep(kept, 0, &found);
+    words::keep(rows, i, kept);
+}
+
+// From e back, each ring keeps only the bays beside those kept in the ring after it: the bays on the shortest paths to e.
+fn narrow(table: &[u64], n: usize, rows: &mut [u64], d: usize, e: Bay)
+    requires { ⌜ (n ≤ span) × (d < n) × (e .0 < n) × (length (now table) ≡ n * words) × (n * words ≤ length (now rows)) × Ended n (now table) (now rows) d (e .0) ⌝ }
+    ensures { λ _. ⌜ ((t : Ended n (now (table .entry)) (now (rows .entry)) d (e .0)) → Narrowed t 1 (now (rows .exit))) ⌝ }
+{
+    let last = e.0 as usize;
+    let mut kept = [0u64; words::WORDS];
+    words::add(&mut kept, last);
+    words::keep(rows, d, &kept);
+    let mut i = d;
+    while 1 < i {
+        i -= 1;
+        keep_beside(table, i, rows, &mut kept);
+    }
+}
+
+// The path from x through the kept bays: each next bay is the lowest neighbour in the row one further.
+fn outward(table: &[u64], n: usize, rows: &[u64], d: usize, x: Bay, path: &mut [u16])
+    requires { ⌜ (n ≤ span) × (d < n) × (length (now table) ≡ n * words) × (n * words ≤ length (now rows)) × (n ≤ length (now path)) × Outside n (now table) (now rows) d (x .0) ⌝ }
+    ensures { λ _. ⌜ ((t : Outside n (now (table .entry)) (now (rows .entry)) d (x .0)) → take (d + 1) (now (path .exit)) ≡ pathOut t) ⌝ }
+{
+    let mut u = x.0 as usize;
+    let mut i = 0;
+    while i < d {
+        path[i] = u as u16;
+        i += 1;
+        u = words::lowest_common(table, u, rows, i);
+    }
+    path[i] = u as u16;
+}
+
 // The nearest wanted bay that is reached from x through bays not held; ties go to the lowest number.
 pub fn find_nearest(
     table: &[u64],
@@ -142,7 +196,7 @@ pub fn path_between(
     Path::NoPath
 }
 
-// The shortest path from x to the nearest wanted bay, through bays not held.
+// The shortest path from x to the nearest wanted bay, through bays not held, from the one search around x.
 pub fn way_to_nearest(
     table: &[u64],
     n: usize,
@@ -155,11 +209,13 @@ pub fn way_to_nearest(
     requires { ⌜ (n ≤ span) × (x .0 < n) × (length (now table) ≡ n * words) × (length (now held) ≡ words) × (length (now wanted) ≡ words) × (n * words ≤ length (now rows)) × (n ≤ length (now path)) × (mem (now held) (x .0) ≡ false) × Shown n (now table) (now held) ⌝ }
     ensures { λ r. ⌜ ((s : Shown n (now (table .entry)) (now (held .entry))) (q : ℕ → Bool) → ((b : ℕ) → b < n → mem (now (wanted .entry)) b ≡ q b) → WayFound s (x .0) q (now (path .exit)) r) ⌝ }
 {
-    let Nearest::At(e) = find_nearest(table, n, held, x, wanted, rows) else {
+    let d = search(table, n, held, x, wanted, rows);
+    let b = words::lowest_common(rows, d, wanted, 0);
+    if words::SPAN <= b {
         return Way::NoWay;
-    };
-    let Path::First(m) = path_between(table, n, held, x, e, rows, path) else {
-        return Way::NoWay;
-    };
-    Way::To(e, m)
+    }
+    let e = Bay(b as u16);
+    narrow(table, n, rows, d, e);
+    outward(table, n, rows, d, x, path);
+    Way::To(e, d + 1)
 }

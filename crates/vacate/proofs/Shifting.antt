@@ -1,14 +1,14 @@
 -- Once the carriers ahead have moved on, the next bay is empty, and the first carrier of the path has not moved: so it is the same
 -- carrier that crosses, and the whole is the paper's shift.
 -- Assumes nothing.
-use mathlib.Core.Path.{_≡_, refl, sym, ap, _∙_}
-use mathlib.Core.List.{List, [], _∷_, _++_}
-use Prim.Native.Nat.{ℕ, zero, suc, _+_, _-_, _*_, _^_, _≤_, _<_}
+use mathlib.Core.Path.{_≡_, refl, _∙_}
+use mathlib.Core.List.{List, [], _∷_}
+use Prim.Native.Nat.{ℕ, suc, _+_, _-_, _^_, _≤_, _<_}
 use native.Mathlib.Omega.{arith}
 use lib.ListN.{length, getD, take, drop, length-append}
 use lib.Seq.{take-all}
-use Rattle.paper.specs.Basics.{In, Out, placeOf}
-use Rattle.paper.specs.Yard.{Bay, Crossing, crossing, bayOf, carrierAt, after}
+use Rattle.paper.specs.Basics.{In, Out}
+use Rattle.paper.specs.Yard.{Bay, crossing, bayOf, carrierAt, after}
 use Rattle.paper.specs.Procedure.{shift}
 use Rattle.paper.proofs.Members.{In-head, In-tail}
 use Rattle.paper.proofs.Playing.{Apart, after-length, placeOf-bay, placeOf-there, bay-in}

@@ -1,28 +1,27 @@
 -- The cases of the code are the paper's: an empty bay, a held one, no empty bay reached, and the path to the nearest one, along which
 -- carriers can be shifted since every bay before the nearest empty one is occupied.
 -- Assumes nothing.
-use mathlib.Core.Path.{_≡_, refl, sym, ap, _∙_}
-use mathlib.Core.Bool.{Bool, true, false}
-use mathlib.Core.List.{List, [], _∷_}
+use mathlib.Core.Path.{_≡_, sym, ap, _∙_}
+use mathlib.Core.Bool.{true, false}
+use mathlib.Core.List.{List, []}
 use mathlib.Core.Option.{Option, none, some}
-use Prim.Native.Nat.{ℕ, _+_, _-_, _*_, _≤_, _<_}
+use Prim.Native.Nat.{ℕ, _+_, _≤_, _<_}
 use native.Mathlib.Nat.{zero-add}
 use native.Mathlib.Omega.{arith}
-use lib.ListN.{length, take}
-use lib.Seq.{length-take-le}
-use Rattle.paper.specs.Basics.{if_then_else_, _>>=_, find, elem, upTo, In}
-use Rattle.paper.specs.Yard.{Bay, Yard, Placement, Crossing, isEmpty}
-use Rattle.paper.specs.Path.{Free, nearestFirst, shortestPath}
+use lib.ListN.{length}
+use Rattle.paper.specs.Basics.{elem}
+use Rattle.paper.specs.Yard.{Bay, Crossing, isEmpty}
+use Rattle.paper.specs.Path.{Free, shortestPath}
 use Rattle.paper.specs.Procedure.{nearestEmpty, shift, vacate}
 use Rattle.paper.proofs.Tests.{never-some}
 use Rattle.paper.proofs.Members.{count-high, in-count}
 use Rattle.paper.proofs.Vacating.{path-shiftable, path-free}
-use Rattle.words.specs.Sets.{mem, words, span}
+use Rattle.words.specs.Sets.{mem, span}
 use Rattle.rings.specs.Search.{Shown}
-use Rattle.vacate.specs.Placed.{Placed, Played, Unchanged, Acted, CanShift}
+use Rattle.vacate.specs.Placed.{Placed, Played, Acted, CanShift}
 use Rattle.vacate.specs.Answer.{Vacates, vacating, bayFilled, countAfter, filled}
 use Rattle.vacate.specs.declared.Vacated.{Vacated}
-use Rattle.vacate.specs.declared.Vacated.the-variants.{Empty, Filled, Failed}
+use Rattle.vacate.specs.declared.Vacated.the-variants.{Empty, Failed}
 use Rattle.vacate.proofs.Playing.{played-none, unchanged}
 use Rattle.vacate.proofs.Shifting.{shift-length}
 

@@ -8,7 +8,7 @@ use Prim.Native.Nat.{ℕ, _+_, _≤_, _<_}
 use lib.ListN.{length, getD}
 use lib.Seq.{sets}
 use Rattle.paper.specs.Basics.{In}
-use Rattle.paper.specs.Yard.{Bay, Carrier, Yard, Placement, Crossing, carrierAt, bayOf, isEmpty, after, pack}
+use Rattle.paper.specs.Yard.{Bay, Yard, Placement, Crossing, carrierAt, bayOf, isEmpty, after, pack}
 use Rattle.paper.specs.Procedure.{shift}
 use Rattle.paper.proofs.Playing.{Apart}
 use Rattle.paper.proofs.Vacating.{Shiftable}

@@ -102,13 +102,13 @@ mem-less ws x y h = elim (ℕ-discrete (y / 64) (x / 64)) [
 
 -- ---- how many members
 
-filter-append : (f : ℕ → Bool) (xs ys : List ℕ) → length (filter f (xs ++ ys)) ≡ length (filter f xs) + length (filter f ys)
+pub filter-append : (f : ℕ → Bool) (xs ys : List ℕ) → length (filter f (xs ++ ys)) ≡ length (filter f xs) + length (filter f ys)
 unfolding filter
 filter-append f [] ys = omega arith
 filter-append f (x ∷ xs) ys =
     let ih = filter-append f xs ys in by-cases (f x) (λ e. rw e (omega arith)) (λ e. rw e ih)
 
-count-split : (a k m : ℕ) → countFrom a (k + m) ≡ countFrom a k ++ countFrom (a + k) m
+pub count-split : (a k m : ℕ) → countFrom a (k + m) ≡ countFrom a k ++ countFrom (a + k) m
 unfolding countFrom
 count-split a zero m = let e : zero + m ≡ m = omega arith in let d : a + zero ≡ a = omega arith in rw (e, d)
 count-split a (suc k) m =

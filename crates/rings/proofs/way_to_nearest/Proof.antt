@@ -1,41 +1,41 @@
--- `rings::way_to_nearest` meets its contract. What is reached from x is a bay from which x is reached, so the path to the nearest wanted bay is never missing.
+-- `rings::way_to_nearest` meets its contract. The lowest wanted bay of the ring where the search ended is the nearest; narrowed, the rings hold the bays on shortest paths to it, and the path outward is the paper's.
 -- Assumes nothing.
-use mathlib.Core.Path.{_≡_, refl, sym, ap, _∙_}
+use mathlib.Core.Path.{refl}
 use native.Mathlib.Omega.{arith}
 use borrow.Author.Needs.{needs}
-use Rattle.words.specs.Sets.{mem}
-use Rattle.rings.specs.Ways.{nearestOf}
-use Rattle.rings.proofs.Reading.{way-none, way-to, way-missing, end-inside}
+use Rattle.rings.proofs.Reading.{nearest-nowhere, way-none}
+use Rattle.rings.proofs.Narrowing.{end-inside, ended, outside, way-found}
 use Rattle.rings.proofs.way_to_nearest.Statement.{statement}
 use Rattle.rings.proofs.way_to_nearest.Tie as tie
 use Rattle.rings.proofs.way_to_nearest.Reads as reads
 use Rattle.rings.proofs.way_to_nearest.Lts as lts
-use Rattle.rings.proofs.find_nearest.Reads as find-nearest-reads
-use Rattle.rings.proofs.path_between.Reads as path-between-reads
+use Rattle.rings.proofs.narrow.Reads as narrow-reads
+use Rattle.rings.proofs.outward.Reads as outward-reads
+use Rattle.rings.proofs.search.Reads as search-reads
 
-find-nearest-requires : tie.Need-find-nearest-requires
-find-nearest-requires c κs = search needs
+search-requires : tie.Need-search-requires
+search-requires c κs = search needs
 
-enum-known-e : tie.Need-enum-known-e
-enum-known-e c = search needs
-
-enum-told : tie.Need-enum-told
-enum-told c = search needs
+lowest-common-requires : tie.Need-lowest-common-requires
+lowest-common-requires c κs = let f = c .before .before .before .search .ensures (c .before .before .before .before .before .before .before .before .before .before .pre .8) .far in (omega arith, omega arith)
 
 same-length : tie.Need-same-length
 same-length c = search needs
 
 returns : tie.Need-returns
-returns c = λ s q w. way-none s _ q _ (ap nearestOf (sym (c .enum-told .given .1)) ∙ c .before .before .before .before .find-nearest .ensures s q w)
+returns c = let p = c .before .before .before .before .before .before .before .before .before .before .before .before .pre in λ s q w. way-none s _ q _ (nearest-nowhere s (p .0) _ (p .1) q _ _ _ _ w (c .before .before .before .before .before .search .ensures s) (c .before .lowest-common .ensures) (c .if1 .taken))
 
-path-between-requires : tie.Need-path-between-requires
-path-between-requires c κs = let p = c .before .before .before .before .before .before .before .before .before .before .before .before .before .before .pre in let f = ap nearestOf (sym (c .before .before .before .e .given .1)) ∙ c .before .before .before .before .before .before .before .find-nearest .ensures (p .8) (mem _) (λ b h. refl) in (p .0, p .1, end-inside (p .8) _ _ _ f (p .0) (p .1) (p .7), p .2, p .3, omega arith, p .6, p .8)
+cast-t16 : tie.Need-cast-t16
+cast-t16 c = search needs
 
-enum-known-m : tie.Need-enum-known-m
-enum-known-m c = search needs
+narrow-requires : tie.Need-narrow-requires
+narrow-requires c κs = let p = c .before .before .before .before .before .before .before .before .before .before .before .before .before .pre in let f = c .before .before .before .before .before .before .search .ensures (p .8) in let l = c .before .before .lowest-common .ensures in let h = c .before .if1 .left in (p .0, f .far, end-inside (p .8) (p .0) _ (p .1) (p .7) _ _ _ _ f l h, p .2, omega arith, ended (p .8) (p .0) _ (p .1) (p .7) _ _ _ _ f l h)
 
-enum-told-2 : tie.Need-enum-told-2
-enum-told-2 c = search needs
+outward-requires : tie.Need-outward-requires
+outward-requires c κs = let p = c .before .before .before .before .before .before .before .before .before .before .before .before .before .before .before .before .before .before .pre in let f = c .before .before .before .before .before .before .before .before .before .before .before .search .ensures (p .8) in let l = c .before .before .before .before .before .before .before .lowest-common .ensures in let h = c .before .before .before .before .before .before .if1 .left in (p .0, f .far, p .2, omega arith, p .6, outside (p .8) (p .0) _ (p .1) (p .7) _ _ _ _ f l h _ (c .before .before .before .before .narrow .ensures (ended (p .8) (p .0) _ (p .1) (p .7) _ _ _ _ f l h)))
+
+add-t24 : tie.Need-add-t24
+add-t24 c = let f = c .before .before .before .before .before .before .before .before .before .before .before .before .before .before .search .ensures (c .before .before .before .before .before .before .before .before .before .before .before .before .before .before .before .before .before .before .before .before .before .pre .8) .far in omega (arith, f, c .before .before .before .before .before .before .before .before .before .before .before .before .before .before .before .before .before .before .before .before .before .pre .0)
 
 same-length-2 : tie.Need-same-length-2
 same-length-2 c = search needs
@@ -44,32 +44,20 @@ same-length-3 : tie.Need-same-length-3
 same-length-3 c = search needs
 
 returns-2 : tie.Need-returns-2
-returns-2 c = let p = c .before .before .before .before .before .before .before .before .before .before .before .before .before .before .before .before .before .before .before .before .before .pre in λ s q w. let f = ap nearestOf (sym (c .before .before .before .before .before .before .before .before .before .before .e .given .1)) ∙ c .before .before .before .before .before .before .before .before .before .before .before .before .before .before .find-nearest .ensures s q w in way-missing s _ q _ f (p .0) (p .1) (p .7) _ (rw (c .enum-told2 .given .1) at (c .before .before .before .before .before .before .path-between .ensures s))
-
-same-length-4 : tie.Need-same-length-4
-same-length-4 c = search needs
-
-same-length-5 : tie.Need-same-length-5
-same-length-5 c = search needs
-
-returns-3 : tie.Need-returns-3
-returns-3 c = let p = c .before .before .before .before .before .before .before .before .before .before .before .before .before .before .before .before .before .before .before .before .before .before .pre in λ s q w. let f = ap nearestOf (sym (c .before .before .before .before .before .before .before .before .before .before .before .e .given .1)) ∙ c .before .before .before .before .before .before .before .before .before .before .before .before .before .before .before .find-nearest .ensures s q w in let t = rw (c .before .m .given .1) at (c .before .before .before .before .before .before .before .path-between .ensures s) in record { nearest = f; fits = t .fits; path = λ e k. let same : c .before .before .before .before .before .before .before .before .before .before .before .e .given .0 .0 .0 ≡ e = cc in rw (← same) (way-to s _ q _ f (p .0) (p .1) (p .7) _ _ t) }
+returns-2 c = let p = c .before .before .before .before .before .before .before .before .before .before .before .before .before .before .before .before .before .before .before .before .before .pre in let l = c .before .before .before .before .before .before .before .before .before .before .lowest-common .ensures in let h = c .before .before .before .before .before .before .before .before .before .if1 .left in λ s q w. let f = c .before .before .before .before .before .before .before .before .before .before .before .before .before .before .search .ensures s in let z = c .before .before .before .before .before .before .before .narrow .ensures (ended s (p .0) _ (p .1) (p .7) _ _ _ _ f l h) in way-found s (p .0) _ (p .1) (p .7) _ _ _ _ f l h _ _ z q _ w (c .before .before .outward .ensures (outside s (p .0) _ (p .1) (p .7) _ _ _ _ f l h _ z)) refl refl
 
 pub way-to-nearest-spec : {M : Type 1} → statement M
 way-to-nearest-spec =
     tie.close
     (tie.spec
-    find-nearest-requires
-    enum-known-e
-    enum-told
+    search-requires
+    lowest-common-requires
     same-length
     returns
-    path-between-requires
-    enum-known-m
-    enum-told-2
+    cast-t16
+    narrow-requires
+    outward-requires
+    add-t24
     same-length-2
     same-length-3
-    returns-2
-    same-length-4
-    same-length-5
-    returns-3)
+    returns-2)

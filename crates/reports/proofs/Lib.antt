@@ -1,0 +1,3 @@
+pub mod Saying
+pub mod Determined
+pub mod Demand3

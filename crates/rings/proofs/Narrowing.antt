@@ -1,0 +1,231 @@
+-- Going back from e the rows come down to the bays on shortest paths, one row a turn; going on from x the lowest kept neighbour is
+-- the next bay of the paper's path, since every kept bay of the next row is one rail nearer to e.
+-- Assumes nothing.
+use mathlib.Core.Path.{_≡_, refl, sym, _∙_}
+use mathlib.Core.Bool.{Bool, true, false}
+use mathlib.Core.List.{List, [], _∷_, _++_, append-assoc}
+use mathlib.Core.Option.{some}
+use Prim.Native.Nat.{ℕ, suc, _+_, _-_, _*_, _/_, _%_, _≤_, _<_}
+use native.Mathlib.Decide.{ℕ-discrete, decLt}
+use native.Mathlib.Numerals.{add-one}
+use native.Mathlib.Omega.{arith}
+use lib.Bits.{bitAnd}
+use lib.Dec.{eqb}
+use lib.ListN.{length, getD, set, take}
+use lib.Seq.{take-suc-set}
+use Rattle.paper.proofs.Members.{lowest-least}
+use Rattle.paper.specs.Basics.{_and_, elem, In, Out}
+use Rattle.paper.specs.Yard.{Bay, Yard, joined}
+use Rattle.paper.specs.Path.{Free, rings, inward}
+use Rattle.paper.proofs.Tests.{not-both, and-left, and-right, and-both}
+use Rattle.paper.proofs.Members.{in-count, In-head}
+use Rattle.paper.proofs.Shortest.{Next, next, inward-zero}
+use Rattle.words.specs.Sets.{mem, memRow, on, words, span, Lowest, Kept, Beside}
+use Rattle.words.proofs.Bits.{on-and}
+use Rattle.words.proofs.Loops.{Done}
+use Rattle.words.proofs.Sets.{mem-row, row-zero}
+use Rattle.yard.specs.Table.{Table}
+use Rattle.rings.specs.Search.{around, Shown, ringOn, Searched}
+use Rattle.rings.specs.Ways.{Ended, onPath, Narrowed, Outside, pathOut, KeptBeside, WayFound, endOf, wayLength}
+use Rattle.rings.specs.declared.Way.{Way}
+use Rattle.rings.proofs.Searching.{ring-first, ring-inside, in-yard}
+use Rattle.rings.proofs.Reading.{nearest-at}
+use Rattle.rings.proofs.Between.{between-end, between-inside, between-beside, further, start-far, shortest-far}
+
+-- word by word, the bays of both
+pub row-met : (set₀ rows set : List ℕ) (a i : ℕ) → words ≤ i → Done set i (λ k. bitAnd (getD set₀ k 0) (getD rows (a * words + k) 0))
+    → (b : ℕ) → b < span → mem set b ≡ mem set₀ b and memRow rows a b
+row-met set₀ rows set a i l d b h =
+    let e : mem set b ≡ on (getD set (b / 64) 0) (b % 64) = unfold mem in refl in
+    let f : mem set₀ b ≡ on (getD set₀ (b / 64) 0) (b % 64) = unfold mem in refl in
+    rw (e, f, mem-row rows a b, d .at (b / 64) (omega arith)) (on-and _ _ _)
+
+free-start : (Y : Yard) (held : List Bay) {n : ℕ} {table : List ℕ} (x : Bay) → Table Y n table → x < n → Out x held → Free Y held x
+free-start Y held x t h o = (in-count 0 (Y .bays) x (omega arith) (rw (t .bays) (omega arith)), o)
+
+-- ## From e back
+
+-- what is beside the kept bays, of row i, is kept as row i
+pub kept-beside : (table : List ℕ) (i : ℕ) (rows kept rows′ kept′ found found′ : List ℕ) → Beside table kept found span
+    → ((b : ℕ) → b < span → mem found′ b ≡ mem found b and memRow rows i b) → Kept kept 0 found′ kept′ → Kept rows i kept′ rows′
+    → KeptBeside table i rows kept rows′ kept′
+kept-beside table i rows kept rows′ kept′ found found′ p m k w = record {
+  met = λ b h. sym (row-zero kept′ b) ∙ k .row b h ∙ m b h ∙ rw (p .same b h);
+  row = w .row;
+  others = w .others;
+}
+
+module _ {n : ℕ} {table rows₀ : List ℕ} {d e : ℕ} (t : Ended n table rows₀ d e) where
+  start-free : Free (t .yard) (t .held) (t .start)
+  start-free = free-start (t .yard) (t .held) (t .start) (t .joins) (t .home) (t .unheld)
+
+  -- the rows from i on are narrowed, the kept ones are those of row i, and the rows below i are the rings
+  pub record Narrowing (i : ℕ) (kept rows : List ℕ) : Type 0 where
+    pub keeping : (b : ℕ) → b < span → mem kept b ≡ onPath t i b
+    pub narrowed : Narrowed t i rows
+    pub below : (k b : ℕ) → k < i → b < span → memRow rows k b ≡ elem b (around (t .yard) (t .held) (t .start) k)
+
+  pub narrowing-first : (kept : List ℕ) → ((b : ℕ) → mem kept b ≡ eqb b e) → ((b : ℕ) → b < span → memRow rows₀ d b ≡ mem kept b) → Narrowing d kept rows₀
+  narrowing-first kept k w =
+      let keeping : (b : ℕ) → b < span → mem kept b ≡ onPath t d b =
+      λ b h. k b ∙ between-end (t .yard) (t .held) (t .start) e d start-free (t .there) b in
+      record {
+        keeping = keeping;
+        narrowed = record { rowing = λ j b l m h. let same : j ≡ d = omega arith in rw same (w b h ∙ keeping b h) };
+        below = t .rowing;
+      }
+
+  module _ (most : n ≤ span) where
+    pub narrowing-inside : (i : ℕ) (kept rows : List ℕ) → Narrowing i kept rows → (a : ℕ) → a < span → mem kept a ≡ true → a < n
+    narrowing-inside i kept rows g a h k =
+        between-inside (t .yard) (t .held) (t .start) e d start-free (t .there) (t .joins) most (t .home) i a (sym (g .keeping a h) ∙ k)
+
+    pub narrowing-more : (j : ℕ) (kept rows kept′ rows′ : List ℕ) → suc j ≤ d → Narrowing (suc j) kept rows → KeptBeside table j rows kept rows′ kept′
+        → Narrowing j kept′ rows′
+    narrowing-more j kept rows kept′ rows′ l g w =
+        let keeping : (b : ℕ) → b < span → mem kept′ b ≡ onPath t j b =
+        λ b h.
+        w .met b h ∙ rw (g .below j b (omega arith) h)
+        (between-beside (t .yard) (t .held) (t .start) e d start-free (t .there) (t .joins) most (t .home) kept j l (g .keeping) b h) in
+        record {
+          keeping = keeping;
+          narrowed = record {
+            rowing = λ k b i m h. elim (ℕ-discrete k j) [
+              | yes q ↦ rw q (w .row b h ∙ keeping b h)
+              | no q ↦ w .others k b q h ∙ g .narrowed .rowing k b (omega arith) m h
+            ];
+          };
+          below = λ k b i h. w .others k b (λ q. omega arith) h ∙ g .below k b (omega arith) h;
+        }
+
+-- row d is no ring below d
+abbrev pub ended-kept : {n : ℕ} {table rows : List ℕ} {d e : ℕ} {ring rows′ : List ℕ} → Ended n table rows d e → Kept rows d ring rows′ → Ended n table rows′ d e
+ended-kept t k = record {
+  yard = t .yard;
+  held = t .held;
+  start = t .start;
+  joins = t .joins;
+  home = t .home;
+  unheld = t .unheld;
+  rowing = λ i b l h. k .others i b (λ q. omega arith) h ∙ t .rowing i b l h;
+  there = t .there;
+}
+
+pub narrowing-all : {n : ℕ} {table rows : List ℕ} {d e : ℕ} {ring rows₀ : List ℕ} (t : Ended n table rows d e) (k : Kept rows d ring rows₀) (i : ℕ) (kept rows′ : List ℕ)
+    → i ≤ 1 → Narrowing (ended-kept t k) i kept rows′ → Narrowed t 1 rows′
+narrowing-all t k i kept rows′ l g = record { rowing = λ j b f m h. g .narrowed .rowing j b (omega arith) m h }
+
+-- ## From x on
+
+module _ {n : ℕ} {table rows : List ℕ} {d x : ℕ} (t : Outside n table rows d x) where
+  abbrev goalRings : List (List Bay)
+  goalRings = rings (t .yard) (t .held) (t .goal)
+
+  x-free : Free (t .yard) (t .held) x
+  x-free = free-start (t .yard) (t .held) x (t .joins) (t .home) (t .unheld)
+
+  -- i bays of the path are in the room, and u is the next
+  pub record Going (i u : ℕ) (room : List ℕ) : Type 0 where
+    pub far : In u (around (t .yard) (t .held) x i)
+    pub near : In u (getD goalRings (d - i) [])
+    pub so-far : pathOut t ≡ take i room ++ inward (t .yard) goalRings (d - i) u
+
+  pub going-inside : (i u : ℕ) (room : List ℕ) → Going i u room → u < n
+  going-inside i u room g = rw (t .joins .bays) at (ring-inside (t .yard) (t .held) x i u (rw (t .joins .bays) (t .home)) (g .far))
+
+  pub going-first : (room : List ℕ) → Going 0 x room
+  going-first room =
+      let e : d - 0 ≡ d = omega arith in
+      let some-bay : 0 < t .yard .bays = rw (t .joins .bays) (let h = t .home in omega arith) in
+      record {
+        far = rw (ring-first (t .yard) (t .held) x some-bay) (In-head x []);
+        near = rw e (start-far (t .yard) (t .held) x (t .goal) d x-free (t .there));
+        so-far = rw e;
+      }
+
+  -- the lowest kept neighbour is the path's next bay
+  lowest-kept : (i u r : ℕ) (room : List ℕ) → n ≤ span → i < d → Going i u room → (s : Next (t .yard) (t .held) (t .goal) (d - 1 - i) u)
+      → Lowest (λ b. memRow table u b and memRow rows (i + 1) b) 0 span r
+      → (s .bay ≡ r) × In r (around (t .yard) (t .held) x (suc i)) × In r (getD goalRings (d - 1 - i) [])
+  lowest-kept i u r room most h g s l =
+      let Y = t .yard in
+      let k : ℕ = d - 1 - i in
+      let sum : suc i + k ≡ d = omega arith in
+      let row : d - (i + 1) ≡ k = omega arith in
+      let hu : u < n = going-inside i u room g in
+      let bay-far : In (s .bay) (around Y (t .held) x (suc i)) =
+      further Y (t .held) x (t .goal) d x-free (t .there) i k sum u (s .bay) (g .far) (s .rail) (s .nearer) in
+      let hb : s .bay < n = rw (t .joins .bays) at (ring-inside Y (t .held) x (suc i) (s .bay) (rw (t .joins .bays) (t .home)) bay-far) in
+      let kept : (b : ℕ) → b < span → memRow rows (i + 1) b ≡ elem b (around Y (t .held) x (suc i)) and elem b (getD goalRings k []) =
+      λ b m. t .rowing (i + 1) b (omega arith) (omega arith) m ∙ rw (row, add-one) in
+      let one : memRow table u (s .bay) ≡ true = t .joins .same u (s .bay) hu (omega arith) ∙ s .rail in
+      let two : memRow rows (i + 1) (s .bay) ≡ true = kept (s .bay) (omega arith) ∙ and-both _ _ bay-far (s .nearer) in
+      let r-low : r ≤ s .bay = elim (decLt (s .bay) r) [ yes m ↦ not-both (and-both _ _ one two) (l .before (s .bay) (omega arith) m) | no m ↦ omega arith ] in
+      let hit : memRow table u r and memRow rows (i + 1) r ≡ true = l .hit (omega arith) in
+      let r-kept : elem r (around Y (t .held) x (suc i)) and elem r (getD goalRings k []) ≡ true = sym (kept r (omega arith)) ∙ and-right _ _ hit in
+      let r-joined : joined Y u r ≡ true = sym (t .joins .same u r hu (omega arith)) ∙ and-left _ _ hit in
+      let b-low : s .bay ≤ r = lowest-least (joined Y u) (getD goalRings k []) (s .found) r (and-right _ _ r-kept) r-joined in
+      (omega arith, and-left _ _ r-kept, and-right _ _ r-kept)
+
+  pub going-more : (i u r : ℕ) (room : List ℕ) → n ≤ span → i < d → i < length room → Going i u room
+      → Lowest (λ b. memRow table u b and memRow rows (i + 1) b) 0 span r → Going (i + 1) r (set room i u)
+  going-more i u r room most h len g l =
+      let e : d - i ≡ suc (d - 1 - i) = omega arith in
+      let f : d - (i + 1) ≡ d - 1 - i = omega arith in
+      let s = next (t .yard) (t .held) (t .goal) (d - 1 - i) u (rw e at (g .near)) in
+      let z = lowest-kept i u r room most h g s l in
+      record {
+        far = rw add-one (z .1);
+        near = rw f (z .2);
+        so-far = g .so-far ∙ rw (e, s .goes-on, z .0, f, add-one, take-suc-set room i u len, append-assoc);
+      }
+
+  pub going-all : (i u : ℕ) (room : List ℕ) → i ≡ d → i < length room → Going i u room → take (d + 1) (set room i u) ≡ pathOut t
+  going-all i u room e len g =
+      let z : d - i ≡ 0 = omega arith in
+      let f : d + 1 ≡ suc i = omega arith in
+      rw (f, take-suc-set room i u len) (sym (g .so-far ∙ rw (z, inward-zero)))
+
+-- ## The way to the nearest
+
+module _ {n : ℕ} {table held : List ℕ} (s : Shown n table held) (most : n ≤ span) (x : Bay) (hx : x < n) (unheld : mem held x ≡ false)
+    (wanted rows : List ℕ) (d b : ℕ) (f : Searched s x wanted rows d) (l : Lowest (λ y. memRow rows d y and memRow wanted 0 y) 0 span b) (hit : b < span) where
+  pub found : In b (ringOn s x d)
+  found = sym (f .rowing d b (omega arith) hit) ∙ and-left _ _ (l .hit hit)
+
+  pub end-inside : b < n
+  end-inside = in-yard s x most hx d b found
+
+  abbrev pub ended : Ended n table rows d b
+  ended = record {
+    yard = s .yard;
+    held = s .bays;
+    start = x;
+    joins = s .joins;
+    home = hx;
+    unheld = sym (s .holds x (omega arith)) ∙ unheld;
+    rowing = λ i c k h. f .rowing i c (omega arith) h;
+    there = found;
+  }
+
+  abbrev pub outside : (rows′ : List ℕ) → Narrowed ended 1 rows′ → Outside n table rows′ d x
+  outside rows′ w = record {
+    yard = s .yard;
+    held = s .bays;
+    goal = b;
+    joins = s .joins;
+    home = hx;
+    unheld = ended .unheld;
+    there = found;
+    rowing = w .rowing;
+  }
+
+  pub way-found : (rows′ room : List ℕ) (w : Narrowed ended 1 rows′) (q : Bay → Bool) (r : Way) → ((y : ℕ) → y < n → mem wanted y ≡ q y)
+      → take (d + 1) room ≡ pathOut (outside rows′ w) → endOf r ≡ some b → wayLength r ≡ d + 1 → WayFound s x q room r
+  way-found rows′ room w q r same e ends long = record {
+    nearest = ends ∙ nearest-at s most x hx q wanted rows d b same f l hit;
+    fits = rw long (let h = f .far in omega arith);
+    path = λ y k.
+        let it : b ≡ y = let z = sym ends ∙ k in cc in
+        rw (long, ← it) (e ∙ sym (shortest-far (s .yard) (s .bays) x b d (free-start (s .yard) (s .bays) x (s .joins) hx (ended .unheld)) found));
+  }

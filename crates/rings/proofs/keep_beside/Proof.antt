@@ -1,0 +1,54 @@
+-- `rings::keep_beside` meets its contract. What stands beside the kept bays is met with row i, and becomes both the kept ones and row i.
+-- Assumes nothing.
+use borrow.Author.Needs.{needs}
+use Rattle.rings.proofs.Narrowing.{kept-beside}
+use Rattle.rings.proofs.keep_beside.Statement.{statement}
+use Rattle.rings.proofs.keep_beside.Tie as tie
+use Rattle.rings.proofs.keep_beside.Reads as reads
+use Rattle.rings.proofs.keep_beside.Lts as lts
+use Rattle.rings.proofs.meet_row.Reads as meet-row-reads
+
+slice-aggregate-beside : tie.Need-slice-aggregate-beside
+slice-aggregate-beside c = search needs
+
+beside-requires : tie.Need-beside-requires
+beside-requires c κs = search needs
+
+slice-aggregate-meet-row : tie.Need-slice-aggregate-meet-row
+slice-aggregate-meet-row c = search needs
+
+meet-row-requires : tie.Need-meet-row-requires
+meet-row-requires c κs = search needs
+
+slice-aggregate-keep : tie.Need-slice-aggregate-keep
+slice-aggregate-keep c = search needs
+
+keep-requires : tie.Need-keep-requires
+keep-requires c κs = search needs
+
+keep-requires-2 : tie.Need-keep-requires-2
+keep-requires-2 c κs = search needs
+
+same-length : tie.Need-same-length
+same-length c = search needs
+
+same-length-2 : tie.Need-same-length-2
+same-length-2 c = search needs
+
+returns : tie.Need-returns
+returns c = kept-beside _ _ _ _ _ _ _ _ (c .before .before .before .before .before .before .before .before .before .before .before .before .before .before .before .beside .ensures) (c .before .before .before .before .before .before .before .before .before .before .before .meet-row .ensures) (c .before .before .before .before .before .before .before .keep .ensures) (c .before .before .keep2 .ensures)
+
+pub keep-beside-spec : {M : Type 1} → statement M
+keep-beside-spec =
+    tie.close
+    (tie.spec
+    slice-aggregate-beside
+    beside-requires
+    slice-aggregate-meet-row
+    meet-row-requires
+    slice-aggregate-keep
+    keep-requires
+    keep-requires-2
+    same-length
+    same-length-2
+    returns)

@@ -1,0 +1,81 @@
+-- `rings::narrow` meets its contract. The rows from i on hold the bays on shortest paths to e, and the rows below i are still the rings.
+-- Assumes nothing.
+use mathlib.Core.Path.{_≡_, refl}
+use Prim.Native.Nat.{suc, _-_, _≤_}
+use native.Mathlib.Omega.{arith}
+use lib.ListN.{length}
+use borrow.Author.Needs.{needs}
+use Rattle.words.specs.Sets.{words}
+use Rattle.rings.specs.Ways.{Ended}
+use Rattle.rings.proofs.Searching.{only}
+use Rattle.rings.proofs.Narrowing.{Narrowing, narrowing-first, narrowing-inside, narrowing-more, narrowing-all, ended-kept}
+use Rattle.rings.proofs.narrow.Statement.{statement}
+use Rattle.rings.proofs.narrow.Tie as tie
+use Rattle.rings.proofs.narrow.Reads as reads
+use Rattle.rings.proofs.narrow.Lts as lts
+use Rattle.rings.proofs.keep_beside.Reads as keep-beside-reads
+
+abbrev Inv-loop : tie.InvT-loop
+Inv-loop table n rows₀ d last kept₀ i₀ rows kept i = (i ≤ d) × (length rows ≡ length rows₀) × (length kept ≡ words) × ((t : Ended n table rows₀ d last) → Narrowing t i kept rows)
+
+abbrev μ-loop : tie.MeasureT-loop
+μ-loop table n rows₀ d last kept₀ i₀ rows kept i = i
+
+cast-last : tie.Need-cast-last Inv-loop μ-loop
+cast-last c = search needs
+
+slice-aggregate-add : tie.Need-slice-aggregate-add Inv-loop μ-loop
+slice-aggregate-add c = search needs
+
+add-requires : tie.Need-add-requires Inv-loop μ-loop
+add-requires c κs = search needs
+
+slice-aggregate-keep : tie.Need-slice-aggregate-keep Inv-loop μ-loop
+slice-aggregate-keep c = search needs
+
+keep-requires : tie.Need-keep-requires Inv-loop μ-loop
+keep-requires c κs = search needs
+
+loop-holds : tie.Need-loop-holds Inv-loop μ-loop
+loop-holds c = (omega arith, refl, omega arith, λ t. narrowing-first t _ (only _ _ (c .before .before .before .before .before .before .add .ensures)) (c .before .before .keep .ensures .row))
+
+sub-i : tie.Need-sub-i Inv-loop μ-loop
+sub-i c = search needs
+
+slice-aggregate-keep-beside : tie.Need-slice-aggregate-keep-beside Inv-loop μ-loop
+slice-aggregate-keep-beside c = search needs
+
+keep-beside-requires : tie.Need-keep-beside-requires Inv-loop μ-loop
+keep-beside-requires c κs = let p = c .before .before .before .before .before .before .before .before .before .before .before .before .before .before .before .pre in let t = ended-kept (p .5) (c .before .before .before .before .before .before .keep .ensures) in (omega arith, omega arith, λ a h m. let l = narrowing-inside t (p .0) _ _ _ (c .before .before .before .loop .inv .3 t) a h m in omega (arith, l, p .3))
+
+loop-less : tie.Need-loop-less Inv-loop μ-loop
+loop-less c = search needs
+
+loop-again : tie.Need-loop-again Inv-loop μ-loop
+loop-again c = let l = c .before .before .before .before .before .before .before .loop in (omega arith, omega arith, omega arith, λ t. let e : l .i ≡ suc (l .i - 1) = omega arith in narrowing-more t (c .before .before .before .before .before .before .before .before .before .before .before .before .before .before .before .before .before .before .before .pre .0) _ _ _ _ _ (omega arith) (rw e at (l .inv .3 t)) (c .before .before .before .keep-beside .ensures))
+
+same-length : tie.Need-same-length Inv-loop μ-loop
+same-length c = search needs
+
+returns : tie.Need-returns Inv-loop μ-loop
+returns c = λ t. narrowing-all t (c .before .before .before .before .keep .ensures) _ _ _ (omega arith) (c .before .loop .inv .3 (ended-kept t (c .before .before .before .before .keep .ensures)))
+
+pub narrow-spec : {M : Type 1} → statement M
+narrow-spec =
+    tie.close
+    (tie.spec
+    Inv-loop
+    μ-loop
+    cast-last
+    slice-aggregate-add
+    add-requires
+    slice-aggregate-keep
+    keep-requires
+    loop-holds
+    sub-i
+    slice-aggregate-keep-beside
+    keep-beside-requires
+    loop-less
+    loop-again
+    same-length
+    returns)

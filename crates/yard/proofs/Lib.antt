@@ -1,0 +1,6 @@
+pub mod Firsts
+pub mod Rails
+pub mod Reaching
+pub mod Places
+pub mod Opening
+pub mod Standing
