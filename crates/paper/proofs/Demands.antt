@@ -10,7 +10,7 @@ use lib.ListN.{length, length-map, drop, getD}
 use Rattle.paper.specs.Basics.{In, NoDup}
 use Rattle.paper.specs.Yard.{Bay, Carrier, Placement, Crossing, after, legalPlan, unpack, crossings, pack, most-crossings}
 use Rattle.paper.specs.Procedure.{planned, stuck, procedure}
-use Rattle.paper.specs.Dependence.{isDone, doneOf, countOf, slots}
+use Rattle.paper.specs.Dependence.{isDone, countOf, slots, placementBy}
 use Rattle.paper.specs.Docket.{yardOf, badMarks, stopped, room, Refusal}
 use Rattle.paper.specs.Answers.{check, accept, already, report, accepted, refused, plan, planEnd, written, firstSix, slotsRefusal, slotsEnd, marksEnd}
 use Rattle.paper.specs.Log.{Request, answerTo, marksBy, marksOf, namesOf, acceptedOf}
@@ -87,7 +87,7 @@ pub record Demand3 (n : ℕ) (ends : List Bay) (starts goals : Placement) (plan 
   -- the accepted crossings, in the order accepted, are each legal,
   pub lawful : legalPlan (yardOf n ends) starts (acceptedOf plan qs) ≡ true
   -- and leave the carriers where those same crossings in plan order would:
-  pub same : after starts (acceptedOf plan qs) ≡ after starts (doneOf (crossings plan) (marksOf plan qs))
+  pub same : after starts (acceptedOf plan qs) ≡ placementBy starts (crossings plan) (marksOf plan qs)
   -- (those marked done are the accepted ones, each accepted once).
   pub marked : (i : ℕ) → (isDone (marksOf plan qs) i ≡ true) ↔ In i (namesOf plan qs)
   pub once : NoDup (namesOf plan qs)

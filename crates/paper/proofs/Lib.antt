@@ -28,6 +28,7 @@ pub mod Fields
 pub mod Stepping
 pub mod Buffering
 pub mod Printing
+pub mod Railing
 pub mod Worked
 pub mod Read
 pub mod Harder

@@ -7,7 +7,7 @@ use Prim.Native.Nat.{ℕ, zero, suc, max}
 use lib.Dec.{eqb}
 use lib.ListN.{length, getD, set, replicate}
 use Rattle.paper.specs.Basics.{if_then_else_, _and_, _or_, any, find, upTo}
-use Rattle.paper.specs.Yard.{Carrier, Crossing, named}
+use Rattle.paper.specs.Yard.{Carrier, Placement, Crossing, named, after}
 
 -- "Two crossings depend on each other if they have the same carrier or share any bay."
 unfoldable pub depend : Crossing → Crossing → Bool
@@ -64,6 +64,10 @@ unfoldable pub undoneOf : List Crossing → List ℕ → List Crossing
 undoneOf [] ms = []
 undoneOf (x ∷ xs) [] = x ∷ xs
 undoneOf (x ∷ xs) (m ∷ ms) = let rest = undoneOf xs ms in if done m then rest else x ∷ rest
+
+-- "The placement is worked out from the start and the done crossings in plan order"
+abbrev pub placementBy : Placement → List Crossing → List ℕ → Placement
+placementBy starts xs marks = after starts (doneOf xs marks)
 
 -- how many of the crossings are carrier c's
 unfoldable pub countOf : Carrier → List Crossing → ℕ
