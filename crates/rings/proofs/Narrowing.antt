@@ -19,6 +19,7 @@ use Rattle.paper.specs.Yard.{Bay, Yard, joined}
 use Rattle.paper.specs.Path.{Free, rings, inward}
 use Rattle.paper.proofs.Tests.{not-both, and-left, and-right, and-both}
 use Rattle.paper.proofs.Members.{in-count, In-head}
+use Rattle.paper.proofs.Shortest.{find-lowest, rings-rise}
 use Rattle.paper.proofs.Shortest.{Next, next, inward-zero}
 use Rattle.words.specs.Sets.{mem, memRow, on, words, span, Lowest, Kept, Beside}
 use Rattle.words.proofs.Bits.{on-and}
@@ -29,7 +30,7 @@ use Rattle.rings.specs.Search.{around, Shown, ringOn, Searched}
 use Rattle.rings.specs.Ways.{Ended, onPath, Narrowed, Outside, pathOut, KeptBeside, WayFound, endOf, wayLength}
 use Rattle.rings.specs.declared.Way.{Way}
 use Rattle.rings.proofs.Searching.{ring-first, ring-inside, in-yard}
-use Rattle.rings.proofs.Reading.{nearest-at}
+use Rattle.rings.proofs.Reading.{one-rises, nearest-at}
 use Rattle.rings.proofs.Between.{between-end, between-inside, between-beside, further, start-far, shortest-far}
 
 -- word by word, the bays of both

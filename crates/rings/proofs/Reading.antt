@@ -51,6 +51,10 @@ module _ (q : ℕ → Bool) where
         | no k ↦ let same : y .0 ≡ e = omega arith in y .1 ∙ ap some same
       ]
 
+pub one-rises : (x : ℕ) → Rising (x ∷ [])
+unfolding Rising
+one-rises x = (λ y i. In-nil y i, tt)
+
 -- span stands for no bay
 abbrev pub orNone : ℕ → Option ℕ
 orNone r = if ltb r span then some r else none

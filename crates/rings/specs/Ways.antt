@@ -12,18 +12,12 @@ use Rattle.paper.specs.Path.{rings, nearestFirst, inward, shortestPath, pathBet
 use Rattle.words.specs.Sets.{mem, memRow, span, anyBelow, reaches}
 use Rattle.yard.specs.Table.{Table}
 use Rattle.rings.specs.Search.{Shown, around}
-use Rattle.rings.specs.declared.Nearest.{Nearest}
-use Rattle.rings.specs.declared.Nearest.the-variants.{At, Nowhere}
 use Rattle.rings.specs.declared.Path.{Path}
 use Rattle.rings.specs.declared.Path.the-variants.{First, NoPath}
 use Rattle.rings.specs.declared.Way.{Way}
 use Rattle.rings.specs.declared.Way.the-variants.{To, NoWay}
 
 -- ## How the answers read
-
-abbrev pub nearestOf : Nearest → Option Bay
-nearestOf Nowhere = none
-nearestOf (At b) = some (b .0)
 
 -- the first bays of the lent room are the path
 abbrev pub pathOf : Path → List ℕ → Option (List Bay)

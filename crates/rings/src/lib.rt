@@ -5,17 +5,10 @@ ghost use mathlib.Core.Path.{_≡_};
 ghost use mathlib.Core.Bool.{Bool, true, false};
 ghost use Prim.Native.Nat.{ℕ, _+_, _*_, _≤_, _<_};
 ghost use lib.ListN.{length, take};
-ghost use Rattle.paper.specs.Basics.{_and_, find};
-ghost use Rattle.paper.specs.Path.{nearestFirst};
+ghost use Rattle.paper.specs.Basics.{_and_};
 ghost use Rattle.words.specs.Sets.{mem, memRow, words, span};
 ghost use Rattle.rings.specs.Search.{NextRing, Shown, Searched};
-ghost use Rattle.rings.specs.Ways.{Inside, pathIn, Ended, Narrowed, Outside, pathOut, KeptBeside, nearestOf, PathFound, WayFound};
-
-// The nearest bay, if any.
-pub enum Nearest {
-    At(Bay),
-    Nowhere,
-}
+ghost use Rattle.rings.specs.Ways.{Inside, pathIn, Ended, Narrowed, Outside, pathOut, KeptBeside, PathFound, WayFound};
 
 // So many first bays of the lent room are the path, if there is one.
 pub enum Path {
@@ -38,7 +31,7 @@ fn next_ring(
     ring: &mut [u64],
     rows: &mut [u64],
 )
-    requires { ⌜ (length (now table) ≡ n * words) × (length (now seen) ≡ words) × (length (now ring) ≡ words) × (n * words ≤ length (now rows)) × (d + 1 < n) × ((b : ℕ) → b < span → mem (now ring) b ≡ true → b < n) ⌝ }
+    requires { ⌜ (n * words ≤ length (now table)) × (length (now seen) ≡ words) × (length (now ring) ≡ words) × (n * words ≤ length (now rows)) × (d + 1 < n) × ((b : ℕ) → b < span → mem (now ring) b ≡ true → b < n) ⌝ }
     ensures { λ _. ⌜ NextRing (now (table .entry)) d (now (seen .entry)) (now (ring .entry)) (now (rows .entry)) (now (seen .exit)) (now (ring .exit)) (now (rows .exit)) ⌝ }
 {
     let mut next = [0u64; words::WORDS];
@@ -56,7 +49,7 @@ pub fn search(
     wanted: &[u64],
     rows: &mut [u64],
 ) -> usize
-    requires { ⌜ (n ≤ span) × (x .0 < n) × (length (now table) ≡ n * words) × (length (now held) ≡ words) × (length (now wanted) ≡ words) × (n * words ≤ length (now rows)) × Shown n (now table) (now held) ⌝ }
+    requires { ⌜ (n ≤ span) × (x .0 < n) × (n * words ≤ length (now table)) × (length (now held) ≡ words) × (length (now wanted) ≡ words) × (n * words ≤ length (now rows)) × Shown n (now table) (now held) ⌝ }
     ensures { λ r. ⌜ ((s : Shown n (now (table .entry)) (now (held .entry))) → Searched s (x .0) (now (wanted .entry)) (now (rows .exit)) r) ⌝ }
 {
     let middle = x.0 as usize;
@@ -84,7 +77,7 @@ pub fn search(
 
 // The path from x, d rails from the bay in the middle of the rows: each next bay is the lowest neighbour in the ring one nearer.
 fn inward(table: &[u64], n: usize, rows: &[u64], d: usize, x: Bay, path: &mut [u16])
-    requires { ⌜ (n ≤ span) × (d < n) × (length (now table) ≡ n * words) × (n * words ≤ length (now rows)) × (n ≤ length (now path)) × Inside n (now table) (now rows) d (x .0) ⌝ }
+    requires { ⌜ (n ≤ span) × (d < n) × (n * words ≤ length (now table)) × (n * words ≤ length (now rows)) × (n ≤ length (now path)) × Inside n (now table) (now rows) d (x .0) ⌝ }
     ensures { λ _. ⌜ ((t : Inside n (now (table .entry)) (now (rows .entry)) d (x .0)) → take (d + 1) (now (path .exit)) ≡ pathIn t) ⌝ }
 {
     let mut u = x.0 as usize;
@@ -123,7 +116,7 @@ fn keep_beside(table: &[u64], i: usize, rows: &mut [u64], kept: &mut [u64])
 
 // From e back, each ring keeps only the bays beside those kept in the ring after it: the bays on the shortest paths to e.
 fn narrow(table: &[u64], n: usize, rows: &mut [u64], d: usize, e: Bay)
-    requires { ⌜ (n ≤ span) × (d < n) × (e .0 < n) × (length (now table) ≡ n * words) × (n * words ≤ length (now rows)) × Ended n (now table) (now rows) d (e .0) ⌝ }
+    requires { ⌜ (n ≤ span) × (d < n) × (e .0 < n) × (n * words ≤ length (now table)) × (n * words ≤ length (now rows)) × Ended n (now table) (now rows) d (e .0) ⌝ }
     ensures { λ _. ⌜ ((t : Ended n (now (table .entry)) (now (rows .entry)) d (e .0)) → Narrowed t 1 (now (rows .exit))) ⌝ }
 {
     let last = e.0 as usize;
@@ -139,7 +132,7 @@ fn narrow(table: &[u64], n: usize, rows: &mut [u64], d: usize, e: Bay)
 
 // The path from x through the kept bays: each next bay is the lowest neighbour in the row one further.
 fn outward(table: &[u64], n: usize, rows: &[u64], d: usize, x: Bay, path: &mut [u16])
-    requires { ⌜ (n ≤ span) × (d < n) × (length (now table) ≡ n * words) × (n * words ≤ length (now rows)) × (n ≤ length (now path)) × Outside n (now table) (now rows) d (x .0) ⌝ }
+    requires { ⌜ (n ≤ span) × (d < n) × (n * words ≤ length (now table)) × (n * words ≤ length (now rows)) × (n ≤ length (now path)) × Outside n (now table) (now rows) d (x .0) ⌝ }
     ensures { λ _. ⌜ ((t : Outside n (now (table .entry)) (now (rows .entry)) d (x .0)) → take (d + 1) (now (path .exit)) ≡ pathOut t) ⌝ }
 {
     let mut u = x.0 as usize;
@@ -152,26 +145,6 @@ fn outward(table: &[u64], n: usize, rows: &[u64], d: usize, x: Bay, path: &mut [
     path[i] = u as u16;
 }
 
-// The nearest wanted bay that is reached from x through bays not held; ties go to the lowest number.
-pub fn find_nearest(
-    table: &[u64],
-    n: usize,
-    held: &[u64],
-    x: Bay,
-    wanted: &[u64],
-    rows: &mut [u64],
-) -> Nearest
-    requires { ⌜ (n ≤ span) × (x .0 < n) × (length (now table) ≡ n * words) × (length (now held) ≡ words) × (length (now wanted) ≡ words) × (n * words ≤ length (now rows)) × Shown n (now table) (now held) ⌝ }
-    ensures { λ r. ⌜ ((s : Shown n (now (table .entry)) (now (held .entry))) (q : ℕ → Bool) → ((b : ℕ) → b < n → mem (now (wanted .entry)) b ≡ q b) → nearestOf r ≡ find q (nearestFirst (s .yard) (s .bays) (x .0))) ⌝ }
-{
-    let d = search(table, n, held, x, wanted, rows);
-    let b = words::lowest_common(rows, d, wanted, 0);
-    if b < words::SPAN {
-        return Nearest::At(Bay(b as u16));
-    }
-    Nearest::Nowhere
-}
-
 // The shortest path from u to v through bays not held.
 pub fn path_between(
     table: &[u64],
@@ -182,7 +155,7 @@ pub fn path_between(
     rows: &mut [u64],
     path: &mut [u16],
 ) -> Path
-    requires { ⌜ (n ≤ span) × (u .0 < n) × (v .0 < n) × (length (now table) ≡ n * words) × (length (now held) ≡ words) × (n * words ≤ length (now rows)) × (n ≤ length (now path)) × Shown n (now table) (now held) ⌝ }
+    requires { ⌜ (n ≤ span) × (u .0 < n) × (v .0 < n) × (n * words ≤ length (now table)) × (length (now held) ≡ words) × (n * words ≤ length (now rows)) × (n ≤ length (now path)) × Shown n (now table) (now held) ⌝ }
     ensures { λ r. ⌜ ((s : Shown n (now (table .entry)) (now (held .entry))) → PathFound s (u .0) (v .0) (now (path .exit)) r) ⌝ }
 {
     let from = u.0 as usize;
@@ -206,7 +179,7 @@ pub fn way_to_nearest(
     rows: &mut [u64],
     path: &mut [u16],
 ) -> Way
-    requires { ⌜ (n ≤ span) × (x .0 < n) × (length (now table) ≡ n * words) × (length (now held) ≡ words) × (length (now wanted) ≡ words) × (n * words ≤ length (now rows)) × (n ≤ length (now path)) × (mem (now held) (x .0) ≡ false) × Shown n (now table) (now held) ⌝ }
+    requires { ⌜ (n ≤ span) × (x .0 < n) × (n * words ≤ length (now table)) × (length (now held) ≡ words) × (length (now wanted) ≡ words) × (n * words ≤ length (now rows)) × (n ≤ length (now path)) × (mem (now held) (x .0) ≡ false) × Shown n (now table) (now held) ⌝ }
     ensures { λ r. ⌜ ((s : Shown n (now (table .entry)) (now (held .entry))) (q : ℕ → Bool) → ((b : ℕ) → b < n → mem (now (wanted .entry)) b ≡ q b) → WayFound s (x .0) q (now (path .exit)) r) ⌝ }
 {
     let d = search(table, n, held, x, wanted, rows);
