@@ -11,10 +11,10 @@ use lib.Count.{ones, ones-step}
 use lib.Dec.{eqb}
 use lib.ListN.{length, getD, set, replicate, List·getD-eq-default}
 use lib.Pow.{pow-lt}
-use lib.Seq.{getD-set-same, getD-set-other}
+use lib.Seq.{getD-set-same, getD-set-other, ext-getD}
 use borrow.Author.Tests.{eq-eqb, ne-eqb}
 use Rattle.paper.specs.Basics.{_and_, _or_, filter, countFrom, upTo}
-use Rattle.paper.proofs.Tests.{by-cases}
+use Rattle.paper.proofs.Tests.{by-cases, not-both}
 use Rattle.words.specs.Sets.{on, mem, memRow, words, span, lessWord}
 use Rattle.words.proofs.Bits.{bit-half, bit-low, on-or, on-less, on-zero, on-one}
 
@@ -151,3 +151,35 @@ count-word ws i h =
     let d : 0 + 64 * i ≡ 64 * i = omega arith in
     rw (e, count-split 0 (64 * i) 64, d, filter-append)
     (ap (λ (n : ℕ). length (filter (mem ws) (upTo (64 * i))) + n) (ones-pass (mem ws) 64 (64 * i) (getD ws i 0) h (word-bit ws i)))
+
+-- ---- a set's members tell its words
+
+same-bit-value : (x y : ℕ) → x ≤ 1 → y ≤ 1 → eqb x 1 ≡ eqb y 1 → x ≡ y
+same-bit-value zero zero h k e = refl
+same-bit-value zero (suc zero) h k e = not-both e refl
+same-bit-value (suc zero) zero h k e = not-both refl e
+same-bit-value (suc zero) (suc zero) h k e = refl
+same-bit-value (suc (suc x)) y h k e = absurd (omega arith)
+same-bit-value zero (suc (suc y)) h k e = absurd (omega arith)
+same-bit-value (suc zero) (suc (suc y)) h k e = absurd (omega arith)
+
+same-word : (d a b : ℕ) → a < 2 ^ d → b < 2 ^ d → ((k : ℕ) → k < d → on a k ≡ on b k) → a ≡ b
+unfolding on
+same-word zero a b h k f = omega arith
+same-word (suc d) a b h k f =
+    let p : 2 ^ suc d ≡ 2 ^ d * 2 = pow-suc 2 d in
+    let ih =
+    same-word d (a / 2) (b / 2) (omega arith) (omega arith)
+    (λ i l.
+    ap (λ (n : ℕ). eqb n 1) (sym (bit-half a i)) ∙ f (suc i) (omega arith) ∙ ap (λ (n : ℕ). eqb n 1) (bit-half b i)) in
+    let low =
+    same-bit-value (a % 2) (b % 2) (omega arith) (omega arith)
+    (ap (λ (n : ℕ). eqb n 1) (sym (bit-low a)) ∙ f 0 (omega arith) ∙ ap (λ (n : ℕ). eqb n 1) (bit-low b)) in
+    omega arith
+
+-- Two lists of as many 64-bit words that hold the same bays are one.
+pub same-words : (a b : List ℕ) → length a ≡ length b → ((i : ℕ) → getD a i 0 < 2 ^ 64) → ((i : ℕ) → getD b i 0 < 2 ^ 64)
+    → ((x : ℕ) → mem a x ≡ mem b x) → a ≡ b
+same-words a b l fa fb f =
+    ext-getD 0 a b l
+    (λ i h. same-word 64 (getD a i 0) (getD b i 0) (fa i) (fb i) (λ k j. sym (word-bit a i k j) ∙ f (64 * i + k) ∙ word-bit b i k j))

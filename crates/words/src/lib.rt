@@ -82,10 +82,10 @@ pub fn count(ws: &[u64]) -> u64
     ensures { λ r. ⌜ r ≡ length (members (now (ws .entry))) ⌝ }
 {
     let mut n: u64 = 0;
-    let mut i = 0;
-    while i < ws.len() {
-        n += u64::count_ones(ws[i]) as u64;
-        i += 1;
+    let mut w = 0;
+    while w < ws.len() {
+        n += u64::count_ones(ws[w]) as u64;
+        w += 1;
     }
     n
 }

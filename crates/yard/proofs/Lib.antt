@@ -4,3 +4,4 @@ pub mod Reaching
 pub mod Places
 pub mod Opening
 pub mod Standing
+pub mod Determined

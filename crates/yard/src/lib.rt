@@ -30,7 +30,7 @@ pub enum Opened {
 }
 
 // The place of the one that was looked for, if there is one.
-pub enum Found {
+enum Found {
     At(usize),
     Nothing,
 }

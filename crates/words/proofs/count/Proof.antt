@@ -13,10 +13,10 @@ use Rattle.words.proofs.count.Statement.{statement}
 use Rattle.words.proofs.count.Tie as tie
 
 abbrev Inv-loop : tie.InvT-loop
-Inv-loop ws n₀ i₀ n i = (i ≤ length ws) × (n ≤ 64 * i) × (n ≡ length (filter (mem ws) (upTo (64 * i))))
+Inv-loop ws n₀ w₀ n w = (w ≤ length ws) × (n ≤ 64 * w) × (n ≡ length (filter (mem ws) (upTo (64 * w))))
 
 abbrev μ-loop : tie.MeasureT-loop
-μ-loop ws n₀ i₀ n i = length ws - i
+μ-loop ws n₀ w₀ n w = length ws - w
 
 loop-holds : tie.Need-loop-holds Inv-loop μ-loop
 unfolding filter countFrom
@@ -29,13 +29,13 @@ shared-slice-read-n : tie.Need-shared-slice-read-n Inv-loop μ-loop
 shared-slice-read-n c = search needs
 
 cast-n : tie.Need-cast-n Inv-loop μ-loop
-cast-n c = let f = c .shared-slice-known .given (c .before .before .loop .i) .fits in omega (arith, ones-le 64 (getD (c .before .before .before .args .ws .now) (c .before .before .loop .i) 0) f)
+cast-n c = let f = c .shared-slice-known .given (c .before .before .loop .w) .fits in omega (arith, ones-le 64 (getD (c .before .before .before .args .ws .now) (c .before .before .loop .w) 0) f)
 
 add-n : tie.Need-add-n Inv-loop μ-loop
-add-n c = let f = c .shared-slice-known .given (c .before .before .loop .i) .fits in omega (arith, ones-le 64 (getD (c .before .before .before .args .ws .now) (c .before .before .loop .i) 0) f)
+add-n c = let f = c .shared-slice-known .given (c .before .before .loop .w) .fits in omega (arith, ones-le 64 (getD (c .before .before .before .args .ws .now) (c .before .before .loop .w) 0) f)
 
-add-i : tie.Need-add-i Inv-loop μ-loop
-add-i c = search needs
+add-w : tie.Need-add-w Inv-loop μ-loop
+add-w c = search needs
 
 loop-less : tie.Need-loop-less Inv-loop μ-loop
 loop-less c = search needs
@@ -44,12 +44,12 @@ loop-again : tie.Need-loop-again Inv-loop μ-loop
 loop-again c =
     let l = c .before .before .loop in
     let ws : List ℕ = c .before .before .before .args .ws .now in
-    let f : getD ws (l .i) 0 < 2 ^ 64 = c .shared-slice-known .given (l .i) .fits in
-    (omega arith, omega (arith, ones-le 64 (getD ws (l .i) 0) f), omega (arith, count-word ws (l .i) f))
+    let f : getD ws (l .w) 0 < 2 ^ 64 = c .shared-slice-known .given (l .w) .fits in
+    (omega arith, omega (arith, ones-le 64 (getD ws (l .w) 0) f), omega (arith, count-word ws (l .w) f))
 
 returns : tie.Need-returns Inv-loop μ-loop
 unfolding members
-returns c = let e : c .before .loop .i ≡ length (c .before .before .args .ws .now) = omega arith in rw e at (c .before .loop .inv .2)
+returns c = let e : c .before .loop .w ≡ length (c .before .before .args .ws .now) = omega arith in rw e at (c .before .loop .inv .2)
 
 pub count-spec : {M : Type 1} → statement M
 count-spec =
@@ -62,7 +62,7 @@ count-spec =
     shared-slice-read-n
     cast-n
     add-n
-    add-i
+    add-w
     loop-less
     loop-again
     returns)
