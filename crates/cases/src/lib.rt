@@ -2,7 +2,7 @@
 // A list stands as its count and then its numbers.
 ghost use mathlib.Core.Path.{_≡_};
 ghost use Prim.Native.Nat.{_≤_, _<_};
-ghost use lib.ListN.{length};
+ghost use lib.ListN.{length, take};
 use std::num::wrapping_add_u64;
 
 // A number that was read, and the place after its last digit.
@@ -112,4 +112,23 @@ pub fn list8(text: &[u8], at: usize, out: &mut [u8]) -> Listed
         i += 1;
     }
     Listed { count: i, next }
+}
+
+// The first `n` numbers of a list, or all where there are fewer.
+pub fn first64(list: &[u64], n: usize) -> &[u64]
+    ensures { λ r. ⌜ now r ≡ take n (now (list .entry)) ⌝ }
+{
+    if n <= list.len() { &list[..n] } else { list }
+}
+
+pub fn first16(list: &[u16], n: usize) -> &[u16]
+    ensures { λ r. ⌜ now r ≡ take n (now (list .entry)) ⌝ }
+{
+    if n <= list.len() { &list[..n] } else { list }
+}
+
+pub fn first8(list: &[u8], n: usize) -> &[u8]
+    ensures { λ r. ⌜ now r ≡ take n (now (list .entry)) ⌝ }
+{
+    if n <= list.len() { &list[..n] } else { list }
 }

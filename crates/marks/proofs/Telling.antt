@@ -1,5 +1,5 @@
 -- What a report answers, test by test in the document's order: each law is one way out.
-use mathlib.Core.Path.{_≡_, refl, sym, _∙_, ap}
+use mathlib.Core.Path.{_≡_, refl, _∙_, ap}
 use mathlib.Core.Bool.{Bool, true, false, not}
 use mathlib.Core.List.{List}
 use mathlib.Core.Option.{none, some}
@@ -7,12 +7,12 @@ use Prim.Native.Nat.{ℕ, _≤_, _<_}
 use native.Mathlib.Omega.{arith}
 use borrow.Author.Tests.{eq-eqb, ne-eqb, le-leb, lt-leb, eqb-false}
 use lib.Dec.{eqb}
-use lib.ListN.{length, getD, length-map}
-use Rattle.paper.specs.Basics.{_and_, _or_, find, upTo}
-use Rattle.paper.specs.Yard.{Crossing, unpack, crossings, named}
+use lib.ListN.{length, getD}
+use Rattle.paper.specs.Basics.{_and_, _or_}
+use Rattle.paper.specs.Yard.{Crossing, named}
 use Rattle.paper.specs.Dependence.{depend, isDone, undoneBefore}
 use Rattle.paper.specs.Docket.{unknown, early, mismarked, badMarks}
-use Rattle.paper.specs.Answers.{Report, accept, already, refuse, tell}
+use Rattle.paper.specs.Answers.{accept, already, refuse, tell}
 use Rattle.paper.proofs.Tests.{by-cases, and-both, or-left, or-right, or-neither}
 use Rattle.marks.specs.Reading.{toldInOrder}
 

@@ -5,13 +5,12 @@ use mathlib.Core.Bool.{Bool, true, false, not}
 use mathlib.Core.List.{List}
 use Prim.Native.Nat.{ℕ, _≤_, _<_}
 use native.Mathlib.Omega.{arith}
-use lib.ListN.{length, getD}
+use lib.ListN.{length}
 use Rattle.paper.specs.Basics.{elem}
 use Rattle.paper.specs.Yard.{Yard, Placement, Crossing, bayOf, legal}
 use Rattle.paper.proofs.Tests.{by-cases, not-both}
 use Rattle.paper.proofs.Playing.{Legal, legal-facts, legal-of}
 use Rattle.words.specs.Sets.{mem, memRow, span}
-use Rattle.yard.specs.Table.{Table}
 use Rattle.replay.specs.Playing.{Standing, Judged}
 
 pub not-legal : (Y : Yard) (at : Placement) (x : Crossing) → (Legal Y at x → ⊥) → false ≡ legal Y at x

@@ -11,13 +11,13 @@ use borrow.Author.Tests.{eqb-true, eqb-false, eq-eqb}
 use lib.Dec.{eqb}
 use lib.ListN.{length, getD, take, drop, length-set}
 use lib.Seq.{take-suc, take-length}
-use Rattle.paper.specs.Basics.{if_then_else_, _and_, _or_, elem, In, Out}
+use Rattle.paper.specs.Basics.{_and_, _or_, elem, In}
 use Rattle.paper.specs.Yard.{Yard, Bay, Carrier, Placement, Crossing, bayOf, carrierAt, move, after, legal, crossings, named}
 use Rattle.paper.specs.Docket.{firstIllegal}
-use Rattle.paper.proofs.Tests.{by-cases, not-both, never-some, or-right}
+use Rattle.paper.proofs.Tests.{by-cases, never-some, or-right}
 use Rattle.paper.proofs.Playing.{Legal, legal-facts, bay-in, placeOf-there, placeOf-bay, move-self, move-other, move-apart, move-empties, move-out}
 use Rattle.plans.proofs.Rest.{rest-next, rest-none}
-use Rattle.words.specs.Sets.{mem, span}
+use Rattle.words.specs.Sets.{mem}
 use Rattle.replay.specs.Playing.{Standing, Occupied, Played}
 
 -- The set: empty at first, one bay more with each carrier.

@@ -1,6 +1,6 @@
 -- Demand 3 of the code's own `report`: of every run of it from fresh marks, whatever answers and marks its statement allows.
 -- It holds since the statement allows one answer only, the paper's, so a run is the paper's run.
-use mathlib.Core.Path.{_≡_, refl, sym, _∙_, ap, ap₂}
+use mathlib.Core.Path.{_≡_, refl, _∙_, ap}
 use mathlib.Core.Bool.{true, false}
 use mathlib.Core.Logic.{_↔_}
 use mathlib.Core.List.{List, [], _∷_, map}
@@ -8,11 +8,11 @@ use mathlib.Core.Option.{none}
 use Prim.Native.Nat.{ℕ, _<_}
 use lib.ListN.{length}
 use Rattle.paper.specs.Basics.{if_then_else_, In, NoDup}
-use Rattle.paper.specs.Yard.{Bay, Carrier, Placement, Crossing, after, legalPlan, crossings, named}
+use Rattle.paper.specs.Yard.{Bay, Carrier, Placement, after, legalPlan, crossings, named}
 use Rattle.paper.specs.Dependence.{isDone, doneOf, countOf, fresh}
 use Rattle.paper.specs.Docket.{yardOf}
-use Rattle.paper.specs.Answers.{check, Report, accept, already, refuse, accepts, marksAfter}
-use Rattle.paper.specs.Log.{Request, answerTo, marksBy, marksFrom, namesFrom, marksOf, namesOf}
+use Rattle.paper.specs.Answers.{check, already, accepts}
+use Rattle.paper.specs.Log.{Request, answerTo, marksFrom, namesFrom, marksOf, namesOf}
 use Rattle.paper.proofs.Demands.{Demand3, demand-3}
 use Rattle.marks.specs.Reading.{reportOf}
 use Rattle.marks.specs.declared.Reported.{Reported}

@@ -1,6 +1,6 @@
 -- Any two answers that a statement allows are equal, and so are what they leave: each answer reads as the paper's in one way only,
 -- since it can be read back.
-use mathlib.Core.Path.{_≡_, refl, sym, _∙_, ap}
+use mathlib.Core.Path.{_≡_, refl, ap}
 use mathlib.Core.List.{List}
 use mathlib.Core.Option.{Option, none, some}
 use Prim.Native.Nat.{ℕ}

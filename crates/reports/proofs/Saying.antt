@@ -1,16 +1,15 @@
 -- What slots and report say, way out by way out: the check's refusal first; once it has passed the plan's numbers fit the tables,
 -- and the rest is what the passes give.
-use mathlib.Core.Path.{_≡_, refl, sym, _∙_, ap}
+use mathlib.Core.Path.{_≡_, sym, _∙_, ap}
 use mathlib.Core.Bool.{true, false}
 use mathlib.Core.List.{List, _++_}
 use mathlib.Core.Option.{none, some}
 use Prim.Native.Nat.{ℕ, _<_, _≤_}
-use native.Mathlib.Omega.{arith}
 use borrow.Author.Tests.{lt-ltb, le-ltb}
 use lib.Dec.{ltb}
-use lib.ListN.{length, drop, length-map}
+use lib.ListN.{length, drop}
 use Rattle.paper.specs.Basics.{_or_}
-use Rattle.paper.specs.Yard.{Bay, Placement, unpack, crossings, most-crossings}
+use Rattle.paper.specs.Yard.{Bay, Placement, crossings, most-crossings}
 use Rattle.paper.specs.Dependence.{slots as slotsOf}
 use Rattle.paper.specs.Answers.{accept, tell, marksAfter, check, slotsRefusal, slotsEnd, report}
 use Rattle.paper.specs.OnePass.{Fits}

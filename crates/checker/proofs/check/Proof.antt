@@ -1,7 +1,6 @@
 -- `checker::check` meets its contract. 1 to 6 are the yard's answer; where it opens, the table is its own, and 9 and 10 decide (proofs/Six).
 -- Assumes nothing.
-use mathlib.Core.Path.{_≡_, sym, _∙_, ap}
-use mathlib.Core.Option.{some}
+use mathlib.Core.Path.{sym, _∙_, ap}
 use borrow.Author.Needs.{needs}
 use denote.Ref.{now}
 use Rattle.yard.specs.Opening.{openedOf}

@@ -1,7 +1,7 @@
 -- `checker::judge` meets its contract. An illegal crossing is 9; where there is none, whoever is not home is 10.
 -- Assumes nothing.
-use mathlib.Core.Path.{_≡_, sym, _∙_, ap}
-use mathlib.Core.Option.{Option, some}
+use mathlib.Core.Path.{sym, _∙_, ap}
+use mathlib.Core.Option.{some}
 use borrow.Author.Needs.{needs}
 use denote.Ref.{now}
 use Rattle.paper.specs.Basics.{_>>=_}

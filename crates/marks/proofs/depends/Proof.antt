@@ -1,7 +1,6 @@
 -- `marks::depends` meets its contract. The five tests are the definition's, one after the other.
 -- Assumes nothing.
 use mathlib.Core.Path.{sym}
-use borrow.Author.Needs.{needs}
 use borrow.Author.Tests.{eq-eqb, ne-eqb}
 use Rattle.paper.specs.Basics.{_or_}
 use Rattle.paper.specs.Dependence.{depend}

@@ -5,7 +5,7 @@ use Prim.Native.Nat.{_≤_, _-_}
 use native.Mathlib.Omega.{arith}
 use borrow.Author.Needs.{needs}
 use denote.Ref.{now}
-use lib.ListN.{length, getD}
+use lib.ListN.{length}
 use Rattle.plans.proofs.Searching.{AnyFrom, any-hit, any-miss, any-end}
 use Rattle.marks.proofs.Telling.{odd, odd-high, odd-low}
 use Rattle.marks.proofs.odd_mark.Statement.{statement}

@@ -1,16 +1,13 @@
 -- `marks::undone_before` meets its contract. What is left to look at decides: it goes up from 0, so the first that is met is the lowest.
 -- Assumes nothing.
-use mathlib.Core.Path.{_≡_, sym, _∙_, ap}
-use mathlib.Core.Bool.{Bool}
-use mathlib.Core.List.{List}
+use mathlib.Core.Path.{sym, _∙_, ap}
 use mathlib.Core.Logic.{⊎-elim}
-use Prim.Native.Nat.{ℕ, _≤_, _<_, _-_}
+use Prim.Native.Nat.{_≤_, _-_}
 use native.Mathlib.Omega.{arith}
 use borrow.Author.Needs.{needs}
 use denote.Ref.{now}
-use lib.ListN.{length}
 use Rattle.paper.specs.Basics.{find, upTo}
-use Rattle.paper.specs.Yard.{Crossing, crossings}
+use Rattle.paper.specs.Yard.{crossings}
 use Rattle.paper.specs.Dependence.{depend}
 use Rattle.docket.specs.Reading.{crossingOf}
 use Rattle.plans.proofs.Searching.{FoundFrom, found-start, found-hit, found-miss, found-end}

@@ -1,12 +1,12 @@
 -- `plans::find` meets its contract: a name below the plan's length has its crossing, any other has none.
 -- Assumes nothing.
-use mathlib.Core.Path.{_≡_, sym, ap, _∙_}
+use mathlib.Core.Path.{ap}
 use mathlib.Core.Option.{some}
 use borrow.Author.Needs.{needs}
 use borrow.Author.Tests.{lt-leb, le-leb}
 use denote.Ref.{now}
 use lib.ListN.{length, length-map}
-use Rattle.paper.specs.Yard.{unpack, crossings}
+use Rattle.paper.specs.Yard.{crossings}
 use Rattle.plans.specs.Reading.{foundIn}
 use Rattle.plans.proofs.find.Statement.{statement}
 use Rattle.plans.proofs.find.Tie as tie

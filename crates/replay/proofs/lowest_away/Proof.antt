@@ -1,6 +1,6 @@
 -- `replay::lowest_away` meets its contract. What is left to look at decides: it goes up from 0, so the first that is met is the lowest.
 -- Assumes nothing.
-use mathlib.Core.Path.{_≡_, ap, _∙_}
+use mathlib.Core.Path.{ap}
 use mathlib.Core.Bool.{Bool, not}
 use mathlib.Core.List.{List}
 use Prim.Native.Nat.{ℕ, _≤_, _-_}

@@ -1,6 +1,5 @@
 -- `replay::occupy` meets its contract. The set holds the bays of the carriers passed, and none at first.
 -- Assumes nothing.
-use mathlib.Core.Path.{_≡_}
 use Prim.Native.Nat.{_≤_, _-_}
 use native.Mathlib.Omega.{arith}
 use borrow.Author.Needs.{needs}

@@ -1,16 +1,14 @@
 -- `replay::play` meets its contract. The walk of proofs/Walking; what the test of a crossing passes has its places in the placement and in the set.
 -- Assumes nothing.
 use mathlib.Core.Path.{_≡_, refl, sym, _∙_}
-use mathlib.Core.Bool.{true, false, not}
-use Prim.Native.Nat.{ℕ, _≤_, _<_, _-_}
+use Prim.Native.Nat.{_≤_, _-_}
 use native.Mathlib.Omega.{arith}
 use borrow.Author.Needs.{needs}
 use borrow.Author.Tests.{not-true, not-false}
 use denote.Ref.{now}
 use lib.ListN.{length, length-set}
-use Rattle.paper.specs.Yard.{Yard, Crossing}
+use Rattle.paper.specs.Yard.{Yard}
 use Rattle.docket.specs.Reading.{crossingOf}
-use Rattle.words.specs.Sets.{span}
 use Rattle.replay.specs.Playing.{Standing}
 use Rattle.replay.proofs.Walking.{Walked, walked-start, walked-on, walked-illegal, walked-end}
 use Rattle.replay.proofs.play.Statement.{statement}

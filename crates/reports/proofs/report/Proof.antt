@@ -1,6 +1,6 @@
 -- `reports::report` meets its contract. Each way out is one law of proofs/Saying; an accepted name has a mark, since marks in order are as many as the crossings.
 -- Assumes nothing.
-use mathlib.Core.Path.{_≡_, sym, _∙_, ap}
+use mathlib.Core.Path.{sym, _∙_, ap}
 use borrow.Author.Needs.{needs}
 use denote.Ref.{now}
 use Rattle.checker.specs.Reading.{checkedOf}

@@ -1,6 +1,6 @@
 -- `reports::slots` meets its contract. Each way out is one law of proofs/Saying.
 -- Assumes nothing.
-use mathlib.Core.Path.{_≡_, sym, _∙_, ap}
+use mathlib.Core.Path.{sym, _∙_, ap}
 use borrow.Author.Needs.{needs}
 use denote.Ref.{now}
 use Rattle.checker.specs.Reading.{checkedOf}

@@ -1,7 +1,7 @@
 -- `slots::slot_pass` meets its contract. The crossing at hand has its carrier and bays below 256, so each table has its entry; the rest is the pass of proofs/Passing.
 -- Assumes nothing.
-use mathlib.Core.Path.{_≡_, sym, _∙_, ap}
-use Prim.Native.Nat.{ℕ, suc, _<_, _-_, _+_, max}
+use mathlib.Core.Path.{_∙_, ap}
+use Prim.Native.Nat.{suc, _<_, _-_, _+_, max}
 use native.Mathlib.Omega.{arith}
 use native.Mathlib.Numerals.{add-one}
 use borrow.Author.Needs.{needs}
