@@ -43,40 +43,40 @@ pub packed-unpacked : (w v : ℕ) (r : Held) → crossingOf r ≡ unpack w → v
 packed-unpacked w v r u p = p ∙ ap pack u ∙ pack-unpack w
 
 -- the code's refusal for the paper's
-back : paper.Refusal → Refusal
-back paper.size = Size
-back (paper.rail i) = Rail i
-back (paper.apart b) = Apart (record { 0 = b })
-back paper.crowd = Crowd
-back (paper.start c) = Start (record { 0 = c })
-back (paper.goal c) = Goal (record { 0 = c })
-back (paper.stopped c) = Stopped (record { 0 = c })
-back (paper.room l) = Room l
-back (paper.illegal i) = Illegal i
-back (paper.missed c) = Missed (record { 0 = c })
-back paper.mismarked = Mismarked
-back paper.unknown = Unknown
-back (paper.early e) = Early e
-back (paper.badMap l) = BadMap l
-back (paper.badScenario l) = BadScenario l
+unfoldable pub refusalFor : paper.Refusal → Refusal
+refusalFor paper.size = Size
+refusalFor (paper.rail i) = Rail i
+refusalFor (paper.apart b) = Apart (record { 0 = b })
+refusalFor paper.crowd = Crowd
+refusalFor (paper.start c) = Start (record { 0 = c })
+refusalFor (paper.goal c) = Goal (record { 0 = c })
+refusalFor (paper.stopped c) = Stopped (record { 0 = c })
+refusalFor (paper.room l) = Room l
+refusalFor (paper.illegal i) = Illegal i
+refusalFor (paper.missed c) = Missed (record { 0 = c })
+refusalFor paper.mismarked = Mismarked
+refusalFor paper.unknown = Unknown
+refusalFor (paper.early e) = Early e
+refusalFor (paper.badMap l) = BadMap l
+refusalFor (paper.badScenario l) = BadScenario l
 
-had-back : (r : Refusal) → back (refusalOf r) ≡ r
-unfolding back
-had-back Size = refl
-had-back (Rail i) = refl
-had-back (Apart b) = refl
-had-back Crowd = refl
-had-back (Start c) = refl
-had-back (Goal c) = refl
-had-back (Stopped c) = refl
-had-back (Room l) = refl
-had-back (Illegal i) = refl
-had-back (Missed c) = refl
-had-back Mismarked = refl
-had-back Unknown = refl
-had-back (Early e) = refl
-had-back (BadMap l) = refl
-had-back (BadScenario l) = refl
+pub refusal-back : (r : Refusal) → refusalFor (refusalOf r) ≡ r
+unfolding refusalFor
+refusal-back Size = refl
+refusal-back (Rail i) = refl
+refusal-back (Apart b) = refl
+refusal-back Crowd = refl
+refusal-back (Start c) = refl
+refusal-back (Goal c) = refl
+refusal-back (Stopped c) = refl
+refusal-back (Room l) = refl
+refusal-back (Illegal i) = refl
+refusal-back (Missed c) = refl
+refusal-back Mismarked = refl
+refusal-back Unknown = refl
+refusal-back (Early e) = refl
+refusal-back (BadMap l) = refl
+refusal-back (BadScenario l) = refl
 
 pub refusal-tells : Telling refusalOf
-refusal-tells = telling-by refusalOf back had-back
+refusal-tells = telling-by refusalOf refusalFor refusal-back

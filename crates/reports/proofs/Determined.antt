@@ -9,25 +9,7 @@ use Rattle.paper.specs.Yard.{Bay, Placement}
 use Rattle.paper.specs.Docket as paper
 use Rattle.paper.specs.Answers.{Report, accept, already, refuse, check, slotsRefusal, slotsEnd, report, marksEnd}
 use Rattle.paper.proofs.Determined.{Determined, Telling, telling-by, determined-by}
-use Rattle.docket.specs.Reading.{refusalOf}
-use Rattle.docket.specs.declared.Refusal.{Refusal}
-use Rattle.docket.specs.declared.Refusal.the-variants.{
-  Size,
-  Rail,
-  Apart,
-  Crowd,
-  Start,
-  Goal,
-  Stopped,
-  Room,
-  Illegal,
-  Missed,
-  Mismarked,
-  Unknown,
-  Early,
-  BadMap,
-  BadScenario,
-}
+use Rattle.docket.proofs.Telling.{refusalFor, refusal-back}
 use Rattle.marks.specs.Reading.{reportOf}
 use Rattle.marks.specs.declared.Reported.{Reported}
 use Rattle.marks.specs.declared.Reported.the-variants as told
@@ -37,45 +19,6 @@ use Rattle.checker.specs.declared.Checked.the-variants as checked
 use Rattle.reports.specs.Statements.{slottedOf, SlotsSay, ReportSays}
 use Rattle.reports.specs.declared.Slotted.{Slotted}
 use Rattle.reports.specs.declared.Slotted.the-variants as slotted
-
--- the code's refusal that reads as the paper's
-refusalFor : paper.Refusal → Refusal
-refusalFor paper.size = Size
-refusalFor (paper.rail i) = Rail i
-refusalFor (paper.apart b) = Apart (record { 0 = b })
-refusalFor paper.crowd = Crowd
-refusalFor (paper.start c) = Start (record { 0 = c })
-refusalFor (paper.goal c) = Goal (record { 0 = c })
-refusalFor (paper.stopped c) = Stopped (record { 0 = c })
-refusalFor (paper.room l) = Room l
-refusalFor (paper.illegal i) = Illegal i
-refusalFor (paper.missed c) = Missed (record { 0 = c })
-refusalFor paper.mismarked = Mismarked
-refusalFor paper.unknown = Unknown
-refusalFor (paper.early e) = Early e
-refusalFor (paper.badMap l) = BadMap l
-refusalFor (paper.badScenario l) = BadScenario l
-
-refusal-back : (r : Refusal) → refusalFor (refusalOf r) ≡ r
-unfolding refusalFor
-refusal-back Size = refl
-refusal-back (Rail i) = refl
-refusal-back (Apart b) = refl
-refusal-back Crowd = refl
-refusal-back (Start c) = refl
-refusal-back (Goal c) = refl
-refusal-back (Stopped c) = refl
-refusal-back (Room l) = refl
-refusal-back (Illegal i) = refl
-refusal-back (Missed c) = refl
-refusal-back Mismarked = refl
-refusal-back Unknown = refl
-refusal-back (Early e) = refl
-refusal-back (BadMap l) = refl
-refusal-back (BadScenario l) = refl
-
-pub refusals-told-apart : Telling refusalOf
-refusals-told-apart = telling-by refusalOf refusalFor refusal-back
 
 -- an answer that is a refusal or none, read back
 checkedFor : Option paper.Refusal → Checked
