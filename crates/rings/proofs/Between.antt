@@ -16,8 +16,7 @@ use Rattle.paper.specs.Yard.{Bay, Yard, joined}
 use Rattle.paper.specs.Path.{Free, rings, ringOf, inward, shortestPath}
 use Rattle.paper.proofs.Tests.{not-both, and-left, and-right, and-both}
 use Rattle.paper.proofs.Members.{In-head}
-use Rattle.paper.proofs.Rings.{joined-sym, ring-step, ring-zero, in-concat, distance-in, distance-least}
-use Rattle.paper.proofs.Rings.{Walk, here, on, ring-walk, walk-ring, walk-back, walk-free, rings-apart, ringsFrom-length, in-ring}
+use Rattle.paper.proofs.Rings.{joined-sym, ring-step, ring-zero, in-concat, distance-in, distance-least, Walk, here, on, ring-walk, walk-ring, walk-back, walk-free, rings-apart, ringsFrom-length, in-ring}
 use Rattle.words.specs.Sets.{mem, memRow, span, anyBelow, reaches}
 use Rattle.words.proofs.Besides.{equal-tests, anyBelow-some, anyBelow-of}
 use Rattle.yard.specs.Table.{Table}
@@ -106,29 +105,53 @@ module _ (Y : Yard) (held : List Bay) (x e : Bay) (m : ℕ) (free-x : Free Y hel
       (λ k. eq-eqb b e (ring-zero Y held (Y .bays) [] e b (rw z at (and-right _ _ k))))
 
   module _ {n : ℕ} {table : List ℕ} (t : Table Y n table) (most : n ≤ span) (hx : x < n) where
+    -- beside a bay kept in ring i + 1
+    between-behind : (i : ℕ) → suc i ≤ m → (a b : Bay) → between (suc i) a ≡ true → joined Y a b ≡ true → In b (around Y held x i) → between i b ≡ true
+    between-behind i h a b k rail b-in =
+        let sum : suc i + (m - suc i) ≡ m = omega arith in
+        let next : m - i ≡ suc (m - suc i) = omega arith in
+        and-both (elem b (around Y held x i)) (elem b (around Y held e (m - i))) b-in
+        (rw next (behind i (m - suc i) sum b a b-in (joined-sym Y a b rail) (and-right (elem a (around Y held x (suc i))) (elem a (around Y held e (m - suc i))) k)))
+
+    -- a bay kept in ring i has one beside it in ring i + 1
+    between-next : (i : ℕ) → suc i ≤ m → (b : Bay) → between i b ≡ true → (a : Bay) × (between (suc i) a ≡ true) × (joined Y b a ≡ true)
+    between-next i h b k =
+        let sum : suc i + (m - suc i) ≡ m = omega arith in
+        let next : m - i ≡ suc (m - suc i) = omega arith in
+        let b-in : In b (around Y held x i) = and-left (elem b (around Y held x i)) (elem b (around Y held e (m - i))) k in
+        let far : In b (around Y held e (m - i)) = and-right (elem b (around Y held x i)) (elem b (around Y held e (m - i))) k in
+        let s = ring-step Y held (Y .bays) [] (e ∷ []) (m - suc i) b (rw next at far) in (
+          s .0,
+          and-both (elem (s .0) (around Y held x (suc i))) (elem (s .0) (around Y held e (m - suc i))) (further i (m - suc i) sum b (s .0) b-in (s .2) (s .1)) (s .1),
+          s .2,
+        )
+
     pub between-inside : (i : ℕ) (b : Bay) → between i b ≡ true → b < n
     between-inside i b k = rw (t .bays) at (ring-inside Y held x i b (rw (t .bays) hx) (and-left _ _ k))
+
+    -- the same in words
+    kept-reached : (kept : List ℕ) (i : ℕ) → suc i ≤ m → ((a : ℕ) → a < span → mem kept a ≡ between (suc i) a)
+        → (b : ℕ) → b < span → In b (around Y held x i) → (a : ℕ) → a < span → reaches table kept b a ≡ true → between i b ≡ true
+    kept-reached kept i h k b hb b-in a ha r =
+        let a-kept : between (suc i) a ≡ true = sym (k a ha) ∙ and-left (mem kept a) (memRow table a b) r in
+        between-behind i h a b a-kept (sym (t .same a b (between-inside (suc i) a a-kept) hb) ∙ and-right (mem kept a) (memRow table a b) r) b-in
+
+    reached-kept : (kept : List ℕ) (i : ℕ) → ((a : ℕ) → a < span → mem kept a ≡ between (suc i) a)
+        → (b : ℕ) → b < span → In b (around Y held x i) → (a : ℕ) → between (suc i) a ≡ true → joined Y b a ≡ true
+        → anyBelow (reaches table kept b) span and elem b (around Y held x i) ≡ true
+    reached-kept kept i k b hb b-in a a-kept rail =
+        let a-low : a < n = between-inside (suc i) a a-kept in
+        let ha : a < span = omega arith in
+        and-both (anyBelow (reaches table kept b) span) (elem b (around Y held x i))
+        (anyBelow-of (reaches table kept b) span a ha (and-both (mem kept a) (memRow table a b) (k a ha ∙ a-kept) (t .same a b a-low hb ∙ joined-sym Y b a rail)))
+        b-in
 
     -- of ring i, what stands beside those kept in ring i + 1
     pub between-beside : (kept : List ℕ) (i : ℕ) → suc i ≤ m → ((a : ℕ) → a < span → mem kept a ≡ between (suc i) a)
         → (b : ℕ) → b < span → anyBelow (reaches table kept b) span and elem b (around Y held x i) ≡ between i b
     between-beside kept i h k b hb =
-        let d : ℕ = m - suc i in
-        let sum : suc i + d ≡ m = omega arith in
-        let next : m - i ≡ suc d = omega arith in
-        equal-tests _ _
+        equal-tests (anyBelow (reaches table kept b) span and elem b (around Y held x i)) (between i b)
         (λ z.
-        let r = anyBelow-some (reaches table kept b) span (and-left _ _ z) in
-        let a : ℕ = r .0 in
-        let a-kept : between (suc i) a ≡ true = sym (k a (r .1)) ∙ and-left _ _ (r .2) in
-        let rail : joined Y a b ≡ true = sym (t .same a b (between-inside (suc i) a a-kept) hb) ∙ and-right _ _ (r .2) in
-        let b-in : In b (around Y held x i) = and-right _ _ z in
-        and-both _ _ b-in (rw next (behind i d sum b a b-in (joined-sym Y a b rail) (and-right _ _ a-kept))))
-        (λ z.
-        let b-in : In b (around Y held x i) = and-left _ _ z in
-        let far : In b (around Y held e (m - i)) = and-right _ _ z in
-        let s = ring-step Y held (Y .bays) [] (e ∷ []) d b (rw next at far) in
-        let a-kept : between (suc i) (s .0) ≡ true = and-both _ _ (further i d sum b (s .0) b-in (s .2) (s .1)) (s .1) in
-        let a-low : s .0 < n = between-inside (suc i) (s .0) a-kept in
-        let rail : memRow table (s .0) b ≡ true = t .same (s .0) b a-low hb ∙ joined-sym Y b (s .0) (s .2) in
-        and-both _ _ (anyBelow-of (reaches table kept b) span (s .0) (omega arith) (and-both _ _ (k (s .0) (omega arith) ∙ a-kept) rail)) b-in)
+        let r = anyBelow-some (reaches table kept b) span (and-left (anyBelow (reaches table kept b) span) (elem b (around Y held x i)) z) in
+        kept-reached kept i h k b hb (and-right (anyBelow (reaches table kept b) span) (elem b (around Y held x i)) z) (r .0) (r .1) (r .2))
+        (λ z. let r = between-next i h b z in reached-kept kept i k b hb (and-left (elem b (around Y held x i)) (elem b (around Y held e (m - i))) z) (r .0) (r .1) (r .2))

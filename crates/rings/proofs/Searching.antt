@@ -4,12 +4,12 @@
 use mathlib.Core.Path.{_≡_, refl, sym, ap, _∙_}
 use mathlib.Core.Bool.{Bool, true, false, not}
 use mathlib.Core.List.{List, [], _∷_, _++_}
-use Prim.Native.Nat.{ℕ, zero, suc, _+_, _≤_, _<_}
+use Prim.Native.Nat.{ℕ, zero, suc, _+_, _*_, _≤_, _<_}
 use native.Mathlib.Decide.{ℕ-discrete, decLt}
 use native.Mathlib.Numerals.{add-one}
 use native.Mathlib.Omega.{arith}
 use lib.Dec.{eqb}
-use lib.ListN.{getD, List·getD-eq-default}
+use lib.ListN.{getD, List·getD-eq-default, length}
 use borrow.Author.Tests.{not-true}
 use Rattle.paper.specs.Basics.{if_then_else_, _and_, _or_, any, filter, elem, without, upTo, In}
 use Rattle.paper.specs.Yard.{Bay, Yard, joined}
@@ -18,7 +18,7 @@ use Rattle.paper.proofs.Tests.{by-cases, not-both, and-left, and-right, and-bot
 use Rattle.paper.proofs.Members.{In-head, In-append, In-append-left, In-append-right, filter-in, filter-passes, in-filter, any-of, any-some, without-out, in-without, count-high, in-count}
 use Rattle.paper.proofs.Rings.{joined-sym, ring-zero}
 use Rattle.paper.proofs.Rings.{ring-free, ringsFrom-length}
-use Rattle.words.specs.Sets.{mem, memRow, Lowest, Kept, Settled, span, words, anyBelow, reaches, Beside}
+use Rattle.words.specs.Sets.{mem, memRow, Lowest, Kept, Settled, span, words, anyBelow, reaches, Beside, members}
 use Rattle.words.proofs.Sets.{row-zero, zeros, mem-zeros}
 use Rattle.words.proofs.Besides.{equal-tests, anyBelow-some, anyBelow-of}
 use Rattle.yard.specs.Table.{Table}
@@ -268,3 +268,21 @@ module _ {n : ℕ} {table held : List ℕ} (s : Shown n table held) (x : Bay) wh
 pub only : (g : List ℕ) (x : ℕ) → ((y : ℕ) → mem g y ≡ mem (zeros words) y or eqb y x) → (b : ℕ) → mem g b ≡ eqb b x
 unfolding _or_
 only g x h b = h b ∙ rw (mem-zeros words b)
+
+-- ## Any set is held
+
+members-mem : (ws : List ℕ) (b : ℕ) → b < 64 * length ws → mem ws b ≡ elem b (members ws)
+unfolding members
+members-mem ws b h =
+    equal-tests (mem ws b) (elem b (filter (mem ws) (upTo (64 * length ws))))
+    (λ k. in-filter (mem ws) (upTo (64 * length ws)) b (in-count 0 (64 * length ws) b (omega arith) (omega arith)) k)
+    (λ k. filter-passes (mem ws) (upTo (64 * length ws)) b k)
+
+-- the words of any set show its members as the held bays
+pub shown-any : {n : ℕ} {table held : List ℕ} {Y : Yard} → Table Y n table → length held ≡ words → Shown n table held
+shown-any {held = held} {Y = Y} t l = record {
+  yard = Y;
+  bays = members held;
+  joins = t;
+  holds = λ b h. members-mem held b (omega arith);
+}
