@@ -1,0 +1,236 @@
+-- A vacate that holds both bays leaves leader and follower in place, so the leader can cross into the vacated bay and the follower
+-- into the bay that the leader left: each turn of the loop is one step of the paper's bring.
+-- Assumes nothing.
+use mathlib.Core.Path.{_≡_, sym, _∙_, ap, refl}
+use mathlib.Core.Bool.{Bool, true, false}
+use mathlib.Core.List.{List, [], _∷_, _++_, append-nil, append-assoc}
+use mathlib.Core.Option.{Option, none, some}
+use Prim.Native.Nat.{ℕ, suc, _≤_, _<_, _+_}
+use native.Mathlib.Omega.{arith}
+use native.Mathlib.Numerals.{add-one}
+use lib.ListN.{length, getD, drop, drop-of-length-le, set, length-set}
+use lib.Seq.{drop-cons, getD-set-same, getD-set-other}
+use native.Mathlib.Decide.{ℕ-discrete}
+use lib.Dec.{eqb}
+use Rattle.paper.specs.Basics.{if_then_else_, _or_, _>>=_, elem, In, Out}
+use Rattle.paper.specs.Procedure.{_then_, cross, vacate, bring}
+use Rattle.paper.specs.Yard.{Bay, Carrier, Yard, Placement, bayOf, carrierAt, Crossing, crossing, move, after}
+use Rattle.paper.proofs.Members.{In-head, In-tail, in-count}
+use Rattle.paper.proofs.Playing.{Apart, after-append, after-length, bay-in, out-of}
+use Rattle.paper.proofs.Tests.{by-option, not-both, never-some}
+use Rattle.paper.proofs.Vacating.{Vacated, vacate-vacates}
+use Rattle.words.specs.Sets.{mem, words}
+use Rattle.words.proofs.Sets.{zeros, mem-zeros}
+use Rattle.vacate.specs.Placed.{Played, Placed}
+use Rattle.rings.specs.Search.{Shown}
+use Rattle.vacate.proofs.Playing.{played-none, played-then, carrier-is}
+use Rattle.bring.specs.Acting.{Tabled, Acts, Tries}
+use Rattle.bring.proofs.Acting.{tries-some, tried-done, tried-failed, acted-done}
+use Rattle.bring.specs.declared.Tried.the-variants.{Done}
+use Rattle.bring.specs.declared.Tried.the-variants.{Failed}
+
+-- the crossings, and then what the rest answers
+abbrev ahead : List Crossing → Option (List Crossing) → Option (List Crossing)
+ahead xs none = none
+ahead xs (some ys) = some (xs ++ ys)
+
+pub bay-low : {n : ℕ} {table : List ℕ} {x : ℕ} (t : Tabled n table) → x < n → x < t .yard .bays
+bay-low t h = rw (t .joins .bays) h
+
+-- whoever crosses to an empty bay leaves its own empty
+moved-out : (q : Placement) (L : Carrier) (x : Bay) → Apart q → L < length q → Out x q → Out (bayOf q L) (set q L x)
+moved-out q L x apart h o = out-of (set q L x) (bayOf q L) (λ c k e. elim (ℕ-discrete c L) [
+  | yes d ↦ let same : x ≡ bayOf q L = sym (getD-set-same q L x 0 h) ∙ (rw d at e) in not-both (rw (← same) at (bay-in q L h)) o
+  | no d ↦ d (apart c L (rw length-set at k) h (sym (getD-set-other q L c x 0 d) ∙ e))
+])
+
+-- two held bays
+pub pair-view : {n : ℕ} {table : List ℕ} (t : Tabled n table) (u w : Bay) (h₁ h₂ : List ℕ) → ((y : ℕ) → mem h₁ y ≡ mem (zeros words) y or eqb y u)
+    → ((y : ℕ) → mem h₂ y ≡ mem h₁ y or eqb y w) → (b : ℕ) → mem h₂ b ≡ elem b (u ∷ w ∷ [])
+unfolding _or_ elem
+pair-view t u w h₁ h₂ f g b = g b ∙ rw (f b, mem-zeros words b) (sort (eqb b u) (eqb b w))
+  where
+    sort : (s t : Bool) → (s or t) ≡ (if s then true else (if t then true else false))
+    sort true t = refl
+    sort false true = refl
+    sort false false = refl
+
+abbrev pub pairShown : {n : ℕ} {table : List ℕ} (t : Tabled n table) (u w : Bay) (h₁ h₂ : List ℕ) → ((y : ℕ) → mem h₁ y ≡ mem (zeros words) y or eqb y u)
+    → ((y : ℕ) → mem h₂ y ≡ mem h₁ y or eqb y w) → Shown n table h₂
+pairShown t u w h₁ h₂ f g = record { yard = t .yard; bays = u ∷ w ∷ []; joins = t .joins; holds = λ b h. pair-view t u w h₁ h₂ f g b }
+
+-- ## One bay of the path
+
+module _ (Y : Yard) (L M : Carrier) (x : Bay) (p : Placement) (apart : Apart p) (hL : L < length p) (hM : M < length p) (differ : M ≡ L → ⊥)
+    (hx : x < Y .bays) (vs : List Crossing) (made : vacate Y (bayOf p L ∷ bayOf p M ∷ []) x p ≡ some vs) where
+  vacated : Vacated Y (bayOf p L ∷ bayOf p M ∷ []) x p vs
+  vacated = vacate-vacates Y (bayOf p L ∷ bayOf p M ∷ []) x p vs apart (in-count 0 (Y .bays) x (omega arith) (omega arith)) made
+
+  leader-stays : bayOf (after p vs) L ≡ bayOf p L
+  leader-stays = vacated .keeps L hL (In-head _ _)
+
+  follower-stays : bayOf (after p vs) M ≡ bayOf p M
+  follower-stays = vacated .keeps M hM (In-tail _ _ _ (In-head _ _))
+
+  -- the leader's crossing: from its bay into x
+  leader-there : In (bayOf p L) (after p vs)
+  leader-there = rw leader-stays at (bay-in (after p vs) L (rw after-length hL))
+
+  leader-free : Out x (after p vs)
+  leader-free = vacated .empties
+
+  leader-is : Apart (after p vs) → carrierAt (after p vs) (bayOf p L) ≡ L
+  leader-is a = carrier-is (after p vs) (bayOf p L) L a (rw after-length hL) leader-stays
+
+  abbrev one : Crossing
+  one = crossing L (bayOf p L) x
+
+  abbrev q : Placement
+  q = after p vs
+
+  follower-next : bayOf (move q one) M ≡ bayOf p M
+  follower-next = getD-set-other q L M x 0 differ ∙ follower-stays
+
+  follower-there : In (bayOf p M) (move q one)
+  follower-there = rw follower-next at (bay-in (move q one) M (rw (length-set, after-length) hM))
+
+  follower-is : Apart (move q one) → carrierAt (move q one) (bayOf p M) ≡ M
+  follower-is a = carrier-is (move q one) (bayOf p M) M a (rw (length-set, after-length) hM) follower-next
+
+  leader-leaves : Apart (after p vs) → Out (bayOf p L) (move q one)
+  leader-leaves a = rw leader-stays at (moved-out (after p vs) L x a (rw after-length hL) leader-free)
+
+  abbrev two : Crossing
+  two = crossing M (bayOf p M) (bayOf p L)
+
+  abbrev made-here : List Crossing
+  made-here = vs ++ (one ∷ two ∷ [])
+
+  bring-on : (xs : List Bay) → bring Y L M (x ∷ xs) p ≡ ahead made-here (bring Y L M xs (after p made-here))
+  unfolding bring _then_ cross after
+  bring-on xs = rw (made, after-append, leader-stays, follower-next) (regroup (bring Y L M xs (move (move q one) two)))
+    where
+      regroup : (o : Option (List Crossing))
+          → ((some (one ∷ []) >>= λ a. ((some (two ∷ []) >>= λ b. o >>= λ d. some (b ++ d)) >>= λ b. some (a ++ b))) >>= λ b. some (vs ++ b)) ≡ ahead made-here o
+      regroup none = refl
+      regroup (some ys) = ap some (sym (append-assoc vs (one ∷ two ∷ []) ys))
+
+-- ## All bays of the path
+
+-- what has been brought so far, and what is still to be done
+pub record Bringing (Y : Yard) (L M : Carrier) (path : List Bay) (n : ℕ) (p : Placement) (out : List ℕ) (at : ℕ) (i : ℕ) (p′ standing′ empty′ out′ : List ℕ) (m : ℕ) : Type 0 where
+  pub xs : List Crossing
+  pub played : Played xs n p p′ standing′ empty′ out at out′ m
+  pub answer : bring Y L M path p ≡ ahead xs (bring Y L M (drop i path) p′)
+
+pub bringing-none : (Y : Yard) (L M : Carrier) (path : List Bay) (n : ℕ) (p standing empty out : List ℕ) (at : ℕ) → Placed n p standing empty
+    → Bringing Y L M path n p out at 0 p standing empty out at
+bringing-none Y L M path n p standing empty out at k = record {
+  xs = [];
+  played = played-none n p standing empty out at k;
+  answer = plain (bring Y L M path p);
+}
+  where
+    plain : (o : Option (List Crossing)) → o ≡ ahead [] o
+    plain none = refl
+    plain (some ys) = refl
+
+ahead-ahead : (xs ys : List Crossing) (o : Option (List Crossing)) → ahead xs (ahead ys o) ≡ ahead (xs ++ ys) o
+ahead-ahead xs ys none = refl
+ahead-ahead xs ys (some zs) = ap some (sym (append-assoc xs ys zs))
+
+pub bringing-all : (Y : Yard) (L M : Carrier) (path : List Bay) (n : ℕ) (p out : List ℕ) (at i : ℕ) (p′ standing′ empty′ out′ : List ℕ) (m : ℕ)
+    → Bringing Y L M path n p out at i p′ standing′ empty′ out′ m → length path ≤ i → Tries (bring Y L M path p) n p out at p′ standing′ empty′ out′ (Done m)
+bringing-all Y L M path n p out at i p′ standing′ empty′ out′ m b h =
+    let nil : bring Y L M [] p′ ≡ some [] = unfold bring in refl in
+    let e : bring Y L M path p ≡ some (b .xs) = b .answer ∙ rw (drop-of-length-le path h, nil, append-nil (b .xs)) in
+    tries-some e (b .played)
+
+module _ (Y : Yard) (n : ℕ) (L M : Carrier) (x : Bay) (p : Placement) (apart : Apart p) (hL : L < length p) (hM : M < length p) (differ : M ≡ L → ⊥)
+    (hx : x < Y .bays) {standing empty out : List ℕ} {at a : ℕ} {q standing₁ empty₁ out₁ : List ℕ}
+    (acts : Acts (vacate Y (bayOf p L ∷ bayOf p M ∷ []) x p) n p standing empty out at q standing₁ empty₁ out₁ (Done a)) where
+  made-of : (xs : List Crossing) × (vacate Y (bayOf p L ∷ bayOf p M ∷ []) x p ≡ some xs) × Played xs n p q standing₁ empty₁ out at out₁ a
+  made-of = acted-done acts
+
+  pub led : In (bayOf p L) q × Out x q × (carrierAt q (bayOf p L) ≡ L) × Placed n q standing₁ empty₁
+  led =
+      let m = made-of in
+      let e = m .2 .moved in (
+        rw e (leader-there Y L M x p apart hL hM differ hx (m .0) (m .1)),
+        rw e (leader-free Y L M x p apart hL hM differ hx (m .0) (m .1)),
+        rw e (leader-is Y L M x p apart hL hM differ hx (m .0) (m .1) (rw e at (m .2 .placed .apart))),
+        m .2 .placed,
+      )
+
+  -- the follower's crossing, after the leader's
+  module _ {q₁ standing₂ empty₂ out₂ : List ℕ} {b : ℕ}
+      (first : Played (crossing (carrierAt q (bayOf p L)) (bayOf p L) x ∷ []) n q q₁ standing₂ empty₂ out₁ a out₂ b) where
+    first-move : q₁ ≡ move q (crossing L (bayOf p L) x)
+    unfolding after
+    first-move = first .moved ∙ rw (led .2)
+
+    pub followed : In (bayOf p M) q₁ × Out (bayOf p L) q₁ × (carrierAt q₁ (bayOf p M) ≡ M)
+    followed =
+        let m = made-of in
+        let e = m .2 .moved in
+        let f : q₁ ≡ move (after p (m .0)) (crossing L (bayOf p L) x) = first-move ∙ ap (λ (s : Placement). move s (crossing L (bayOf p L) x)) e in (
+          rw f (follower-there Y L M x p apart hL hM differ hx (m .0) (m .1)),
+          rw f (leader-leaves Y L M x p apart hL hM differ hx (m .0) (m .1) (rw e at (m .2 .placed .apart))),
+          rw f (follower-is Y L M x p apart hL hM differ hx (m .0) (m .1) (rw f at (first .placed .apart))),
+        )
+
+    pub brought-one : {q₂ standing₃ empty₃ out₃ : List ℕ} {r : ℕ} → Played (crossing (carrierAt q₁ (bayOf p M)) (bayOf p M) (bayOf p L) ∷ []) n q₁ q₂ standing₃ empty₃ out₂ b out₃ r
+        → Tries (bring Y L M (x ∷ []) p) n p out at q₂ standing₃ empty₃ out₃ (Done r)
+    brought-one {q₂} {standing₃} {empty₃} {out₃} {r} second =
+        let m = made-of in
+        let one-is : Played (crossing L (bayOf p L) x ∷ []) n q q₁ standing₂ empty₂ out₁ a out₂ b = rw (led .2) at first in
+        let two-is : Played (crossing M (bayOf p M) (bayOf p L) ∷ []) n q₁ q₂ standing₃ empty₃ out₂ b out₃ r = rw (followed .2) at second in
+        let nil : (s : Placement) → bring Y L M [] s ≡ some [] = λ s. unfold bring in refl in
+        let on : bring Y L M (x ∷ []) p ≡ some ((m .0 ++ (crossing L (bayOf p L) x ∷ crossing M (bayOf p M) (bayOf p L) ∷ [])) ++ []) =
+        bring-on Y L M x p apart hL hM differ hx (m .0) (m .1) [] ∙ rw nil in
+        tries-some on (rw append-nil (played-then (m .2) (played-then one-is two-is)))
+
+pub brought-not : (Y : Yard) (L M : Carrier) (x : Bay) (p : Placement) → vacate Y (bayOf p L ∷ bayOf p M ∷ []) x p ≡ none → (xs : List Bay) → bring Y L M (x ∷ xs) p ≡ none
+unfolding bring _then_
+brought-not Y L M x p e xs = rw e
+
+-- the rest of the path after its first bay
+module _ (Y : Yard) (L M : Carrier) (x : Bay) (p : Placement) (apart : Apart p) (hL : L < length p) (hM : M < length p) (differ : M ≡ L → ⊥) (hx : x < Y .bays) where
+  pub bring-then : (xs : List Bay) (cs : List Crossing) → bring Y L M (x ∷ []) p ≡ some cs → bring Y L M (x ∷ xs) p ≡ ahead cs (bring Y L M xs (after p cs))
+  bring-then xs cs e =
+      by-option (vacate Y (bayOf p L ∷ bayOf p M ∷ []) x p)
+      (λ none-made. never-some cs (sym (brought-not Y L M x p none-made []) ∙ e))
+      (λ vs made.
+      let here : List Crossing = vs ++ (crossing L (bayOf p L) x ∷ crossing M (bayOf p M) (bayOf p L) ∷ []) in
+      let nil : bring Y L M [] (after p here) ≡ some [] = unfold bring in refl in
+      let z : bring Y L M (x ∷ []) p ≡ some here = bring-on Y L M x p apart hL hM differ hx vs made [] ∙ rw (nil, append-nil here) in
+      let same : here ≡ cs = let y = sym z ∙ e in cc in
+      bring-on Y L M x p apart hL hM differ hx vs made xs ∙ ap (λ (l : List Crossing). ahead l (bring Y L M xs (after p l))) same)
+
+  pub bring-stops : (xs : List Bay) → bring Y L M (x ∷ []) p ≡ none → bring Y L M (x ∷ xs) p ≡ none
+  bring-stops xs e =
+      by-option (vacate Y (bayOf p L ∷ bayOf p M ∷ []) x p)
+      (λ none-made. brought-not Y L M x p none-made xs)
+      (λ vs made.
+      let here : List Crossing = vs ++ (crossing L (bayOf p L) x ∷ crossing M (bayOf p M) (bayOf p L) ∷ []) in
+      let nil : bring Y L M [] (after p here) ≡ some [] = unfold bring in refl in
+      let z : bring Y L M (x ∷ []) p ≡ some here = bring-on Y L M x p apart hL hM differ hx vs made [] ∙ rw (nil, append-nil here) in
+      never-some here (sym e ∙ z))
+
+module _ {Y : Yard} {L M : Carrier} {path : List Bay} {n : ℕ} {p out : List ℕ} {at i : ℕ} {p′ standing′ empty′ out′ : List ℕ} {m : ℕ} (b : Bringing Y L M path n p out at i p′ standing′ empty′ out′ m)
+    (here : i < length path) (hL : L < length p′) (hM : M < length p′) (differ : M ≡ L → ⊥) (hx : getD path i 0 < Y .bays) where
+  pub bringing-more : {q standing″ empty″ out″ : List ℕ} {r : ℕ} → Tries (bring Y L M (getD path i 0 ∷ []) p′) n p′ out′ m q standing″ empty″ out″ (Done r)
+      → Bringing Y L M path n p out at (i + 1) q standing″ empty″ out″ r
+  bringing-more t =
+      let s = tried-done t in
+      record {
+        xs = b .xs ++ s .0;
+        played = played-then (b .played) (s .2);
+        answer =
+            b .answer
+            ∙ rw (drop-cons path i 0, bring-then Y L M (getD path i 0) p′ (b .played .placed .apart) hL hM differ hx (drop (suc i) path) (s .0) (s .1), ahead-ahead, ← add-one, ← (s .2 .moved));
+      }
+
+  pub bringing-stops : {q standing″ empty″ out″ : List ℕ} → Tries (bring Y L M (getD path i 0 ∷ []) p′) n p′ out′ m q standing″ empty″ out″ Failed → bring Y L M path p ≡ none
+  bringing-stops t =
+      b .answer ∙ rw (drop-cons path i 0, bring-stops Y L M (getD path i 0) p′ (b .played .placed .apart) hL hM differ hx (drop (suc i) path) (tried-failed t))

@@ -1,0 +1,204 @@
+-- `bring::bring_one` meets its contract. The vacate holds both bays, so both carriers are where they were when they cross.
+-- Assumes nothing.
+use mathlib.Core.Path.{_≡_}
+use native.Mathlib.Omega.{arith}
+use lib.ListN.{length}
+use mathlib.Core.List.{[]}
+use borrow.Author.Needs.{needs}
+use Rattle.bring.proofs.Acting.{tries-none, acted-failed}
+use Rattle.bring.proofs.Bringing.{bay-low, pairShown, led, followed, brought-one, brought-not}
+use Rattle.bring.specs.declared.Tried.the-variants.{Done}
+use Rattle.bring.specs.declared.Tried.the-variants.{Failed}
+use Rattle.bring.proofs.bring_one.Statement.{statement}
+use Rattle.bring.proofs.bring_one.Tie as tie
+use Rattle.bring.proofs.bring_one.Reads as reads
+use Rattle.bring.proofs.bring_one.Lts as lts
+use Rattle.bring.proofs.make_room.Reads as make-room-reads
+use Rattle.vacate.proofs.cross.Reads as cross-reads
+use Rattle.words.proofs.add.Reads as add-reads
+
+cast-first : tie.Need-cast-first
+cast-first c = search needs
+
+cast-second : tie.Need-cast-second
+cast-second c = search needs
+
+mul-u : tie.Need-mul-u
+mul-u c = search needs
+
+slice-read-u : tie.Need-slice-read-u
+slice-read-u c = search needs
+
+mul-w : tie.Need-mul-w
+mul-w c = search needs
+
+slice-read-w : tie.Need-slice-read-w
+slice-read-w c = search needs
+
+slice-aggregate-add : tie.Need-slice-aggregate-add
+slice-aggregate-add c = search needs
+
+cast-add : tie.Need-cast-add
+cast-add c = omega (arith, c .before .before .before .before .before .before .before .before .before .before .before .pre .0 .placed .inside (c .before .before .before .before .before .before .before .before .before .before .before .args .l .0) (c .before .before .before .before .before .before .before .before .before .before .before .pre .1 .0))
+
+add-requires : tie.Need-add-requires
+add-requires c κs = let i = c .before .before .before .before .before .before .before .before .before .before .before .pre .0 .placed .inside (c .before .before .before .before .before .before .before .before .before .before .before .args .l .0) (c .before .before .before .before .before .before .before .before .before .before .before .pre .1 .0) in omega (arith, c .before .before .before .before .before .before .before .before .before .before .before .pre .0 .most)
+
+slice-aggregate-add-2 : tie.Need-slice-aggregate-add-2
+slice-aggregate-add-2 c = search needs
+
+cast-add-2 : tie.Need-cast-add-2
+cast-add-2 c = omega (arith, c .before .before .before .before .before .before .before .before .before .before .before .before .before .before .pre .0 .placed .inside (c .before .before .before .before .before .before .before .before .before .before .before .before .before .before .args .m .0) (c .before .before .before .before .before .before .before .before .before .before .before .before .before .before .pre .1 .1))
+
+add-requires-2 : tie.Need-add-requires-2
+add-requires-2 c κs = let i = c .before .before .before .before .before .before .before .before .before .before .before .before .before .before .pre .0 .placed .inside (c .before .before .before .before .before .before .before .before .before .before .before .before .before .before .args .m .0) (c .before .before .before .before .before .before .before .before .before .before .before .before .before .before .pre .1 .1) in omega (arith, c .before .before .before .before .before .before .before .before .before .before .before .before .before .before .pre .0 .most)
+
+slice-aggregate-make-room : tie.Need-slice-aggregate-make-room
+slice-aggregate-make-room c = search needs
+
+make-room-requires : tie.Need-make-room-requires
+make-room-requires c κs =
+    let p = c .before .before .before .before .before .before .before .before .before .before .before .before .before .before .before .before .before .before .before .before .before .before .pre .0 in
+    let z = c .before .before .before .before .before .before .before .before .before .before .before .before .before .before .before .before .before .before .before .before .before .before .pre .1 in
+    (p, (z .3, omega arith, z .4, z .5, pairShown (p .tabled) _ _ _ _ (c .before .before .before .before .before .before .before .before .before .before .add .ensures) (c .before .before .before .before .before .before .before .add2 .ensures)))
+
+enum-known-vacated : tie.Need-enum-known-vacated
+enum-known-vacated c = search needs
+
+enum-told : tie.Need-enum-told
+enum-told c = search needs
+
+same-length : tie.Need-same-length
+same-length c = search needs
+
+same-length-2 : tie.Need-same-length-2
+same-length-2 c = search needs
+
+same-length-3 : tie.Need-same-length-3
+same-length-3 c = search needs
+
+same-length-4 : tie.Need-same-length-4
+same-length-4 c = search needs
+
+same-length-5 : tie.Need-same-length-5
+same-length-5 c = search needs
+
+returns : tie.Need-returns
+returns c =
+    let z = c .before .before .before .before .before .before .before .before .before .before .before .before .before .before .before .before .before .before .before .before .before .before .before .before .before .before .before .before .before .before .before .before .before .before .before .pre .1 in (
+      tt,
+      λ t.
+          let v = pairShown t _ _ _ _ (c .before .before .before .before .before .before .before .before .before .before .before .before .before .before .before .before .before .before .before .before .before .before .before .add .ensures) (c .before .before .before .before .before .before .before .before .before .before .before .before .before .before .before .before .before .before .before .before .add2 .ensures) in
+          let e : c .before .before .before .before .before .before .before .before .before .before .before .before .make-room .result ≡ Failed = c .enum-told .given .1 in
+          tries-none (brought-not (t .yard) (c .before .before .before .before .before .before .before .before .before .before .before .before .before .before .before .before .before .before .before .before .before .before .before .before .before .before .before .before .before .before .before .before .before .before .before .args .l .0) (c .before .before .before .before .before .before .before .before .before .before .before .before .before .before .before .before .before .before .before .before .before .before .before .before .before .before .before .before .before .before .before .before .before .before .before .args .m .0) (c .before .before .before .before .before .before .before .before .before .before .before .before .before .before .before .before .before .before .before .before .before .before .before .before .before .before .before .before .before .before .before .before .before .before .before .args .x .0) (c .before .before .before .before .before .before .before .before .before .before .before .before .before .before .before .before .before .before .before .before .before .before .before .before .before .before .before .before .before .before .before .before .before .before .before .args .placement .now) (acted-failed (rw e at (c .before .before .before .before .before .before .before .before .before .before .before .before .make-room .ensures .1 v))) []),
+    )
+
+cross-requires : tie.Need-cross-requires
+cross-requires c κs =
+    let p = c .before .before .before .before .before .before .before .before .before .before .before .before .before .before .before .before .before .before .before .before .before .before .before .before .before .before .before .before .before .before .before .before .before .before .before .before .before .before .before .before .pre .0 in
+    let z = c .before .before .before .before .before .before .before .before .before .before .before .before .before .before .before .before .before .before .before .before .before .before .before .before .before .before .before .before .before .before .before .before .before .before .before .before .before .before .before .before .pre .1 in
+    let a = c .before .before .before .before .before .before .before .before .before .before .before .before .before .before .before .before .before .before .before .before .before .before .before .before .before .before .before .before .before .before .before .before .before .before .before .before .before .before .before .before .args in
+    let m = c .before .before .before .before .before .vacated .given .0 .0 in
+    let e : c .before .before .before .before .before .before .before .before .before .before .before .before .before .before .before .before .before .make-room .result ≡ Done m = c .before .before .before .before .before .vacated .given .1 in
+    let few = rw e at (c .before .before .before .before .before .before .before .before .before .before .before .before .before .before .before .before .before .make-room .ensures .0) in
+    let kw : length (c .before .before .before .before .before .before .before .before .before .before .before .before .before .before .before .before .before .make-room .last .1 .1 .1 .1 .0) ≡ length (a .standing .now) = c .before .before .before .before .before .before .before .before .before .before .before .before .before .before .before .before .before .make-room .kept .1 .1 .1 .1 .0 in
+    let kf : length (c .before .before .before .before .before .before .before .before .before .before .before .before .before .before .before .before .before .make-room .last .1 .1 .1 .1 .1 .0) ≡ length (a .empty .now) = c .before .before .before .before .before .before .before .before .before .before .before .before .before .before .before .before .before .make-room .kept .1 .1 .1 .1 .1 .0 in
+    let hu = p .placed .inside (a .l .0) (z .0) in
+    let hw = p .placed .inside (a .m .0) (z .1) in
+    let acts = rw e at (c .before .before .before .before .before .before .before .before .before .before .before .before .before .before .before .before .before .make-room .ensures .1 (pairShown (p .tabled) _ _ _ _ (c .before .before .before .before .before .before .before .before .before .before .before .before .before .before .before .before .before .before .before .before .before .before .before .before .before .before .before .before .add .ensures) (c .before .before .before .before .before .before .before .before .before .before .before .before .before .before .before .before .before .before .before .before .before .before .before .before .before .add2 .ensures))) in
+    let hx = bay-low (p .tabled) (z .3) in
+    let l = led (p .tabled .yard) (length (a .standing .now)) (a .l .0) (a .m .0) (a .x .0) (a .placement .now) (p .placed .apart) (z .0) (z .1) (z .2) hx acts in
+    (omega (arith, hu, kw), omega (arith, z .3, kw), omega (arith, p .most, kw), omega (arith, p .empty-size, kf), omega (arith, few, z .5), l .0, l .1, rw kw (l .3))
+
+cross-requires-2 : tie.Need-cross-requires-2
+cross-requires-2 c κs =
+    let p = c .before .before .before .before .before .before .before .before .before .before .before .before .before .before .before .before .before .before .before .before .before .before .before .before .before .before .before .before .before .before .before .before .before .before .before .before .before .before .before .before .before .before .before .before .before .before .before .before .before .before .before .before .before .pre .0 in
+    let z = c .before .before .before .before .before .before .before .before .before .before .before .before .before .before .before .before .before .before .before .before .before .before .before .before .before .before .before .before .before .before .before .before .before .before .before .before .before .before .before .before .before .before .before .before .before .before .before .before .before .before .before .before .before .pre .1 in
+    let a = c .before .before .before .before .before .before .before .before .before .before .before .before .before .before .before .before .before .before .before .before .before .before .before .before .before .before .before .before .before .before .before .before .before .before .before .before .before .before .before .before .before .before .before .before .before .before .before .before .before .before .before .before .before .args in
+    let m = c .before .before .before .before .before .before .before .before .before .before .before .before .before .before .before .before .before .before .vacated .given .0 .0 in
+    let e : c .before .before .before .before .before .before .before .before .before .before .before .before .before .before .before .before .before .before .before .before .before .before .before .before .before .before .before .before .before .before .make-room .result ≡ Done m = c .before .before .before .before .before .before .before .before .before .before .before .before .before .before .before .before .before .before .vacated .given .1 in
+    let few = rw e at (c .before .before .before .before .before .before .before .before .before .before .before .before .before .before .before .before .before .before .before .before .before .before .before .before .before .before .before .before .before .before .make-room .ensures .0) in
+    let kw : length (c .before .before .before .before .before .before .before .before .before .before .before .before .before .before .before .before .before .before .before .before .before .before .before .before .before .before .before .before .before .before .make-room .last .1 .1 .1 .1 .0) ≡ length (a .standing .now) = c .before .before .before .before .before .before .before .before .before .before .before .before .before .before .before .before .before .before .before .before .before .before .before .before .before .before .before .before .before .before .make-room .kept .1 .1 .1 .1 .0 in
+    let kf : length (c .before .before .before .before .before .before .before .before .before .before .before .before .before .before .before .before .before .before .before .before .before .before .before .before .before .before .before .before .before .before .make-room .last .1 .1 .1 .1 .1 .0) ≡ length (a .empty .now) = c .before .before .before .before .before .before .before .before .before .before .before .before .before .before .before .before .before .before .before .before .before .before .before .before .before .before .before .before .before .before .make-room .kept .1 .1 .1 .1 .1 .0 in
+    let hu = p .placed .inside (a .l .0) (z .0) in
+    let hw = p .placed .inside (a .m .0) (z .1) in
+    let acts = rw e at (c .before .before .before .before .before .before .before .before .before .before .before .before .before .before .before .before .before .before .before .before .before .before .before .before .before .before .before .before .before .before .make-room .ensures .1 (pairShown (p .tabled) _ _ _ _ (c .before .before .before .before .before .before .before .before .before .before .before .before .before .before .before .before .before .before .before .before .before .before .before .before .before .before .before .before .before .before .before .before .before .before .before .before .before .before .before .before .before .add .ensures) (c .before .before .before .before .before .before .before .before .before .before .before .before .before .before .before .before .before .before .before .before .before .before .before .before .before .before .before .before .before .before .before .before .before .before .before .before .before .before .add2 .ensures))) in
+    let hx = bay-low (p .tabled) (z .3) in
+    let l = led (p .tabled .yard) (length (a .standing .now)) (a .l .0) (a .m .0) (a .x .0) (a .placement .now) (p .placed .apart) (z .0) (z .1) (z .2) hx acts in
+    let first = rw kw at (c .before .before .before .before .before .before .before .before .before .before .before .before .cross .ensures) in
+    let g = followed (p .tabled .yard) (length (a .standing .now)) (a .l .0) (a .m .0) (a .x .0) (a .placement .now) (p .placed .apart) (z .0) (z .1) (z .2) hx acts first in
+    let kw2 : length (c .before .before .before .before .before .before .before .before .before .before .before .before .cross .last .1 .0) ≡ length (c .before .before .before .before .before .before .before .before .before .before .before .before .before .before .before .before .before .before .before .before .before .before .before .before .before .before .before .before .before .before .make-room .last .1 .1 .1 .1 .0) = c .before .before .before .before .before .before .before .before .before .before .before .before .cross .kept .1 .0 in
+    let kf2 : length (c .before .before .before .before .before .before .before .before .before .before .before .before .cross .last .1 .1 .0) ≡ length (c .before .before .before .before .before .before .before .before .before .before .before .before .before .before .before .before .before .before .before .before .before .before .before .before .before .before .before .before .before .before .make-room .last .1 .1 .1 .1 .1 .0) = c .before .before .before .before .before .before .before .before .before .before .before .before .cross .kept .1 .1 .0 in
+    (omega (arith, hw, kw, kw2), omega (arith, hu, kw, kw2), omega (arith, p .most, kw, kw2), omega (arith, p .empty-size, kf, kf2), omega (arith, few, z .5, first .counted), g .0, g .1, rw (kw2, kw) (first .placed))
+
+same-length-6 : tie.Need-same-length-6
+same-length-6 c = search needs
+
+same-length-7 : tie.Need-same-length-7
+same-length-7 c = search needs
+
+same-length-8 : tie.Need-same-length-8
+same-length-8 c = search needs
+
+same-length-9 : tie.Need-same-length-9
+same-length-9 c = search needs
+
+same-length-10 : tie.Need-same-length-10
+same-length-10 c = search needs
+
+returns-2 : tie.Need-returns-2
+returns-2 c =
+    let p = c .before .before .before .before .before .before .before .before .before .before .before .before .before .before .before .before .before .before .before .before .before .before .before .before .before .before .before .before .before .before .before .before .before .before .before .before .before .before .before .before .before .before .before .before .before .before .before .before .before .before .before .before .before .before .before .before .before .before .before .before .before .before .pre .0 in
+    let z = c .before .before .before .before .before .before .before .before .before .before .before .before .before .before .before .before .before .before .before .before .before .before .before .before .before .before .before .before .before .before .before .before .before .before .before .before .before .before .before .before .before .before .before .before .before .before .before .before .before .before .before .before .before .before .before .before .before .before .before .before .before .before .pre .1 in
+    let a = c .before .before .before .before .before .before .before .before .before .before .before .before .before .before .before .before .before .before .before .before .before .before .before .before .before .before .before .before .before .before .before .before .before .before .before .before .before .before .before .before .before .before .before .before .before .before .before .before .before .before .before .before .before .before .before .before .before .before .before .before .before .before .args in
+    let m = c .before .before .before .before .before .before .before .before .before .before .before .before .before .before .before .before .before .before .before .before .before .before .before .before .before .before .before .vacated .given .0 .0 in
+    let e : c .before .before .before .before .before .before .before .before .before .before .before .before .before .before .before .before .before .before .before .before .before .before .before .before .before .before .before .before .before .before .before .before .before .before .before .before .before .before .before .make-room .result ≡ Done m = c .before .before .before .before .before .before .before .before .before .before .before .before .before .before .before .before .before .before .before .before .before .before .before .before .before .before .before .vacated .given .1 in
+    let few = rw e at (c .before .before .before .before .before .before .before .before .before .before .before .before .before .before .before .before .before .before .before .before .before .before .before .before .before .before .before .before .before .before .before .before .before .before .before .before .before .before .before .make-room .ensures .0) in
+    let kw : length (c .before .before .before .before .before .before .before .before .before .before .before .before .before .before .before .before .before .before .before .before .before .before .before .before .before .before .before .before .before .before .before .before .before .before .before .before .before .before .before .make-room .last .1 .1 .1 .1 .0) ≡ length (a .standing .now) = c .before .before .before .before .before .before .before .before .before .before .before .before .before .before .before .before .before .before .before .before .before .before .before .before .before .before .before .before .before .before .before .before .before .before .before .before .before .before .before .make-room .kept .1 .1 .1 .1 .0 in
+    let kf : length (c .before .before .before .before .before .before .before .before .before .before .before .before .before .before .before .before .before .before .before .before .before .before .before .before .before .before .before .before .before .before .before .before .before .before .before .before .before .before .before .make-room .last .1 .1 .1 .1 .1 .0) ≡ length (a .empty .now) = c .before .before .before .before .before .before .before .before .before .before .before .before .before .before .before .before .before .before .before .before .before .before .before .before .before .before .before .before .before .before .before .before .before .before .before .before .before .before .before .make-room .kept .1 .1 .1 .1 .1 .0 in
+    let hu = p .placed .inside (a .l .0) (z .0) in
+    let hw = p .placed .inside (a .m .0) (z .1) in
+    let kw2 : length (c .before .before .before .before .before .before .before .before .before .before .before .before .before .before .before .before .before .before .before .before .before .cross .last .1 .0) ≡ length (c .before .before .before .before .before .before .before .before .before .before .before .before .before .before .before .before .before .before .before .before .before .before .before .before .before .before .before .before .before .before .before .before .before .before .before .before .before .before .before .make-room .last .1 .1 .1 .1 .0) = c .before .before .before .before .before .before .before .before .before .before .before .before .before .before .before .before .before .before .before .before .before .cross .kept .1 .0 in
+    let first = rw kw at (c .before .before .before .before .before .before .before .before .before .before .before .before .before .before .before .before .before .before .before .before .before .cross .ensures) in
+    let second = rw (kw2, kw) at (c .before .before .before .before .before .before .before .before .cross2 .ensures) in (
+      omega (arith, few, first .counted, second .counted),
+      λ t.
+          let acts = rw e at (c .before .before .before .before .before .before .before .before .before .before .before .before .before .before .before .before .before .before .before .before .before .before .before .before .before .before .before .before .before .before .before .before .before .before .before .before .before .before .before .make-room .ensures .1 (pairShown (t) _ _ _ _ (c .before .before .before .before .before .before .before .before .before .before .before .before .before .before .before .before .before .before .before .before .before .before .before .before .before .before .before .before .before .before .before .before .before .before .before .before .before .before .before .before .before .before .before .before .before .before .before .before .before .before .add .ensures) (c .before .before .before .before .before .before .before .before .before .before .before .before .before .before .before .before .before .before .before .before .before .before .before .before .before .before .before .before .before .before .before .before .before .before .before .before .before .before .before .before .before .before .before .before .before .before .before .add2 .ensures))) in
+          let hx = bay-low (t) (z .3) in
+          brought-one (t .yard) (length (a .standing .now)) (a .l .0) (a .m .0) (a .x .0) (a .placement .now) (p .placed .apart) (z .0) (z .1) (z .2) hx acts first second,
+    )
+
+pub bring-one-spec : {M : Type 1} → statement M
+bring-one-spec =
+    tie.close
+    (tie.spec
+    cast-first
+    cast-second
+    mul-u
+    slice-read-u
+    mul-w
+    slice-read-w
+    slice-aggregate-add
+    cast-add
+    add-requires
+    slice-aggregate-add-2
+    cast-add-2
+    add-requires-2
+    slice-aggregate-make-room
+    make-room-requires
+    enum-known-vacated
+    enum-told
+    same-length
+    same-length-2
+    same-length-3
+    same-length-4
+    same-length-5
+    returns
+    cross-requires
+    cross-requires-2
+    same-length-6
+    same-length-7
+    same-length-8
+    same-length-9
+    same-length-10
+    returns-2)

@@ -1,0 +1,176 @@
+// Bring: two carriers go to a junction one behind the other. Undo: what was stored in the list is read back, turned and traded.
+use docket::Bay;
+use docket::Carrier;
+use docket::Crossing;
+use vacate::Vacated;
+ghost use mathlib.Core.Path.{_≡_};
+ghost use mathlib.Core.List.{[], _∷_};
+ghost use Prim.Native.Nat.{ℕ, _+_, _*_, _^_, _≤_, _<_};
+ghost use lib.ListN.{length, getD, set};
+ghost use lib.Seq.{sets};
+ghost use Rattle.paper.specs.Procedure.{trade};
+ghost use Rattle.words.specs.Sets.{words, span};
+ghost use Rattle.rings.specs.Search.{Shown};
+ghost use Rattle.vacate.specs.Answer.{countAfter};
+ghost use Rattle.bring.specs.Acting.{Tabled, Ready, countOf, Within, Acts, Tries, vacates, brings};
+ghost use Rattle.bring.specs.Turning.{Crossings, Small, Holds, turned, numbers};
+
+// The count of crossings afterwards, or that it could not be done.
+pub enum Tried {
+    Done(usize),
+    Failed,
+}
+
+// Vacating, by the count of crossings afterwards.
+fn counted(answer: Vacated, at: usize) -> Tried
+    ensures { λ r. ⌜ countOf r ≡ countAfter at answer ⌝ }
+{
+    match answer {
+        Vacated::Empty => Tried::Done(at),
+        Vacated::Filled(_, m) => Tried::Done(m),
+        Vacated::Failed => Tried::Failed,
+    }
+}
+
+// Vacate(x, held).
+pub fn make_room(
+    table: &[u64],
+    held: &[u64],
+    x: Bay,
+    placement: &mut [u16],
+    standing: &mut [u16],
+    empty: &mut [u64],
+    rows: &mut [u64],
+    out: &mut [u64],
+    at: usize,
+) -> Tried
+    requires { ⌜ Ready (now table) (now placement) (now standing) (now empty) ⌝ }
+    requires { ⌜ (x .0 < length (now standing)) × (length (now held) ≡ words) × (length (now standing) * words ≤ length (now rows)) × (at < 2 ^ 62) × Shown (length (now standing)) (now table) (now held) ⌝ }
+    ensures { λ r. ⌜ (Within at span r) × ((s : Shown (length (now (standing .entry))) (now (table .entry)) (now (held .entry))) → Acts (vacates (s .yard) (s .bays) (x .0) (now (placement .entry))) (length (now (standing .entry))) (now (placement .entry)) (now (standing .entry)) (now (empty .entry)) (now (out .entry)) at (now (placement .exit)) (now (standing .exit)) (now (empty .exit)) (now (out .exit)) r) ⌝ }
+{
+    let answer = vacate::vacate(table, held, x, placement, standing, empty, rows, out, at);
+    counted(answer, at)
+}
+
+// One bay of the path: it is vacated, holding both carriers' bays; l crosses into it, and m into l's old bay.
+fn bring_one(
+    table: &[u64],
+    l: Carrier,
+    m: Carrier,
+    x: Bay,
+    placement: &mut [u16],
+    standing: &mut [u16],
+    empty: &mut [u64],
+    rows: &mut [u64],
+    out: &mut [u64],
+    at: usize,
+) -> Tried
+    requires { ⌜ Ready (now table) (now placement) (now standing) (now empty) ⌝ }
+    requires { ⌜ (l .0 < length (now placement)) × (m .0 < length (now placement)) × (m .0 ≡ l .0 → ⊥) × (x .0 < length (now standing)) × (length (now standing) * words ≤ length (now rows)) × (at < 2 ^ 62) ⌝ }
+    ensures { λ r. ⌜ (Within at 258 r) × ((t : Tabled (length (now (standing .entry))) (now (table .entry))) → Tries (brings (t .yard) (l .0) (m .0) (x .0 ∷ []) (now (placement .entry))) (length (now (standing .entry))) (now (placement .entry)) (now (out .entry)) at (now (placement .exit)) (now (standing .exit)) (now (empty .exit)) (now (out .exit)) r) ⌝ }
+{
+    let first = l.0 as usize;
+    let second = m.0 as usize;
+    let u = placement[first];
+    let w = placement[second];
+    let mut held = [0u64; words::WORDS];
+    words::add(&mut held, u as usize);
+    words::add(&mut held, w as usize);
+    let vacated = make_room(table, &held, x, placement, standing, empty, rows, out, at);
+    let Tried::Done(a) = vacated else {
+        return Tried::Failed;
+    };
+    let b = vacate::cross(placement, standing, empty, Bay(u), x, out, a);
+    Tried::Done(vacate::cross(placement, standing, empty, Bay(w), Bay(u), out, b))
+}
+
+// Bring, along the bays that the leader l has yet to enter.
+pub fn bring(
+    table: &[u64],
+    path: &[u16],
+    l: Carrier,
+    m: Carrier,
+    placement: &mut [u16],
+    standing: &mut [u16],
+    empty: &mut [u64],
+    rows: &mut [u64],
+    out: &mut [u64],
+    at: usize,
+) -> Tried
+    requires { ⌜ Ready (now table) (now placement) (now standing) (now empty) ⌝ }
+    requires { ⌜ (l .0 < length (now placement)) × (m .0 < length (now placement)) × (m .0 ≡ l .0 → ⊥) × ((k : ℕ) → k < length (now path) → getD (now path) k 0 < length (now standing)) × (length (now standing) * words ≤ length (now rows)) × (at + 258 * length (now path) < 2 ^ 62) ⌝ }
+    ensures { λ r. ⌜ (Within at (258 * length (now (path .entry))) r) × ((t : Tabled (length (now (standing .entry))) (now (table .entry))) → Tries (brings (t .yard) (l .0) (m .0) (now (path .entry)) (now (placement .entry))) (length (now (standing .entry))) (now (placement .entry)) (now (out .entry)) at (now (placement .exit)) (now (standing .exit)) (now (empty .exit)) (now (out .exit)) r) ⌝ }
+{
+    let mut count = at;
+    let mut i = 0;
+    while i < path.len() {
+        let x = Bay(path[i]);
+        let one = bring_one(table, l, m, x, placement, standing, empty, rows, out, count);
+        let Tried::Done(c) = one else {
+            return Tried::Failed;
+        };
+        count = c;
+        i += 1;
+    }
+    Tried::Done(count)
+}
+
+// What stands at a place of the list; 0 past its end.
+fn stored_at(out: &[u64], i: usize) -> u64
+    ensures { λ r. ⌜ r ≡ getD (now (out .entry)) i 0 ⌝ }
+{
+    if i < out.len() {
+        return out[i];
+    }
+    0
+}
+
+// The carrier l where c is m, m where it is l, and else c.
+fn traded(l: Carrier, m: Carrier, c: Carrier) -> Carrier
+    ensures { λ r. ⌜ r .0 ≡ trade (l .0) (m .0) (c .0) ⌝ }
+{
+    if c.0 == l.0 {
+        return m;
+    }
+    if c.0 == m.0 {
+        return l;
+    }
+    c
+}
+
+// The number of the crossing the other way, with l and m traded.
+fn turn(l: Carrier, m: Carrier, number: u64) -> u64
+    ensures { λ r. ⌜ r ≡ turned (l .0) (m .0) number ⌝ }
+{
+    let x = docket::unpack(number);
+    let c = x.carrier;
+    let from = x.from;
+    let to = x.to;
+    docket::pack(Crossing {
+        carrier: traded(l, m, c),
+        from: to,
+        to: from,
+    })
+}
+
+// The number goes to its place in the list where the list is so long.
+pub fn put(out: &mut [u64], at: usize, number: u64)
+    ensures { λ _. ⌜ now (out .exit) ≡ set (now (out .entry)) at number ⌝ }
+{
+    if at < out.len() {
+        out[at] = number;
+    }
+}
+
+// Undo: the crossings from `from` on, as many as `many`, backwards and turned, with l and m traded, from `at` on.
+pub fn undo(out: &mut [u64], from: usize, many: usize, at: usize, l: Carrier, m: Carrier)
+    requires { ⌜ (from + many ≤ at) × (at + many < 2 ^ 63) ⌝ }
+    ensures { λ _. ⌜ ((xs : Crossings) → Small xs → Holds (now (out .entry)) from xs → length xs ≡ many → now (out .exit) ≡ sets (now (out .entry)) at (numbers (l .0) (m .0) xs)) ⌝ }
+{
+    let mut j = 0;
+    while j < many {
+        let number = stored_at(out, from + (many - 1 - j));
+        put(out, at + j, turn(l, m, number));
+        j += 1;
+    }
+}

@@ -1,0 +1,270 @@
+-- `clear::clear` meets its contract. The cases are how many neighbours are empty: two, one, or none.
+-- Assumes nothing.
+use mathlib.Core.Path.{_≡_}
+use native.Mathlib.Omega.{arith}
+use lib.ListN.{length}
+use borrow.Author.Needs.{needs}
+use Rattle.clear.proofs.Clearing.{lowest-in, two-short, two-both, two-more, clears-short, clears-as, twoShown, first-none, first-then, clear-none, clear-one, clear-two, around-of, inside-of, inside-less, holdsTwo, ready-again, clears-both}
+use Rattle.clear.specs.declared.Kept.the-variants.{Nothing}
+use Rattle.clear.specs.declared.Kept.the-variants.{One}
+use Rattle.clear.proofs.clear.Statement.{statement}
+use Rattle.clear.proofs.clear.Tie as tie
+
+slice-aggregate-join-row : tie.Need-slice-aggregate-join-row
+slice-aggregate-join-row c = search needs
+
+cast-join-row : tie.Need-cast-join-row
+cast-join-row c = search needs
+
+join-row-requires : tie.Need-join-row-requires
+join-row-requires c κs = search needs
+
+slice-aggregate-remove : tie.Need-slice-aggregate-remove
+slice-aggregate-remove c = search needs
+
+cast-remove : tie.Need-cast-remove
+cast-remove c = search needs
+
+remove-requires : tie.Need-remove-requires
+remove-requires c κs = search needs
+
+slice-aggregate-add : tie.Need-slice-aggregate-add
+slice-aggregate-add c = search needs
+
+cast-add : tie.Need-cast-add
+cast-add c = search needs
+
+add-requires : tie.Need-add-requires
+add-requires c κs = search needs
+
+slice-aggregate-add-2 : tie.Need-slice-aggregate-add-2
+slice-aggregate-add-2 c = search needs
+
+cast-add-2 : tie.Need-cast-add-2
+cast-add-2 c = search needs
+
+add-requires-2 : tie.Need-add-requires-2
+add-requires-2 c κs = search needs
+
+slice-aggregate-lowest-common : tie.Need-slice-aggregate-lowest-common
+slice-aggregate-lowest-common c = search needs
+
+lowest-common-requires : tie.Need-lowest-common-requires
+lowest-common-requires c κs = search needs
+
+slice-aggregate-remove-2 : tie.Need-slice-aggregate-remove-2
+slice-aggregate-remove-2 c = search needs
+
+remove-requires-2 : tie.Need-remove-requires-2
+remove-requires-2 c κs = search needs
+
+slice-aggregate-lowest-common-2 : tie.Need-slice-aggregate-lowest-common-2
+slice-aggregate-lowest-common-2 c = search needs
+
+lowest-common-requires-2 : tie.Need-lowest-common-requires-2
+lowest-common-requires-2 c κs = (omega (arith, c .before .before .before .remove2 .kept .0, c .before .before .before .before .before .before .before .before .before .before .before .before .before .before .before .before .before .before .remove .kept .0, c .before .before .before .before .before .before .before .before .before .before .before .before .before .before .before .before .before .before .before .before .before .before .join-row .kept .0), omega (arith, c .before .before .before .before .before .before .before .before .before .before .before .before .before .before .before .before .before .before .before .before .before .before .before .before .before .before .before .before .before .before .pre .0 .empty-size))
+
+cast-t39 : tie.Need-cast-t39
+cast-t39 c = search needs
+
+cast-t41 : tie.Need-cast-t41
+cast-t41 c = search needs
+
+same-length : tie.Need-same-length
+same-length c = search needs
+
+returns : tie.Need-returns
+returns c =
+    let p = c .before .before .before .before .before .before .before .before .before .before .before .before .before .before .before .before .before .before .before .before .before .before .before .before .before .before .before .before .before .before .before .before .pre .0 in
+    let z = c .before .before .before .before .before .before .before .before .before .before .before .before .before .before .before .before .before .before .before .before .before .before .before .before .before .before .before .before .before .before .before .before .pre .1 in
+    let i = inside-of (p .tabled) _ _ _ _ (z .0) (c .before .before .before .before .before .before .before .before .before .before .before .before .before .before .before .before .before .before .before .before .before .before .before .before .join-row .ensures) (c .before .before .before .before .before .before .before .before .before .before .before .before .before .before .before .before .before .before .before .before .remove .ensures) in
+    let j = inside-less i _ _ (c .before .before .before .before .before .remove2 .ensures) in
+    let hx = lowest-in _ i (c .before .before .before .before .before .before .before .before .lowest-common .ensures) (c .before .before .before .before .before .before .before .if1 .taken) in
+    let hy = lowest-in _ j (c .before .lowest-common2 .ensures) (c .if2 .taken) in
+    (two-both (c .before .before .before .before .before .before .before .if1 .taken) (c .if2 .taken) (omega arith), λ t. clears-both (clear-two (around-of t _ _ _ _ (p .most) (z .0) (c .before .before .before .before .before .before .before .before .before .before .before .before .before .before .before .before .before .before .before .before .before .before .before .before .join-row .ensures) (c .before .before .before .before .before .before .before .before .before .before .before .before .before .before .before .before .before .before .before .before .remove .ensures)) (p .most) (p .placed) (c .before .before .before .before .before .before .before .before .lowest-common .ensures) hx _ (c .before .before .before .before .before .remove2 .ensures) (c .before .lowest-common2 .ensures) hy) _ _ (p .placed))
+
+slice-aggregate-keep-second : tie.Need-slice-aggregate-keep-second
+slice-aggregate-keep-second c = search needs
+
+slice-aggregate-keep-second-2 : tie.Need-slice-aggregate-keep-second-2
+slice-aggregate-keep-second-2 c = search needs
+
+cast-t47 : tie.Need-cast-t47
+cast-t47 c = search needs
+
+keep-second-requires : tie.Need-keep-second-requires
+keep-second-requires c κs =
+    let p = c .before .before .before .before .before .before .before .before .before .before .before .before .before .before .before .before .before .before .before .before .before .before .before .before .before .before .before .before .before .before .before .before .before .before .before .before .before .before .pre .0 in
+    let z = c .before .before .before .before .before .before .before .before .before .before .before .before .before .before .before .before .before .before .before .before .before .before .before .before .before .before .before .before .before .before .before .before .before .before .before .before .before .before .pre .1 in
+    let i = inside-of (p .tabled) _ _ _ _ (z .0) (c .before .before .before .before .before .before .before .before .before .before .before .before .before .before .before .before .before .before .before .before .before .before .before .before .before .before .before .before .before .before .join-row .ensures) (c .before .before .before .before .before .before .before .before .before .before .before .before .before .before .before .before .before .before .before .before .before .before .before .before .before .before .remove .ensures) in
+    (p, (search needs, search needs, omega arith, c .before .before .before .before .before .before .before .before .before .before .before .before .before .if1 .taken, inside-less i _ _ (c .before .before .before .before .before .before .before .before .before .before .before .remove2 .ensures), omega (arith, z .2), holdsTwo (p .tabled) _ _ _ _ (c .before .before .before .before .before .before .before .before .before .before .before .before .before .before .before .before .before .before .before .before .before .before .add .ensures) (c .before .before .before .before .before .before .before .before .before .before .before .before .before .before .before .before .before .before .add2 .ensures)))
+
+same-length-2 : tie.Need-same-length-2
+same-length-2 c = search needs
+
+same-length-3 : tie.Need-same-length-3
+same-length-3 c = search needs
+
+same-length-4 : tie.Need-same-length-4
+same-length-4 c = search needs
+
+same-length-5 : tie.Need-same-length-5
+same-length-5 c = search needs
+
+returns-2 : tie.Need-returns-2
+returns-2 c =
+    let p = c .before .before .before .before .before .before .before .before .before .before .before .before .before .before .before .before .before .before .before .before .before .before .before .before .before .before .before .before .before .before .before .before .before .before .before .before .before .before .before .before .before .before .before .before .before .before .before .before .pre .0 in
+    let z = c .before .before .before .before .before .before .before .before .before .before .before .before .before .before .before .before .before .before .before .before .before .before .before .before .before .before .before .before .before .before .before .before .before .before .before .before .before .before .before .before .before .before .before .before .before .before .before .before .pre .1 in
+    let i = inside-of (p .tabled) _ _ _ _ (z .0) (c .before .before .before .before .before .before .before .before .before .before .before .before .before .before .before .before .before .before .before .before .before .before .before .before .before .before .before .before .before .before .before .before .before .before .before .before .before .before .before .before .join-row .ensures) (c .before .before .before .before .before .before .before .before .before .before .before .before .before .before .before .before .before .before .before .before .before .before .before .before .before .before .before .before .before .before .before .before .before .before .before .before .remove .ensures) in
+    let hx = lowest-in _ i (c .before .before .before .before .before .before .before .before .before .before .before .before .before .before .before .before .before .before .before .before .before .before .before .before .lowest-common .ensures) (c .before .before .before .before .before .before .before .before .before .before .before .before .before .before .before .before .before .before .before .before .before .before .before .if1 .taken) in
+    (two-more (omega arith) (c .before .before .before .before .before .before .before .before .before .keep-second .ensures .0), λ t. clears-as (clear-one (around-of t _ _ _ _ (p .most) (z .0) (c .before .before .before .before .before .before .before .before .before .before .before .before .before .before .before .before .before .before .before .before .before .before .before .before .before .before .before .before .before .before .before .before .before .before .before .before .before .before .before .before .join-row .ensures) (c .before .before .before .before .before .before .before .before .before .before .before .before .before .before .before .before .before .before .before .before .before .before .before .before .before .before .before .before .before .before .before .before .before .before .before .before .remove .ensures)) (p .most) (p .placed) (c .before .before .before .before .before .before .before .before .before .before .before .before .before .before .before .before .before .before .before .before .before .before .before .before .lowest-common .ensures) hx _ (c .before .before .before .before .before .before .before .before .before .before .before .before .before .before .before .before .before .before .before .before .before .remove2 .ensures) (c .before .before .before .before .before .before .before .before .before .before .before .before .before .before .before .before .before .lowest-common2 .ensures) (c .before .before .before .before .before .before .before .before .before .before .before .before .before .before .before .before .if2 .left)) (c .before .before .before .before .before .before .before .before .before .keep-second .ensures .1 t (holdsTwo t _ _ _ _ (c .before .before .before .before .before .before .before .before .before .before .before .before .before .before .before .before .before .before .before .before .before .before .before .before .before .before .before .before .before .before .before .before .add .ensures) (c .before .before .before .before .before .before .before .before .before .before .before .before .before .before .before .before .before .before .before .before .before .before .before .before .before .before .before .before .add2 .ensures))))
+
+slice-aggregate-keep-one : tie.Need-slice-aggregate-keep-one
+slice-aggregate-keep-one c = search needs
+
+slice-aggregate-keep-one-2 : tie.Need-slice-aggregate-keep-one-2
+slice-aggregate-keep-one-2 c = search needs
+
+keep-one-requires : tie.Need-keep-one-requires
+keep-one-requires c κs =
+    let p = c .before .before .before .before .before .before .before .before .before .before .before .before .before .before .before .before .before .before .before .before .before .before .before .before .before .before .before .before .before .before .before .pre .0 in
+    let z = c .before .before .before .before .before .before .before .before .before .before .before .before .before .before .before .before .before .before .before .before .before .before .before .before .before .before .before .before .before .before .before .pre .1 in
+    let i = inside-of (p .tabled) _ _ _ _ (z .0) (c .before .before .before .before .before .before .before .before .before .before .before .before .before .before .before .before .before .before .before .before .before .before .before .join-row .ensures) (c .before .before .before .before .before .before .before .before .before .before .before .before .before .before .before .before .before .before .before .remove .ensures) in
+    (p, (search needs, search needs, omega arith, i, omega (arith, z .2), twoShown (p .tabled) (holdsTwo (p .tabled) _ _ _ _ (c .before .before .before .before .before .before .before .before .before .before .before .before .before .before .before .add .ensures) (c .before .before .before .before .before .before .before .before .before .before .before .add2 .ensures))))
+
+enum-known-first : tie.Need-enum-known-first
+enum-known-first c = search needs
+
+enum-told : tie.Need-enum-told
+enum-told c = search needs
+
+same-length-6 : tie.Need-same-length-6
+same-length-6 c = search needs
+
+same-length-7 : tie.Need-same-length-7
+same-length-7 c = search needs
+
+same-length-8 : tie.Need-same-length-8
+same-length-8 c = search needs
+
+same-length-9 : tie.Need-same-length-9
+same-length-9 c = search needs
+
+returns-3 : tie.Need-returns-3
+returns-3 c =
+    let p = c .before .before .before .before .before .before .before .before .before .before .before .before .before .before .before .before .before .before .before .before .before .before .before .before .before .before .before .before .before .before .before .before .before .before .before .before .before .before .before .before .before .before .pre .0 in
+    let z = c .before .before .before .before .before .before .before .before .before .before .before .before .before .before .before .before .before .before .before .before .before .before .before .before .before .before .before .before .before .before .before .before .before .before .before .before .before .before .before .before .before .before .pre .1 in
+    let e : c .before .before .before .before .before .before .before .before .before .before .keep-one .result ≡ Nothing = c .enum-told .given .1 in
+    (two-short _ _, λ t. clears-short (rw (clear-none (around-of t _ _ _ _ (p .most) (z .0) (c .before .before .before .before .before .before .before .before .before .before .before .before .before .before .before .before .before .before .before .before .before .before .before .before .before .before .before .before .before .before .before .before .before .before .join-row .ensures) (c .before .before .before .before .before .before .before .before .before .before .before .before .before .before .before .before .before .before .before .before .before .before .before .before .before .before .before .before .before .before .remove .ensures)) (p .most) (p .placed) (c .before .before .before .before .before .before .before .before .before .before .before .before .before .before .before .before .before .before .lowest-common .ensures) (c .before .before .before .before .before .before .before .before .before .before .before .before .before .before .before .before .before .if1 .left)) (first-none _ _ _ _ _ _ (p .most) (rw e at (c .before .before .before .before .before .before .before .before .before .before .keep-one .ensures .1 (twoShown t (holdsTwo t _ _ _ _ (c .before .before .before .before .before .before .before .before .before .before .before .before .before .before .before .before .before .before .before .before .before .before .before .before .before .before .add .ensures) (c .before .before .before .before .before .before .before .before .before .before .before .before .before .before .before .before .before .before .before .before .before .before .add2 .ensures))))))))
+
+slice-aggregate-keep-second-3 : tie.Need-slice-aggregate-keep-second-3
+slice-aggregate-keep-second-3 c = omega (arith, c .before .before .before .before .before .before .before .before .before .before .before .before .before .before .before .before .before .before .before .before .before .before .before .before .before .before .before .before .before .before .before .before .remove .kept .0, c .before .before .before .before .before .before .before .before .before .before .before .before .before .before .before .before .before .before .before .before .before .before .before .before .before .before .before .before .before .before .before .before .before .before .before .before .join-row .kept .0)
+
+cast-keep-second : tie.Need-cast-keep-second
+cast-keep-second c = search needs
+
+add-keep-second : tie.Need-add-keep-second
+add-keep-second c =
+    let e : c .before .before .before .before .before .before .before .before .before .before .before .before .before .keep-one .result ≡ One (c .before .before .before .first .given .0 .0) (c .before .before .before .first .given .0 .1 .0) = c .before .before .before .first .given .1 in
+    let few = rw e at (c .before .before .before .before .before .before .before .before .before .before .before .before .before .keep-one .ensures .0) in
+    omega (arith, few .0)
+
+slice-aggregate-keep-second-4 : tie.Need-slice-aggregate-keep-second-4
+slice-aggregate-keep-second-4 c = search needs
+
+keep-second-requires-2 : tie.Need-keep-second-requires-2
+keep-second-requires-2 c κs =
+    let p = c .before .before .before .before .before .before .before .before .before .before .before .before .before .before .before .before .before .before .before .before .before .before .before .before .before .before .before .before .before .before .before .before .before .before .before .before .before .before .before .before .before .before .before .before .before .before .before .before .before .before .pre .0 in
+    let z = c .before .before .before .before .before .before .before .before .before .before .before .before .before .before .before .before .before .before .before .before .before .before .before .before .before .before .before .before .before .before .before .before .before .before .before .before .before .before .before .before .before .before .before .before .before .before .before .before .before .before .pre .1 in
+    let e : c .before .before .before .before .before .before .before .before .before .before .before .before .before .before .before .before .before .before .keep-one .result ≡ One (c .before .before .before .before .before .before .before .before .first .given .0 .0) (c .before .before .before .before .before .before .before .before .first .given .0 .1 .0) = c .before .before .before .before .before .before .before .before .first .given .1 in
+    let few = rw e at (c .before .before .before .before .before .before .before .before .before .before .before .before .before .before .before .before .before .before .keep-one .ensures .0) in
+    let h = holdsTwo (p .tabled) _ _ _ _ (c .before .before .before .before .before .before .before .before .before .before .before .before .before .before .before .before .before .before .before .before .before .before .before .before .before .before .before .before .before .before .before .before .before .before .add .ensures) (c .before .before .before .before .before .before .before .before .before .before .before .before .before .before .before .before .before .before .before .before .before .before .before .before .before .before .before .before .before .before .add2 .ensures) in
+    let o = rw e at (c .before .before .before .before .before .before .before .before .before .before .before .before .before .before .before .before .before .before .keep-one .ensures .1 (twoShown (p .tabled) h)) in
+    let i = inside-of (p .tabled) _ _ _ _ (z .0) (c .before .before .before .before .before .before .before .before .before .before .before .before .before .before .before .before .before .before .before .before .before .before .before .before .before .before .before .before .before .before .before .before .before .before .before .before .before .before .before .before .before .before .join-row .ensures) (c .before .before .before .before .before .before .before .before .before .before .before .before .before .before .before .before .before .before .before .before .before .before .before .before .before .before .before .before .before .before .before .before .before .before .before .before .before .before .remove .ensures) in
+    let kw : length (c .before .before .before .before .before .before .before .before .before .before .before .before .before .before .before .before .before .before .keep-one .last .1 .1 .1 .1 .1 .0) ≡ length (c .before .before .before .before .before .before .before .before .before .before .before .before .before .before .before .before .before .before .before .before .before .before .before .before .before .before .before .before .before .before .before .before .before .before .before .before .before .before .before .before .before .before .before .before .before .before .before .before .before .before .args .standing .now) = c .before .before .before .before .before .before .before .before .before .before .before .before .before .before .before .before .before .before .keep-one .kept .1 .1 .1 .1 .1 .0 in
+    let kf = c .before .before .before .before .before .before .before .before .before .before .before .before .before .before .before .before .before .before .keep-one .kept .1 .1 .1 .1 .1 .1 .0 in
+    (ready-again p _ _ _ kw kf (o .played .placed), (omega (arith, c .before .before .before .before .before .before .before .before .before .before .before .before .before .before .before .before .before .before .before .before .before .before .before .before .before .before .before .before .before .before .before .before .before .before .before .before .before .before .remove .kept .0, c .before .before .before .before .before .before .before .before .before .before .before .before .before .before .before .before .before .before .before .before .before .before .before .before .before .before .before .before .before .before .before .before .before .before .before .before .before .before .before .before .before .before .join-row .kept .0), omega (arith, c .before .before .before .before .before .before .before .before .before .before .before .before .before .before .before .before .before .before .before .before .before .before .before .before .before .before .before .before .before .before .add2 .kept .0, c .before .before .before .before .before .before .before .before .before .before .before .before .before .before .before .before .before .before .before .before .before .before .before .before .before .before .before .before .before .before .before .before .before .before .add .kept .0), omega (arith, o .low, kw), few .0, rw kw i, omega (arith, few .1, z .2), h))
+
+same-length-10 : tie.Need-same-length-10
+same-length-10 c = search needs
+
+same-length-11 : tie.Need-same-length-11
+same-length-11 c = search needs
+
+same-length-12 : tie.Need-same-length-12
+same-length-12 c = search needs
+
+same-length-13 : tie.Need-same-length-13
+same-length-13 c = search needs
+
+returns-4 : tie.Need-returns-4
+returns-4 c =
+    let p = c .before .before .before .before .before .before .before .before .before .before .before .before .before .before .before .before .before .before .before .before .before .before .before .before .before .before .before .before .before .before .before .before .before .before .before .before .before .before .before .before .before .before .before .before .before .before .before .before .before .before .before .before .before .before .before .before .before .before .before .before .pre .0 in
+    let z = c .before .before .before .before .before .before .before .before .before .before .before .before .before .before .before .before .before .before .before .before .before .before .before .before .before .before .before .before .before .before .before .before .before .before .before .before .before .before .before .before .before .before .before .before .before .before .before .before .before .before .before .before .before .before .before .before .before .before .before .before .pre .1 in
+    let e : c .before .before .before .before .before .before .before .before .before .before .before .before .before .before .before .before .before .before .before .before .before .before .before .before .before .before .before .before .keep-one .result ≡ One (c .before .before .before .before .before .before .before .before .before .before .before .before .before .before .before .before .before .before .first .given .0 .0) (c .before .before .before .before .before .before .before .before .before .before .before .before .before .before .before .before .before .before .first .given .0 .1 .0) = c .before .before .before .before .before .before .before .before .before .before .before .before .before .before .before .before .before .before .first .given .1 in
+    let few = rw e at (c .before .before .before .before .before .before .before .before .before .before .before .before .before .before .before .before .before .before .before .before .before .before .before .before .before .before .before .before .keep-one .ensures .0) in
+    let kw : length (c .before .before .before .before .before .before .before .before .before .before .before .before .before .before .before .before .before .before .before .before .before .before .before .before .before .before .before .before .keep-one .last .1 .1 .1 .1 .1 .0) ≡ length (c .before .before .before .before .before .before .before .before .before .before .before .before .before .before .before .before .before .before .before .before .before .before .before .before .before .before .before .before .before .before .before .before .before .before .before .before .before .before .before .before .before .before .before .before .before .before .before .before .before .before .before .before .before .before .before .before .before .before .before .before .args .standing .now) = c .before .before .before .before .before .before .before .before .before .before .before .before .before .before .before .before .before .before .before .before .before .before .before .before .before .before .before .before .keep-one .kept .1 .1 .1 .1 .1 .0 in (
+      two-more (few .1) (c .before .before .before .before .before .before .before .before .before .keep-second2 .ensures .0),
+      λ t.
+          let h = holdsTwo t _ _ _ _ (c .before .before .before .before .before .before .before .before .before .before .before .before .before .before .before .before .before .before .before .before .before .before .before .before .before .before .before .before .before .before .before .before .before .before .before .before .before .before .before .before .before .before .before .before .add .ensures) (c .before .before .before .before .before .before .before .before .before .before .before .before .before .before .before .before .before .before .before .before .before .before .before .before .before .before .before .before .before .before .before .before .before .before .before .before .before .before .before .before .add2 .ensures) in
+          let o = rw e at (c .before .before .before .before .before .before .before .before .before .before .before .before .before .before .before .before .before .before .before .before .before .before .before .before .before .before .before .before .keep-one .ensures .1 (twoShown t h)) in
+          let s = rw kw at (c .before .before .before .before .before .before .before .before .before .keep-second2 .ensures .1) in
+          clears-as (clear-none (around-of t _ _ _ _ (p .most) (z .0) (c .before .before .before .before .before .before .before .before .before .before .before .before .before .before .before .before .before .before .before .before .before .before .before .before .before .before .before .before .before .before .before .before .before .before .before .before .before .before .before .before .before .before .before .before .before .before .before .before .before .before .before .before .join-row .ensures) (c .before .before .before .before .before .before .before .before .before .before .before .before .before .before .before .before .before .before .before .before .before .before .before .before .before .before .before .before .before .before .before .before .before .before .before .before .before .before .before .before .before .before .before .before .before .before .before .before .remove .ensures)) (p .most) (p .placed) (c .before .before .before .before .before .before .before .before .before .before .before .before .before .before .before .before .before .before .before .before .before .before .before .before .before .before .before .before .before .before .before .before .before .before .before .before .lowest-common .ensures) (c .before .before .before .before .before .before .before .before .before .before .before .before .before .before .before .before .before .before .before .before .before .before .before .before .before .before .before .before .before .before .before .before .before .before .before .if1 .left))
+          (first-then o (s t h)),
+    )
+
+pub clear-spec : {M : Type 1} → statement M
+clear-spec =
+    tie.close
+    (tie.spec
+    slice-aggregate-join-row
+    cast-join-row
+    join-row-requires
+    slice-aggregate-remove
+    cast-remove
+    remove-requires
+    slice-aggregate-add
+    cast-add
+    add-requires
+    slice-aggregate-add-2
+    cast-add-2
+    add-requires-2
+    slice-aggregate-lowest-common
+    lowest-common-requires
+    slice-aggregate-remove-2
+    remove-requires-2
+    slice-aggregate-lowest-common-2
+    lowest-common-requires-2
+    cast-t39
+    cast-t41
+    same-length
+    returns
+    slice-aggregate-keep-second
+    slice-aggregate-keep-second-2
+    cast-t47
+    keep-second-requires
+    same-length-2
+    same-length-3
+    same-length-4
+    same-length-5
+    returns-2
+    slice-aggregate-keep-one
+    slice-aggregate-keep-one-2
+    keep-one-requires
+    enum-known-first
+    enum-told
+    same-length-6
+    same-length-7
+    same-length-8
+    same-length-9
+    returns-3
+    slice-aggregate-keep-second-3
+    cast-keep-second
+    add-keep-second
+    slice-aggregate-keep-second-4
+    keep-second-requires-2
+    same-length-10
+    same-length-11
+    same-length-12
+    same-length-13
+    returns-4)

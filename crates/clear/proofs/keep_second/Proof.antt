@@ -1,0 +1,94 @@
+-- `clear::keep_second` meets its contract. Holding the bay kept as well, the first that can be vacated is the second.
+-- Assumes nothing.
+use mathlib.Core.Path.{_≡_}
+use native.Mathlib.Omega.{arith}
+use borrow.Author.Needs.{needs}
+use Rattle.clear.proofs.Clearing.{two-short, two-both, clears-short, heldShown, second-both, second-short}
+use Rattle.clear.specs.declared.Kept.the-variants.{Nothing}
+use Rattle.clear.specs.declared.Kept.the-variants.{One}
+use Rattle.clear.proofs.keep_second.Statement.{statement}
+use Rattle.clear.proofs.keep_second.Tie as tie
+
+cast-add : tie.Need-cast-add
+cast-add c = search needs
+
+add-requires : tie.Need-add-requires
+add-requires c κs = search needs
+
+keep-one-requires : tie.Need-keep-one-requires
+keep-one-requires c κs =
+    let p = c .before .before .before .before .before .before .before .before .before .before .before .before .before .before .before .before .before .pre .0 in
+    let z = c .before .before .before .before .before .before .before .before .before .before .before .before .before .before .before .before .before .pre .1 in
+    (p, (z .0, search needs, omega (arith, p .most, z .2), z .4, z .5, heldShown (p .tabled) (z .6) _ (c .before .before .before .before .before .before .before .add .ensures)))
+
+enum-known-second : tie.Need-enum-known-second
+enum-known-second c = search needs
+
+enum-told : tie.Need-enum-told
+enum-told c = search needs
+
+same-length : tie.Need-same-length
+same-length c = search needs
+
+same-length-2 : tie.Need-same-length-2
+same-length-2 c = search needs
+
+same-length-3 : tie.Need-same-length-3
+same-length-3 c = search needs
+
+same-length-4 : tie.Need-same-length-4
+same-length-4 c = search needs
+
+same-length-5 : tie.Need-same-length-5
+same-length-5 c = search needs
+
+returns : tie.Need-returns
+returns c =
+    let p = c .before .before .before .before .before .before .before .before .before .before .before .before .before .before .before .before .before .before .before .before .before .before .before .before .before .before .before .before .pre .0 in
+    let z = c .before .before .before .before .before .before .before .before .before .before .before .before .before .before .before .before .before .before .before .before .before .before .before .before .before .before .before .before .pre .1 in
+    let e : c .before .before .before .before .before .before .before .before .before .before .keep-one .result ≡ Nothing = c .enum-told .given .1 in
+    (two-short _ _, λ t h. clears-short (second-short _ _ _ _ _ _ _ _ (z .2) (p .most) (rw e at (c .before .before .before .before .before .before .before .before .before .before .keep-one .ensures .1 (heldShown t h _ (c .before .before .before .before .before .before .before .before .before .before .before .before .before .before .before .before .before .before .add .ensures))))))
+
+same-length-6 : tie.Need-same-length-6
+same-length-6 c = search needs
+
+same-length-7 : tie.Need-same-length-7
+same-length-7 c = search needs
+
+same-length-8 : tie.Need-same-length-8
+same-length-8 c = search needs
+
+same-length-9 : tie.Need-same-length-9
+same-length-9 c = search needs
+
+same-length-10 : tie.Need-same-length-10
+same-length-10 c = search needs
+
+returns-2 : tie.Need-returns-2
+returns-2 c =
+    let z = c .before .before .before .before .before .before .before .before .before .before .before .before .before .before .before .before .before .before .before .before .before .before .before .before .before .before .before .before .before .pre .1 in
+    let e : c .before .before .before .before .before .before .before .before .before .before .before .keep-one .result ≡ One (c .before .second .given .0 .0) (c .before .second .given .0 .1 .0) = c .before .second .given .1 in
+    let few = rw e at (c .before .before .before .before .before .before .before .before .before .before .before .keep-one .ensures .0) in
+    (two-both (z .3) (few .0) (few .1), λ t h. second-both (rw e at (c .before .before .before .before .before .before .before .before .before .before .before .keep-one .ensures .1 (heldShown t h _ (c .before .before .before .before .before .before .before .before .before .before .before .before .before .before .before .before .before .before .before .add .ensures)))))
+
+pub keep-second-spec : {M : Type 1} → statement M
+keep-second-spec =
+    tie.close
+    (tie.spec
+    cast-add
+    add-requires
+    keep-one-requires
+    enum-known-second
+    enum-told
+    same-length
+    same-length-2
+    same-length-3
+    same-length-4
+    same-length-5
+    returns
+    same-length-6
+    same-length-7
+    same-length-8
+    same-length-9
+    same-length-10
+    returns-2)

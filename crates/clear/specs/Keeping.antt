@@ -1,0 +1,75 @@
+-- Clearing in code: the bays kept, one and then two, with what was played for them.
+-- Assumes nothing.
+use mathlib.Core.Path.{_≡_}
+use mathlib.Core.Bool.{Bool, true}
+use mathlib.Core.List.{List, [], _∷_}
+use mathlib.Core.Option.{none, some}
+use Prim.Native.Nat.{ℕ, _≤_, _<_, _-_, _+_}
+use lib.ListN.{length}
+use Rattle.paper.specs.Basics.{filter, elem, countFrom}
+use Rattle.paper.specs.Procedure.{vacate, Cleared, clearing, clear}
+use Rattle.paper.specs.Yard.{Bay, Yard, Placement, Crossing}
+use Rattle.words.specs.Sets.{mem, span}
+use Rattle.vacate.specs.Placed.{Played}
+use Rattle.clear.specs.declared.Two.the-variants.{Both}
+use Rattle.clear.specs.declared.Kept.{Kept}
+use Rattle.clear.specs.declared.Kept.the-variants.{Nothing}
+use Rattle.clear.specs.declared.Kept.the-variants.{One}
+use Rattle.clear.specs.declared.Two.the-variants.{Short}
+use Rattle.clear.specs.declared.Two.{Two}
+use Rattle.docket.specs.declared.Bay.{Bay as Numbered}
+
+-- the members are among the n bays
+pub record Among (n : ℕ) (ws : List ℕ) : Type 0 where
+  pub low : (b : ℕ) → b < span → mem ws b ≡ true → b < n
+
+-- ## One bay
+
+abbrev pub KeptBy : ℕ → Kept → Type 0
+KeptBy at (One x m) = (x .0 < span) × (m ≤ at + span)
+KeptBy at Nothing = Unit {0}
+
+-- none of the others from a on and below x can be vacated
+abbrev pub Stuck : Yard → List Bay → List ℕ → ℕ → ℕ → Placement → Type 0
+Stuck Y held others a x p = (y : ℕ) → a ≤ y → y < x → mem others y ≡ true → vacate Y held y p ≡ none
+
+-- x is the first of the others from a on that can be vacated, and it was
+pub record KeepsOne (Y : Yard) (held : List Bay) (others : List ℕ) (a n : ℕ) (p out : List ℕ) (at : ℕ) (p′ standing′ empty′ out′ : List ℕ) (x m : ℕ) : Type 0 where
+  pub above : a ≤ x
+  pub low : x < n
+  pub other : mem others x ≡ true
+  pub stuck : Stuck Y held others a x p
+  pub moves : List Crossing
+  pub made : vacate Y held x p ≡ some moves
+  pub played : Played moves n p p′ standing′ empty′ out at out′ m
+
+abbrev pub Keeps : Yard → List Bay → List ℕ → ℕ → ℕ → List ℕ → List ℕ → ℕ → List ℕ → List ℕ → List ℕ → List ℕ → Kept → Type 0
+Keeps Y held others a n p out at p′ standing′ empty′ out′ (One x m) = KeepsOne Y held others a n p out at p′ standing′ empty′ out′ (x .0) m
+Keeps Y held others a n p out at p′ standing′ empty′ out′ Nothing = Stuck Y held others a span p
+
+-- ## Two bays
+
+pub record TwoBy (at k : ℕ) (r : Two) : Type 0 where
+  pub few : (x y : Numbered) (m : ℕ) → r ≡ Both x y m → (x .0 < span) × (y .0 < span) × (m ≤ at + k)
+
+-- as the paper's clearing: two bays are kept and its crossings were played, or there are fewer
+pub record Clears (c : Cleared) (n : ℕ) (p out : List ℕ) (at : ℕ) (p′ standing′ empty′ out′ : List ℕ) (r : Two) : Type 0 where
+  pub both : (x y : Numbered) (m : ℕ) → r ≡ Both x y m → (c .kept ≡ x .0 ∷ y .0 ∷ []) × Played (c .moves) n p p′ standing′ empty′ out at out′ m
+  pub short : r ≡ Short → length (c .kept) < 2
+
+-- (the code's clear has the same name)
+abbrev pub clears : Yard → Bay → Bay → Placement → Cleared
+clears Y v b p = clear Y v b p
+
+abbrev pub clearingFrom : Yard → Bay → Bay → List Bay → List Bay → Placement → Cleared
+clearingFrom Y v b kept xs p = clearing Y v b kept xs p
+
+-- the members of a set of bays from a on and below n, rising
+abbrev pub from : (ℕ → Bool) → ℕ → ℕ → List Bay
+from q a n = filter q (countFrom a (n - a))
+
+-- two bays are held
+pub record HoldsTwo (held : List ℕ) : Type 0 where
+  pub one : Bay
+  pub two : Bay
+  pub holds : (y : ℕ) → y < span → mem held y ≡ elem y (one ∷ two ∷ [])

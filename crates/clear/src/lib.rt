@@ -1,0 +1,157 @@
+// Clear: two neighbours of the junction, other than the follower's bay, are kept empty; the empty ones first, then those that can
+// be vacated, in rising order.
+use bring::Tried;
+use docket::Bay;
+ghost use mathlib.Core.Path.{_≡_};
+ghost use mathlib.Core.List.{List, [], _∷_};
+ghost use Prim.Native.Nat.{ℕ, _+_, _*_, _^_, _≤_, _<_};
+ghost use lib.ListN.{length};
+ghost use Rattle.words.specs.Sets.{mem, words, span};
+ghost use Rattle.rings.specs.Search.{Shown};
+ghost use Rattle.bring.specs.Acting.{Tabled, Ready};
+ghost use Rattle.clear.specs.Keeping.{Among, KeptBy, Keeps, TwoBy, Clears, clears, clearingFrom, from, HoldsTwo};
+
+// One more bay that is kept, with the count of crossings afterwards.
+pub enum Kept {
+    One(Bay, usize),
+    Nothing,
+}
+
+// The two bays that are kept, with the count of crossings afterwards.
+pub enum Two {
+    Both(Bay, Bay, usize),
+    Short,
+}
+
+// The first of the others, from a on, that can be vacated is vacated.
+fn keep_one(
+    table: &[u64],
+    others: &[u64],
+    a: usize,
+    held: &[u64],
+    placement: &mut [u16],
+    standing: &mut [u16],
+    empty: &mut [u64],
+    out: &mut [u64],
+    at: usize,
+) -> Kept
+    requires { ⌜ Ready (now table) (now placement) (now standing) (now empty) ⌝ }
+    requires { ⌜ (length (now others) ≡ words) × (length (now held) ≡ words) × (a ≤ span) × Among (length (now standing)) (now others) × (at < 2 ^ 62) × Shown (length (now standing)) (now table) (now held) ⌝ }
+    ensures { λ r. ⌜ (KeptBy at r) × ((s : Shown (length (now (standing .entry))) (now (table .entry)) (now (held .entry))) → Keeps (s .yard) (s .bays) (now (others .entry)) a (length (now (standing .entry))) (now (placement .entry)) (now (out .entry)) at (now (placement .exit)) (now (standing .exit)) (now (empty .exit)) (now (out .exit)) r) ⌝ }
+{
+    let mut rows = [0u64; 1024];
+    let mut x = words::next_from(others, a);
+    while x < words::SPAN {
+        let bay = Bay(x as u16);
+        let vacated = bring::make_room(
+            table,
+            held,
+            bay,
+            placement,
+            standing,
+            empty,
+            &mut rows,
+            out,
+            at,
+        );
+        if let Tried::Done(m) = vacated {
+            return Kept::One(bay, m);
+        }
+        x = words::next_from(others, x + 1);
+    }
+    Kept::Nothing
+}
+
+// With the bay x kept, one of the others, from a on, is kept too.
+fn keep_second(
+    table: &[u64],
+    others: &[u64],
+    a: usize,
+    held: &mut [u64],
+    x: Bay,
+    placement: &mut [u16],
+    standing: &mut [u16],
+    empty: &mut [u64],
+    out: &mut [u64],
+    at: usize,
+) -> Two
+    requires { ⌜ Ready (now table) (now placement) (now standing) (now empty) ⌝ }
+    requires { ⌜ (length (now others) ≡ words) × (length (now held) ≡ words) × (a ≤ length (now standing)) × (x .0 < span) × Among (length (now standing)) (now others) × (at < 2 ^ 62) × HoldsTwo (now held) ⌝ }
+    ensures { λ r. ⌜ (TwoBy at span r) × ((t : Tabled (length (now (standing .entry))) (now (table .entry))) (h : HoldsTwo (now (held .entry))) → Clears (clearingFrom (t .yard) (h .one) (h .two) (x .0 ∷ []) (from (mem (now (others .entry))) a (length (now (standing .entry)))) (now (placement .entry))) (length (now (standing .entry))) (now (placement .entry)) (now (out .entry)) at (now (placement .exit)) (now (standing .exit)) (now (empty .exit)) (now (out .exit)) r) ⌝ }
+{
+    words::add(held, x.0 as usize);
+    let second = keep_one(table, others, a, held, placement, standing, empty, out, at);
+    let Kept::One(y, m) = second else {
+        return Two::Short;
+    };
+    Two::Both(x, y, m)
+}
+
+// Clear, at the junction v with the follower at b.
+pub fn clear(
+    table: &[u64],
+    v: Bay,
+    b: Bay,
+    placement: &mut [u16],
+    standing: &mut [u16],
+    empty: &mut [u64],
+    out: &mut [u64],
+    at: usize,
+) -> Two
+    requires { ⌜ Ready (now table) (now placement) (now standing) (now empty) ⌝ }
+    requires { ⌜ (v .0 < length (now standing)) × (b .0 < length (now standing)) × (at < 2 ^ 61) ⌝ }
+    ensures { λ r. ⌜ (TwoBy at 512 r) × ((t : Tabled (length (now (standing .entry))) (now (table .entry))) → Clears (clears (t .yard) (v .0) (b .0) (now (placement .entry))) (length (now (standing .entry))) (now (placement .entry)) (now (out .entry)) at (now (placement .exit)) (now (standing .exit)) (now (empty .exit)) (now (out .exit)) r) ⌝ }
+{
+    let mut others = [0u64; words::WORDS];
+    let mut held = [0u64; words::WORDS];
+    words::join_row(&mut others, table, v.0 as usize);
+    words::remove(&mut others, b.0 as usize);
+    words::add(&mut held, v.0 as usize);
+    words::add(&mut held, b.0 as usize);
+    let x = words::lowest_common(&others, 0, empty, 0);
+    if x < words::SPAN {
+        words::remove(&mut others, x);
+        let y = words::lowest_common(&others, 0, empty, 0);
+        if y < words::SPAN {
+            return Two::Both(Bay(x as u16), Bay(y as u16), at);
+        }
+        return keep_second(
+            table,
+            &others,
+            0,
+            &mut held,
+            Bay(x as u16),
+            placement,
+            standing,
+            empty,
+            out,
+            at,
+        );
+    }
+    let first = keep_one(
+        table,
+        &others,
+        0,
+        &held,
+        placement,
+        standing,
+        empty,
+        out,
+        at,
+    );
+    let Kept::One(z, m) = first else {
+        return Two::Short;
+    };
+    keep_second(
+        table,
+        &others,
+        z.0 as usize + 1,
+        &mut held,
+        z,
+        placement,
+        standing,
+        empty,
+        out,
+        m,
+    )
+}

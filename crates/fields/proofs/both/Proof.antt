@@ -1,0 +1,19 @@
+-- `fields::both` meets its contract.
+-- Assumes nothing.
+use borrow.Author.Needs.{needs}
+use Rattle.paper.specs.Basics.{_and_}
+use Rattle.fields.proofs.both.Statement.{statement}
+use Rattle.fields.proofs.both.Tie as tie
+use Rattle.fields.proofs.both.Reads as reads
+use Rattle.fields.proofs.both.Lts as lts
+
+returns : tie.Need-returns
+unfolding _and_
+returns c = rw (c .if1 .taken)
+
+returns-2 : tie.Need-returns-2
+unfolding _and_
+returns-2 c = rw (c .if1 .left)
+
+pub both-spec : {M : Type 1} → statement M
+both-spec = tie.close (tie.spec returns returns-2)

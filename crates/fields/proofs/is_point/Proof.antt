@@ -1,0 +1,16 @@
+-- `fields::is_point` meets its contract.
+-- Assumes nothing.
+use mathlib.Core.Path.{refl}
+use borrow.Author.Needs.{needs}
+use Rattle.paper.specs.Text.{isPoint}
+use Rattle.fields.proofs.is_point.Statement.{statement}
+use Rattle.fields.proofs.is_point.Tie as tie
+use Rattle.fields.proofs.is_point.Reads as reads
+use Rattle.fields.proofs.is_point.Lts as lts
+
+returns : tie.Need-returns
+unfolding isPoint
+returns c = refl
+
+pub is-point-spec : {M : Type 1} → statement M
+is-point-spec = tie.close (tie.spec returns)

@@ -1,0 +1,26 @@
+-- `fields::length_field` meets its contract.
+-- Assumes nothing.
+use borrow.Author.Needs.{needs}
+use Rattle.paper.specs.Bytes.{lengthField}
+use Rattle.fields.proofs.length_field.Statement.{statement}
+use Rattle.fields.proofs.length_field.Tie as tie
+use Rattle.fields.proofs.length_field.Reads as reads
+use Rattle.fields.proofs.length_field.Lts as lts
+use Rattle.fields.proofs.both.Reads as both-reads
+use Rattle.fields.proofs.sized_field.Reads as sized-field-reads
+
+sized-field-requires : tie.Need-sized-field-requires
+sized-field-requires c κs = search needs
+
+both-requires : tie.Need-both-requires
+both-requires c κs = search needs
+
+both-requires-2 : tie.Need-both-requires-2
+both-requires-2 c κs = search needs
+
+returns : tie.Need-returns
+unfolding lengthField
+returns c = cc
+
+pub length-field-spec : {M : Type 1} → statement M
+length-field-spec = tie.close (tie.spec sized-field-requires both-requires both-requires-2 returns)

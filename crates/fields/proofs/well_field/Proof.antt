@@ -1,0 +1,71 @@
+-- `fields::well_field` meets its contract.
+-- Assumes nothing.
+use mathlib.Core.Path.{_∙_}
+use borrow.Author.Needs.{needs}
+use Rattle.fields.specs.Kept.{seenOf}
+use Rattle.fields.proofs.Cases.{well-name, well-length, well-width, well-height, well-number, well-none}
+use Rattle.fields.proofs.well_field.Statement.{statement}
+use Rattle.fields.proofs.well_field.Tie as tie
+use Rattle.fields.proofs.well_field.Reads as reads
+use Rattle.fields.proofs.well_field.Lts as lts
+use Rattle.fields.proofs.both.Reads as both-reads
+use Rattle.fields.proofs.length_field.Reads as length-field-reads
+use Rattle.fields.proofs.number_field.Reads as number-field-reads
+use Rattle.fields.proofs.sized_field.Reads as sized-field-reads
+
+sized-field-requires : tie.Need-sized-field-requires
+sized-field-requires c κs = search needs
+
+returns : tie.Need-returns
+returns c = c .sized-field .ensures ∙ well-name _ _ _ _ (c .before .if1 .taken)
+
+length-field-requires : tie.Need-length-field-requires
+length-field-requires c κs = search needs
+
+returns-2 : tie.Need-returns-2
+returns-2 c = c .length-field .ensures ∙ well-length _ _ _ _ (c .before .if2 .taken)
+
+number-field-requires : tie.Need-number-field-requires
+number-field-requires c κs = search needs
+
+both-requires : tie.Need-both-requires
+both-requires c κs = search needs
+
+returns-3 : tie.Need-returns-3
+returns-3 c = cc (well-width (c .before .before .before .before .before .before .args .w) (c .before .before .before .before .before .before .args .h) (c .before .before .before .before .before .before .args .i) (seenOf (c .before .before .before .before .before .before .args .m)) (c .before .before .before .if3 .taken))
+
+number-field-requires-2 : tie.Need-number-field-requires-2
+number-field-requires-2 c κs = search needs
+
+both-requires-2 : tie.Need-both-requires-2
+both-requires-2 c κs = search needs
+
+returns-4 : tie.Need-returns-4
+returns-4 c = cc (well-height (c .before .before .before .before .before .before .before .args .w) (c .before .before .before .before .before .before .before .args .h) (c .before .before .before .before .before .before .before .args .i) (seenOf (c .before .before .before .before .before .before .before .args .m)) (c .before .before .before .if4 .taken))
+
+number-field-requires-3 : tie.Need-number-field-requires-3
+number-field-requires-3 c κs = search needs
+
+returns-5 : tie.Need-returns-5
+returns-5 c = c .number-field3 .ensures ∙ well-number _ _ _ _ (c .before .before .before .before .before .if1 .left) (c .before .before .before .before .if2 .left) (c .before .before .before .if3 .left) (c .before .before .if4 .left) (c .before .if5 .taken)
+
+returns-6 : tie.Need-returns-6
+returns-6 c = well-none _ _ _ _ (c .before .before .before .before .if1 .left) (c .before .before .before .if2 .left) (c .before .before .if3 .left) (c .before .if4 .left) (c .if5 .left)
+
+pub well-field-spec : {M : Type 1} → statement M
+well-field-spec =
+    tie.close
+    (tie.spec
+    sized-field-requires
+    returns
+    length-field-requires
+    returns-2
+    number-field-requires
+    both-requires
+    returns-3
+    number-field-requires-2
+    both-requires-2
+    returns-4
+    number-field-requires-3
+    returns-5
+    returns-6)

@@ -1,0 +1,107 @@
+-- After each step r stands at the bay that it stepped to, so the next bay is beside it; and the steps so far, then the rest of the path,
+-- are the whole.
+-- Assumes nothing.
+use mathlib.Core.Path.{_≡_, sym, _∙_, ap, refl}
+use mathlib.Core.Bool.{true}
+use mathlib.Core.List.{List, [], _∷_, _++_, append-nil, append-assoc}
+use mathlib.Core.Option.{Option, none, some}
+use Prim.Native.Nat.{ℕ, suc, _≤_, _<_, _+_}
+use native.Mathlib.Numerals.{add-one}
+use lib.ListN.{length, getD, drop, drop-of-length-le}
+use lib.Seq.{drop-cons}
+use Rattle.paper.specs.Procedure.{step, Outcome, planned, stuck, orStuck, onward, _next_, go}
+use Rattle.paper.specs.Yard.{Bay, Carrier, Yard, Placement, bayOf, Crossing, after}
+use Rattle.step.proofs.Stepping.{sound-of, railed}
+use Rattle.paper.proofs.Carrying.{Stepped, step-steps}
+use Rattle.paper.proofs.Playing.{Good}
+use Rattle.go.specs.Going.{planOf, Linked}
+use Rattle.words.specs.Sets.{span, memRow}
+use Rattle.vacate.specs.Placed.{Placed, Played}
+use Rattle.vacate.proofs.Playing.{played-none, played-then}
+use Rattle.bring.specs.Acting.{Tabled, Acts, Tries}
+use Rattle.bring.proofs.Acting.{tries-some, acted-done, acted-failed}
+use Rattle.trial.proofs.Copying.{in-bays}
+use Rattle.step.specs.Asking.{Loopless}
+use Rattle.bring.specs.declared.Tried.the-variants.{Done}
+use Rattle.bring.specs.declared.Tried.the-variants.{Failed}
+
+-- the crossings, and then what the rest answers
+abbrev followedBy : List Crossing → Option (List Crossing) → Option (List Crossing)
+followedBy xs none = none
+followedBy xs (some ys) = some (xs ++ ys)
+
+followed-twice : (xs ys : List Crossing) (o : Option (List Crossing)) → followedBy xs (followedBy ys o) ≡ followedBy (xs ++ ys) o
+followed-twice xs ys none = refl
+followed-twice xs ys (some zs) = ap some (sym (append-assoc xs ys zs))
+
+plan-then : (a : List Crossing) (o : Outcome) → planOf (onward o (λ b. planned (a ++ b))) ≡ followedBy a (planOf o)
+unfolding onward
+plan-then a (planned b) = refl
+plan-then a (stuck c) = refl
+
+module _ (Y : Yard) (goals : Placement) (r : Carrier) (w : Bay) (ws : List Bay) (p : Placement) where
+  go-more : (a : List Crossing) → step Y r r w p ≡ some a → planOf (go Y goals r (w ∷ ws) p) ≡ followedBy a (planOf (go Y goals r ws (after p a)))
+  unfolding go _next_ onward orStuck
+  go-more a e = rw e (plan-then a (go Y goals r ws (after p a)))
+
+  go-stops : step Y r r w p ≡ none → planOf (go Y goals r (w ∷ ws) p) ≡ none
+  unfolding go _next_ onward orStuck
+  go-stops e = rw e
+
+-- what is played so far, and what is still to be done
+pub record Going (Y : Yard) (goals : Placement) (r : Carrier) (ahead : List Bay) (n : ℕ) (p : Placement) (out : List ℕ) (at i : ℕ) (p′ standing′ empty′ out′ : List ℕ) (m : ℕ) : Type 0 where
+  pub xs : List Crossing
+  pub played : Played xs n p p′ standing′ empty′ out at out′ m
+  pub answer : planOf (go Y goals r ahead p) ≡ followedBy xs (planOf (go Y goals r (drop i ahead) p′))
+
+pub going-none : (Y : Yard) (goals : Placement) (r : Carrier) (ahead : List Bay) (n : ℕ) (p standing empty out : List ℕ) (at : ℕ) → Placed n p standing empty
+    → Going Y goals r ahead n p out at 0 p standing empty out at
+going-none Y goals r ahead n p standing empty out at k = record {
+  xs = [];
+  played = played-none n p standing empty out at k;
+  answer = plain (planOf (go Y goals r ahead p));
+}
+  where
+    plain : (o : Option (List Crossing)) → o ≡ followedBy [] o
+    plain none = refl
+    plain (some ys) = refl
+
+pub going-all : (Y : Yard) (goals : Placement) (r : Carrier) (ahead : List Bay) (n : ℕ) (p out : List ℕ) (at i : ℕ) (p′ standing′ empty′ out′ : List ℕ) (m : ℕ)
+    → Going Y goals r ahead n p out at i p′ standing′ empty′ out′ m → length ahead ≤ i → Tries (planOf (go Y goals r ahead p)) n p out at p′ standing′ empty′ out′ (Done m)
+going-all Y goals r ahead n p out at i p′ standing′ empty′ out′ m g h =
+    let nil : planOf (go Y goals r [] p′) ≡ some [] = unfold go in refl in
+    let e : planOf (go Y goals r ahead p) ≡ some (g .xs) = g .answer ∙ rw (drop-of-length-le ahead h, nil, append-nil (g .xs)) in
+    tries-some e (g .played)
+
+module _ {Y : Yard} {goals : Placement} {r : Carrier} {ahead : List Bay} {n : ℕ} {p out : List ℕ} {at i : ℕ} {p′ standing′ empty′ out′ : List ℕ} {m : ℕ} (g : Going Y goals r ahead n p out at i p′ standing′ empty′ out′ m)
+    (here : i < length ahead) where
+  pub going-more : {q standing″ empty″ out″ : List ℕ} {b : ℕ} → Acts (step Y r r (getD ahead i 0) p′) n p′ standing′ empty′ out′ m q standing″ empty″ out″ (Done b)
+      → Going Y goals r ahead n p out at (i + 1) q standing″ empty″ out″ b
+  going-more a =
+      let s = acted-done a in
+      record {
+        xs = g .xs ++ s .0;
+        played = played-then (g .played) (s .2);
+        answer = g .answer ∙ rw (drop-cons ahead i 0, go-more Y goals r (getD ahead i 0) (drop (suc i) ahead) p′ (s .0) (s .1), followed-twice, ← add-one, ← (s .2 .moved));
+      }
+
+  pub going-stops : {q standing″ empty″ out″ : List ℕ} → Acts (step Y r r (getD ahead i 0) p′) n p′ standing′ empty′ out′ m q standing″ empty″ out″ Failed → planOf (go Y goals r ahead p) ≡ none
+  going-stops a = g .answer ∙ rw (drop-cons ahead i 0, go-stops Y goals r (getD ahead i 0) (drop (suc i) ahead) p′ (acted-failed a))
+
+-- ## The links
+
+pub linked-here : (n : ℕ) (table : List ℕ) (u : Bay) (ahead : List Bay) (i : ℕ) → i < length ahead → Linked n table u (drop i ahead)
+    → (getD ahead i 0 < n) × (memRow table u (getD ahead i 0) ≡ true) × Linked n table (getD ahead i 0) (drop (i + 1) ahead)
+linked-here n table u ahead i h l = rw add-one (rw (drop-cons ahead i 0) at l)
+
+module _ {n : ℕ} {table : List ℕ} (t : Tabled n table) (most : n ≤ span) (loopless : Loopless n table) (finished : ℕ) (r : Carrier) (w : Bay) (p : Placement)
+    {standing empty : List ℕ} (k : Placed n p standing empty) (hr : r < length p) (hf : finished ≤ length p) (hw : w < n) (rail : memRow table (bayOf p r) w ≡ true) where
+  good-of : Good (t .yard) p
+  good-of = record { apart = k .apart; inside = λ c h. in-bays t (k .inside c h) }
+
+  -- what the paper says of the step
+  pub stepped-of : (xs : List Crossing) → step (t .yard) finished r w p ≡ some xs → Stepped (t .yard) (sound-of t most loopless) finished r w p xs
+  stepped-of xs e = step-steps (t .yard) (sound-of t most loopless) finished r w p good-of hr hf (railed t most loopless finished r w p k hr hw rail) xs e
+
+  pub arrived : {out : List ℕ} {at b : ℕ} {p′ standing′ empty′ out′ : List ℕ} → Acts (step (t .yard) finished r w p) n p standing empty out at p′ standing′ empty′ out′ (Done b) → bayOf p′ r ≡ w
+  arrived a = let s = acted-done a in rw (s .2 .moved) (stepped-of (s .0) (s .1) .arrives)

@@ -1,0 +1,51 @@
+// A carrier goes its path: it steps through the bays ahead, one after the other.
+use bring::Tried;
+use docket::Bay;
+use docket::Carrier;
+ghost use mathlib.Core.Path.{_≡_};
+ghost use mathlib.Core.List.{List};
+ghost use Prim.Native.Nat.{ℕ, _+_, _*_, _^_, _≤_, _<_};
+ghost use lib.ListN.{length, getD};
+ghost use Rattle.bring.specs.Acting.{Tabled, Ready, Within, Tries};
+ghost use Rattle.step.specs.Asking.{Loopless};
+ghost use Rattle.go.specs.Going.{Linked, goes};
+
+// Carrier r steps through the bays ahead; the carriers below r are finished.
+pub fn go(
+    table: &[u64],
+    ahead: &[u16],
+    r: Carrier,
+    placement: &mut [u16],
+    standing: &mut [u16],
+    empty: &mut [u64],
+    out: &mut [u64],
+    at: usize,
+) -> Tried
+    requires { ⌜ Ready (now table) (now placement) (now standing) (now empty) ⌝ }
+    requires { ⌜ (r .0 < length (now placement)) × Linked (length (now standing)) (now table) (getD (now placement) (r .0) 0) (now ahead) × Loopless (length (now standing)) (now table) × (at + 150000 * length (now ahead) < 2 ^ 60) ⌝ }
+    ensures { λ z. ⌜ (Within at (150000 * length (now (ahead .entry))) z) × ((t : Tabled (length (now (standing .entry))) (now (table .entry))) (goals : List ℕ) → Tries (goes (t .yard) goals (r .0) (now (ahead .entry)) (now (placement .entry))) (length (now (standing .entry))) (now (placement .entry)) (now (out .entry)) at (now (placement .exit)) (now (standing .exit)) (now (empty .exit)) (now (out .exit)) z) ⌝ }
+{
+    let finished = r.0 as usize;
+    let mut count = at;
+    let mut i = 0;
+    while i < ahead.len() {
+        let w = Bay(ahead[i]);
+        let one = step::step(
+            table,
+            finished,
+            r,
+            w,
+            placement,
+            standing,
+            empty,
+            out,
+            count,
+        );
+        let Tried::Done(m) = one else {
+            return Tried::Failed;
+        };
+        count = m;
+        i += 1;
+    }
+    Tried::Done(count)
+}

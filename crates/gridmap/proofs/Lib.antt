@@ -1,0 +1,4 @@
+pub mod Numbering
+pub mod RailEnds
+pub mod Good
+pub mod OfMap

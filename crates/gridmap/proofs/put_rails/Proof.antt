@@ -1,0 +1,52 @@
+-- `gridmap::put_rails` meets its contract: the rail below goes where the one beside ended.
+-- Assumes nothing.
+use native.Mathlib.Omega.{arith}
+use borrow.Author.Needs.{needs}
+use Rattle.stores.proofs.Stores.{wrote-then}
+use Rattle.gridmap.specs.Cells.{railsAtIn}
+use Rattle.gridmap.proofs.RailEnds.{rail-next}
+use Rattle.gridmap.proofs.put_rails.Statement.{statement}
+use Rattle.gridmap.proofs.put_rails.Tie as tie
+use Rattle.gridmap.proofs.put_rails.Reads as reads
+use Rattle.gridmap.proofs.put_rails.Lts as lts
+use Rattle.gridmap.proofs.number_at.Reads as number-at-reads
+use Rattle.gridmap.proofs.number_beside.Reads as number-beside-reads
+use Rattle.gridmap.proofs.put_rail.Reads as put-rail-reads
+
+number-at-requires : tie.Need-number-at-requires
+number-at-requires c κs = search needs
+
+number-beside-requires : tie.Need-number-beside-requires
+number-beside-requires c κs = search needs
+
+put-rail-requires : tie.Need-put-rail-requires
+put-rail-requires c κs = search needs
+
+add-number-at : tie.Need-add-number-at
+add-number-at c = search needs
+
+number-at-requires-2 : tie.Need-number-at-requires-2
+number-at-requires-2 c κs = search needs
+
+put-rail-requires-2 : tie.Need-put-rail-requires-2
+put-rail-requires-2 c κs = omega (arith, rail-next _ _ _ _ _ _ (c .before .before .before .before .put-rail .ensures), c .before .before .before .before .before .before .before .before .before .before .pre)
+
+same-length : tie.Need-same-length
+same-length c = search needs
+
+returns : tie.Need-returns
+unfolding railsAtIn
+returns c = wrote-then (rw (c .before .before .before .before .before .before .before .before .before .number-beside .ensures, c .before .before .before .before .before .before .before .before .before .before .number-at .ensures) at (c .before .before .before .before .before .before .before .put-rail .ensures)) (rw (c .before .before .before .before .number-at2 .ensures, c .before .before .before .before .before .before .before .before .before .before .number-at .ensures) at (c .before .before .put-rail2 .ensures))
+
+pub put-rails-spec : {M : Type 1} → statement M
+put-rails-spec =
+    tie.close
+    (tie.spec
+    number-at-requires
+    number-beside-requires
+    put-rail-requires
+    add-number-at
+    number-at-requires-2
+    put-rail-requires-2
+    same-length
+    returns)

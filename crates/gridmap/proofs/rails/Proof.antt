@@ -1,0 +1,68 @@
+-- `gridmap::rails` meets its contract. After i turns the rails of the first i cells are written, at most four ends each.
+-- Assumes nothing.
+use mathlib.Core.Path.{_≡_}
+use Prim.Native.Nat.{_-_, _*_, _≤_, _<_}
+use native.Mathlib.Omega.{arith}
+use borrow.Author.Needs.{needs}
+use Rattle.stores.specs.Writing.{Wrote}
+use Rattle.stores.proofs.Stores.{wrote-none, wrote-then, wrote-length}
+use Rattle.gridmap.specs.Cells.{railsTo}
+use Rattle.gridmap.proofs.RailEnds.{product-small, product-some, rails-none, rails-more, rails-short}
+use Rattle.gridmap.proofs.rails.Statement.{statement}
+use Rattle.gridmap.proofs.rails.Tie as tie
+use Rattle.gridmap.proofs.rails.Reads as reads
+use Rattle.gridmap.proofs.rails.Lts as lts
+use Rattle.gridmap.proofs.put_rails.Reads as put-rails-reads
+
+abbrev Inv-loop : tie.InvT-loop
+Inv-loop cells ends₀ width size at₀ i₀ ends at i = (i ≤ size) × (Wrote ends₀ 0 (railsTo cells size width i) ends at × ((at ≤ 4 * i) × ((size < 65536) × ((i < size → 0 < width) × (width < 256)))))
+
+abbrev μ-loop : tie.MeasureT-loop
+μ-loop cells ends₀ width size at₀ i₀ ends at i = size - i
+
+cast-width : tie.Need-cast-width Inv-loop μ-loop
+cast-width c = search needs
+
+cast-size : tie.Need-cast-size Inv-loop μ-loop
+cast-size c = search needs
+
+mul-size : tie.Need-mul-size Inv-loop μ-loop
+mul-size c = record { fits = omega (arith, product-small (c .before .before .before .before .args .grid .height) (c .before .before .before .before .args .grid .width) (search needs) (search needs)) }
+
+loop-holds : tie.Need-loop-holds Inv-loop μ-loop
+loop-holds c = (search needs, (rw rails-none (wrote-none _ _), (search needs, (product-small (c .before .before .before .before .args .grid .height) (c .before .before .before .before .args .grid .width) (search needs) (search needs), (product-some (c .before .before .before .before .args .grid .height) (c .before .before .before .before .args .grid .width) 0, search needs)))))
+
+put-rails-requires : tie.Need-put-rails-requires Inv-loop μ-loop
+put-rails-requires c κs = (c .before .before .loop .inv .1 .1 .1 .1 .0 (search needs), omega arith, omega arith, omega arith)
+
+add-i : tie.Need-add-i Inv-loop μ-loop
+add-i c = search needs
+
+loop-less : tie.Need-loop-less Inv-loop μ-loop
+loop-less c = search needs
+
+loop-again : tie.Need-loop-again Inv-loop μ-loop
+loop-again c = (search needs, (rw rails-more (wrote-then (c .before .before .before .before .before .loop .inv .1 .0) (c .before .before .put-rails .ensures)), (omega (arith, c .before .before .put-rails .ensures .counted, rails-short (c .before .before .before .before .before .before .before .before .before .before .args .cells .now) (c .before .before .before .before .before .before .before .before .before .before .args .grid .height * c .before .before .before .before .before .before .before .before .before .before .args .grid .width) (c .before .before .before .before .before .before .before .before .before .before .args .grid .width) (c .before .before .before .before .before .loop .i), c .before .before .before .before .before .loop .inv .1 .1 .0), (c .before .before .before .before .before .loop .inv .1 .1 .1 .0, (λ h. c .before .before .before .before .before .loop .inv .1 .1 .1 .1 .0 (search needs), c .before .before .before .before .before .loop .inv .1 .1 .1 .1 .1)))))
+
+same-length : tie.Need-same-length Inv-loop μ-loop
+same-length c = wrote-length (c .before .loop .inv .1 .0)
+
+returns : tie.Need-returns Inv-loop μ-loop
+returns c = let e : c .before .loop .i ≡ c .before .before .before .before .before .before .args .grid .height * c .before .before .before .before .before .before .args .grid .width = omega arith in rw e at (c .before .loop .inv .1 .0)
+
+pub rails-spec : {M : Type 1} → statement M
+rails-spec =
+    tie.close
+    (tie.spec
+    Inv-loop
+    μ-loop
+    cast-width
+    cast-size
+    mul-size
+    loop-holds
+    put-rails-requires
+    add-i
+    loop-less
+    loop-again
+    same-length
+    returns)

@@ -1,0 +1,203 @@
+-- The bays looked after are those from i on; each turn adds the bay before them, as the paper's way home does.
+-- Assumes nothing.
+use mathlib.Core.Path.{_≡_, sym, _∙_, ap, refl}
+use mathlib.Core.List.{List, [], _∷_, _++_}
+use Prim.Native.Nat.{ℕ, suc, _≤_, _<_, _+_, zero}
+use native.Mathlib.Omega.{arith}
+use native.Mathlib.Numerals.{add-one}
+use lib.ListN.{length, getD, drop, drop-of-length-le, take}
+use lib.Seq.{drop-cons}
+use borrow.Author.Tests.{eq-eqb, ne-eqb, lt-ltb, le-ltb}
+use Rattle.paper.specs.Basics.{_and_, placeOf}
+use Rattle.home.specs.Homing.{Due, Settled, AtMost, Stages, Homeward}
+use Rattle.paper.specs.Procedure.{step, Outcome, planned, stuck, orStuck, onward, _next_, homeAt, wayHome}
+use Rattle.paper.specs.Yard.{Bay, Carrier, Yard, Placement, bayOf, carrierAt, Crossing, after}
+use Rattle.paper.proofs.Playing.{Apart}
+use Rattle.paper.proofs.Tests.{never}
+use Rattle.words.specs.Sets.{span}
+use Rattle.vacate.specs.Placed.{Placed, Played}
+use Rattle.vacate.proofs.Playing.{played-none, played-then}
+use Rattle.bring.specs.Acting.{Tabled, Acts}
+use Rattle.bring.proofs.Acting.{acted-done, acted-failed}
+use Rattle.step.specs.Asking.{Loopless}
+use Rattle.go.specs.Going.{Linked}
+use Rattle.home.proofs.Settling.{due, homed}
+use Rattle.bring.specs.declared.Tried.the-variants.{Done}
+use Rattle.bring.specs.declared.Tried.the-variants.{Failed}
+use Rattle.home.specs.declared.Staged.the-variants.{Planned}
+use Rattle.home.specs.declared.Staged.the-variants.{Stuck}
+use Rattle.docket.specs.declared.Carrier.{Carrier as Named}
+
+-- ## Whose goal a bay is
+
+-- none of the carriers below c has the goal v
+pub record Passed (goals : List ℕ) (v : Bay) (c : ℕ) : Type 0 where
+  pub place : carrierAt goals v ≡ c + carrierAt (drop c goals) v
+
+pub passed-none : (goals : List ℕ) (v : Bay) → Passed goals v 0
+passed-none goals v = record { place = omega arith }
+
+place-cons : (v x : ℕ) (l : List ℕ) → (v ≡ x → ⊥) → carrierAt (x ∷ l) v ≡ suc (carrierAt l v)
+unfolding placeOf
+place-cons v x l ne = rw (ne-eqb v x ne)
+
+place-head : (v x : ℕ) (l : List ℕ) → v ≡ x → carrierAt (x ∷ l) v ≡ 0
+unfolding placeOf
+place-head v x l e = rw (eq-eqb v x e)
+
+pub passed-more : (goals : List ℕ) (v : Bay) (c : ℕ) → c < length goals → (getD goals c 0 ≡ v → ⊥) → Passed goals v c → Passed goals v (c + 1)
+passed-more goals v c h ne k =
+    let e : carrierAt (drop c goals) v ≡ suc (carrierAt (drop (c + 1) goals) v) = rw (drop-cons goals c 0, add-one) (place-cons v (getD goals c 0) (drop (suc c) goals) (λ d. ne (sym d))) in
+    record { place = k .place ∙ rw e (omega arith) }
+
+pub passed-here : (goals : List ℕ) (v : Bay) (c : ℕ) → c < length goals → getD goals c 0 ≡ v → Passed goals v c → carrierAt goals v ≡ c
+passed-here goals v c h e k =
+    let z : carrierAt (drop c goals) v ≡ 0 = rw (drop-cons goals c 0) (place-head v (getD goals c 0) (drop (suc c) goals) (sym e)) in
+    k .place ∙ rw z (omega arith)
+
+pub passed-all : (goals : List ℕ) (v : Bay) (c : ℕ) → length goals ≤ c → Passed goals v c → carrierAt goals v ≡ c
+passed-all goals v c h k =
+    let z : carrierAt (drop c goals) v ≡ 0 = rw (drop-of-length-le goals h) (unfold placeOf in refl) in
+    k .place ∙ rw z (omega arith)
+
+-- ## One bay
+
+module _ {o : Outcome} {n : ℕ} {p out : List ℕ} {at : ℕ} where
+  pub stages-none : {standing empty : List ℕ} → o ≡ planned [] → Placed n p standing empty → Stages o n p out at p standing empty out (Planned at)
+  stages-none {standing} {empty} e k = record {
+    plans = λ m d. let same : at ≡ m = cc in ([], e, rw (← same) (played-none n p standing empty out at k));
+    stops = λ c d. never (cc);
+  }
+
+  pub stages-done : {p′ standing′ empty′ out′ : List ℕ} {m : ℕ} {xs : List Crossing} → o ≡ planned xs → Played xs n p p′ standing′ empty′ out at out′ m → Stages o n p out at p′ standing′ empty′ out′ (Planned m)
+  stages-done {m = m} {xs = xs} e w = record {
+    plans = λ b d. let same : m ≡ b = cc in (xs, e, rw same at w);
+    stops = λ c d. never (cc);
+  }
+
+  pub stages-stuck : {p′ standing′ empty′ out′ : List ℕ} {c : Named} → o ≡ stuck (c .0) → Stages o n p out at p′ standing′ empty′ out′ (Stuck c)
+  stages-stuck {c = c} e = record {
+    plans = λ m d. never (cc);
+    stops = λ b d. let same : c ≡ b = cc in e ∙ ap (λ (f : Named). stuck (f .0)) same;
+  }
+
+module _ (Y : Yard) (goals : Placement) (finished : ℕ) (v : Bay) (p : Placement) where
+  pub home-absent : (c : ℕ) → c ≡ carrierAt (take finished goals) v → finished ≤ c → homeAt Y goals finished v p ≡ planned []
+  unfolding homeAt _and_
+  home-absent c e h = rw (← e, le-ltb c finished h)
+
+  module _ (c : ℕ) (e : c ≡ carrierAt (take finished goals) v) (h : c < finished) where
+    pub home-there : bayOf p c ≡ v → homeAt Y goals finished v p ≡ planned []
+    unfolding homeAt _and_
+    home-there d = rw (← e, lt-ltb c finished h, eq-eqb (bayOf p c) v d)
+
+    home-away : (bayOf p c ≡ v → ⊥) → homeAt Y goals finished v p ≡ orStuck c (step Y finished c v p)
+    unfolding homeAt _and_
+    home-away d = rw (← e, lt-ltb c finished h, ne-eqb (bayOf p c) v d)
+
+    pub home-steps : {n : ℕ} {standing empty out : List ℕ} {at : ℕ} {p′ standing′ empty′ out′ : List ℕ} {m : ℕ} → (bayOf p c ≡ v → ⊥)
+        → Acts (step Y finished c v p) n p standing empty out at p′ standing′ empty′ out′ (Done m) → Stages (homeAt Y goals finished v p) n p out at p′ standing′ empty′ out′ (Planned m)
+    unfolding orStuck
+    home-steps d a = let s = acted-done a in stages-done (home-away d ∙ ap (orStuck c) (s .1)) (s .2)
+
+    pub home-stuck : {n : ℕ} {standing empty out : List ℕ} {at : ℕ} {p′ standing′ empty′ out′ : List ℕ} {f : Named} → f .0 ≡ c → (bayOf p c ≡ v → ⊥)
+        → Acts (step Y finished c v p) n p standing empty out at p′ standing′ empty′ out′ Failed → Stages (homeAt Y goals finished v p) n p out at p′ standing′ empty′ out′ (Stuck f)
+    unfolding orStuck
+    home-stuck q d a = stages-stuck (home-away d ∙ ap (orStuck c) (acted-failed a) ∙ ap stuck (sym q))
+
+-- ## All bays
+
+-- the bays from i on are looked after
+pub record Homed (Y : Yard) (goals : Placement) (finished : ℕ) (bays : List Bay) (n : ℕ) (p out : List ℕ) (at i : ℕ) (p′ standing′ empty′ out′ : List ℕ) (m : ℕ) : Type 0 where
+  pub xs : List Crossing
+  pub answer : wayHome Y goals finished (drop i bays) p ≡ planned xs
+  pub played : Played xs n p p′ standing′ empty′ out at out′ m
+
+pub homed-none : (Y : Yard) (goals : Placement) (finished : ℕ) (bays : List Bay) (n : ℕ) (p standing empty out : List ℕ) (at : ℕ) → Placed n p standing empty
+    → Homed Y goals finished bays n p out at (length bays) p standing empty out at
+homed-none Y goals finished bays n p standing empty out at k = record {
+  xs = [];
+  answer = rw (drop-of-length-le bays {i = length bays} (omega arith)) (unfold wayHome in refl);
+  played = played-none n p standing empty out at k;
+}
+
+module _ (Y : Yard) (goals : Placement) (finished : ℕ) (p : Placement) where
+  home-cons : (v : Bay) (vs : List Bay) (a b : List Crossing) → wayHome Y goals finished vs p ≡ planned a → homeAt Y goals finished v (after p a) ≡ planned b → wayHome Y goals finished (v ∷ vs) p ≡ planned (a ++ b)
+  unfolding wayHome _next_ onward
+  home-cons v vs a b e d = rw (e, d)
+
+  stuck-cons : (v : Bay) (vs : List Bay) (a : List Crossing) (c : Carrier) → wayHome Y goals finished vs p ≡ planned a → homeAt Y goals finished v (after p a) ≡ stuck c → wayHome Y goals finished (v ∷ vs) p ≡ stuck c
+  unfolding wayHome _next_ onward
+  stuck-cons v vs a c e d = rw (e, d)
+
+  -- what is stuck from i on is stuck
+  stuck-whole : (bays : List Bay) (i : ℕ) (c : Carrier) → wayHome Y goals finished (drop i bays) p ≡ stuck c → wayHome Y goals finished bays p ≡ stuck c
+  unfolding wayHome _next_ onward
+  stuck-whole bays zero c e = e
+  stuck-whole [] (suc i) c e = e
+  stuck-whole (v ∷ vs) (suc i) c e = rw (stuck-whole vs i c e)
+
+module _ {Y : Yard} {goals : Placement} {finished : ℕ} {bays : List Bay} {n : ℕ} {p out : List ℕ} {at i : ℕ} {p′ standing′ empty′ out′ : List ℕ} {m : ℕ}
+    (g : Homed Y goals finished bays n p out at (i + 1) p′ standing′ empty′ out′ m) (here : i < length bays) where
+  pub homed-more : {q standing″ empty″ out″ : List ℕ} {b : ℕ} → Stages (homeAt Y goals finished (getD bays i 0) p′) n p′ out′ m q standing″ empty″ out″ (Planned b)
+      → Homed Y goals finished bays n p out at i q standing″ empty″ out″ b
+  homed-more {b = b} s =
+      let w = s .plans b refl in
+      record {
+        xs = g .xs ++ w .0;
+        answer = rw (drop-cons bays i 0) (home-cons Y goals finished p (getD bays i 0) (drop (suc i) bays) (g .xs) (w .0) (rw add-one at (g .answer)) (rw (g .played .moved) at (w .1)));
+        played = played-then (g .played) (w .2);
+      }
+
+  pub homed-stops : {q standing″ empty″ out″ : List ℕ} {c : Named} → Stages (homeAt Y goals finished (getD bays i 0) p′) n p′ out′ m q standing″ empty″ out″ (Stuck c)
+      → wayHome Y goals finished bays p ≡ stuck (c .0)
+  homed-stops {c = c} s =
+      stuck-whole Y goals finished p bays i (c .0)
+      (rw (drop-cons bays i 0) (stuck-cons Y goals finished p (getD bays i 0) (drop (suc i) bays) (g .xs) (c .0) (rw add-one at (g .answer)) (rw (g .played .moved) at (s .stops c refl))))
+
+pub homed-all : {Y : Yard} {goals : Placement} {finished : ℕ} {bays : List Bay} {n : ℕ} {p out : List ℕ} {at : ℕ} {p′ standing′ empty′ out′ : List ℕ} {m : ℕ}
+    → Homed Y goals finished bays n p out at 0 p′ standing′ empty′ out′ m → Stages (wayHome Y goals finished bays p) n p out at p′ standing′ empty′ out′ (Planned m)
+homed-all g = stages-done (g .answer) (g .played)
+
+-- ## The path
+
+pub split-at : (bays : List Bay) (l : List Bay) (i : ℕ) → i < length bays → bays ++ l ≡ take i bays ++ (getD bays i 0 ∷ (drop (suc i) bays ++ l))
+split-at [] l i h = absurd (omega arith)
+split-at (x ∷ xs) l zero h = refl
+split-at (x ∷ xs) l (suc i) h = ap (λ (t : List Bay). x ∷ t) (split-at xs l i (omega arith))
+
+pub linked-all : (n : ℕ) (table : List ℕ) (u : Bay) (bays l : List Bay) (i : ℕ) → i < length bays → Linked n table u (bays ++ l) → getD bays i 0 < n
+linked-all n table u [] l i h k = absurd (omega arith)
+linked-all n table u (x ∷ xs) l zero h k = k .0
+linked-all n table u (x ∷ xs) l (suc i) h k = linked-all n table x xs l i (omega arith) (k .2)
+
+-- ## The turns
+
+pub at-most : {at k m : ℕ} → m ≤ at + k → AtMost at k (Planned m)
+at-most {m = m} h = record { few = λ b e. let same : m ≡ b = cc in omega arith }
+
+pub at-most-stuck : {at k : ℕ} {c : Named} → AtMost at k (Stuck c)
+at-most-stuck = record { few = λ b e. never (cc) }
+
+module _ {n : ℕ} {table goals : List ℕ} {finished : ℕ} {bays p₀ : List ℕ} (h : Homeward n table goals finished bays p₀) (goals-apart : Apart goals) (hf : finished ≤ length goals)
+    (i : ℕ) (here : i < length bays) (p : Placement) (len : length p ≡ length goals)
+    (settled : Settled goals finished (h .first) (bays ++ (h .last ∷ [])) (drop (i + 1) bays ++ (h .last ∷ [])) p) where
+  behind : Settled goals finished (h .first) (bays ++ (h .last ∷ [])) (drop (suc i) bays ++ (h .last ∷ [])) p
+  behind = rw add-one at settled
+
+  pub turn-due : Due table goals finished (getD bays i 0) p
+  turn-due =
+      due goals goals-apart finished hf (h .first) (bays ++ (h .last ∷ [])) (h .once) (take i bays) (getD bays i 0) (drop (suc i) bays ++ (h .last ∷ []))
+      (split-at bays (h .last ∷ []) i here) p len behind n table (h .linked)
+
+  pub turn-low : getD bays i 0 < n
+  turn-low = linked-all n table (h .first) bays (h .last ∷ []) i here (h .linked)
+
+  pub turn-homed : (t : Tabled n table) → n ≤ span → Loopless n table → {standing empty out : List ℕ} {at b : ℕ} {q standing′ empty′ out′ : List ℕ} → Placed n p standing empty
+      → Stages (homeAt (t .yard) goals finished (getD bays i 0) p) n p out at q standing′ empty′ out′ (Planned b)
+      → Settled goals finished (h .first) (bays ++ (h .last ∷ [])) (drop i bays ++ (h .last ∷ [])) q
+  turn-homed t most loopless {b = b} k s =
+      let w = s .plans b refl in
+      rw (w .2 .moved, drop-cons bays i 0)
+      (homed goals goals-apart finished hf (h .first) (bays ++ (h .last ∷ [])) (h .once) (take i bays) (getD bays i 0) (drop (suc i) bays ++ (h .last ∷ []))
+      (split-at bays (h .last ∷ []) i here) p len behind t most loopless k turn-low (h .linked) (w .0) (w .1))

@@ -1,0 +1,107 @@
+// The way home: the finished carriers that were displaced step back to their goals, the last bay of the path first.
+use bring::Tried;
+use docket::Bay;
+use docket::Carrier;
+ghost use mathlib.Core.Path.{_≡_};
+ghost use mathlib.Core.Bool.{true};
+ghost use mathlib.Core.List.{List};
+ghost use Prim.Native.Nat.{ℕ, _+_, _*_, _^_, _≤_, _<_};
+ghost use lib.ListN.{length, getD, take};
+ghost use Rattle.paper.specs.Yard.{bayOf, carrierAt};
+ghost use Rattle.paper.proofs.Playing.{Apart};
+ghost use Rattle.words.specs.Sets.{memRow};
+ghost use Rattle.bring.specs.Acting.{Tabled, Ready};
+ghost use Rattle.step.specs.Asking.{Loopless};
+ghost use Rattle.home.specs.Homing.{AtMost, Stages, Due, Homeward, homes, waysHome};
+
+// The count of crossings afterwards, or the carrier that could not step.
+pub enum Staged {
+    Planned(usize),
+    Stuck(Carrier),
+}
+
+// The finished carrier whose goal is v; `finished` where there is none.
+fn bound_for(goals: &[u16], finished: usize, v: Bay) -> usize
+    requires { ⌜ finished ≤ length (now goals) ⌝ }
+    ensures { λ r. ⌜ r ≡ carrierAt (take finished (now (goals .entry))) (v .0) ⌝ }
+{
+    let mut c = 0;
+    while c < finished {
+        if goals[c] == v.0 {
+            return c;
+        }
+        c += 1;
+    }
+    finished
+}
+
+// The finished carrier whose goal is v, if it is not there, steps to it.
+fn home_at(
+    table: &[u64],
+    goals: &[u16],
+    finished: usize,
+    v: Bay,
+    placement: &mut [u16],
+    standing: &mut [u16],
+    empty: &mut [u64],
+    out: &mut [u64],
+    at: usize,
+) -> Staged
+    requires { ⌜ Ready (now table) (now placement) (now standing) (now empty) ⌝ }
+    requires { ⌜ (finished ≤ length (now goals)) × (length (now goals) ≡ length (now placement)) × (v .0 < length (now standing)) × Loopless (length (now standing)) (now table) × (at < 2 ^ 60) × Due (now table) (now goals) finished (v .0) (now placement) ⌝ }
+    ensures { λ z. ⌜ (AtMost at 150000 z) × ((t : Tabled (length (now (standing .entry))) (now (table .entry))) → Stages (homes (t .yard) (now (goals .entry)) finished (v .0) (now (placement .entry))) (length (now (standing .entry))) (now (placement .entry)) (now (out .entry)) at (now (placement .exit)) (now (standing .exit)) (now (empty .exit)) (now (out .exit)) z) ⌝ }
+{
+    let c = bound_for(goals, finished, v);
+    if finished <= c {
+        return Staged::Planned(at);
+    }
+    if placement[c] == v.0 {
+        return Staged::Planned(at);
+    }
+    let f = Carrier(c as u32);
+    let one = step::step(table, finished, f, v, placement, standing, empty, out, at);
+    let Tried::Done(m) = one else {
+        return Staged::Stuck(f);
+    };
+    Staged::Planned(m)
+}
+
+// The bays of the path one after the other, the last of them first.
+pub fn way_home(
+    table: &[u64],
+    goals: &[u16],
+    finished: usize,
+    bays: &[u16],
+    placement: &mut [u16],
+    standing: &mut [u16],
+    empty: &mut [u64],
+    out: &mut [u64],
+    at: usize,
+) -> Staged
+    requires { ⌜ Ready (now table) (now placement) (now standing) (now empty) ⌝ }
+    requires { ⌜ (finished ≤ length (now goals)) × (length (now goals) ≡ length (now placement)) × Apart (now goals) × Loopless (length (now standing)) (now table) × (at + 150000 * length (now bays) < 2 ^ 60) × Homeward (length (now standing)) (now table) (now goals) finished (now bays) (now placement) ⌝ }
+    ensures { λ z. ⌜ (AtMost at (150000 * length (now (bays .entry))) z) × ((t : Tabled (length (now (standing .entry))) (now (table .entry))) → Stages (waysHome (t .yard) (now (goals .entry)) finished (now (bays .entry)) (now (placement .entry))) (length (now (standing .entry))) (now (placement .entry)) (now (out .entry)) at (now (placement .exit)) (now (standing .exit)) (now (empty .exit)) (now (out .exit)) z) ⌝ }
+{
+    let mut count = at;
+    let mut i = bays.len();
+    while 0 < i {
+        i -= 1;
+        let v = Bay(bays[i]);
+        let homed = home_at(
+            table,
+            goals,
+            finished,
+            v,
+            placement,
+            standing,
+            empty,
+            out,
+            count,
+        );
+        let Staged::Planned(m) = homed else {
+            return homed;
+        };
+        count = m;
+    }
+    Staged::Planned(count)
+}

@@ -1,0 +1,42 @@
+-- `printing::cost` meets its contract. The words behind the number go where its digits ended.
+-- Assumes nothing.
+use native.Mathlib.Omega.{arith}
+use borrow.Author.Needs.{needs}
+use Rattle.paper.specs.Text.{text}
+use Rattle.stores.proofs.Stores.{wrote-then}
+use Rattle.printing.proofs.Lines.{named-short, cost-parts}
+use Rattle.printing.proofs.cost.Statement.{statement}
+use Rattle.printing.proofs.cost.Tie as tie
+use Rattle.printing.proofs.cost.Reads as reads
+use Rattle.printing.proofs.cost.Lts as lts
+use Rattle.printing.proofs.put_named.Reads as put-named-reads
+use Rattle.printing.proofs.put_text.Reads as put-text-reads
+
+slice-aggregate-put-named : tie.Need-slice-aggregate-put-named
+slice-aggregate-put-named c = search needs
+
+put-named-requires : tie.Need-put-named-requires
+put-named-requires c κs = search needs
+
+slice-aggregate-put-text : tie.Need-slice-aggregate-put-text
+slice-aggregate-put-text c = search needs
+
+put-text-requires : tie.Need-put-text-requires
+put-text-requires c κs = omega (arith, c .before .before .before .before .put-named .ensures .counted, named-short (text "; cost = ") (c .before .before .before .before .before .before .before .before .args .n) (search needs), c .before .before .before .before .before .before .before .before .pre)
+
+same-length : tie.Need-same-length
+same-length c = search needs
+
+returns : tie.Need-returns
+returns c = rw (← cost-parts (c .before .before .before .before .before .before .before .before .before .before .before .args .n)) (wrote-then (c .before .before .before .before .before .before .before .put-named .ensures) (c .before .before .put-text .ensures))
+
+pub cost-spec : {M : Type 1} → statement M
+cost-spec =
+    tie.close
+    (tie.spec
+    slice-aggregate-put-named
+    put-named-requires
+    slice-aggregate-put-text
+    put-text-requires
+    same-length
+    returns)

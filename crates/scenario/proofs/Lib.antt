@@ -1,0 +1,4 @@
+pub mod Closing
+pub mod Stepping
+pub mod Ending
+pub mod OfMap

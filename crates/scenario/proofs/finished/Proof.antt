@@ -1,0 +1,28 @@
+-- `scenario::finished` meets its contract: broken before, in a line, between lines.
+-- Assumes nothing.
+use borrow.Author.Needs.{needs}
+use Rattle.scenario.proofs.Ending.{finishes-failed, finishes-between, finishes-line}
+use Rattle.scenario.proofs.finished.Statement.{statement}
+use Rattle.scenario.proofs.finished.Tie as tie
+use Rattle.scenario.proofs.finished.Reads as reads
+use Rattle.scenario.proofs.finished.Lts as lts
+use Rattle.scenario.proofs.closed.Reads as closed-reads
+use Rattle.scenario.proofs.released.Reads as released-reads
+
+returns : tie.Need-returns
+returns c = λ o. finishes-failed (c .before .before .args .cells .now) (c .before .before .args .grid) (c .before .before .args .s) (c .if1 .taken)
+
+released-requires : tie.Need-released-requires
+released-requires c κs = search needs
+
+closed-requires : tie.Need-closed-requires
+closed-requires c κs = search needs
+
+returns-2 : tie.Need-returns-2
+returns-2 c = λ o. finishes-line (c .before .before .before .before .before .args .cells .now) (c .before .before .before .before .before .args .grid) (c .before .before .before .before .before .args .s) (c .before .before .before .if1 .left) (c .before .before .if2 .taken) o _ (c .before .released .ensures) _ (c .closed .ensures)
+
+returns-3 : tie.Need-returns-3
+returns-3 c = λ o. finishes-between (c .before .before .before .args .cells .now) (c .before .before .before .args .grid) (c .before .before .before .args .s) (c .before .if1 .left) (c .if2 .left)
+
+pub finished-spec : {M : Type 1} → statement M
+finished-spec = tie.close (tie.spec returns released-requires closed-requires returns-2 returns-3)

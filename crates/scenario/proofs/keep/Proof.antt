@@ -1,0 +1,36 @@
+-- `scenario::keep` meets its contract, by its two cases.
+-- Assumes nothing.
+use mathlib.Core.Path.{_∙_}
+use borrow.Author.Needs.{needs}
+use Rattle.scenario.proofs.Ending.{kept-same, kept-more}
+use Rattle.scenario.proofs.keep.Statement.{statement}
+use Rattle.scenario.proofs.keep.Tie as tie
+use Rattle.scenario.proofs.keep.Reads as reads
+use Rattle.scenario.proofs.keep.Lts as lts
+use Rattle.stores.proofs.short.Reads as short-reads
+
+returns : tie.Need-returns
+returns c = (kept-same (c .before .before .before .before .before .args .s) (c .before .before .before .before .before .args .r) _ _ (c .if1 .taken), kept-same (c .before .before .before .before .before .args .s) (c .before .before .before .before .before .args .r) _ _ (c .if1 .taken))
+
+cast-at : tie.Need-cast-at
+cast-at c = search needs
+
+short-requires : tie.Need-short-requires
+short-requires c κs = search needs
+
+short-requires-2 : tie.Need-short-requires-2
+short-requires-2 c κs = search needs
+
+same-length : tie.Need-same-length
+same-length c = search needs
+
+same-length-2 : tie.Need-same-length-2
+same-length-2 c = search needs
+
+returns-2 : tie.Need-returns-2
+returns-2 c = (c .before .before .before .before .before .before .short .ensures ∙ kept-more (c .before .before .before .before .before .before .before .before .before .before .before .before .before .before .args .s) (c .before .before .before .before .before .before .before .before .before .before .before .before .before .before .args .r) _ _ (c .before .before .before .before .before .before .before .before .before .if1 .left), c .before .before .short2 .ensures ∙ kept-more (c .before .before .before .before .before .before .before .before .before .before .before .before .before .before .args .s) (c .before .before .before .before .before .before .before .before .before .before .before .before .before .before .args .r) _ _ (c .before .before .before .before .before .before .before .before .before .if1 .left))
+
+pub keep-spec : {M : Type 1} → statement M
+keep-spec =
+    tie.close
+    (tie.spec returns cast-at short-requires short-requires-2 same-length same-length-2 returns-2)

@@ -1,0 +1,22 @@
+-- `sides::is_row` meets its contract: W letters, and nothing else.
+-- Assumes nothing.
+use mathlib.Core.Path.{_∙_}
+use borrow.Author.Needs.{needs}
+use Rattle.sides.proofs.Rows.{row-wide, row-other}
+use Rattle.sides.proofs.is_row.Statement.{statement}
+use Rattle.sides.proofs.is_row.Tie as tie
+use Rattle.sides.proofs.is_row.Reads as reads
+use Rattle.sides.proofs.is_row.Lts as lts
+use Rattle.sides.proofs.all_letters.Reads as all-letters-reads
+
+all-letters-requires : tie.Need-all-letters-requires
+all-letters-requires c κs = search needs
+
+returns : tie.Need-returns
+returns c = c .all-letters .ensures ∙ row-wide (c .before .before .before .args .width) (c .before .before .before .args .text .now) (search needs)
+
+returns-2 : tie.Need-returns-2
+returns-2 c = row-other (c .before .before .args .width) (c .before .before .args .text .now) (c .if1 .left)
+
+pub is-row-spec : {M : Type 1} → statement M
+is-row-spec = tie.close (tie.spec all-letters-requires returns returns-2)

@@ -1,0 +1,27 @@
+-- `sides::row` meets its contract: a row is due while rows are missing.
+-- Assumes nothing.
+use borrow.Author.Needs.{needs}
+use Rattle.sides.proofs.Taking.{row-yes, row-no, row-more}
+use Rattle.sides.proofs.row.Statement.{statement}
+use Rattle.sides.proofs.row.Tie as tie
+use Rattle.sides.proofs.row.Reads as reads
+use Rattle.sides.proofs.row.Lts as lts
+use Rattle.sides.proofs.is_row.Reads as is-row-reads
+
+is-row-requires : tie.Need-is-row-requires
+is-row-requires c κs = search needs
+
+add-t7 : tie.Need-add-t7
+add-t7 c = search needs
+
+returns : tie.Need-returns
+returns c = row-yes (c .before .before .before .before .args .h) (c .before .before .before .before .args .w) (c .before .before .before .before .args .rows) (c .before .before .before .before .args .text .now) (search needs) (c .before .is-row .result) (c .before .is-row .ensures) (c .if2 .taken)
+
+returns-2 : tie.Need-returns-2
+returns-2 c = row-no (c .before .before .before .before .args .h) (c .before .before .before .before .args .w) (c .before .before .before .before .args .rows) (c .before .before .before .before .args .text .now) (search needs) (c .before .is-row .result) (c .before .is-row .ensures) (c .if2 .left)
+
+returns-3 : tie.Need-returns-3
+returns-3 c = row-more (c .before .before .args .h) (c .before .before .args .w) (c .before .before .args .rows) (c .before .before .args .text .now) (search needs)
+
+pub row-spec : {M : Type 1} → statement M
+row-spec = tie.close (tie.spec is-row-requires add-t7 returns returns-2 returns-3)

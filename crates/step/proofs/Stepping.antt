@@ -1,0 +1,107 @@
+-- A step is a vacate and a crossing, or where the vacate fails a swap: a carrier stands at a bay that could not be vacated, and it is
+-- beside r, which the swap asks.
+-- Assumes nothing.
+use mathlib.Core.Path.{_≡_, sym, _∙_, refl}
+use mathlib.Core.Bool.{true, false}
+use mathlib.Core.List.{List, [], _∷_, _++_}
+use mathlib.Core.Option.{none, some}
+use Prim.Native.Nat.{ℕ, _≤_, _<_, _+_}
+use native.Mathlib.Omega.{arith}
+use native.Mathlib.Numerals.{add-one}
+use lib.ListN.{length, getD, take}
+use lib.Dec.{eqb}
+use lib.Seq.{take-suc}
+use Rattle.paper.specs.Basics.{_or_, elem, In, Out}
+use Rattle.paper.specs.Procedure.{_then_, cross, vacate, holding, swap, step}
+use Rattle.paper.specs.Yard.{Bay, Carrier, Placement, bayOf, carrierAt, Crossing, crossing, after, joined}
+use Rattle.paper.proofs.Members.{In-head, in-count}
+use Rattle.paper.proofs.Playing.{Sound, after-length, placeOf-bay, placeOf-there, bay-in}
+use Rattle.paper.proofs.Tests.{by-cases, not-both, never-some}
+use Rattle.paper.proofs.Vacating.{Vacated, vacate-vacates, vacate-empty}
+use Rattle.words.specs.Sets.{mem, span, memRow}
+use Rattle.swap.specs.Seeking.{Beside}
+use Rattle.rings.specs.Search.{Shown}
+use Rattle.rings.proofs.Searching.{elem-append, elem-one}
+use Rattle.vacate.specs.Placed.{Placed, Played}
+use Rattle.vacate.proofs.Playing.{played-then, carrier-is}
+use Rattle.bring.specs.Acting.{Tabled, Acts}
+use Rattle.bring.proofs.Acting.{acts-some}
+use Rattle.step.specs.Asking.{Loopless}
+use Rattle.bring.specs.declared.Tried.the-variants.{Done}
+use Rattle.bring.specs.declared.Tried.{Tried}
+
+pub sound-of : {n : ℕ} {table : List ℕ} (t : Tabled n table) → n ≤ span → Loopless n table → Sound (t .yard)
+sound-of {n} t most l = record {
+  inside = λ a b j. in-count 0 (t .yard .bays) b (omega arith) (omega (arith, t .joins .inside a b j .1, t .joins .bays));
+  no-loop = λ a j. let h = t .joins .inside a a j .0 in not-both (t .joins .same a a h (omega arith) ∙ j) (l .none a h);
+}
+
+-- ## What is held
+
+-- the bay that r holds, and those of the carriers below c
+pub hold-none : (p h₀ h₁ : List ℕ) (r : Carrier) → ((y : ℕ) → mem h₀ y ≡ false) → ((y : ℕ) → mem h₁ y ≡ mem h₀ y or eqb y (bayOf p r)) → (b : ℕ) → mem h₁ b ≡ elem b (bayOf p r ∷ take 0 p)
+unfolding _or_
+hold-none p h₀ h₁ r f g b = g b ∙ rw (f b) (sym (elem-one b (bayOf p r)))
+
+elem-snoc : (b x : ℕ) (l : List ℕ) → elem b (l ++ (x ∷ [])) ≡ elem b l or eqb b x
+elem-snoc b x l = elem-append b l (x ∷ []) ∙ rw elem-one
+
+pub hold-more : (p h h′ : List ℕ) (r : Carrier) (c : ℕ) → c < length p → ((b : ℕ) → mem h b ≡ elem b (bayOf p r ∷ take c p)) → ((y : ℕ) → mem h′ y ≡ mem h y or eqb y (bayOf p c))
+    → (b : ℕ) → mem h′ b ≡ elem b (bayOf p r ∷ take (c + 1) p)
+hold-more p h h′ r c k f g b = g b ∙ rw (f b, add-one, take-suc p c 0 k) (sym (elem-snoc b (bayOf p c) (bayOf p r ∷ take c p)))
+
+abbrev pub heldBy : {n : ℕ} {table held : List ℕ} (t : Tabled n table) (finished : ℕ) (r : Carrier) (p : Placement) → ((b : ℕ) → mem held b ≡ elem b (holding finished r p)) → Shown n table held
+heldBy t finished r p f = record { yard = t .yard; bays = holding finished r p; joins = t .joins; holds = λ b h. f b }
+
+-- ## The step
+
+module _ {n : ℕ} {table : List ℕ} (t : Tabled n table) (most : n ≤ span) (loopless : Loopless n table) (finished : ℕ) (r : Carrier) (w : Bay) (p : Placement)
+    {standing empty : List ℕ} (k : Placed n p standing empty) (hr : r < length p) (hw : w < n) (rail : memRow table (bayOf p r) w ≡ true) where
+  pub railed : joined (t .yard) (bayOf p r) w ≡ true
+  railed = sym (t .joins .same (bayOf p r) w (k .inside r hr) (omega arith)) ∙ rail
+
+  -- where vacating fails a carrier stands at w
+  pub met : vacate (t .yard) (holding finished r p) w p ≡ none → In w p
+  met e = by-cases (elem w p) (λ i. i) (λ o. never-some [] (sym e ∙ vacate-empty (t .yard) (holding finished r p) w p o))
+
+  pub met-carrier : vacate (t .yard) (holding finished r p) w p ≡ none → (getD standing w 0 < length p) × (bayOf p (getD standing w 0) ≡ w)
+  met-carrier e = rw (k .stands w hw) (placeOf-there p w (met e), placeOf-bay p w (met e))
+
+  pub met-other : vacate (t .yard) (holding finished r p) w p ≡ none → getD standing w 0 ≡ r → ⊥
+  met-other e q =
+      let at-w : bayOf p r ≡ w = rw q at (met-carrier e .1) in
+      not-both (rw at-w at rail) (loopless .none w hw)
+
+  pub met-beside : vacate (t .yard) (holding finished r p) w p ≡ none → Beside (t .yard) r (getD standing w 0) p
+  met-beside e = record { sound = sound-of t most loopless; beside = rw (met-carrier e .1) railed }
+
+  -- by a swap
+  pub stepped-swap : {out : List ℕ} {at : ℕ} {p′ standing′ empty′ out′ : List ℕ} {z : Tried} → vacate (t .yard) (holding finished r p) w p ≡ none
+      → Acts (swap (t .yard) r (getD standing w 0) p) n p standing empty out at p′ standing′ empty′ out′ z → Acts (step (t .yard) finished r w p) n p standing empty out at p′ standing′ empty′ out′ z
+  unfolding step _then_
+  stepped-swap e a = rw (e, ← (k .stands w hw)) a
+
+  -- by vacating and crossing
+  module _ (vs : List Crossing) (made : vacate (t .yard) (holding finished r p) w p ≡ some vs) where
+    vac : Vacated (t .yard) (holding finished r p) w p vs
+    vac = vacate-vacates (t .yard) (holding finished r p) w p vs (k .apart) (in-count 0 (t .yard .bays) w (omega arith) (omega (arith, t .joins .bays))) made
+
+    pub stays : bayOf (after p vs) r ≡ bayOf p r
+    stays = vac .keeps r hr (In-head (bayOf p r) (take finished p))
+
+    pub r-there : (q : Placement) → q ≡ after p vs → In (bayOf q r) q
+    r-there q e = bay-in q r (rw (e, after-length) hr)
+
+    pub r-inside : (q : Placement) → q ≡ after p vs → r < length q
+    r-inside q e = rw (e, after-length) hr
+
+    pub w-empty : (q : Placement) → q ≡ after p vs → Out w q
+    w-empty q e = rw e (vac .empties)
+
+    pub stepped-cross : {out out₁ : List ℕ} {at a b : ℕ} {q standing₁ empty₁ p′ standing′ empty′ out′ : List ℕ} → Played vs n p q standing₁ empty₁ out at out₁ a
+        → Played (crossing (carrierAt q (bayOf q r)) (bayOf q r) w ∷ []) n q p′ standing′ empty′ out₁ a out′ b → Acts (step (t .yard) finished r w p) n p standing empty out at p′ standing′ empty′ out′ (Done b)
+    unfolding step _then_ cross
+    stepped-cross {q = q} x y =
+        let same : carrierAt q (bayOf q r) ≡ r = carrier-is q (bayOf q r) r (x .placed .apart) (rw (x .moved, after-length) hr) refl in
+        let y′ = rw same at y in
+        acts-some (rw (made, ← (x .moved))) (played-then x y′)

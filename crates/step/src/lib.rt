@@ -1,0 +1,68 @@
+// One step of a carrier: the next bay is vacated and the carrier crosses, or else it is swapped with the carrier there.
+use bring::Tried;
+use docket::Bay;
+use docket::Carrier;
+ghost use mathlib.Core.Path.{_≡_};
+ghost use mathlib.Core.Bool.{true};
+ghost use Prim.Native.Nat.{ℕ, _+_, _*_, _^_, _≤_, _<_};
+ghost use lib.ListN.{length, getD};
+ghost use Rattle.paper.specs.Basics.{elem};
+ghost use Rattle.paper.specs.Procedure.{holding};
+ghost use Rattle.words.specs.Sets.{mem, memRow, words, span};
+ghost use Rattle.bring.specs.Acting.{Tabled, Ready, Within, Acts};
+ghost use Rattle.step.specs.Asking.{Loopless, steps};
+
+// What a step of r holds: its own bay, and those of the finished carriers.
+fn hold(placement: &[u16], finished: usize, r: Carrier, held: &mut [u64])
+    requires { ⌜ (r .0 < length (now placement)) × (finished ≤ length (now placement)) × (length (now held) ≡ words) × ((c : ℕ) → c < length (now placement) → getD (now placement) c 0 < span) ⌝ }
+    ensures { λ _. ⌜ ((b : ℕ) → mem (now (held .exit)) b ≡ elem b (holding finished (r .0) (now (placement .entry)))) ⌝ }
+{
+    let own = r.0 as usize;
+    words::clear(held);
+    words::add(held, placement[own] as usize);
+    let mut c = 0;
+    while c < finished {
+        words::add(held, placement[c] as usize);
+        c += 1;
+    }
+}
+
+// One step of r to w: it is vacated, then r crosses; or else r is swapped with the carrier there.
+pub fn step(
+    table: &[u64],
+    finished: usize,
+    r: Carrier,
+    w: Bay,
+    placement: &mut [u16],
+    standing: &mut [u16],
+    empty: &mut [u64],
+    out: &mut [u64],
+    at: usize,
+) -> Tried
+    requires { ⌜ Ready (now table) (now placement) (now standing) (now empty) ⌝ }
+    requires { ⌜ (r .0 < length (now placement)) × (finished ≤ length (now placement)) × (w .0 < length (now standing)) × (memRow (now table) (getD (now placement) (r .0) 0) (w .0) ≡ true) × Loopless (length (now standing)) (now table) × (at < 2 ^ 60) ⌝ }
+    ensures { λ z. ⌜ (Within at 150000 z) × ((t : Tabled (length (now (standing .entry))) (now (table .entry))) → Acts (steps (t .yard) finished (r .0) (w .0) (now (placement .entry))) (length (now (standing .entry))) (now (placement .entry)) (now (standing .entry)) (now (empty .entry)) (now (out .entry)) at (now (placement .exit)) (now (standing .exit)) (now (empty .exit)) (now (out .exit)) z) ⌝ }
+{
+    let mut held = [0u64; words::WORDS];
+    let mut rows = [0u64; 1024];
+    hold(placement, finished, r, &mut held);
+    let vacated = bring::make_room(
+        table,
+        &held,
+        w,
+        placement,
+        standing,
+        empty,
+        &mut rows,
+        out,
+        at,
+    );
+    let Tried::Done(a) = vacated else {
+        let bay = w.0 as usize;
+        let s = Carrier(standing[bay] as u32);
+        return swap::swap(table, r, s, placement, standing, empty, out, at);
+    };
+    let own = r.0 as usize;
+    let u = Bay(placement[own]);
+    Tried::Done(vacate::cross(placement, standing, empty, u, w, out, a))
+}

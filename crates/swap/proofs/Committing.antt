@@ -1,0 +1,130 @@
+-- The winner's trial trades the two carriers and leaves all others in place, so the end state is written by trading the two entries.
+-- Assumes nothing.
+use mathlib.Core.Path.{_≡_, sym, _∙_, ap}
+use mathlib.Core.Bool.{true, false, not}
+use mathlib.Core.List.{List, []}
+use mathlib.Core.Option.{none, some}
+use Prim.Native.Nat.{ℕ, _≤_, _<_}
+use native.Mathlib.Omega.{arith}
+use lib.ListN.{length, getD, set, length-set}
+use native.Mathlib.Decide.{ℕ-discrete}
+use lib.Dec.{eqb}
+use lib.Seq.{getD-set-same, getD-set-other}
+use borrow.Author.Tests.{ne-eqb}
+use Rattle.paper.specs.Basics.{find, elem, placeOf, upTo, In}
+use Rattle.paper.specs.Path.{nearestFirst}
+use Rattle.paper.specs.Procedure.{trade, trial, swap}
+use Rattle.paper.specs.Yard.{Bay, Carrier, bayOf}
+use Rattle.paper.proofs.Members.{find-passes, find-in, nothing-in-nil, count-high, in-count}
+use Rattle.paper.proofs.Playing.{Apart, placeOf-bay, placeOf-there, bay-in}
+use Rattle.paper.proofs.Rings.{walk-free, reached-walk, reached-sym}
+use Rattle.paper.proofs.Swapping.{swap-trades}
+use Rattle.paper.proofs.Tests.{by-cases, by-option, not-both, and-right, never}
+use Rattle.paper.proofs.Trading.{traded, traded-length, trade-first, trade-second, trade-other, trade-twice, trade-there, traded-bay}
+use Rattle.paper.proofs.Vacating.{plan-apart}
+use Rattle.docket.specs.Reading.{isSome}
+use Rattle.swap.specs.Seeking.{Beside, standingTraded, fitting}
+use Rattle.words.proofs.Besides.{equal-tests}
+use Rattle.vacate.specs.Placed.{Placed}
+use Rattle.vacate.proofs.Playing.{unchanged, carrier-is, carrier-none}
+use Rattle.bring.specs.Acting.{Tabled, Acts}
+use Rattle.bring.proofs.Acting.{acts-none, acts-some}
+use Rattle.trial.specs.Trying.{Wrote, Near}
+use Rattle.swap.proofs.Seeking.{swap-found, near-of}
+use Rattle.bring.specs.declared.Tried.the-variants.{Done}
+use Rattle.bring.specs.declared.Tried.the-variants.{Failed}
+
+module _ {n : ℕ} {p standing empty : List ℕ} (k : Placed n p standing empty) (r s : Carrier) (hr : r < length p) (hs : s < length p) (differ : s ≡ r → ⊥) (apart : Apart (traded r s p)) (long : n ≤ length standing) where
+  in-traded : (b : Bay) → elem b (traded r s p) ≡ elem b p
+  in-traded b =
+      equal-tests _ _
+      (λ i.
+      let c = placeOf b (traded r s p) in
+      let hc : c < length p = rw traded-length at (placeOf-there (traded r s p) b i) in
+      let e : bayOf p (trade r s c) ≡ b = sym (traded-bay r s p hr hs c) ∙ placeOf-bay (traded r s p) b i in
+      rw e at (bay-in p (trade r s c) (trade-there r s p hr hs c hc)))
+      (λ i.
+      let c = placeOf b p in
+      let hc : c < length p = placeOf-there p b i in
+      let e : bayOf (traded r s p) (trade r s c) ≡ b = traded-bay r s p hr hs (trade r s c) ∙ ap (bayOf p) (trade-twice r s c) ∙ placeOf-bay p b i in
+      rw e at (bay-in (traded r s p) (trade r s c) (rw traded-length (trade-there r s p hr hs c hc))))
+
+  asked-traded : (b : ℕ) → b < n → getD (standingTraded r s p standing) b 0 ≡ placeOf b (traded r s p)
+  asked-traded b h = elim (ℕ-discrete b (getD p s 0)) [
+    | yes e ↦
+        rw e (getD-set-same (set standing (getD p r 0) s) (getD p s 0) r 0 (rw length-set (omega arith))
+        ∙ sym (carrier-is (traded r s p) (getD p s 0) r apart (rw traded-length hr) (traded-bay r s p hr hs r ∙ ap (bayOf p) (trade-first r s))))
+    | no e ↦ getD-set-other (set standing (getD p r 0) s) (getD p s 0) b r 0 e ∙ (elim (ℕ-discrete b (getD p r 0)) [
+      | yes d ↦
+          rw d (getD-set-same standing (getD p r 0) s 0 (omega arith)
+          ∙ sym (carrier-is (traded r s p) (getD p r 0) s apart (rw traded-length hs) (traded-bay r s p hr hs s ∙ ap (bayOf p) (trade-second r s))))
+      | no d ↦ getD-set-other standing (getD p r 0) b s 0 d ∙ k .stands b h ∙ by-cases (elem b p)
+          (λ i.
+          let c = placeOf b p in
+          let hc : c < length p = placeOf-there p b i in
+          let at-b : bayOf p c ≡ b = placeOf-bay p b i in
+          let nr : eqb c r ≡ false = ne-eqb c r (λ q. d (sym at-b ∙ ap (bayOf p) q)) in
+          let ns : eqb c s ≡ false = ne-eqb c s (λ q. e (sym at-b ∙ ap (bayOf p) q)) in
+          sym (carrier-is (traded r s p) b c apart (rw traded-length hc) (traded-bay r s p hr hs c ∙ ap (bayOf p) (trade-other r s c nr ns) ∙ at-b)))
+          (λ o. carrier-none p b o ∙ sym (carrier-none (traded r s p) b (in-traded b ∙ o) ∙ traded-length r s p))
+    ])
+  ]
+
+  pub placed-traded : Placed n (traded r s p) (standingTraded r s p standing) empty
+  placed-traded = record {
+    apart = apart;
+    inside = λ c h. rw (traded-bay r s p hr hs c) (k .inside (trade r s c) (trade-there r s p hr hs c (rw traded-length at h)));
+    few = rw traded-length (k .few);
+    stands = asked-traded;
+    empties = λ b h. k .empties b h ∙ ap not (sym (in-traded b));
+  }
+
+module _ {n : ℕ} {table : List ℕ} (t : Tabled n table) {p standing empty : List ℕ} (k : Placed n p standing empty) (long : length standing ≡ n) (r s : Carrier) (hr : r < length p) (hs : s < length p) (differ : s ≡ r → ⊥) (b : Beside (t .yard) r s p) where
+  home : In (bayOf p r) (upTo (t .yard .bays))
+  home = in-count 0 (t .yard .bays) (bayOf p r) (omega arith) (omega (arith, t .joins .bays, k .inside r hr))
+
+  module _ (v : Bay) (found : some v ≡ find (fitting (t .yard) r s p) (nearestFirst (t .yard) [] (bayOf p r))) where
+    there : In v (nearestFirst (t .yard) [] (bayOf p r))
+    there = find-in (fitting (t .yard) r s p) (nearestFirst (t .yard) [] (bayOf p r)) (sym found)
+
+    pub found-linked : In (bayOf p r) (nearestFirst (t .yard) [] v)
+    found-linked = reached-sym (t .yard) [] (bayOf p r) v (home, nothing-in-nil (bayOf p r)) there
+
+    pub found-low : v < n
+    found-low =
+        let w = reached-walk (t .yard) [] (bayOf p r) v there in
+        let f = walk-free (t .yard) [] (home, nothing-in-nil (bayOf p r)) (w .2) in
+        let h = count-high 0 (t .yard .bays) v (f .0) in
+        omega (arith, t .joins .bays)
+
+    pub found-near : Near (t .yard) r s v p
+    found-near = near-of b found-linked
+
+    is-trial : swap (t .yard) r s p ≡ trial (t .yard) r s v p
+    is-trial = swap-found (t .yard) r s p ∙ rw (← found)
+
+    some-trial : isSome (trial (t .yard) r s v p) ≡ true
+    unfolding fitting
+    some-trial = and-right _ _ (find-passes (fitting (t .yard) r s p) (nearestFirst (t .yard) [] (bayOf p r)) (sym found))
+
+    pub never-failed : {P : Type 0} {out : List ℕ} {at : ℕ} {out′ : List ℕ} → Wrote (trial (t .yard) r s v p) out at out′ Failed → P
+    never-failed w =
+        by-option (trial (t .yard) r s v p)
+        (λ e. not-both some-trial (rw e))
+        (λ xs e. let z = w .succeeds xs e .1 in never (cc))
+
+    pub committed : {out : List ℕ} {at : ℕ} {out′ : List ℕ} {m : ℕ} (p′ standing′ : List ℕ) → p′ ≡ traded r s p → standing′ ≡ standingTraded r s p standing → Wrote (trial (t .yard) r s v p) out at out′ (Done m)
+        → Acts (swap (t .yard) r s p) n p standing empty out at p′ standing′ empty out′ (Done m)
+    committed {m = m} p′ standing′ e d w =
+        by-option (trial (t .yard) r s v p)
+        (λ f. let z = w .fails f in never (cc))
+        (λ xs f.
+        let q = w .succeeds xs f in
+        let same : m ≡ q .0 = let z = q .1 in cc in
+        let made : swap (t .yard) r s p ≡ some xs = is-trial ∙ f in
+        let tr = swap-trades (t .yard) (b .sound) r s (ne-eqb r s (λ y. differ (sym y))) p (k .apart) hr hs (b .beside) xs home made in
+        let apart : Apart (traded r s p) = rw (tr .1) at (plan-apart (t .yard) p xs (k .apart) (tr .0)) in
+        acts-some made (record { moved = e ∙ sym (tr .1); placed = rw (e, d) (placed-traded k r s hr hs differ apart (omega arith)); stored = q .2 .stored; counted = same ∙ q .2 .counted }))
+
+  pub not-found : {out : List ℕ} {at : ℕ} → none ≡ find (fitting (t .yard) r s p) (nearestFirst (t .yard) [] (bayOf p r)) → Acts (swap (t .yard) r s p) n p standing empty out at p standing empty out Failed
+  not-found {out} f = acts-none (swap-found (t .yard) r s p ∙ rw (← f)) (unchanged p standing empty out)

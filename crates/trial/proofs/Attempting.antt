@@ -1,0 +1,173 @@
+-- Bring and clear are legal, so the bays that they name are small, and the follower is where bring left it: what is written after the
+-- exchange is the paper's undo of what is still in the list.
+-- Assumes nothing.
+use mathlib.Core.Path.{_≡_, sym, _∙_, ap, refl}
+use mathlib.Core.Bool.{true}
+use mathlib.Core.List.{List, [], _∷_, _++_, map, map-append}
+use mathlib.Core.Option.{Option, none, some}
+use Prim.Native.Nat.{ℕ, suc, _≤_, _<_, _-_, _+_, zero, _^_, max, min}
+use native.Mathlib.Omega.{arith}
+use lib.ListN.{length, getD, length-map, set, length-set, length-append, List·getD-map, length-reverse}
+use lib.Seq.{getD-set-same, getD-set-other, sets, length-sets}
+use borrow.Author.Tests.{ne-eqb}
+use Rattle.paper.specs.Procedure.{exchange, undo, Cleared, bring, clear, finish, trialLed}
+use Rattle.paper.specs.Yard.{Bay, Carrier, Yard, Placement, bayOf, Crossing, crossing, pack, move, after, joined, legalPlan}
+use Rattle.paper.proofs.Members.{In-head, In-tail}
+use Rattle.paper.proofs.Playing.{legal-facts, after-append, after-length, plan-head, plan-tail, plan-append}
+use Rattle.paper.proofs.Swapping.{Brought, bring-brings, ClearedIs, clear-clears}
+use Rattle.paper.proofs.Tests.{never-some}
+use Rattle.paper.proofs.Vacating.{plan-apart}
+use Rattle.words.specs.Sets.{span}
+use Rattle.yard.specs.Table.{Table}
+use Rattle.vacate.specs.Placed.{Placed, Played}
+use Rattle.vacate.proofs.Playing.{sets-append, played-then}
+use Rattle.bring.specs.Acting.{Tries}
+use Rattle.bring.specs.Turning.{Small, Holds, numbers}
+use Rattle.bring.proofs.Acting.{tried-done}
+use Rattle.clear.specs.Keeping.{Clears}
+use Rattle.trial.specs.Trying.{Noted, Prepared, SetsUp, Wrote, Led}
+use Rattle.bring.specs.declared.Tried.the-variants.{Done}
+use Rattle.bring.specs.declared.Tried.the-variants.{Failed}
+use Rattle.clear.specs.declared.Two.the-variants.{Short}
+use Rattle.clear.specs.declared.Two.{Two}
+
+pub noted-then : {xs ys : List Crossing} {out out₁ out′ : List ℕ} {at m r : ℕ} → Noted xs out at out₁ m → Noted ys out₁ m out′ r → Noted (xs ++ ys) out at out′ r
+noted-then {xs} {ys} {out} {at = at} a b = record {
+  stored = b .stored ∙ rw (a .stored, a .counted, map-append, sets-append, length-map);
+  counted = b .counted ∙ rw (a .counted, length-append) (omega arith);
+}
+
+pub exchanged : {L M v b x y : ℕ} {out out₁ out′ : List ℕ} {at m r : ℕ}
+    → Noted (crossing L v x ∷ crossing M b v ∷ crossing M v y ∷ []) out at out₁ m → Noted (crossing L x v ∷ crossing L v b ∷ crossing M y v ∷ []) out₁ m out′ r
+    → Noted (exchange L M v b x y) out at out′ r
+unfolding exchange
+exchanged a b = noted-then a b
+
+too-few : (Y : Yard) (L M : Carrier) (v b : Bay) (done : List Crossing) (kept : List Bay) → length kept < 2 → finish Y L M v b done kept ≡ none
+unfolding finish
+too-few Y L M v b done [] h = refl
+too-few Y L M v b done (x ∷ []) h = refl
+too-few Y L M v b done (x ∷ y ∷ l) h = absurd (omega arith)
+
+pub not-brought : {Y : Yard} {L M : Carrier} {v : Bay} {path : List Bay} {n : ℕ} {p out : List ℕ} {at : ℕ} {p′ standing′ empty′ out′ : List ℕ}
+    → bring Y L M path p ≡ none → SetsUp Y L M v path n p out at p′ standing′ empty′ out′ Short
+unfolding trialLed
+not-brought e = record { both = λ x y m d. let z : _≡_ {A = ℕ} 0 1 = cc in absurd (omega arith); short = λ d. rw e }
+
+pub set-up-with : {Y : Yard} {L M : Carrier} {v : Bay} {path : List Bay} {n : ℕ} {p out : List ℕ} {at : ℕ} {q standing₁ empty₁ out₁ p′ standing′ empty′ out′ : List ℕ} {a : ℕ} {r : Two}
+    (xs : List Crossing) → bring Y L M path p ≡ some xs → q ≡ after p xs → Played xs n p q standing₁ empty₁ out at out₁ a → Clears (clear Y v (bayOf q M) q) n q out₁ a p′ standing′ empty′ out′ r
+    → SetsUp Y L M v path n p out at p′ standing′ empty′ out′ r
+unfolding trialLed
+set-up-with {Y} {L} {M} {v} {path} {p = p} {q = q} xs made moved w c =
+    let u = rw moved at w in
+    let k = rw moved at c in
+    record {
+      both = λ x y m e. let b = k .both x y m e in record { brought = xs; made = made; kept = b .0; played = played-then u (b .1) };
+      short = λ e. rw made (too-few Y L M v _ _ _ (k .short e));
+    }
+
+pub set-up-all : {Y : Yard} {L M : Carrier} {v : Bay} {path : List Bay} {n : ℕ} {p out : List ℕ} {at : ℕ} {q standing₁ empty₁ out₁ p′ standing′ empty′ out′ : List ℕ} {a : ℕ} {r : Two}
+    → Tries (bring Y L M path p) n p out at q standing₁ empty₁ out₁ (Done a) → Clears (clear Y v (bayOf q M) q) n q out₁ a p′ standing′ empty′ out′ r
+    → SetsUp Y L M v path n p out at p′ standing′ empty′ out′ r
+set-up-all t c = let d = tried-done t in set-up-with (d .0) (d .1) (d .2 .moved) (d .2) c
+
+pub wrote-none : {o : Option (List Crossing)} {out : List ℕ} {at : ℕ} {out′ : List ℕ} → o ≡ none → Wrote o out at out′ Failed
+wrote-none e = record { fails = λ d. refl; succeeds = λ xs d. never-some xs (sym e ∙ d) }
+
+pub wrote-some : {o : Option (List Crossing)} {out : List ℕ} {at : ℕ} {out′ : List ℕ} {m : ℕ} {xs : List Crossing} → o ≡ some xs → Noted xs out at out′ m → Wrote o out at out′ (Done m)
+wrote-some {out = out} {at = at} {out′ = out′} {m = m} {xs = xs} e w = record {
+  fails = λ d. never-some xs (sym d ∙ e);
+  succeeds = λ ys d. let same : xs ≡ ys = let z = sym e ∙ d in cc in (m, refl, rw same at w);
+}
+
+-- bays of a legal plan are small
+legal-small : (Y : Yard) (n : ℕ) (inside : (a b : ℕ) → joined Y a b ≡ true → (a < n) × (b < n)) (most : n ≤ span) (p : Placement) (xs : List Crossing) → legalPlan Y p xs ≡ true
+    → (j : ℕ) → (getD xs j (crossing 0 0 0) .from < 2 ^ 16) × (getD xs j (crossing 0 0 0) .to < 2 ^ 16)
+legal-small Y n inside most p [] h j = (omega arith, omega arith)
+legal-small Y n inside most p (x ∷ xs) h zero =
+    let l = legal-facts Y p x (plan-head Y p x xs h) in
+    let i = inside (x .from) (x .to) (l .rail) in
+    (omega (arith, i .0), omega (arith, i .1))
+legal-small Y n inside most p (x ∷ xs) h (suc j) = legal-small Y n inside most (move p x) xs (plan-tail Y p x xs h) j
+
+sets-before : (l : List ℕ) (i : ℕ) (vs : List ℕ) (k : ℕ) → k < i → getD (sets l i vs) k 0 ≡ getD l k 0
+sets-before l i [] k h = refl
+sets-before l i (v ∷ vs) k h = sets-before (set l i v) (suc i) vs k (omega arith) ∙ getD-set-other l i k v 0 (λ e. omega arith)
+
+sets-at : (l : List ℕ) (i : ℕ) (vs : List ℕ) (j : ℕ) → j < length vs → i + j < length l → getD (sets l i vs) (i + j) 0 ≡ getD vs j 0
+sets-at l i [] j h k = absurd (omega arith)
+sets-at l i (v ∷ vs) zero h k =
+    let e : i + zero ≡ i = omega arith in
+    rw e (sets-before (set l i v) (suc i) vs i (omega arith) ∙ getD-set-same l i v 0 (omega arith))
+sets-at l i (v ∷ vs) (suc j) h k =
+    let e : i + suc j ≡ suc i + j = omega arith in
+    rw e (sets-at (set l i v) (suc i) vs j (omega arith) (rw length-set (omega arith)))
+
+pub length-exchange : (L M v b x y : ℕ) → length (exchange L M v b x y) ≡ 6
+unfolding exchange
+length-exchange L M v b x y = refl
+
+length-undo : (L M : Carrier) (xs : List Crossing) → length (undo L M xs) ≡ length xs
+unfolding undo
+length-undo L M xs = rw (length-map, length-reverse)
+
+module _ {Y : Yard} {L M : Carrier} {v : Bay} {path : List Bay} {n : ℕ} {p standing empty out : List ℕ} {at : ℕ} {p′ standing′ empty′ out₁ : List ℕ} {x y c : ℕ}
+    (w : Prepared Y L M v path n p out at p′ standing′ empty′ out₁ x y c) (k : Placed n p standing empty) (hL : L < length p) (hM : M < length p) (differ : M ≡ L → ⊥) where
+  abbrev p₁ : Placement
+  p₁ = after p (w .brought)
+
+  abbrev cleared : Cleared
+  cleared = clear Y v (bayOf p₁ M) p₁
+
+  abbrev done : List Crossing
+  done = w .brought ++ cleared .moves
+
+  pub counted-from : c ≡ at + length done
+  counted-from = w .played .counted
+
+  module _ (rows : List ℕ) (shown : Table Y n rows) (most : n ≤ span) (led : Led Y L M v path p) where
+    brings : Brought Y (led .sound) L M (ne-eqb L M (λ e. differ (sym e))) v p (w .brought)
+    brings = bring-brings Y (led .sound) L M (ne-eqb L M (λ e. differ (sym e))) path v p (w .brought) (k .apart) hL hM (led .chain) (led .beside) (w .made)
+
+    clears : ClearedIs Y (led .sound) v (bayOf p₁ M) p₁ cleared
+    clears = clear-clears Y (led .sound) v (bayOf p₁ M) p₁ (plan-apart Y p (w .brought) (k .apart) (brings .legal))
+
+    legal : legalPlan Y p done ≡ true
+    legal = plan-append Y p (w .brought) (cleared .moves) (brings .legal) (clears .legal)
+
+    same-bay : bayOf p′ M ≡ bayOf p₁ M
+    same-bay = rw (w .played .moved, after-append) (clears .stays M (rw after-length hM) (In-tail (bayOf p₁ M) v (bayOf p₁ M ∷ []) (In-head (bayOf p₁ M) [])))
+
+    module _ {out₂ out₃ : List ℕ} {d : ℕ} (ex : Noted (exchange L M v (bayOf p′ M) (min x y) (max x y)) out₁ c out₂ d)
+        (un : (xs : List Crossing) → Small xs → Holds out₂ at xs → length xs ≡ c - at → out₃ ≡ sets out₂ d (numbers L M xs)) where
+      holds : Holds out₂ at done
+      unfolding pack
+      holds = record {
+        at = λ j h l.
+            let long : length out₂ ≡ length out₁ = ap length (ex .stored) ∙ length-sets out₁ c (map pack (exchange L M v (bayOf p′ M) (min x y) (max x y))) in
+            let long₁ : length out₁ ≡ length out = ap length (w .played .stored) ∙ length-sets out at (map pack done) in
+            ap (λ (o : List ℕ). getD o (at + j) 0) (ex .stored) ∙ sets-before out₁ c (map pack (exchange L M v (bayOf p′ M) (min x y) (max x y))) (at + j) (omega (arith, counted-from))
+            ∙ ap (λ (o : List ℕ). getD o (at + j) 0) (w .played .stored) ∙ sets-at out at (map pack done) j (rw length-map h) (omega arith)
+            ∙ List·getD-map pack done j (crossing 0 0 0);
+      }
+
+      small : Small done
+      small = record {
+        from-low = λ j. legal-small Y n (shown .inside) most p done legal j .0;
+        to-low = λ j. legal-small Y n (shown .inside) most p done legal j .1;
+      }
+
+      last : Noted (undo L M done) out₂ d out₃ (d + (c - at))
+      last = record {
+        stored = un done small holds (omega (arith, counted-from));
+        counted = rw length-undo (omega (arith, counted-from));
+      }
+
+      answer : trialLed Y L M v path p ≡ some (done ++ exchange L M v (bayOf p′ M) (min x y) (max x y) ++ undo L M done)
+      unfolding trialLed finish
+      answer = rw (w .made, w .kept, same-bay)
+
+      pub attempted : Wrote (trialLed Y L M v path p) out at out₃ (Done (d + (c - at)))
+      attempted =
+          let first : Noted done out at out₁ c = record { stored = w .played .stored; counted = w .played .counted } in
+          wrote-some answer (noted-then (noted-then first ex) last)

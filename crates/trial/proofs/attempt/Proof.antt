@@ -1,0 +1,77 @@
+-- `trial::attempt` meets its contract. The copies are the placement.
+-- Assumes nothing.
+use mathlib.Core.Path.{sym, ap}
+use lib.ListN.{length}
+use borrow.Author.Needs.{needs}
+use Rattle.trial.proofs.Copying.{ready-copy}
+use Rattle.trial.proofs.attempt.Statement.{statement}
+use Rattle.trial.proofs.attempt.Tie as tie
+
+slice-aggregate-copy : tie.Need-slice-aggregate-copy
+slice-aggregate-copy c = search needs
+
+copy-requires : tie.Need-copy-requires
+copy-requires c κs = search needs
+
+slice-aggregate-copy-2 : tie.Need-slice-aggregate-copy-2
+slice-aggregate-copy-2 c = search needs
+
+copy-requires-2 : tie.Need-copy-requires-2
+copy-requires-2 c κs = search needs
+
+slice-aggregate-keep : tie.Need-slice-aggregate-keep
+slice-aggregate-keep c = search needs
+
+keep-requires : tie.Need-keep-requires
+keep-requires c κs = search needs
+
+array-borrow-prefix-bays : tie.Need-array-borrow-prefix-bays
+array-borrow-prefix-bays c = search needs
+
+slice-aggregate-attempt-on : tie.Need-slice-aggregate-attempt-on
+slice-aggregate-attempt-on c = sym (ap length (c .before .before .before .before .before .before .before .before .copy .ensures))
+
+array-borrow-prefix-carriers : tie.Need-array-borrow-prefix-carriers
+array-borrow-prefix-carriers c = search needs
+
+slice-aggregate-attempt-on-2 : tie.Need-slice-aggregate-attempt-on-2
+slice-aggregate-attempt-on-2 c = sym (ap length (c .before .before .before .before .before .before .copy2 .ensures))
+
+slice-aggregate-attempt-on-3 : tie.Need-slice-aggregate-attempt-on-3
+slice-aggregate-attempt-on-3 c = search needs
+
+attempt-on-requires : tie.Need-attempt-on-requires
+attempt-on-requires c κs =
+    let p = c .before .before .before .before .before .before .before .before .before .before .before .before .before .before .before .before .before .before .before .pre .0 in
+    let z = c .before .before .before .before .before .before .before .before .before .before .before .before .before .before .before .before .before .before .before .pre .1 in
+    let e = c .before .before .before .before .before .before .before .before .before .before .before .copy .ensures in
+    let d = c .before .before .before .before .before .before .before .before .copy2 .ensures in
+    (ready-copy p _ _ _ e d (search needs) (c .before .before .before .before .before .keep .ensures .row), (rw e (z .0), rw e (z .1), z .2, rw d (z .3), rw d (z .4), z .5, z .6))
+
+same-length : tie.Need-same-length
+same-length c = search needs
+
+returns : tie.Need-returns
+returns c =
+    let e = c .before .before .before .before .before .before .before .before .before .before .before .before .before .before .before .before .before .copy .ensures in
+    let d = c .before .before .before .before .before .before .before .before .before .before .before .before .before .before .copy2 .ensures in
+    (c .before .before .before .before .before .attempt-on .ensures .0, rw (e, d) at (c .before .before .before .before .before .attempt-on .ensures .1))
+
+pub attempt-spec : {M : Type 1} → statement M
+attempt-spec =
+    tie.close
+    (tie.spec
+    slice-aggregate-copy
+    copy-requires
+    slice-aggregate-copy-2
+    copy-requires-2
+    slice-aggregate-keep
+    keep-requires
+    array-borrow-prefix-bays
+    slice-aggregate-attempt-on
+    array-borrow-prefix-carriers
+    slice-aggregate-attempt-on-2
+    slice-aggregate-attempt-on-3
+    attempt-on-requires
+    same-length
+    returns)

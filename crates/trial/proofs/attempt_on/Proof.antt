@@ -1,0 +1,129 @@
+-- `trial::attempt_on` meets its contract. What was set up is in the list, so undo reads it back.
+-- Assumes nothing.
+use native.Mathlib.Omega.{arith}
+use borrow.Author.Needs.{needs}
+use Rattle.trial.proofs.Attempting.{wrote-none, length-exchange, attempted}
+use Rattle.trial.proofs.attempt_on.Statement.{statement}
+use Rattle.trial.proofs.attempt_on.Tie as tie
+
+set-up-requires : tie.Need-set-up-requires
+set-up-requires c κs = search needs
+
+enum-known-ready : tie.Need-enum-known-ready
+enum-known-ready c = search needs
+
+enum-told : tie.Need-enum-told
+enum-told c = search needs
+
+same-length : tie.Need-same-length
+same-length c = search needs
+
+same-length-2 : tie.Need-same-length-2
+same-length-2 c = search needs
+
+same-length-3 : tie.Need-same-length-3
+same-length-3 c = search needs
+
+same-length-4 : tie.Need-same-length-4
+same-length-4 c = search needs
+
+returns : tie.Need-returns
+returns c = (tt, λ t led. wrote-none (c .before .before .before .before .before .before .before .before .before .before .set-up .ensures .1 t .short (c .enum-told .given .1)))
+
+cast-follower : tie.Need-cast-follower
+cast-follower c = search needs
+
+mul-t26 : tie.Need-mul-t26
+mul-t26 c = search needs
+
+slice-read-t28 : tie.Need-slice-read-t28
+slice-read-t28 c = search needs
+
+lower-requires : tie.Need-lower-requires
+lower-requires c κs = search needs
+
+higher-requires : tie.Need-higher-requires
+higher-requires c κs = search needs
+
+exchange-requires : tie.Need-exchange-requires
+exchange-requires c κs =
+    let f = c .before .before .before .before .before .before .before .before .before .before .before .before .before .before .before .before .set-up .ensures .0 .few _ _ _ (c .before .before .before .before .before .before .ready .given .1) in
+    omega (arith, f .2, c .before .before .before .before .before .before .before .before .before .before .before .before .before .before .before .before .before .before .before .before .before .before .before .before .before .before .before .pre .1 .6)
+
+sub-undo : tie.Need-sub-undo
+sub-undo c =
+    let q = c .before .before .before .before .before .before .before .before .before .before .before .before .before .before .before .before .before .before .before .before .set-up .ensures .1 (c .before .before .before .before .before .before .before .before .before .before .before .before .before .before .before .before .before .before .before .before .before .before .before .before .before .before .before .before .before .before .before .pre .0 .tabled) .both _ _ _ (c .before .before .before .before .before .before .before .before .before .before .ready .given .1) in
+    omega (arith, q .played .counted)
+
+undo-requires : tie.Need-undo-requires
+undo-requires c κs =
+    let p = c .before .before .before .before .before .before .before .before .before .before .before .before .before .before .before .before .before .before .before .before .before .before .before .before .before .before .before .before .before .before .before .pre .0 in
+    let z = c .before .before .before .before .before .before .before .before .before .before .before .before .before .before .before .before .before .before .before .before .before .before .before .before .before .before .before .before .before .before .before .pre .1 in
+    let q = c .before .before .before .before .before .before .before .before .before .before .before .before .before .before .before .before .before .before .before .before .set-up .ensures .1 (p .tabled) .both _ _ _ (c .before .before .before .before .before .before .before .before .before .before .ready .given .1) in
+    let f = c .before .before .before .before .before .before .before .before .before .before .before .before .before .before .before .before .before .before .before .before .set-up .ensures .0 .few _ _ _ (c .before .before .before .before .before .before .before .before .before .before .ready .given .1) in
+    let e = rw length-exchange at (c .before .before .before .exchange .ensures .counted) in
+    (omega (arith, q .played .counted, e), omega (arith, e, f .2, z .6))
+
+sub-t26 : tie.Need-sub-t26
+sub-t26 c =
+    let q = c .before .before .before .before .before .before .before .before .before .before .before .before .before .before .before .before .before .before .before .before .before .before .before .set-up .ensures .1 (c .before .before .before .before .before .before .before .before .before .before .before .before .before .before .before .before .before .before .before .before .before .before .before .before .before .before .before .before .before .before .before .before .before .before .pre .0 .tabled) .both _ _ _ (c .before .before .before .before .before .before .before .before .before .before .before .before .before .ready .given .1) in
+    omega (arith, q .played .counted)
+
+add-t36 : tie.Need-add-t36
+add-t36 c =
+    let f = c .before .before .before .before .before .before .before .before .before .before .before .before .before .before .before .before .before .before .before .before .before .before .before .set-up .ensures .0 .few _ _ _ (c .before .before .before .before .before .before .before .before .before .before .before .before .before .ready .given .1) in
+    let e = rw length-exchange at (c .before .before .before .before .before .before .exchange .ensures .counted) in
+    omega (arith, e, f .2, c .before .before .before .before .before .before .before .before .before .before .before .before .before .before .before .before .before .before .before .before .before .before .before .before .before .before .before .before .before .before .before .before .before .before .pre .1 .6)
+
+same-length-5 : tie.Need-same-length-5
+same-length-5 c = search needs
+
+same-length-6 : tie.Need-same-length-6
+same-length-6 c = search needs
+
+same-length-7 : tie.Need-same-length-7
+same-length-7 c = search needs
+
+same-length-8 : tie.Need-same-length-8
+same-length-8 c = search needs
+
+returns-2 : tie.Need-returns-2
+returns-2 c =
+    let p = c .before .before .before .before .before .before .before .before .before .before .before .before .before .before .before .before .before .before .before .before .before .before .before .before .before .before .before .before .before .before .before .before .before .before .pre .0 in
+    let z = c .before .before .before .before .before .before .before .before .before .before .before .before .before .before .before .before .before .before .before .before .before .before .before .before .before .before .before .before .before .before .before .before .before .before .pre .1 in
+    let f = c .before .before .before .before .before .before .before .before .before .before .before .before .before .before .before .before .before .before .before .before .before .before .before .set-up .ensures .0 .few _ _ _ (c .before .before .before .before .before .before .before .before .before .before .before .before .before .ready .given .1) in
+    let e = rw length-exchange at (c .before .before .before .before .before .before .exchange .ensures .counted) in (
+      omega (arith, e, f .2, z .6),
+      λ t led.
+          let q = c .before .before .before .before .before .before .before .before .before .before .before .before .before .before .before .before .before .before .before .before .before .before .before .set-up .ensures .1 t .both _ _ _ (c .before .before .before .before .before .before .before .before .before .before .before .before .before .ready .given .1) in
+          let ex = rw (c .before .before .before .before .before .before .before .before .lower .ensures, c .before .before .before .before .before .before .before .higher .ensures) at (c .before .before .before .before .before .before .exchange .ensures) in
+          attempted q (p .placed) (z .0) (z .1) (z .2) _ (t .joins) (p .most) led ex (c .before .before .undo .ensures),
+    )
+
+pub attempt-on-spec : {M : Type 1} → statement M
+attempt-on-spec =
+    tie.close
+    (tie.spec
+    set-up-requires
+    enum-known-ready
+    enum-told
+    same-length
+    same-length-2
+    same-length-3
+    same-length-4
+    returns
+    cast-follower
+    mul-t26
+    slice-read-t28
+    lower-requires
+    higher-requires
+    exchange-requires
+    sub-undo
+    undo-requires
+    sub-t26
+    add-t36
+    same-length-5
+    same-length-6
+    same-length-7
+    same-length-8
+    returns-2)

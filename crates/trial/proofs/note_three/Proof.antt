@@ -1,0 +1,31 @@
+-- `trial::note_three` meets its contract. Three crossings one after the other.
+-- Assumes nothing.
+use borrow.Author.Needs.{needs}
+use Rattle.trial.proofs.Attempting.{noted-then}
+use Rattle.trial.proofs.note_three.Statement.{statement}
+use Rattle.trial.proofs.note_three.Tie as tie
+
+note-requires : tie.Need-note-requires
+note-requires c κs = search needs
+
+note-requires-2 : tie.Need-note-requires-2
+note-requires-2 c κs = search needs
+
+note-requires-3 : tie.Need-note-requires-3
+note-requires-3 c κs = search needs
+
+same-length : tie.Need-same-length
+same-length c = search needs
+
+returns : tie.Need-returns
+returns c = noted-then (c .before .before .before .before .before .before .before .before .before .before .note .ensures) (noted-then (c .before .before .before .before .before .before .note2 .ensures) (c .before .before .note3 .ensures))
+
+pub note-three-spec : {M : Type 1} → statement M
+note-three-spec =
+    tie.close
+    (tie.spec
+    note-requires
+    note-requires-2
+    note-requires-3
+    same-length
+    returns)

@@ -1,0 +1,70 @@
+-- A trial in code: what is written of it, and what it is lent.
+-- Assumes nothing.
+use mathlib.Core.Path.{_≡_}
+use mathlib.Core.Bool.{true}
+use mathlib.Core.List.{List, [], _∷_, _++_, map}
+use mathlib.Core.Option.{Option, none, some}
+use Prim.Native.Nat.{ℕ, _+_}
+use lib.ListN.{length}
+use lib.Seq.{sets}
+use Rattle.paper.specs.Basics.{In}
+use Rattle.paper.specs.Path.{nearestFirst}
+use Rattle.paper.specs.Procedure.{exchange, bring, clear, trialLed, trial}
+use Rattle.paper.specs.Yard.{Bay, Carrier, Yard, Placement, bayOf, Crossing, pack, after, joined}
+use Rattle.paper.proofs.Playing.{Sound}
+use Rattle.paper.proofs.Swapping.{Chain}
+use Rattle.vacate.specs.Placed.{Played}
+use Rattle.clear.specs.declared.Two.the-variants.{Both}
+use Rattle.bring.specs.declared.Tried.the-variants.{Done}
+use Rattle.bring.specs.declared.Tried.the-variants.{Failed}
+use Rattle.clear.specs.declared.Two.the-variants.{Short}
+use Rattle.bring.specs.declared.Tried.{Tried}
+use Rattle.clear.specs.declared.Two.{Two}
+use Rattle.docket.specs.declared.Bay.{Bay as Numbered}
+
+-- the crossings were counted from `at` on, and stored where there is room
+pub record Noted (xs : List Crossing) (out : List ℕ) (at : ℕ) (out′ : List ℕ) (r : ℕ) : Type 0 where
+  pub stored : out′ ≡ sets out at (map pack xs)
+  pub counted : r ≡ at + length xs
+
+-- (the code's functions have the same names)
+abbrev pub exchanges : Carrier → Carrier → Bay → Bay → Bay → Bay → List Crossing
+exchanges L M v b x y = exchange L M v b x y
+
+abbrev pub trialLeds : Yard → Carrier → Carrier → Bay → List Bay → Placement → Option (List Crossing)
+trialLeds Y L M v path p = trialLed Y L M v path p
+
+abbrev pub trials : Yard → Carrier → Carrier → Bay → Placement → Option (List Crossing)
+trials Y r s v p = trial Y r s v p
+
+-- ## Bring and clear
+
+-- both succeeded: the bays x and y are kept, and all crossings were played
+pub record Prepared (Y : Yard) (L M : Carrier) (v : Bay) (path : List Bay) (n : ℕ) (p out : List ℕ) (at : ℕ) (p′ standing′ empty′ out′ : List ℕ) (x y m : ℕ) : Type 0 where
+  pub brought : List Crossing
+  pub made : bring Y L M path p ≡ some brought
+  pub kept : clear Y v (bayOf (after p brought) M) (after p brought) .kept ≡ x ∷ y ∷ []
+  pub played : Played (brought ++ clear Y v (bayOf (after p brought) M) (after p brought) .moves) n p p′ standing′ empty′ out at out′ m
+
+pub record SetsUp (Y : Yard) (L M : Carrier) (v : Bay) (path : List Bay) (n : ℕ) (p out : List ℕ) (at : ℕ) (p′ standing′ empty′ out′ : List ℕ) (r : Two) : Type 0 where
+  pub both : (x y : Numbered) (m : ℕ) → r ≡ Both x y m → Prepared Y L M v path n p out at p′ standing′ empty′ out′ (x .0) (y .0) m
+  pub short : r ≡ Short → trialLed Y L M v path p ≡ none
+
+-- ## The whole trial
+
+-- as the paper's trial: counted and stored, or failed with nothing said of the list
+pub record Wrote (o : Option (List Crossing)) (out : List ℕ) (at : ℕ) (out′ : List ℕ) (r : Tried) : Type 0 where
+  pub fails : o ≡ none → r ≡ Failed
+  pub succeeds : (xs : List Crossing) → o ≡ some xs → (m : ℕ) × (r ≡ Done m) × Noted xs out at out′ m
+
+-- the path leads the leader to v, and the follower is beside it
+pub record Led (Y : Yard) (L M : Carrier) (v : Bay) (path : List Bay) (p : Placement) : Type 0 where
+  pub sound : Sound Y
+  pub chain : Chain Y (bayOf p L) path v
+  pub beside : joined Y (bayOf p M) (bayOf p L) ≡ true
+
+-- v is reached from r's bay, and s is beside it
+pub record Near (Y : Yard) (r s : Carrier) (v : Bay) (p : Placement) : Type 0 where
+  pub sound : Sound Y
+  pub reached : In (bayOf p r) (nearestFirst Y [] v)
+  pub beside : joined Y (bayOf p r) (bayOf p s) ≡ true

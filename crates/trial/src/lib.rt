@@ -1,0 +1,327 @@
+// A trial at a junction: bring, clear, exchange, undo. It is played on copies, so a trial that fails is forgotten, and one that
+// succeeds has only to be written: lent an empty list it only counts.
+use bring::Tried;
+use clear::Two;
+use docket::Bay;
+use docket::Carrier;
+use docket::Crossing;
+use rings::Path;
+ghost use mathlib.Core.Path.{_≡_};
+ghost use mathlib.Core.List.{List, [], _∷_};
+ghost use Prim.Native.Nat.{ℕ, min, max, _+_, _*_, _^_, _≤_, _<_};
+ghost use lib.Dec.{eqb, ltb};
+ghost use lib.ListN.{length, getD, take};
+ghost use Rattle.paper.specs.Basics.{_and_};
+ghost use Rattle.paper.specs.Yard.{bayOf};
+ghost use Rattle.paper.specs.Path.{shortestPath};
+ghost use Rattle.docket.specs.Reading.{crossingOf};
+ghost use Rattle.bring.specs.Acting.{Tabled, Ready, Within};
+ghost use Rattle.clear.specs.Keeping.{TwoBy};
+ghost use Rattle.trial.specs.Trying.{Noted, exchanges, SetsUp, Led, Wrote, trialLeds, Near, trials};
+
+// The crossing goes to its place in the list where the list is so long; answers the next place.
+fn note(out: &mut [u64], at: usize, x: Crossing) -> usize
+    requires { ⌜ at < 2 ^ 63 ⌝ }
+    ensures { λ r. ⌜ Noted (crossingOf x ∷ []) (now (out .entry)) at (now (out .exit)) r ⌝ }
+{
+    bring::put(out, at, docket::pack(x));
+    at + 1
+}
+
+// Three crossings.
+fn note_three(out: &mut [u64], at: usize, x: Crossing, y: Crossing, z: Crossing) -> usize
+    requires { ⌜ at < 2 ^ 62 ⌝ }
+    ensures { λ r. ⌜ Noted (crossingOf x ∷ crossingOf y ∷ crossingOf z ∷ []) (now (out .entry)) at (now (out .exit)) r ⌝ }
+{
+    let i = note(out, at, x);
+    let j = note(out, i, y);
+    note(out, j, z)
+}
+
+// Exchange: l v→x, m b→v, m v→y, l x→v, l v→b, m y→v.
+fn exchange(
+    out: &mut [u64],
+    at: usize,
+    l: Carrier,
+    m: Carrier,
+    v: Bay,
+    b: Bay,
+    x: Bay,
+    y: Bay,
+) -> usize
+    requires { ⌜ at < 2 ^ 61 ⌝ }
+    ensures { λ r. ⌜ Noted (exchanges (l .0) (m .0) (v .0) (b .0) (x .0) (y .0)) (now (out .entry)) at (now (out .exit)) r ⌝ }
+{
+    let i = note_three(
+        out,
+        at,
+        Crossing {
+            carrier: l,
+            from: v,
+            to: x,
+        },
+        Crossing {
+            carrier: m,
+            from: b,
+            to: v,
+        },
+        Crossing {
+            carrier: m,
+            from: v,
+            to: y,
+        },
+    );
+    note_three(
+        out,
+        i,
+        Crossing {
+            carrier: l,
+            from: x,
+            to: v,
+        },
+        Crossing {
+            carrier: l,
+            from: v,
+            to: b,
+        },
+        Crossing {
+            carrier: m,
+            from: y,
+            to: v,
+        },
+    )
+}
+
+// Bring and clear.
+fn set_up(
+    table: &[u64],
+    path: &[u16],
+    v: Bay,
+    l: Carrier,
+    m: Carrier,
+    placement: &mut [u16],
+    standing: &mut [u16],
+    empty: &mut [u64],
+    out: &mut [u64],
+    at: usize,
+) -> Two
+    requires { ⌜ Ready (now table) (now placement) (now standing) (now empty) ⌝ }
+    requires { ⌜ (l .0 < length (now placement)) × (m .0 < length (now placement)) × (m .0 ≡ l .0 → ⊥) × (v .0 < length (now standing)) × ((k : ℕ) → k < length (now path) → getD (now path) k 0 < length (now standing)) × (length (now path) ≤ 256) × (at < 2 ^ 60) ⌝ }
+    ensures { λ r. ⌜ (TwoBy at 70000 r) × ((t : Tabled (length (now (standing .entry))) (now (table .entry))) → SetsUp (t .yard) (l .0) (m .0) (v .0) (now (path .entry)) (length (now (standing .entry))) (now (placement .entry)) (now (out .entry)) at (now (placement .exit)) (now (standing .exit)) (now (empty .exit)) (now (out .exit)) r) ⌝ }
+{
+    let mut rows = [0u64; 1024];
+    let brought = bring::bring(
+        table,
+        path,
+        l,
+        m,
+        placement,
+        standing,
+        empty,
+        &mut rows,
+        out,
+        at,
+    );
+    let Tried::Done(a) = brought else {
+        return Two::Short;
+    };
+    let follower = m.0 as usize;
+    let b = Bay(placement[follower]);
+    clear::clear(table, v, b, placement, standing, empty, out, a)
+}
+
+fn lower(x: Bay, y: Bay) -> Bay
+    ensures { λ r. ⌜ r .0 ≡ min (x .0) (y .0) ⌝ }
+{
+    if x.0 < y.0 {
+        return x;
+    }
+    y
+}
+
+fn higher(x: Bay, y: Bay) -> Bay
+    ensures { λ r. ⌜ r .0 ≡ max (x .0) (y .0) ⌝ }
+{
+    if x.0 < y.0 {
+        return y;
+    }
+    x
+}
+
+// A trial with leader l and follower m, on a placement that is used up.
+fn attempt_on(
+    table: &[u64],
+    path: &[u16],
+    v: Bay,
+    l: Carrier,
+    m: Carrier,
+    placement: &mut [u16],
+    standing: &mut [u16],
+    empty: &mut [u64],
+    out: &mut [u64],
+    at: usize,
+) -> Tried
+    requires { ⌜ Ready (now table) (now placement) (now standing) (now empty) ⌝ }
+    requires { ⌜ (l .0 < length (now placement)) × (m .0 < length (now placement)) × (m .0 ≡ l .0 → ⊥) × (v .0 < length (now standing)) × ((k : ℕ) → k < length (now path) → getD (now path) k 0 < length (now standing)) × (length (now path) ≤ 256) × (at < 2 ^ 60) ⌝ }
+    ensures { λ r. ⌜ (Within at 150000 r) × ((t : Tabled (length (now (standing .entry))) (now (table .entry))) → Led (t .yard) (l .0) (m .0) (v .0) (now (path .entry)) (now (placement .entry)) → Wrote (trialLeds (t .yard) (l .0) (m .0) (v .0) (now (path .entry)) (now (placement .entry))) (now (out .entry)) at (now (out .exit)) r) ⌝ }
+{
+    let ready = set_up(table, path, v, l, m, placement, standing, empty, out, at);
+    let Two::Both(x, y, c) = ready else {
+        return Tried::Failed;
+    };
+    let follower = m.0 as usize;
+    let b = Bay(placement[follower]);
+    let d = exchange(out, c, l, m, v, b, lower(x, y), higher(x, y));
+    bring::undo(out, at, c - at, d, l, m);
+    Tried::Done(d + (c - at))
+}
+
+// The list begins with the other one.
+fn copy(to: &mut [u16], from: &[u16])
+    requires { ⌜ length (now from) ≤ length (now to) ⌝ }
+    ensures { λ _. ⌜ take (length (now (from .entry))) (now (to .exit)) ≡ now (from .entry) ⌝ }
+{
+    let mut i = 0;
+    while i < from.len() {
+        to[i] = from[i];
+        i += 1;
+    }
+}
+
+// A trial with leader l and follower m, on copies.
+fn attempt(
+    table: &[u64],
+    path: &[u16],
+    v: Bay,
+    l: Carrier,
+    m: Carrier,
+    placement: &[u16],
+    standing: &[u16],
+    empty: &[u64],
+    out: &mut [u64],
+    at: usize,
+) -> Tried
+    requires { ⌜ Ready (now table) (now placement) (now standing) (now empty) ⌝ }
+    requires { ⌜ (l .0 < length (now placement)) × (m .0 < length (now placement)) × (m .0 ≡ l .0 → ⊥) × (v .0 < length (now standing)) × ((k : ℕ) → k < length (now path) → getD (now path) k 0 < length (now standing)) × (length (now path) ≤ 256) × (at < 2 ^ 60) ⌝ }
+    ensures { λ r. ⌜ (Within at 150000 r) × ((t : Tabled (length (now (standing .entry))) (now (table .entry))) → Led (t .yard) (l .0) (m .0) (v .0) (now (path .entry)) (now (placement .entry)) → Wrote (trialLeds (t .yard) (l .0) (m .0) (v .0) (now (path .entry)) (now (placement .entry))) (now (out .entry)) at (now (out .exit)) r) ⌝ }
+{
+    let mut bays = [0u16; words::SPAN];
+    let mut carriers = [0u16; words::SPAN];
+    let mut unused = [0u64; words::WORDS];
+    copy(&mut bays, placement);
+    copy(&mut carriers, standing);
+    words::keep(&mut unused, 0, empty);
+    let k = placement.len();
+    let n = standing.len();
+    attempt_on(
+        table,
+        path,
+        v,
+        l,
+        m,
+        &mut bays[..k],
+        &mut carriers[..n],
+        &mut unused,
+        out,
+        at,
+    )
+}
+
+// Whether the path's second bay is w.
+fn second_is(path: &[u16], w: Bay) -> bool
+    ensures { λ r. ⌜ r ≡ ltb 1 (length (now (path .entry))) and eqb (getD (now (path .entry)) 1 0) (w .0) ⌝ }
+{
+    if path.len() < 2 {
+        return false;
+    }
+    path[1] == w.0
+}
+
+// A trial at v, where the path from r's bay leads: where its second bay is s's, s leads and r follows; otherwise r leads.
+fn try_on(
+    table: &[u64],
+    path: &[u16],
+    v: Bay,
+    r: Carrier,
+    s: Carrier,
+    placement: &[u16],
+    standing: &[u16],
+    empty: &[u64],
+    out: &mut [u64],
+    at: usize,
+) -> Tried
+    requires { ⌜ Ready (now table) (now placement) (now standing) (now empty) ⌝ }
+    requires { ⌜ (r .0 < length (now placement)) × (s .0 < length (now placement)) × (s .0 ≡ r .0 → ⊥) × (v .0 < length (now standing)) × ((k : ℕ) → k < length (now path) → getD (now path) k 0 < length (now standing)) × (length (now path) ≤ 256) × (at < 2 ^ 60) × (1 ≤ length (now path)) ⌝ }
+    ensures { λ z. ⌜ (Within at 150000 z) × ((t : Tabled (length (now (standing .entry))) (now (table .entry))) → Near (t .yard) (r .0) (s .0) (v .0) (now (placement .entry)) → now (path .entry) ≡ shortestPath (t .yard) [] (bayOf (now (placement .entry)) (r .0)) (v .0) → Wrote (trials (t .yard) (r .0) (s .0) (v .0) (now (placement .entry))) (now (out .entry)) at (now (out .exit)) z) ⌝ }
+{
+    let neighbour = s.0 as usize;
+    let w = Bay(placement[neighbour]);
+    if second_is(path, w) {
+        if path.len() < 2 {
+            return Tried::Failed;
+        }
+        return attempt(
+            table,
+            &path[2..],
+            v,
+            s,
+            r,
+            placement,
+            standing,
+            empty,
+            out,
+            at,
+        );
+    }
+    attempt(
+        table,
+        &path[1..],
+        v,
+        r,
+        s,
+        placement,
+        standing,
+        empty,
+        out,
+        at,
+    )
+}
+
+// A trial at v of the swap of r with its neighbour s.
+pub fn try_at(
+    table: &[u64],
+    v: Bay,
+    r: Carrier,
+    s: Carrier,
+    placement: &[u16],
+    standing: &[u16],
+    empty: &[u64],
+    out: &mut [u64],
+    at: usize,
+) -> Tried
+    requires { ⌜ Ready (now table) (now placement) (now standing) (now empty) ⌝ }
+    requires { ⌜ (r .0 < length (now placement)) × (s .0 < length (now placement)) × (s .0 ≡ r .0 → ⊥) × (v .0 < length (now standing)) × (at < 2 ^ 60) ⌝ }
+    ensures { λ z. ⌜ (Within at 150000 z) × ((t : Tabled (length (now (standing .entry))) (now (table .entry))) → Near (t .yard) (r .0) (s .0) (v .0) (now (placement .entry)) → Wrote (trials (t .yard) (r .0) (s .0) (v .0) (now (placement .entry))) (now (out .entry)) at (now (out .exit)) z) ⌝ }
+{
+    let carrier = r.0 as usize;
+    let u = Bay(placement[carrier]);
+    let n = standing.len();
+    let none = [0u64; words::WORDS];
+    let mut rows = [0u64; 1024];
+    let mut path = [0u16; words::SPAN];
+    let Path::First(k) = rings::path_between(table, n, &none, u, v, &mut rows, &mut path) else {
+        return Tried::Failed;
+    };
+    try_on(
+        table,
+        &path[..k],
+        v,
+        r,
+        s,
+        placement,
+        standing,
+        empty,
+        out,
+        at,
+    )
+}
