@@ -1,0 +1,47 @@
+-- What carrying asks: distinct goals among the bays, one for each carrier; the finished ones at home; a path.
+-- Assumes nothing.
+use mathlib.Core.Path.{_≡_}
+use mathlib.Core.List.{List, [], _∷_}
+use Prim.Native.Nat.{ℕ, _<_}
+use lib.ListN.{length}
+use Rattle.paper.specs.Basics.{In, NoDup}
+use Rattle.paper.specs.Path.{nearestFirst}
+use Rattle.paper.specs.Procedure.{Outcome, carry, procedure}
+use Rattle.paper.specs.Yard.{Bay, Carrier, Yard, Placement, bayOf}
+use Rattle.paper.proofs.Playing.{Apart}
+use Rattle.bring.specs.Acting.{Tabled}
+use Rattle.go.specs.Going.{Linked}
+
+pub record Goals (n : ℕ) (goals p : List ℕ) : Type 0 where
+  pub many : length goals ≡ length p
+  pub apart : Apart goals
+  pub inside : (c : ℕ) → c < length goals → bayOf goals c < n
+
+-- the carriers below r are at their goals
+pub record HomeBelow (r : ℕ) (goals p : List ℕ) : Type 0 where
+  pub home : (c : ℕ) → c < r → bayOf p c ≡ bayOf goals c
+
+-- the last of the bays is v, which is u where there are none
+abbrev pub EndsAt : Bay → List Bay → Bay → Type 0
+EndsAt u [] v = u ≡ v
+EndsAt u (x ∷ xs) v = EndsAt x xs v
+
+-- the path leads from u over rails to v, and has no bay twice
+pub record OnPath (n : ℕ) (table : List ℕ) (u v : Bay) (path : List Bay) : Type 0 where
+  pub ahead : List Bay
+  pub starts : path ≡ u ∷ ahead
+  pub linked : Linked n table u ahead
+  pub once : NoDup (u ∷ ahead)
+  pub ends : EndsAt u ahead v
+
+-- every bay is reached from every other, in a yard that the table shows
+pub record Reaching (n : ℕ) (table : List ℕ) : Type 0 where
+  pub tabled : Tabled n table
+  pub reached : (a b : ℕ) → a < n → b < n → In a (nearestFirst (tabled .yard) [] b)
+
+-- (the code's carry has the same name)
+abbrev pub carries : Yard → Placement → Carrier → Placement → Outcome
+carries Y goals r p = carry Y goals r p
+
+abbrev pub procedures : Yard → Placement → Placement → Outcome
+procedures Y goals p = procedure Y goals p
