@@ -22,7 +22,7 @@ pub record Tabled (n : ℕ) (table : List ℕ) : Type 0 where
 -- what every action is lent
 pub record Ready (table placement standing empty : List ℕ) : Type 0 where
   pub most : length standing ≤ span
-  pub table-size : length table ≡ length standing * words
+  pub table-size : length standing * words ≤ length table
   pub empty-size : length empty ≡ words
   pub placed : Placed (length standing) placement standing empty
   pub tabled : Tabled (length standing) table

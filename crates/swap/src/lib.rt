@@ -22,7 +22,7 @@ pub enum Junction {
 
 // Whether three rails or more lead to v.
 fn is_junction(table: &[u64], n: usize, v: Bay) -> bool
-    requires { ⌜ (n ≤ span) × (v .0 < n) × (length (now table) ≡ n * words) ⌝ }
+    requires { ⌜ (n ≤ span) × (v .0 < n) × (n * words ≤ length (now table)) ⌝ }
     ensures { λ r. ⌜ ((t : Tabled n (now (table .entry))) → r ≡ junctions (t .yard) (v .0)) ⌝ }
 {
     let mut row = [0u64; words::WORDS];

@@ -1,0 +1,27 @@
+-- Any two answers that the statement allows are equal, and so are what they leave.
+-- Assumes nothing.
+use mathlib.Core.Path.{_≡_, refl, ap}
+use mathlib.Core.List.{List}
+use Prim.Native.Nat.{ℕ}
+use lib.ListN.{length}
+use Rattle.paper.specs.Yard.{Bay, Placement}
+use Rattle.paper.specs.Answers.{plan, planEnd}
+use Rattle.paper.proofs.Determined.{Determined, telling-by, determined-by}
+use Rattle.docket.proofs.Telling.{refusalFor, refusal-back}
+use Rattle.planner.specs.Statement.{Told, long, denied, told, plannedOf, PlanSays}
+use Rattle.planner.specs.declared.Planned.the-variants.{Accepted, Refused}
+use Rattle.planner.specs.declared.Planned.{Planned}
+
+plannedFor : Told → Planned
+plannedFor (long m) = Accepted m
+plannedFor (denied r) = Refused (refusalFor r)
+
+planned-back : (a : Planned) → plannedFor (plannedOf a) ≡ a
+unfolding plannedFor
+planned-back (Accepted m) = refl
+planned-back (Refused r) = ap Refused (refusal-back r)
+
+pub plan-determined : (n : ℕ) (ends : List Bay) (starts goals : Placement) (lent : List ℕ) → Determined (PlanSays n ends starts goals lent)
+plan-determined n ends starts goals lent a a′ l l′ s t =
+    determined-by plannedOf (telling-by plannedOf plannedFor planned-back) (told (plan n ends starts goals (length lent))) (planEnd n ends starts goals lent)
+    a a′ l l′ (s .answers, s .leaves) (t .answers, t .leaves)

@@ -1,0 +1,58 @@
+-- What refusals 1 to 6 let through is what the procedure asks: a yard in one piece without loops, and placements in it.
+-- Assumes nothing.
+use mathlib.Core.Path.{_≡_, sym, _∙_, ap}
+use mathlib.Core.Bool.{true, false}
+use mathlib.Core.List.{List}
+use mathlib.Core.Option.{none}
+use Prim.Native.Nat.{ℕ, _≤_, _<_, _*_, _/_, _+_, _%_}
+use native.Mathlib.Omega.{arith}
+use lib.ListN.{length, take}
+use lib.Seq.{getD-take, length-take-le}
+use Rattle.paper.specs.Yard.{Bay, Yard, Placement, joined, bayOf}
+use Rattle.paper.specs.Docket.{yardOf}
+use Rattle.paper.specs.Answers.{firstSix}
+use Rattle.paper.proofs.Tests.{by-cases}
+use Rattle.paper.proofs.Members.{count-high, in-count}
+use Rattle.paper.proofs.Admitted.{clean-of, sound-of, good-of, all-reached}
+use Rattle.words.specs.Sets.{on, mem, memRow, words, span}
+use Rattle.yard.specs.Table.{Table}
+use Rattle.yard.specs.declared.Yard.{Yard as Numbers}
+use Rattle.yard.specs.Opening.{Admits}
+use Rattle.bring.specs.Acting.{Tabled}
+use Rattle.play.specs.Playing.{Admitted}
+
+module _ (n : ℕ) (ends : List Bay) (s g : Placement) where
+  pub admitted-of : (table : List ℕ) → firstSix n ends s g 0 ≡ none → Table (yardOf n ends) n table → Admitted n table s g
+  admitted-of table h t =
+      let c = clean-of n ends s g 0 h in
+      let Y = yardOf n ends in
+      let starts = good-of n ends s (c .starts) in
+      let goals = good-of n ends g (c .goals) in
+      let sound = sound-of n ends (c .rails) in
+      record {
+        most = c .sizes .few-bays;
+        few = omega (arith, c .uncrowded);
+        apart = starts .apart;
+        inside = λ x k. omega (arith, count-high 0 n (bayOf s x) (starts .inside x k));
+        goals = record {
+          many = sym (c .sizes .same-length);
+          apart = goals .apart;
+          inside = λ x k. omega (arith, count-high 0 n (bayOf g x) (goals .inside x k));
+        };
+        loopless = record {
+          none = λ a k.
+              let same = t .same a a k (omega (arith, c .sizes .few-bays)) in
+              by-cases (joined Y a a) (λ e. absurd (sound .no-loop a e)) (λ e. same ∙ e);
+        };
+        reaching = record {
+          tabled = record { yard = Y; joins = t };
+          reached = λ a b k l. all-reached Y (c .reached) a b (in-count 0 n a (omega arith) (omega arith)) (in-count 0 n b (omega arith) (omega arith));
+        };
+      }
+
+  -- an open yard and its table
+  pub let-in : {y : Numbers} {table : List ℕ} → none ≡ firstSix n ends s g 0 → Admits n ends y table → Admitted (y .bays) table s g
+  let-in {y} {table} h a = rw (a .bays) (admitted-of table (sym h) (a .rows))
+
+  abbrev pub tabled-of : {y : Numbers} {table : List ℕ} → Admits n ends y table → Tabled (y .bays) table
+  tabled-of a = record { yard = yardOf n ends; joins = rw (a .bays) (a .rows) }

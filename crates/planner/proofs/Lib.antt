@@ -1,0 +1,4 @@
+pub mod Determined
+pub mod Letting
+pub mod Saying
+pub mod Temp

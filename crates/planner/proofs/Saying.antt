@@ -1,0 +1,124 @@
+-- From the outcome of the procedure to the planner's answer.
+-- Assumes nothing.
+use Prim.Native.Nat.{_+_}
+use mathlib.Core.Path.{_≡_, refl, sym, _∙_, ap}
+use mathlib.Core.Bool.{true}
+use mathlib.Core.List.{List, _++_, map}
+use mathlib.Core.Option.{none, some}
+use Prim.Native.Nat.{ℕ, _≤_, _<_}
+use native.Mathlib.Omega.{arith}
+use lib.ListN.{length, take, drop, length-map}
+use lib.Seq.{sets, sets-eq, take-at}
+use Rattle.paper.specs.Procedure.{Outcome, planned, stuck, procedure}
+use Rattle.paper.specs.Yard.{Bay, Placement, Crossing, Carrier, pack, crossings, after, legalPlan, most-crossings}
+use Rattle.paper.specs.Docket.{Refusal, stopped, room, yardOf}
+use Rattle.paper.specs.Answers.{Answer, accepted, refused, firstSix, within, written, unless, plan, planEnd, check}
+use Rattle.paper.proofs.Planning.{accepted-right, TooLong}
+use Rattle.planner.proofs.Temp.{within-stuck, within-fits, within-long, plan-clean, plan-unclean}
+use Rattle.paper.proofs.Tests.{never}
+use Rattle.paper.proofs.Handing.{handed-passes}
+use Rattle.docket.specs.Reading.{refusalOf}
+use Rattle.docket.specs.declared.Carrier.{Carrier as Named}
+use Rattle.docket.specs.declared.Refusal.the-variants.{Room, Stopped}
+use Rattle.docket.specs.declared.Refusal.{Refusal as Docketed}
+use Rattle.home.specs.declared.Staged.the-variants.{Planned, Stuck}
+use Rattle.home.specs.declared.Staged.{Staged}
+use Rattle.play.specs.Playing.{Plays}
+use Rattle.planner.specs.Statement.{Told, long, denied, told, plannedOf, Kept, Hands, PlanSays}
+use Rattle.planner.specs.declared.Planned.the-variants.{Accepted, Refused}
+use Rattle.planner.specs.declared.Planned.{Planned as Answered}
+
+-- ## The crossings kept
+
+-- what fits stands at the front
+stored-front : (out : List ℕ) (xs : List Crossing) → length xs ≤ length out → sets out 0 (map pack xs) ≡ map pack xs ++ drop (length xs) out
+stored-front out xs h = let l = length-map xs pack in sets-eq (map pack xs) out 0 (omega arith) ∙ (let z : 0 + length (map pack xs) ≡ length xs = omega arith in ap (λ (k : ℕ). map pack xs ++ drop k out) z)
+
+pub kept-of : {o : Outcome} {kept kept′ : List ℕ} {m : ℕ} {z : Staged} → Plays o kept kept′ z → z ≡ Planned m → length kept′ ≡ length kept → Kept o kept′ m
+kept-of {kept = kept} {m = m} p e l =
+    let w = p .plans m e in
+    record {
+      crossed = w .0;
+      outcome = w .1;
+      counted = w .3;
+      stored = λ h. ap (take m) (w .2 ∙ stored-front kept (w .0) (omega (arith, w .3))) ∙ take-at (map pack (w .0)) (drop (length (w .0)) kept) m (length-map (w .0) pack ∙ sym (w .3));
+    }
+
+by-staged : {P : Type 0} (z : Staged) → ((m : ℕ) → z ≡ Planned m → P) → ((c : Named) → z ≡ Stuck c → P) → P
+by-staged (Planned m) f g = f m refl
+by-staged (Stuck c) f g = g c refl
+
+-- played once more into a list that is long enough
+pub played-again : {o : Outcome} {kept out out′ : List ℕ} {m : ℕ} {z : Staged} → Kept o kept m → m ≤ length out → Plays o out out′ z
+    → (xs : List Crossing) → o ≡ planned xs → out′ ≡ map pack xs ++ drop (length xs) out
+played-again {out = out} {z = z} k h p xs e =
+    by-staged z
+    (λ m i. let w = p .plans m i in
+    let same : w .0 ≡ xs = let a = w .1 in cc in
+    let kept : k .crossed ≡ xs = let a = k .outcome in cc in
+    let fits : length (w .0) ≤ length out = omega (arith, h, k .counted, ap length same, ap length kept) in
+    w .2 ∙ stored-front out (w .0) fits ∙ ap (λ (l : List Crossing). map pack l ++ drop (length l) out) same)
+    (λ c i. let a = p .stops c i in never (cc))
+
+-- copied from where it was kept
+pub copied-out : {o : Outcome} {kept out′ : List ℕ} {m : ℕ} (out : List ℕ) → Kept o kept m → m ≤ length kept → out′ ≡ take m kept ++ drop (length (take m kept)) out
+    → (xs : List Crossing) → o ≡ planned xs → out′ ≡ map pack xs ++ drop (length xs) out
+copied-out out k h e xs i =
+    let kept : k .crossed ≡ xs = let a = k .outcome in cc in
+    let front = k .stored h ∙ ap (map pack) kept in
+    rw (front, length-map) at e
+
+-- ## 7, 8, or the plan
+
+pub hands-stopped : {o : Outcome} {lent : List ℕ} (c : Named) → o ≡ stuck (c .0) → Hands o lent (Refused (Stopped c)) lent
+unfolding written
+hands-stopped {lent = lent} c e = rw e (record { answers = sym (ap told (within-stuck (length lent) (c .0))); leaves = rw (within-stuck (length lent) (c .0)) refl })
+
+pub hands-long : {o : Outcome} {kept lent : List ℕ} {m : ℕ} → Kept o kept m → TooLong (length lent) m → Hands o lent (Refused (Room m)) lent
+unfolding written
+hands-long {lent = lent} k h =
+    let w = within-long (length lent) (k .crossed) (rw (k .counted) at h) in
+    rw (k .outcome, k .counted) (record { answers = sym (ap told w); leaves = rw w refl })
+
+pub hands-plan : {o : Outcome} {kept lent lent′ : List ℕ} {m : ℕ} → Kept o kept m → m ≤ length lent → m ≤ most-crossings → ((xs : List Crossing) → o ≡ planned xs → lent′ ≡ map pack xs ++ drop (length xs) lent) → Hands o lent (Accepted m) lent′
+unfolding written
+hands-plan {lent = lent} k a b f =
+    let w = within-fits (length lent) (k .crossed) (rw (k .counted) at a) (rw (k .counted) at b) in
+    let e = f (k .crossed) (k .outcome) in
+    rw (k .outcome, k .counted) (record { answers = sym (ap told w); leaves = rw w e })
+
+-- ## The planner's answer
+
+module _ (n : ℕ) (ends : List Bay) (s g : Placement) where
+  -- an answer of a plan's length comes of a plan of that length
+  by-told : {P : Type 0} (a : Answer) (m : ℕ) → long m ≡ told a → ((xs : List Crossing) → a ≡ accepted xs → m ≡ length xs → P) → P
+  by-told (accepted xs) m h f = f xs refl (cc)
+  by-told (refused r) m h f = never (cc)
+
+  -- a plan that stands in the lent list is legal, ends at the goals and passes the check
+  stands : (lent lent′ : List ℕ) (m : ℕ) → long m ≡ told (plan n ends s g (length lent)) → lent′ ≡ planEnd n ends s g lent
+      → (legalPlan (yardOf n ends) s (crossings (take m lent′)) ≡ true) × (after s (crossings (take m lent′)) ≡ g) × (check n ends s g (take m lent′) ≡ none)
+  unfolding written
+  stands lent lent′ m h e = by-told (plan n ends s g (length lent)) m h (λ xs a l.
+      let front : take m lent′ ≡ map pack xs = ap (take m) (e ∙ rw a refl) ∙ take-at (map pack xs) (drop (length xs) lent) m (length-map xs pack ∙ sym l) in
+      let right = accepted-right n ends s g (length lent) xs a in
+      let handed = handed-passes n ends s g (length lent) xs a in
+      rw (front, handed .1) (right .0, right .1, handed .0))
+
+  pub says-of : (lent lent′ : List ℕ) (answer : Answered) → plannedOf answer ≡ told (plan n ends s g (length lent)) → lent′ ≡ planEnd n ends s g lent
+      → PlanSays n ends s g lent answer lent′
+  says-of lent lent′ answer h e = record {
+    answers = h;
+    leaves = e;
+    legal = λ m z. stands lent lent′ m (sym (ap plannedOf z) ∙ h) e .0;
+    home = λ m z. stands lent lent′ m (sym (ap plannedOf z) ∙ h) e .1;
+    passes = λ m z. stands lent lent′ m (sym (ap plannedOf z) ∙ h) e .2;
+  }
+
+  pub says-refused : (lent : List ℕ) (r : Docketed) → some (refusalOf r) ≡ firstSix n ends s g 0 → PlanSays n ends s g lent (Refused r) lent
+  unfolding written
+  says-refused lent r h = let e = plan-unclean n ends s g (length lent) (refusalOf r) (sym h) in says-of lent lent (Refused r) (rw e refl) (rw e refl)
+
+  pub says-handed : (lent lent′ : List ℕ) (answer : Answered) → none ≡ firstSix n ends s g 0 → Hands (procedure (yardOf n ends) g s) lent answer lent′
+      → PlanSays n ends s g lent answer lent′
+  says-handed lent lent′ answer h k = let e = plan-clean n ends s g (length lent) (sym h) in says-of lent lent′ answer (rw e (k .answers)) (rw e (k .leaves))

@@ -1,0 +1,48 @@
+-- What the planner promises: its answer and what it leaves in the lent list are the paper's, and a plan handed out is legal, ends at the
+-- goals and passes the check.
+-- Assumes nothing.
+use mathlib.Core.Path.{_≡_}
+use mathlib.Core.Bool.{true}
+use mathlib.Core.List.{List, map}
+use mathlib.Core.Option.{none}
+use Prim.Native.Nat.{ℕ, _≤_}
+use lib.ListN.{length, take}
+use Rattle.paper.specs.Procedure.{Outcome, planned}
+use Rattle.paper.specs.Yard.{Bay, Placement, Crossing, pack, crossings, after, legalPlan}
+use Rattle.paper.specs.Docket.{Refusal, yardOf}
+use Rattle.paper.specs.Answers.{Answer, accepted, refused, within, written, plan, planEnd, check}
+use Rattle.docket.specs.Reading.{refusalOf}
+use Rattle.planner.specs.declared.Planned.{Planned}
+use Rattle.planner.specs.declared.Planned.the-variants.{Accepted, Refused}
+
+-- what is told of an answer: the plan's length, for the plan itself is in the lent list; or the refusal
+pub data Told : Type 0 where
+  long : ℕ → Told
+  denied : Refusal → Told
+
+abbrev pub told : Answer → Told
+told (accepted xs) = long (length xs)
+told (refused r) = denied r
+
+abbrev pub plannedOf : Planned → Told
+plannedOf (Accepted m) = long m
+plannedOf (Refused r) = denied (refusalOf r)
+
+-- the outcome is a plan of m crossings, and these are the first of them
+pub record Kept (o : Outcome) (kept : List ℕ) (m : ℕ) : Type 0 where
+  pub crossed : List Crossing
+  pub outcome : o ≡ planned crossed
+  pub counted : m ≡ length crossed
+  pub stored : m ≤ length kept → take m kept ≡ map pack crossed
+
+-- 7, 8 or the plan, for a list of so many places
+pub record Hands (o : Outcome) (lent : List ℕ) (answer : Planned) (lent′ : List ℕ) : Type 0 where
+  pub answers : plannedOf answer ≡ told (within (length lent) o)
+  pub leaves : lent′ ≡ written (within (length lent) o) lent
+
+pub record PlanSays (n : ℕ) (ends : List Bay) (starts goals : Placement) (lent : List ℕ) (answer : Planned) (lent′ : List ℕ) : Type 0 where
+  pub answers : plannedOf answer ≡ told (plan n ends starts goals (length lent))
+  pub leaves : lent′ ≡ planEnd n ends starts goals lent
+  pub legal : (m : ℕ) → answer ≡ Accepted m → legalPlan (yardOf n ends) starts (crossings (take m lent′)) ≡ true
+  pub home : (m : ℕ) → answer ≡ Accepted m → after starts (crossings (take m lent′)) ≡ goals
+  pub passes : (m : ℕ) → answer ≡ Accepted m → check n ends starts goals (take m lent′) ≡ none

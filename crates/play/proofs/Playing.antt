@@ -1,0 +1,39 @@
+-- A placement put down at the bays of the start is ready to be carried from, and what was carried is the whole procedure.
+-- Assumes nothing.
+use mathlib.Core.Path.{_≡_, _∙_, sym, ap}
+use mathlib.Core.List.{List, _++_, append-nil}
+use Prim.Native.Nat.{ℕ, _≤_, _*_}
+use native.Mathlib.Omega.{arith}
+use lib.ListN.{length, take, drop, replicate, length-replicate, drop-of-length-le}
+use lib.Seq.{length-take-le}
+use Rattle.paper.specs.Procedure.{Outcome}
+use Rattle.words.specs.Sets.{words, span}
+use Rattle.vacate.specs.Placed.{Placed}
+use Rattle.bring.specs.Acting.{Ready}
+use Rattle.home.specs.Homing.{Stages}
+use Rattle.carry.specs.Carrying.{Goals}
+use Rattle.home.specs.declared.Staged.{Staged}
+use Rattle.play.specs.Playing.{Admitted, Plays}
+
+-- as many places as are taken of an array
+pub places : (k : ℕ) → k ≤ span → length {A = ℕ} (take k (replicate span 0)) ≡ k
+places k h = length-take-le k (replicate span 0) (rw (length-replicate {A = ℕ} span 0) h)
+
+-- a copy that fills its list is the list copied
+pub all-copied : (to from to′ : List ℕ) → length to ≡ length from → to′ ≡ from ++ drop (length from) to → to′ ≡ from
+all-copied to from to′ h e = e ∙ ap (λ l. from ++ l) (drop-of-length-le to {i = length from} (omega arith)) ∙ append-nil from
+
+pub ready-of : {table : List ℕ} (s g p standing empty : List ℕ) → Admitted (length standing) table s g → length standing * words ≤ length table → p ≡ s → length empty ≡ words → Placed (length standing) s standing empty → Ready table p standing empty
+ready-of s g p standing empty a l e m placed = rw e (record {
+  most = a .most;
+  table-size = l;
+  empty-size = m;
+  placed = placed;
+  tabled = a .reaching .tabled;
+})
+
+pub plays-of : {o : Outcome} {n : ℕ} {p out p′ standing′ empty′ out′ : List ℕ} {z : Staged} → Stages o n p out 0 p′ standing′ empty′ out′ z → Plays o out out′ z
+plays-of st = record {
+  plans = λ m e. let w = st .plans m e in (w .0, w .1, w .2 .stored, w .2 .counted ∙ omega arith);
+  stops = st .stops;
+}

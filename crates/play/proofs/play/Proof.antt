@@ -1,0 +1,47 @@
+-- `play::play` meets its contract. There are no more carriers and bays than places in the working arrays.
+-- Assumes nothing.
+use mathlib.Core.Path.{refl, sym}
+use native.Mathlib.Omega.{arith}
+use Rattle.play.proofs.Playing.{places}
+use borrow.Author.Needs.{needs}
+use Rattle.play.proofs.play.Statement.{statement}
+use Rattle.play.proofs.play.Tie as tie
+
+array-borrow-prefix-placement : tie.Need-array-borrow-prefix-placement
+array-borrow-prefix-placement c = search needs
+
+slice-aggregate-play-on : tie.Need-slice-aggregate-play-on
+slice-aggregate-play-on c = sym (places _ (omega (arith, c .before .before .before .before .pre .few, c .before .before .before .before .pre .most)))
+
+array-borrow-prefix-standing : tie.Need-array-borrow-prefix-standing
+array-borrow-prefix-standing c = search needs
+
+slice-aggregate-play-on-2 : tie.Need-slice-aggregate-play-on-2
+slice-aggregate-play-on-2 c = sym (places _ (c .before .before .before .before .before .pre .most))
+
+slice-aggregate-play-on-3 : tie.Need-slice-aggregate-play-on-3
+slice-aggregate-play-on-3 c = search needs
+
+play-on-requires : tie.Need-play-on-requires
+play-on-requires c κs =
+    let a = c .before .before .before .before .before .before .before .pre in
+    (rw (places (c .before .before .before .before .before .before .before .args .n) (a .most)) a, refl, places _ (omega (arith, a .few, a .most)))
+
+same-length : tie.Need-same-length
+same-length c = search needs
+
+returns : tie.Need-returns
+returns c = rw (places (c .before .before .before .before .before .before .before .before .before .before .before .before .before .args .n) (c .before .before .before .before .before .before .before .before .before .before .before .before .before .pre .most)) at (c .before .before .before .before .before .play-on .ensures)
+
+pub play-spec : {M : Type 1} → statement M
+play-spec =
+    tie.close
+    (tie.spec
+    array-borrow-prefix-placement
+    slice-aggregate-play-on
+    array-borrow-prefix-standing
+    slice-aggregate-play-on-2
+    slice-aggregate-play-on-3
+    play-on-requires
+    same-length
+    returns)

@@ -1,0 +1,55 @@
+-- `play::play_on` meets its contract. The carriers stand at their starts when they are carried.
+-- Assumes nothing.
+use mathlib.Core.Path.{_≡_, _∙_, sym, ap}
+use denote.Ref.{now}
+use lib.ListN.{length}
+use Rattle.play.proofs.Playing.{all-copied, ready-of, plays-of}
+use borrow.Author.Needs.{needs}
+use Rattle.play.proofs.play_on.Statement.{statement}
+use Rattle.play.proofs.play_on.Tie as tie
+
+shorts-requires : tie.Need-shorts-requires
+shorts-requires c κs = search needs
+
+place-requires : tie.Need-place-requires
+place-requires c κs = search needs
+
+carry-all-requires : tie.Need-carry-all-requires
+carry-all-requires c κs =
+    let pre = c .before .before .before .before .before .before .before .before .before .before .before .before .before .before .before .before .before .before .before .before .before .before .pre in
+    let a = pre .0 in
+    let e = all-copied _ _ _ (pre .2) (c .before .before .before .before .before .before .before .before .before .before .before .before .before .before .shorts .ensures) in
+    let kept : length (c .before .before .before .before .before .before .before .before .before .place .last .1 .0) ≡ length (now (c .before .before .before .before .before .before .before .before .before .before .before .before .before .before .before .before .before .before .before .before .before .before .args .standing)) = c .before .before .before .before .before .before .before .before .before .place .kept .1 .0 in
+    let placed = c .before .before .before .before .before .before .before .before .before .place .ensures in
+    (ready-of (now (c .before .before .before .before .before .before .before .before .before .before .before .before .before .before .before .before .before .before .before .before .before .before .args .start)) (now (c .before .before .before .before .before .before .before .before .before .before .before .before .before .before .before .before .before .before .before .before .before .before .args .goal)) _ _ _ (rw kept a) (let few = a .most in rw kept (search needs)) e (search needs) (rw kept placed), (record { many = a .goals .many ∙ sym (ap length e); apart = a .goals .apart; inside = rw kept (a .goals .inside) }, rw kept (a .loopless), rw kept (a .reaching)))
+
+same-length : tie.Need-same-length
+same-length c = search needs
+
+same-length-2 : tie.Need-same-length-2
+same-length-2 c = search needs
+
+same-length-3 : tie.Need-same-length-3
+same-length-3 c = search needs
+
+same-length-4 : tie.Need-same-length-4
+same-length-4 c = search needs
+
+returns : tie.Need-returns
+returns c = λ t.
+    let e = all-copied _ _ _ (c .before .before .before .before .before .before .before .before .before .before .before .before .before .before .before .before .before .before .before .before .before .before .before .before .before .before .before .before .before .before .before .pre .2) (c .before .before .before .before .before .before .before .before .before .before .before .before .before .before .before .before .before .before .before .before .before .before .before .shorts .ensures) in
+    let kept : length (c .before .before .before .before .before .before .before .before .before .before .before .before .before .before .before .before .before .before .place .last .1 .0) ≡ length (now (c .before .before .before .before .before .before .before .before .before .before .before .before .before .before .before .before .before .before .before .before .before .before .before .before .before .before .before .before .before .before .before .args .standing)) = c .before .before .before .before .before .before .before .before .before .before .before .before .before .before .before .before .before .before .place .kept .1 .0 in
+    plays-of ((rw (kept, e) at (c .before .before .before .before .before .before .before .before .carry-all .ensures)) t)
+
+pub play-on-spec : {M : Type 1} → statement M
+play-on-spec =
+    tie.close
+    (tie.spec
+    shorts-requires
+    place-requires
+    carry-all-requires
+    same-length
+    same-length-2
+    same-length-3
+    same-length-4
+    returns)

@@ -1,0 +1,31 @@
+-- What playing the procedure asks of a yard and its placements, and what it answers.
+-- Assumes nothing.
+use mathlib.Core.Path.{_≡_}
+use mathlib.Core.List.{List, map}
+use Prim.Native.Nat.{ℕ, _≤_, _<_}
+use lib.ListN.{length}
+use lib.Seq.{sets}
+use Rattle.paper.specs.Procedure.{Outcome, planned, stuck}
+use Rattle.paper.specs.Yard.{Placement, Crossing, pack, bayOf}
+use Rattle.paper.proofs.Playing.{Apart}
+use Rattle.words.specs.Sets.{span}
+use Rattle.step.specs.Asking.{Loopless}
+use Rattle.carry.specs.Carrying.{Goals, Reaching}
+use Rattle.docket.specs.declared.Carrier.{Carrier as Named}
+use Rattle.home.specs.declared.Staged.the-variants.{Planned, Stuck}
+use Rattle.home.specs.declared.Staged.{Staged}
+
+-- the table is that of a yard of n bays in one piece, and starts and goals are placements in it, as refusals 1 to 6 leave them
+pub record Admitted (n : ℕ) (table : List ℕ) (s g : Placement) : Type 0 where
+  pub most : n ≤ span
+  pub few : length s ≤ n
+  pub apart : Apart s
+  pub inside : (c : ℕ) → c < length s → bayOf s c < n
+  pub goals : Goals n g s
+  pub loopless : Loopless n table
+  pub reaching : Reaching n table
+
+-- the crossings of the procedure were counted, and stored where there was room; or the carrier that it names could not step
+pub record Plays (o : Outcome) (out out′ : List ℕ) (z : Staged) : Type 0 where
+  pub plans : (m : ℕ) → z ≡ Planned m → (xs : List Crossing) × (o ≡ planned xs) × (out′ ≡ sets out 0 (map pack xs)) × (m ≡ length xs)
+  pub stops : (c : Named) → z ≡ Stuck c → o ≡ stuck (c .0)
