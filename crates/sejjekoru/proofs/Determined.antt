@@ -1,0 +1,33 @@
+-- Any two pairs of numbers that a statement allows are equal, and so is what is left in the lent list.
+-- Assumes nothing.
+use mathlib.Core.Path.{_≡_, sym, _∙_}
+use mathlib.Core.List.{List}
+use Prim.Native.Nat.{ℕ}
+use Rattle.paper.specs.Yard.{Bay, Placement}
+use Rattle.paper.proofs.Determined.{Determined}
+use Rattle.sejjekoru.specs.Statements.{Tells, TellsAndLeaves, PlanTells, CheckTells, SlotsTell, ReportTells}
+
+tells-determined : {due due-value : ℕ} → Determined (Tells due due-value)
+tells-determined a a′ v v′ s t = (s .numbered ∙ sym (t .numbered), s .valued ∙ sym (t .valued))
+
+-- a statement of two numbers and a list, as one of the pair and the list
+abbrev Paired : (ℕ → ℕ → List ℕ → Type 0) → ℕ × ℕ → List ℕ → Type 0
+Paired S a l = S (a .0) (a .1) l
+
+left-determined : {due due-value : ℕ} {due-list : List ℕ} → Determined (Paired (TellsAndLeaves due due-value due-list))
+left-determined a a′ l l′ s t =
+    let same = tells-determined (a .0) (a′ .0) (a .1) (a′ .1) (s .tells) (t .tells) in
+    (λ i. (same .0 i, same .1 i), s .leaves ∙ sym (t .leaves))
+
+module _ (n : ℕ) (ends : List Bay) (starts goals : Placement) where
+  pub plan-determined : (lent : List ℕ) → Determined (Paired (PlanTells n ends starts goals lent))
+  plan-determined lent = left-determined
+
+  pub check-determined : (crossed : List ℕ) → Determined (CheckTells n ends starts goals crossed)
+  check-determined crossed = tells-determined
+
+  pub slots-determined : (crossed slots : List ℕ) → Determined (Paired (SlotsTell n ends starts goals crossed slots))
+  slots-determined crossed slots = left-determined
+
+  pub report-determined : (crossed marks : List ℕ) (name : ℕ) → Determined (Paired (ReportTells n ends starts goals crossed marks name))
+  report-determined crossed marks name = left-determined

@@ -1,0 +1,3 @@
+pub mod Determined
+mod Saying
+pub mod Telling

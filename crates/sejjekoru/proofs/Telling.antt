@@ -1,0 +1,85 @@
+-- The two numbers tell any two answers apart, so C is told all that the paper answers: a number says whether its value is a length, "already",
+-- nothing, or what a refusal carries.
+-- Assumes nothing.
+use mathlib.Core.Path.{_≡_, refl, sym, _∙_, ap, ap₂}
+use mathlib.Core.Option.{Option, none, some, Option·getD}
+use Prim.Native.Nat.{ℕ}
+use native.Mathlib.Omega.{arith}
+use lib.Dec.{eqb}
+use Rattle.paper.specs.Basics.{if_then_else_, _or_}
+use Rattle.paper.specs.Docket.{Refusal, size, rail, apart, crowd, start, goal, stopped, room, illegal, missed, mismarked, unknown, early, badMap, badScenario, number, carried}
+use Rattle.paper.specs.Answers.{Report, accept, already, refuse}
+use Rattle.paper.proofs.Determined.{docket-tells}
+use Rattle.paper.proofs.Tests.{never}
+use Rattle.planner.specs.Statement.{Told, long, denied}
+use Rattle.sejjekoru.specs.Numbers.{numberOf, valueOf, planNumber, planValue, already-number, reportNumber, reportValue}
+
+-- what a number and its value are read as
+data Read : Type 0 where
+  accepted : ℕ → Read
+  done : Read
+  refused : ℕ → Option ℕ → Read
+
+abbrev carriesNothing : ℕ → Option ℕ → Option ℕ
+carriesNothing n v = if eqb n 1 or eqb n 4 or eqb n 11 or eqb n 12 then none else v
+
+abbrev read : ℕ → ℕ → Read
+read n v = if eqb n 0 then accepted v else if eqb n already-number then done else refused n (carriesNothing n (some v))
+
+read-refusal : (r : Refusal) → read (number r) (Option·getD (carried r) 0) ≡ refused (number r) (carried r)
+unfolding _or_
+read-refusal size = refl
+read-refusal (rail i) = refl
+read-refusal (apart b) = refl
+read-refusal crowd = refl
+read-refusal (start c) = refl
+read-refusal (goal c) = refl
+read-refusal (stopped c) = refl
+read-refusal (room l) = refl
+read-refusal (illegal i) = refl
+read-refusal (missed c) = refl
+read-refusal mismarked = refl
+read-refusal unknown = refl
+read-refusal (early e) = refl
+read-refusal (badMap l) = refl
+read-refusal (badScenario l) = refl
+
+-- two refusals of one number and value
+pub refusals-told-apart : (r q : Refusal) → number r ≡ number q → Option·getD (carried r) 0 ≡ Option·getD (carried q) 0 → r ≡ q
+refusals-told-apart r q e f =
+    let same : refused (number r) (carried r) ≡ refused (number q) (carried q) = sym (read-refusal r) ∙ ap₂ read e f ∙ read-refusal q in
+    docket-tells r q e (cc)
+
+-- a refusal is not told as acceptance is,
+not-accepted : {P : Type 0} {v : ℕ} (r : Refusal) → 0 ≡ number r → v ≡ Option·getD (carried r) 0 → P
+not-accepted {v = v} r e f = let same : accepted v ≡ refused (number r) (carried r) = ap₂ read e f ∙ read-refusal r in never (cc)
+
+-- nor as "already" is
+not-done : {P : Type 0} {v : ℕ} (r : Refusal) → already-number ≡ number r → v ≡ Option·getD (carried r) 0 → P
+not-done {v = v} r e f = let same : done ≡ refused (number r) (carried r) = ap₂ read e f ∙ read-refusal r in never (cc)
+
+-- The check and slots.
+pub answers-told-apart : (w : ℕ) (a b : Option Refusal) → numberOf a ≡ numberOf b → valueOf w a ≡ valueOf w b → a ≡ b
+answers-told-apart w none none e f = refl
+answers-told-apart w none (some q) e f = not-accepted q e f
+answers-told-apart w (some r) none e f = not-accepted r (sym e) (sym f)
+answers-told-apart w (some r) (some q) e f = ap some (refusals-told-apart r q e f)
+
+-- Planning.
+pub plans-told-apart : (a b : Told) → planNumber a ≡ planNumber b → planValue a ≡ planValue b → a ≡ b
+plans-told-apart (long m) (long k) e f = ap long f
+plans-told-apart (long m) (denied q) e f = not-accepted q e f
+plans-told-apart (denied r) (long k) e f = not-accepted r (sym e) (sym f)
+plans-told-apart (denied r) (denied q) e f = ap denied (refusals-told-apart r q e f)
+
+-- Report.
+pub reports-told-apart : (a b : Report) → reportNumber a ≡ reportNumber b → reportValue a ≡ reportValue b → a ≡ b
+reports-told-apart accept accept e f = refl
+reports-told-apart accept already e f = absurd (omega arith)
+reports-told-apart accept (refuse q) e f = not-accepted q e f
+reports-told-apart already accept e f = absurd (omega arith)
+reports-told-apart already already e f = refl
+reports-told-apart already (refuse q) e f = not-done q e f
+reports-told-apart (refuse r) accept e f = not-accepted r (sym e) (sym f)
+reports-told-apart (refuse r) already e f = not-done r (sym e) (sym f)
+reports-told-apart (refuse r) (refuse q) e f = ap refuse (refusals-told-apart r q e f)

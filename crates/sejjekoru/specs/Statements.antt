@@ -1,0 +1,42 @@
+-- What each exported function promises for every input: its two numbers and what stands in the lent list at the end, each equal to the paper's.
+-- Assumes nothing.
+use mathlib.Core.Path.{_≡_}
+use mathlib.Core.List.{List}
+use Prim.Native.Nat.{ℕ}
+use lib.ListN.{length}
+use Rattle.paper.specs.Yard.{Bay, Placement}
+use Rattle.paper.specs.Answers.{plan, planEnd, check, slotsRefusal, slotsEnd, report, marksEnd}
+use Rattle.planner.specs.Statement.{told}
+use Rattle.sejjekoru.specs.Numbers.{numberOf, valueOf, planNumber, planValue, reportNumber, reportValue}
+
+-- the number answered and the value stored are the due ones
+pub record Tells (due due-value : ℕ) (number value : ℕ) : Type 0 where
+  pub numbered : number ≡ due
+  pub valued : value ≡ due-value
+
+-- and so is what stands in the lent list
+pub record TellsAndLeaves (due due-value : ℕ) (due-list : List ℕ) (number value : ℕ) (list : List ℕ) : Type 0 where
+  pub tells : Tells due due-value number value
+  pub leaves : list ≡ due-list
+
+module _ (n : ℕ) (ends : List Bay) (starts goals : Placement) where
+  abbrev pub PlanTells : List ℕ → ℕ → ℕ → List ℕ → Type 0
+  PlanTells lent =
+      let answer = told (plan n ends starts goals (length lent)) in
+      TellsAndLeaves (planNumber answer) (planValue answer) (planEnd n ends starts goals lent)
+
+  abbrev pub CheckTells : List ℕ → ℕ → ℕ → Type 0
+  CheckTells crossed =
+      let answer = check n ends starts goals crossed in
+      Tells (numberOf answer) (valueOf 0 answer)
+
+  -- the length written is the plan's
+  abbrev pub SlotsTell : List ℕ → List ℕ → ℕ → ℕ → List ℕ → Type 0
+  SlotsTell crossed slots =
+      let answer = slotsRefusal n ends starts goals crossed (length slots) in
+      TellsAndLeaves (numberOf answer) (valueOf (length crossed) answer) (slotsEnd n ends starts goals crossed slots)
+
+  abbrev pub ReportTells : List ℕ → List ℕ → ℕ → ℕ → ℕ → List ℕ → Type 0
+  ReportTells crossed marks name =
+      let answer = report n ends starts goals crossed marks name in
+      TellsAndLeaves (reportNumber answer) (reportValue answer) (marksEnd n ends starts goals crossed marks name)

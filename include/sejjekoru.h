@@ -1,0 +1,93 @@
+/*
+ * Planning, plan check, slots and report log of a pallet vault, by document 01.
+ *
+ * Every function takes any numbers and lists at all, and answers document 01's number: 0 where it accepts, else the refusal's. Through `value` it
+ * stores what the refusal carries, or the length written, and 0 where there is neither. Each function is proved to do so for every input.
+ *
+ * What the caller sees to:
+ * - each list has at least as many elements as the length after it says; a list of length 0 may be NULL;
+ * - `value` is not NULL;
+ * - a list that may be written (`plan` of sejjekoru_plan, `slots`, `marks`) and `*value` overlap no other argument.
+ *
+ * Nothing is kept between calls and nothing is allocated: threads may call at the same time, each with written lists of its own. Of the calling
+ * thread's stack sejjekoru_plan takes some 600 KiB (measured, for any yard), the others less than 20 KiB.
+ */
+#ifndef SEJJEKORU_H
+#define SEJJEKORU_H
+
+#include <stddef.h>
+#include <stdint.h>
+
+#ifdef __cplusplus
+extern "C" {
+#endif
+
+/* The answers, each with what `value` then holds. */
+enum {
+    SEJJEKORU_ACCEPTED = 0,   /* plan, slots: the length written; else 0 */
+    SEJJEKORU_SIZE = 1,       /* 0 */
+    SEJJEKORU_RAIL = 2,       /* the first bad rail */
+    SEJJEKORU_APART = 3,      /* the lowest bay that cannot be reached from bay 0 */
+    SEJJEKORU_CROWD = 4,      /* 0 */
+    SEJJEKORU_START = 5,      /* the first bad carrier */
+    SEJJEKORU_GOAL = 6,       /* the first bad carrier */
+    SEJJEKORU_STOPPED = 7,    /* the carrier that could not step */
+    SEJJEKORU_ROOM = 8,       /* the needed length */
+    SEJJEKORU_CROSSING = 9,   /* the name of the first illegal crossing */
+    SEJJEKORU_MISSED = 10,    /* the lowest carrier that is not home */
+    SEJJEKORU_MARKS = 11,     /* 0 */
+    SEJJEKORU_UNKNOWN = 12,   /* 0 */
+    SEJJEKORU_EARLY = 13,     /* the lowest undone name that it depends on */
+    SEJJEKORU_ALREADY = 100   /* 0; a report of a crossing that is done */
+};
+
+/*
+ * In every function: the yard has `bays` bays; `rails` lists the two ends of each rail, one after the other, so that `rails_len` is twice the number
+ * of rails; `start` and `goal` give the bay of each carrier.
+ *
+ * A plan has one number for each crossing: carrier * 2^32 + from * 2^16 + to. A crossing's name is its place in the plan, from 0.
+ */
+
+/* Plans, and writes the plan to the first places of `plan`. Answers 0 to 8. */
+uint64_t sejjekoru_plan(uint64_t bays,
+                        const uint16_t *rails, size_t rails_len,
+                        const uint16_t *start, size_t start_len,
+                        const uint16_t *goal, size_t goal_len,
+                        uint64_t *plan, size_t plan_len,
+                        uint64_t *value);
+
+/* Whether the plan is legal and brings every carrier home. Answers 0 to 6, 9, 10. */
+uint64_t sejjekoru_check(uint64_t bays,
+                         const uint16_t *rails, size_t rails_len,
+                         const uint16_t *start, size_t start_len,
+                         const uint16_t *goal, size_t goal_len,
+                         const uint64_t *plan, size_t plan_len,
+                         uint64_t *value);
+
+/* The slot of each crossing, from 1, to the first places of `slots`. Answers 0 to 6, 8, 9, 10. */
+uint64_t sejjekoru_slots(uint64_t bays,
+                         const uint16_t *rails, size_t rails_len,
+                         const uint16_t *start, size_t start_len,
+                         const uint16_t *goal, size_t goal_len,
+                         const uint64_t *plan, size_t plan_len,
+                         uint32_t *slots, size_t slots_len,
+                         uint64_t *value);
+
+/*
+ * Reports the crossing `name` as done. `marks` has one byte for each crossing, all 0 before the first report. An accepted report changes the mark
+ * of `name` from 0 to 1; any other answer changes nothing. Answers 0 to 6, 9 to 13, 100.
+ */
+uint64_t sejjekoru_report(uint64_t bays,
+                          const uint16_t *rails, size_t rails_len,
+                          const uint16_t *start, size_t start_len,
+                          const uint16_t *goal, size_t goal_len,
+                          const uint64_t *plan, size_t plan_len,
+                          uint8_t *marks, size_t marks_len,
+                          uint64_t name,
+                          uint64_t *value);
+
+#ifdef __cplusplus
+}
+#endif
+
+#endif

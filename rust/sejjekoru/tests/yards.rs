@@ -1,0 +1,152 @@
+//! The yards that document 01 works by hand, through the library.
+
+use sejjekoru::{check, plan, report, slots, Bay, Carrier, Crossing, Refusal, Reported};
+
+/// Bays, rails, start, goal.
+struct Yard(u64, Vec<u16>, Vec<u16>, Vec<u16>);
+
+fn t(start: [u16; 2], goal: [u16; 2]) -> Yard {
+    Yard(4, vec![0, 1, 1, 2, 1, 3], start.into(), goal.into())
+}
+
+fn line(bays: u16, start: [u16; 2], goal: [u16; 2]) -> Yard {
+    let rails = (1..bays).flat_map(|b| [b - 1, b]).collect();
+    Yard(bays.into(), rails, start.into(), goal.into())
+}
+
+fn ring_of_four(start: [u16; 2], goal: [u16; 2]) -> Yard {
+    let mut ring = line(4, start, goal);
+    ring.1.extend([3, 0]);
+    ring
+}
+
+fn crossed(crossings: &[(u32, u16, u16)]) -> Vec<u64> {
+    let number = |&(c, from, to)| {
+        let (carrier, from, to) = (Carrier(c), Bay(from), Bay(to));
+        u64::from(Crossing { carrier, from, to })
+    };
+    crossings.iter().map(number).collect()
+}
+
+/// A number that no plan holds, to see what was not written.
+const GUARD: u64 = u64::MAX;
+
+impl Yard {
+    fn plan(&self, room: usize) -> Result<Vec<u64>, Refusal> {
+        let mut lent = vec![GUARD; room];
+        let answer = plan(self.0, &self.1, &self.2, &self.3, &mut lent);
+        let written = answer.unwrap_or(0);
+        assert!(lent[written..].iter().all(|&number| number == GUARD));
+        lent.truncate(written);
+        answer.map(|_| lent)
+    }
+
+    fn slots(&self, plan: &[u64]) -> Result<Vec<u32>, Refusal> {
+        let mut lent = vec![0; plan.len() + 3];
+        let written = slots(self.0, &self.1, &self.2, &self.3, plan, &mut lent)?;
+        assert!(lent[written..].iter().all(|&slot| slot == 0));
+        lent.truncate(written);
+        Ok(lent)
+    }
+
+    fn reports(&self, plan: &[u64], names: &[u64]) -> Vec<Result<Reported, Refusal>> {
+        let mut marks = vec![0; plan.len()];
+        let one = |&name| report(self.0, &self.1, &self.2, &self.3, plan, &mut marks, name);
+        names.iter().map(one).collect()
+    }
+
+    /// The plan is the one given, it passes the check, and its slots are the ones given.
+    fn gives(&self, crossings: &[(u32, u16, u16)], slots: &[u32]) {
+        let plan = self.plan(64).unwrap();
+        assert_eq!(plan, crossed(crossings));
+        assert_eq!(check(self.0, &self.1, &self.2, &self.3, &plan), Ok(()));
+        assert_eq!(self.slots(&plan).unwrap(), slots);
+    }
+}
+
+const SWAP: [(u32, u16, u16); 6] = [
+    (0, 1, 2),
+    (1, 0, 1),
+    (1, 1, 3),
+    (0, 2, 1),
+    (0, 1, 0),
+    (1, 3, 1),
+];
+
+#[test]
+fn y1_two_trade_places() {
+    t([1, 0], [0, 1]).gives(&SWAP, &[1, 2, 3, 4, 5, 6]);
+}
+
+#[test]
+fn y2_the_way_home() {
+    let mut crossings = SWAP.to_vec();
+    crossings.extend([(1, 1, 2), (0, 0, 1)]);
+    t([1, 0], [1, 2]).gives(&crossings, &[1, 2, 3, 4, 5, 6, 7, 8]);
+}
+
+#[test]
+fn y3_y4_stopped() {
+    let stopped = Err(Refusal::Stopped(Carrier(1)));
+    assert_eq!(line(4, [0, 1], [1, 0]).plan(64), stopped);
+    assert_eq!(ring_of_four([0, 1], [1, 0]).plan(64), stopped);
+}
+
+#[test]
+fn y5_ring() {
+    ring_of_four([0, 1], [1, 2]).gives(&[(1, 1, 2), (0, 0, 1)], &[1, 2]);
+}
+
+#[test]
+fn y6_apart_on_a_line() {
+    let yard = line(6, [0, 5], [1, 4]);
+    let crossings = [(0, 0, 1), (1, 5, 4)];
+    yard.gives(&crossings, &[1, 1]);
+    assert_eq!(
+        yard.reports(&crossed(&crossings), &[1, 0, 1]),
+        [
+            Ok(Reported::Accepted),
+            Ok(Reported::Accepted),
+            Ok(Reported::Already)
+        ]
+    );
+}
+
+#[test]
+fn y7_reports() {
+    assert_eq!(
+        t([1, 0], [0, 1]).reports(&crossed(&SWAP), &[1, 6, 0, 0]),
+        [
+            Err(Refusal::Early(0)),
+            Err(Refusal::Unknown),
+            Ok(Reported::Accepted),
+            Ok(Reported::Already)
+        ]
+    );
+}
+
+#[test]
+fn y8_y9_two_bays() {
+    Yard(2, vec![0, 1], vec![], vec![]).gives(&[], &[]);
+    assert_eq!(
+        Yard(2, vec![0, 1], vec![0], vec![1]).plan(64),
+        Err(Refusal::Crowd)
+    );
+}
+
+#[test]
+fn y10_limits() {
+    let wide = |bays: u16, carriers: u16| {
+        let mut yard = line(bays, [0, 0], [0, 0]);
+        (yard.2, yard.3) = ((0..carriers).collect(), (0..carriers).collect());
+        yard.plan(64)
+    };
+    assert_eq!(wide(256, 254), Ok(vec![]));
+    assert_eq!(wide(257, 2), Err(Refusal::Size));
+    assert_eq!(wide(256, 255), Err(Refusal::Crowd));
+}
+
+#[test]
+fn y11_room() {
+    assert_eq!(t([1, 0], [0, 1]).plan(5), Err(Refusal::Room(6)));
+}
