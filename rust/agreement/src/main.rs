@@ -1,0 +1,65 @@
+//! Compares the proved library with the Rust reference on many inputs from fixed seeds: answers, carried values, and the end contents of
+//! every lent list with the places around it. Given the file program's path, that program too.
+//! It ends with 1 at the first disagreement, and where some answer's number never came up.
+
+mod files;
+mod lent;
+mod orders;
+mod plans;
+mod tally;
+
+use lent::Asked;
+use tally::Tally;
+use yards::Dice;
+
+const ORDERS: u64 = 60_000;
+const PLANS: u64 = 60_000;
+
+fn main() {
+    let mut tallies = Vec::new();
+    tallies.push(planning());
+    tallies.extend(plan_by_plan());
+    if let Some(program) = std::env::args().nth(1) {
+        tallies.push(files::run(&program));
+    }
+    if !tally::print(&tallies) {
+        std::process::exit(1);
+    }
+}
+
+/// Orders, each with a room that is just enough, too small by one, ample or none at all.
+fn planning() -> Tally {
+    let mut tally = Tally::new("plan", &[0, 1, 2, 3, 4, 5, 6, 7, 8]);
+    let mut ample = vec![0; 65_536];
+    for seed in 0..ORDERS {
+        let mut dice = Dice::new(seed);
+        let order = orders::any(&mut dice, 256);
+        let (_, needed) = reference::plan(order.bays, &order.rails, &order.start, &order.goal, &mut ample);
+        let room = orders::room(&mut dice, needed as usize);
+        tally.add(Asked::new(&order).plan(room));
+    }
+    for (order, room) in orders::at_the_limits() {
+        tally.add(Asked::new(&order).plan(room));
+    }
+    tally
+}
+
+/// Orders with plans, marks and names: each is checked, slotted and reported on.
+fn plan_by_plan() -> [Tally; 3] {
+    let common = [0, 1, 2, 3, 4, 5, 6, 9, 10];
+    let mut check = Tally::new("check", &common);
+    let mut slots = Tally::new("slots", &[&common[..], &[8]].concat());
+    let mut report = Tally::new("report", &[&common[..], &[11, 12, 13, 100]].concat());
+    for seed in 0..PLANS {
+        let mut dice = Dice::new(0x0100_0000 + seed);
+        let (order, plan) = plans::any(&mut dice);
+        let marks = plans::marks(&mut dice, &plan);
+        let name = plans::name(&mut dice, &marks);
+        let room = orders::room(&mut dice, plan.len());
+        let asked = Asked::new(&order);
+        check.add(asked.check(&plan));
+        slots.add(asked.slots(&plan, room));
+        report.add(asked.report(&plan, &marks, name));
+    }
+    [check, slots, report]
+}

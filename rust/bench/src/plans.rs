@@ -1,0 +1,86 @@
+//! The planner on crowded grids, lines with sidings, random yards and the slowest yard known.
+
+use crate::library;
+use crate::timing::{middle, race, ratio, written};
+use std::hint::black_box;
+use std::time::Duration;
+use yards::{connected, grid, line_with_sidings, Dice, Order};
+
+const ROOM: usize = 65_536;
+
+pub fn tables() {
+    println!("## Planning\n");
+    println!("| Yard | Carriers | Yards | Crossings: least, middle, most | Library | Reference | Ratio | Slowest, library |");
+    println!("|---|---|---|---|---|---|---|---|");
+    for carriers in [60, 128, 200, 240, 254] {
+        let orders = (0..15).map(|seed| carried(grid(16, 16), carriers, seed)).collect();
+        row("grid 16 × 16", orders);
+    }
+    for (every, carriers) in [(4, 20), (4, 40)] {
+        let orders = (0..15).map(|seed| carried(line_with_sidings(256, every), carriers, seed)).collect();
+        row("line, siding at every fourth", orders);
+    }
+    for carriers in [60, 128, 200, 240, 254] {
+        row("random, 1,024 rails", (0..15).map(|seed| random(carriers, seed)).collect());
+    }
+    row("line, siding at every fourth, in reverse", vec![reversed()]);
+}
+
+fn carried(rails: Vec<u16>, carriers: usize, seed: u64) -> Order {
+    Order::on(256, rails).with_carriers(carriers, &mut Dice::new(seed))
+}
+
+fn random(carriers: usize, seed: u64) -> Order {
+    let mut dice = Dice::new(1_000 + seed);
+    Order::on(256, connected(256, 1_024, 256, &mut dice)).with_carriers(carriers, &mut dice)
+}
+
+/// The slowest yard known: 52 carriers along the line, to be put in reverse order.
+fn reversed() -> Order {
+    let mut order = Order::on(256, line_with_sidings(256, 4));
+    order.start = (0..52).collect();
+    order.goal = (0..52).rev().collect();
+    order
+}
+
+struct Timed {
+    library: Duration,
+    reference: Duration,
+    crossings: u64,
+}
+
+fn row(name: &str, orders: Vec<Order>) {
+    let carriers = orders[0].start.len();
+    let timed: Vec<Timed> = orders.iter().map(time).collect();
+    let mut crossings: Vec<u64> = timed.iter().map(|timed| timed.crossings).collect();
+    let mut library: Vec<Duration> = timed.iter().map(|timed| timed.library).collect();
+    let mut reference: Vec<Duration> = timed.iter().map(|timed| timed.reference).collect();
+    let crossing = middle(&mut crossings);
+    let (one, other) = (middle(&mut library), middle(&mut reference));
+    println!(
+        "| {name} | {carriers} | {} | {}, {crossing}, {} | {} | {} | {} | {} |",
+        orders.len(),
+        crossings[0],
+        crossings[crossings.len() - 1],
+        written(one),
+        written(other),
+        ratio(one, other),
+        written(library[library.len() - 1]),
+    );
+}
+
+/// Both on one order. The crossings are those needed, in a refusal for want of room too; 0 where the procedure stops.
+fn time(order: &Order) -> Timed {
+    let Order { bays, rails, start, goal } = order;
+    let (mut out, mut other) = (vec![0; ROOM], vec![0; ROOM]);
+    let answer = library::plan(order, &mut out);
+    assert_eq!(answer, reference::plan(*bays, rails, start, goal, &mut other));
+    assert!(out == other);
+    let (library, reference) = race(
+        Duration::from_millis(100),
+        || library::plan(black_box(order), &mut out),
+        || reference::plan(*bays, black_box(rails), start, goal, &mut other),
+    );
+    let crossings = if matches!(answer.0, 0 | 8) { answer.1 } else { 0 };
+    Timed { library, reference, crossings }
+}

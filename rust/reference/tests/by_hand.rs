@@ -1,0 +1,98 @@
+//! The yards that document 01 works by hand.
+
+use reference::{check, plan, report, slots};
+
+const T: [u16; 6] = [0, 1, 1, 2, 1, 3];
+const LINE_OF_FOUR: [u16; 6] = [0, 1, 1, 2, 2, 3];
+const RING_OF_FOUR: [u16; 8] = [0, 1, 1, 2, 2, 3, 3, 0];
+const LINE_OF_SIX: [u16; 10] = [0, 1, 1, 2, 2, 3, 3, 4, 4, 5];
+
+fn crossings(list: &[(u64, u64, u64)]) -> Vec<u64> {
+    list.iter().map(|&(carrier, from, to)| carrier * (1 << 32) + from * (1 << 16) + to).collect()
+}
+
+/// The plan that is accepted, or the refusal.
+fn planned(bays: u64, rails: &[u16], start: &[u16], goal: &[u16]) -> Result<Vec<u64>, (u64, u64)> {
+    let mut out = vec![0; 100];
+    let (number, value) = plan(bays, rails, start, goal, &mut out);
+    if number != 0 {
+        return Err((number, value));
+    }
+    out.truncate(value as usize);
+    assert_eq!(check(bays, rails, start, goal, &out), (0, 0));
+    Ok(out)
+}
+
+fn slotted(bays: u64, rails: &[u16], start: &[u16], goal: &[u16], plan: &[u64]) -> Vec<u32> {
+    let mut list = vec![0; plan.len()];
+    assert_eq!(slots(bays, rails, start, goal, plan, &mut list), (0, plan.len() as u64));
+    list
+}
+
+fn y1() -> Vec<u64> {
+    crossings(&[(0, 1, 2), (1, 0, 1), (1, 1, 3), (0, 2, 1), (0, 1, 0), (1, 3, 1)])
+}
+
+#[test]
+fn y1_six_crossings_in_six_slots() {
+    assert_eq!(planned(4, &T, &[1, 0], &[0, 1]), Ok(y1()));
+    assert_eq!(slotted(4, &T, &[1, 0], &[0, 1], &y1()), [1, 2, 3, 4, 5, 6]);
+}
+
+#[test]
+fn y2_the_way_home() {
+    let way = [(0, 1, 2), (1, 0, 1), (1, 1, 3), (0, 2, 1), (0, 1, 0), (1, 3, 1), (1, 1, 2), (0, 0, 1)];
+    assert_eq!(planned(4, &T, &[1, 0], &[1, 2]), Ok(crossings(&way)));
+}
+
+#[test]
+fn y3_and_y4_stopped_at_carrier_1() {
+    assert_eq!(planned(4, &LINE_OF_FOUR, &[0, 1], &[1, 0]), Err((7, 1)));
+    assert_eq!(planned(4, &RING_OF_FOUR, &[0, 1], &[1, 0]), Err((7, 1)));
+}
+
+#[test]
+fn y5_around_the_ring() {
+    let way = crossings(&[(1, 1, 2), (0, 0, 1)]);
+    assert_eq!(planned(4, &RING_OF_FOUR, &[0, 1], &[1, 2]), Ok(way.clone()));
+    assert_eq!(slotted(4, &RING_OF_FOUR, &[0, 1], &[1, 2], &way), [1, 2]);
+}
+
+#[test]
+fn y6_two_in_one_slot() {
+    let way = crossings(&[(0, 0, 1), (1, 5, 4)]);
+    assert_eq!(planned(6, &LINE_OF_SIX, &[0, 5], &[1, 4]), Ok(way.clone()));
+    assert_eq!(slotted(6, &LINE_OF_SIX, &[0, 5], &[1, 4], &way), [1, 1]);
+    let mut marks = [0, 0];
+    let told = [1, 0, 1].map(|name| report(6, &LINE_OF_SIX, &[0, 5], &[1, 4], &way, &mut marks, name));
+    assert_eq!((told, marks), ([(0, 0), (0, 0), (100, 0)], [1, 1]));
+}
+
+#[test]
+fn y7_reports_on_y1() {
+    let mut marks = [0; 6];
+    let told = [1, 6, 0, 0].map(|name| report(4, &T, &[1, 0], &[0, 1], &y1(), &mut marks, name));
+    assert_eq!((told, marks), ([(13, 0), (12, 0), (0, 0), (100, 0)], [1, 0, 0, 0, 0, 0]));
+}
+
+#[test]
+fn y8_and_y9_two_bays() {
+    assert_eq!(planned(2, &[0, 1], &[], &[]), Ok(Vec::new()));
+    assert_eq!(planned(2, &[0, 1], &[0], &[1]), Err((4, 0)));
+}
+
+#[test]
+fn y10_the_limits() {
+    let line = |bays: u16| (1..bays).flat_map(|bay| [bay - 1, bay]).collect::<Vec<u16>>();
+    let home: Vec<u16> = (0..255).collect();
+    assert_eq!(planned(256, &line(256), &home[..254], &home[..254]), Ok(Vec::new()));
+    assert_eq!(planned(257, &line(257), &[], &[]), Err((1, 0)));
+    assert_eq!(planned(256, &line(256), &home, &home), Err((4, 0)));
+}
+
+#[test]
+fn y11_room_for_five() {
+    let mut out = [7; 5];
+    assert_eq!(plan(4, &T, &[1, 0], &[0, 1], &mut out), (8, 6));
+    assert_eq!(out, [7; 5]);
+}
