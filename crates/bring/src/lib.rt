@@ -45,7 +45,7 @@ pub fn make_room(
     at: usize,
 ) -> Tried
     requires { ⌜ Ready (now table) (now placement) (now standing) (now empty) ⌝ }
-    requires { ⌜ (x .0 < length (now standing)) × (length (now held) ≡ words) × (length (now standing) * words ≤ length (now rows)) × (at < 2 ^ 62) × Shown (length (now standing)) (now table) (now held) ⌝ }
+    requires { ⌜ (x .0 < length (now standing)) × (length (now held) ≡ words) × (words ≤ length (now rows)) × (at < 2 ^ 62) × Shown (length (now standing)) (now table) (now held) ⌝ }
     ensures { λ r. ⌜ (Within at span r) × ((s : Shown (length (now (standing .entry))) (now (table .entry)) (now (held .entry))) → Acts (vacates (s .yard) (s .bays) (x .0) (now (placement .entry))) (length (now (standing .entry))) (now (placement .entry)) (now (standing .entry)) (now (empty .entry)) (now (out .entry)) at (now (placement .exit)) (now (standing .exit)) (now (empty .exit)) (now (out .exit)) r) ⌝ }
 {
     let answer = vacate::vacate(table, held, x, placement, standing, empty, rows, out, at);
@@ -66,7 +66,7 @@ fn bring_one(
     at: usize,
 ) -> Tried
     requires { ⌜ Ready (now table) (now placement) (now standing) (now empty) ⌝ }
-    requires { ⌜ (l .0 < length (now placement)) × (m .0 < length (now placement)) × (m .0 ≡ l .0 → ⊥) × (x .0 < length (now standing)) × (length (now standing) * words ≤ length (now rows)) × (at < 2 ^ 62) ⌝ }
+    requires { ⌜ (l .0 < length (now placement)) × (m .0 < length (now placement)) × (m .0 ≡ l .0 → ⊥) × (x .0 < length (now standing)) × (words ≤ length (now rows)) × (at < 2 ^ 62) ⌝ }
     ensures { λ r. ⌜ (Within at 258 r) × ((t : Tabled (length (now (standing .entry))) (now (table .entry))) → Tries (brings (t .yard) (l .0) (m .0) (x .0 ∷ []) (now (placement .entry))) (length (now (standing .entry))) (now (placement .entry)) (now (out .entry)) at (now (placement .exit)) (now (standing .exit)) (now (empty .exit)) (now (out .exit)) r) ⌝ }
 {
     let first = l.0 as usize;
@@ -98,7 +98,7 @@ pub fn bring(
     at: usize,
 ) -> Tried
     requires { ⌜ Ready (now table) (now placement) (now standing) (now empty) ⌝ }
-    requires { ⌜ (l .0 < length (now placement)) × (m .0 < length (now placement)) × (m .0 ≡ l .0 → ⊥) × ((k : ℕ) → k < length (now path) → getD (now path) k 0 < length (now standing)) × (length (now standing) * words ≤ length (now rows)) × (at + 258 * length (now path) < 2 ^ 62) ⌝ }
+    requires { ⌜ (l .0 < length (now placement)) × (m .0 < length (now placement)) × (m .0 ≡ l .0 → ⊥) × ((k : ℕ) → k < length (now path) → getD (now path) k 0 < length (now standing)) × (words ≤ length (now rows)) × (at + 258 * length (now path) < 2 ^ 62) ⌝ }
     ensures { λ r. ⌜ (Within at (258 * length (now (path .entry))) r) × ((t : Tabled (length (now (standing .entry))) (now (table .entry))) → Tries (brings (t .yard) (l .0) (m .0) (now (path .entry)) (now (placement .entry))) (length (now (standing .entry))) (now (placement .entry)) (now (out .entry)) at (now (placement .exit)) (now (standing .exit)) (now (empty .exit)) (now (out .exit)) r) ⌝ }
 {
     let mut count = at;

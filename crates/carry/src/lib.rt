@@ -75,7 +75,7 @@ fn carry(
     let own = r.0 as usize;
     let n = standing.len();
     let none = [0u64; words::WORDS];
-    let mut rows = [0u64; 1024];
+    let mut rows = [0u64; rings::NEAR];
     let mut path = [0u16; words::SPAN];
     let u = Bay(placement[own]);
     let v = Bay(goals[own]);

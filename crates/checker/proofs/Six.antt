@@ -1,4 +1,4 @@
--- What 1 to 6 leave to the rest of the check: a refusal is the check's own; where there is none the carriers are few, the starts are bays
+-- What 1 to 6 leave to the rest of the check: a refusal is the check's own; where there is none the carriers are few, starts and goals are bays
 -- of the yard, one carrier to a bay, and 9 and 10 decide.
 use mathlib.Core.Path.{_≡_, sym}
 use mathlib.Core.List.{List}
@@ -28,6 +28,9 @@ module _ (n : ℕ) (ends : List Bay) (starts goals : Placement) (plan : List ℕ
     good : Good (yardOf n ends) starts
     good = good-of n ends starts (clean .starts)
 
+    bays-inside : (p : Placement) → Good (yardOf n ends) p → (c : Carrier) → c < length p → bayOf p c < span
+    bays-inside p g c k = omega (arith, count-high 0 n (bayOf p c) (g .inside c k), clean .sizes .few-bays)
+
     pub as-many : length starts ≡ length goals
     as-many = clean .sizes .same-length
 
@@ -35,7 +38,10 @@ module _ (n : ℕ) (ends : List Bay) (starts goals : Placement) (plan : List ℕ
     few-carriers = omega (arith, clean .sizes .same-length, clean .uncrowded, clean .sizes .few-bays)
 
     pub starts-inside : (c : Carrier) → c < length starts → bayOf starts c < span
-    starts-inside c k = omega (arith, count-high 0 n (bayOf starts c) (good .inside c k), clean .sizes .few-bays)
+    starts-inside = bays-inside starts good
+
+    pub goals-inside : (c : Carrier) → c < length goals → bayOf goals c < span
+    goals-inside = bays-inside goals (good-of n ends goals (clean .goals))
 
     pub six-passed : (table : List ℕ) → Table (yardOf n ends) n table → (answer : Option Refusal)
         → NineTen table starts goals (crossings plan) answer → answer ≡ check n ends starts goals plan

@@ -39,7 +39,7 @@ fn keep_one(
     requires { ⌜ (length (now others) ≡ words) × (length (now held) ≡ words) × (a ≤ span) × Among (length (now standing)) (now others) × (at < 2 ^ 62) × Shown (length (now standing)) (now table) (now held) ⌝ }
     ensures { λ r. ⌜ (KeptBy at r) × ((s : Shown (length (now (standing .entry))) (now (table .entry)) (now (held .entry))) → Keeps (s .yard) (s .bays) (now (others .entry)) a (length (now (standing .entry))) (now (placement .entry)) (now (out .entry)) at (now (placement .exit)) (now (standing .exit)) (now (empty .exit)) (now (out .exit)) r) ⌝ }
 {
-    let mut rows = [0u64; 1024];
+    let mut rows = [0u64; rings::NEAR];
     let mut x = words::next_from(others, a);
     while x < words::SPAN {
         let bay = Bay(x as u16);

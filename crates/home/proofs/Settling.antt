@@ -11,13 +11,13 @@ use lib.Dec.{eqb, ltb}
 use borrow.Author.Tests.{eqb-false, eqb-true, not-true, ltb-true, lt-ltb}
 use mathlib.Core.Logic.{inl, inr, ⊎-elim}
 use lib.Seq.{getD-take}
-use Rattle.paper.specs.Basics.{_and_, placeOf, In, NoDup}
+use Rattle.paper.specs.Basics.{_and_, In, NoDup}
 use Rattle.home.specs.Homing.{Due, Settled}
 use Rattle.paper.specs.Procedure.{step, planned, homeAt}
 use Rattle.paper.specs.Text.{same}
 use Rattle.paper.specs.Yard.{Bay, Carrier, Placement, bayOf, carrierAt, Crossing, after}
-use Rattle.paper.proofs.Carrying.{or-stop, Pair}
-use Rattle.paper.proofs.Members.{In-head, In-tail, In-append-right, Out-head, out-cons}
+use Rattle.paper.proofs.Carrying.{or-stop, Pair, follows-in, placeOf-in}
+use Rattle.paper.proofs.Members.{out-cons}
 use Rattle.paper.proofs.Playing.{Apart, placeOf-there, bay-in}
 use Rattle.paper.proofs.Tests.{by-cases, not-both, and-left, and-right, and-both}
 use Rattle.words.specs.Sets.{span, memRow}
@@ -27,30 +27,9 @@ use Rattle.step.specs.Asking.{Loopless}
 use Rattle.go.specs.Going.{Linked}
 use Rattle.go.proofs.Going.{stepped-of}
 
-pair-in : (u : Bay) (l : List Bay) (a b : Bay) → Pair u l a b → In b l
-pair-in u [] a b h = absurd h
-pair-in u (x ∷ xs) a b h = ⊎-elim (λ k. rw (k .1) (In-head x xs)) (λ k. In-tail b x xs (pair-in x xs a b k)) h
-
 pub pair-linked : (n : ℕ) (table : List ℕ) (u : Bay) (l : List Bay) (a b : Bay) → Linked n table u l → Pair u l a b → memRow table a b ≡ true
 pair-linked n table u [] a b ch h = absurd h
 pair-linked n table u (x ∷ xs) a b ch h = ⊎-elim (λ k. rw (k .0, k .1) (ch .1)) (λ k. pair-linked n table x xs a b (ch .2) k) h
-
--- in a list with no bay twice, what follows v stands behind it
-follows-in : (pre : List Bay) (u v : Bay) (vs : List Bay) (b : Bay) → NoDup (u ∷ (pre ++ (v ∷ vs))) → Pair u (pre ++ (v ∷ vs)) v b → In b vs
-follows-in [] u v vs b n h =
-    ⊎-elim (λ k. absurd (Out-head u v vs (n .0) (sym (k .0)))) (λ k. pair-in v vs v b k) h
-follows-in (x ∷ pre) u v vs b n h =
-    ⊎-elim
-    (λ k. not-both (In-tail v x (pre ++ (v ∷ vs)) (In-append-right v pre (v ∷ vs) (In-head v vs))) (rw (← k .0) at (n .0)))
-    (λ k. follows-in pre x v vs b (n .1) k)
-    h
-
--- a place below the length is the place of a member
-placeOf-in : (p : Placement) (b : Bay) → carrierAt p b < length p → bayOf p (carrierAt p b) ≡ b
-unfolding placeOf
-placeOf-in [] b h = absurd (omega arith)
-placeOf-in (c ∷ p) b h =
-    by-cases (eqb b c) (λ e. rw e (sym (eqb-true b c e))) (λ e. let k = rw e at h in rw e (placeOf-in p b (omega arith)))
 
 module _ (goals : Placement) (goals-apart : Apart goals) (finished : ℕ) (hf : finished ≤ length goals) (u₀ : Bay) (path₀ : List Bay) (nodup : NoDup (u₀ ∷ path₀))
     (pre : List Bay) (v : Bay) (vs : List Bay) (split : path₀ ≡ pre ++ (v ∷ vs)) (p : Placement) (len : length p ≡ length goals)

@@ -17,16 +17,16 @@ use Rattle.lines.specs.declared.Line.the-variants as the
 use Rattle.lines.specs.Lines.{part, noLF, EndOf, TextAt, LineAt}
 
 -- without a CR at the end
-unfoldable chop : Text → Text
+unfoldable pub chop : Text → Text
 chop [] = []
 chop (b ∷ []) = if eqb b CR then [] else b ∷ []
 chop (b ∷ c ∷ l) = b ∷ chop (c ∷ l)
 
-first-plain : (b : ℕ) (l : Text) → noLF (b ∷ l) ≡ true → eqb b LF ≡ false
+pub first-plain : (b : ℕ) (l : Text) → noLF (b ∷ l) ≡ true → eqb b LF ≡ false
 unfolding noLF all
 first-plain b l h = not-true (eqb b LF) (and-left (not (eqb b LF)) (noLF l) h)
 
-rest-plain : (b : ℕ) (l : Text) → noLF (b ∷ l) ≡ true → noLF l ≡ true
+pub rest-plain : (b : ℕ) (l : Text) → noLF (b ∷ l) ≡ true → noLF l ≡ true
 unfolding noLF all
 rest-plain b l h = and-right (not (eqb b LF)) (noLF l) h
 
@@ -34,7 +34,7 @@ lines-join : (b : ℕ) (l : Text) → eqb b LF ≡ false → beginsWithLF l ≡ 
 unfolding lines _and_
 lines-join b l e f = by-cases (eqb b CR) (λ g. rw (e, g, f)) (λ g. rw (e, g))
 
-lines-cut : (l t : Text) → noLF l ≡ true → lines (l ++ LF ∷ t) ≡ chop l ∷ lines t
+pub lines-cut : (l t : Text) → noLF l ≡ true → lines (l ++ LF ∷ t) ≡ chop l ∷ lines t
 unfolding lines chop join beginsWithLF _and_
 lines-cut [] t h = refl
 lines-cut (b ∷ []) t h =
@@ -43,7 +43,7 @@ lines-cut (b ∷ c ∷ l) t h =
     lines-join b (c ∷ l ++ LF ∷ t) (first-plain b (c ∷ l) h) (first-plain c l (rest-plain b (c ∷ l) h))
     ∙ ap (join b) (lines-cut (c ∷ l) t (rest-plain b (c ∷ l) h))
 
-lines-last : (b : ℕ) (l : Text) → noLF (b ∷ l) ≡ true → lines (b ∷ l) ≡ (b ∷ l) ∷ []
+pub lines-last : (b : ℕ) (l : Text) → noLF (b ∷ l) ≡ true → lines (b ∷ l) ≡ (b ∷ l) ∷ []
 unfolding lines join beginsWithLF _and_
 lines-last b [] h = lines-join b [] (first-plain b [] h) refl
 lines-last b (c ∷ l) h =

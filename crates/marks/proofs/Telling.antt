@@ -1,5 +1,5 @@
 -- What a report answers, test by test in the document's order: each law is one way out.
-use mathlib.Core.Path.{_≡_, refl, _∙_, ap}
+use mathlib.Core.Path.{_≡_, ap}
 use mathlib.Core.Bool.{Bool, true, false, not}
 use mathlib.Core.List.{List}
 use mathlib.Core.Option.{none, some}
@@ -13,7 +13,7 @@ use Rattle.paper.specs.Yard.{Crossing, named}
 use Rattle.paper.specs.Dependence.{depend, isDone, undoneBefore}
 use Rattle.paper.specs.Docket.{unknown, early, mismarked, badMarks}
 use Rattle.paper.specs.Answers.{accept, already, refuse, tell}
-use Rattle.paper.proofs.Tests.{by-cases, and-both, or-left, or-right, or-neither}
+use Rattle.paper.proofs.Tests.{by-cases, or-left, or-right, or-neither}
 use Rattle.marks.specs.Reading.{toldInOrder}
 
 -- a byte above 1 is neither 0 nor 1, and no other
@@ -34,21 +34,13 @@ abbrev pub waitsFor : List Crossing → List ℕ → Crossing → ℕ → Bool
 waitsFor xs marks x e = depend x (named xs e) and not (isDone marks e)
 
 module _ (xs : List Crossing) (marks : List ℕ) (x : Crossing) (e : ℕ) where
-  pub waits : depend x (named xs e) ≡ true → (getD marks e 0 ≡ 1 → ⊥) → waitsFor xs marks x e ≡ true
-  waits d n = and-both _ _ d (ap not (ne-eqb _ _ n))
-
-  and-no : (b : Bool) → b and false ≡ false
+  pub waits-undone : depend x (named xs e) ≡ true → not (isDone marks e) ≡ waitsFor xs marks x e
   unfolding _and_
-  and-no true = refl
-  and-no false = refl
+  waits-undone d = rw d
 
-  pub waits-not-done : getD marks e 0 ≡ 1 → waitsFor xs marks x e ≡ false
+  pub waits-free : depend x (named xs e) ≡ false → false ≡ waitsFor xs marks x e
   unfolding _and_
-  waits-not-done h = ap (λ v. depend x (named xs e) and not v) (eq-eqb _ _ h) ∙ and-no (depend x (named xs e))
-
-  pub waits-not-free : depend x (named xs e) ≡ false → waitsFor xs marks x e ≡ false
-  unfolding _and_
-  waits-not-free d = ap (λ v. v and not (isDone marks e)) d
+  waits-free d = rw d
 
 module _ (xs : List Crossing) (marks : List ℕ) (name : ℕ) where
   pub told-mismarked : badMarks xs marks ≡ true → refuse mismarked ≡ tell xs marks name

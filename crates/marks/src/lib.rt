@@ -112,19 +112,32 @@ enum Earlier {
     AllDone,
 }
 
-// Of the crossings before `name`, the lowest that x depends on and that is undone.
+// Whether x depends on the crossing e and that is undone.
+fn waits_for(plan: &[u64], marks: &[u8], x: Crossing, e: usize) -> bool
+    requires { ⌜ (e < length (now plan)) × (length (now marks) ≡ length (now plan)) ⌝ }
+    ensures { λ r. ⌜ r ≡ depend (crossingOf x) (named (crossings (now (plan .entry))) e) and not (isDone (now (marks .entry)) e) ⌝ }
+{
+    if depends(x, plans::crossing_at(plan, e)) {
+        return marks[e] != 1;
+    }
+    false
+}
+
+// Of the crossings before `name`, the lowest that x depends on and that is undone: going up, the first that is found ends the search.
 fn undone_before(plan: &[u64], marks: &[u8], x: Crossing, name: usize) -> Earlier
     requires { ⌜ (name ≤ length (now plan)) × (length (now marks) ≡ length (now plan)) ⌝ }
     ensures { λ r. ⌜ earlierOf r ≡ find (λ e. depend (crossingOf x) (named (crossings (now (plan .entry))) e) and not (isDone (now (marks .entry)) e)) (upTo name) ⌝ }
 {
+    let mut lowest = name;
     let mut e = 0;
-    while e < name {
-        if depends(x, plans::crossing_at(plan, e)) {
-            if marks[e] != 1 {
-                return Earlier::Undone(e as u64);
-            }
+    while e < lowest {
+        if waits_for(plan, marks, x, e) {
+            lowest = e;
         }
         e += 1;
+    }
+    if lowest < name {
+        return Earlier::Undone(lowest as u64);
     }
     Earlier::AllDone
 }

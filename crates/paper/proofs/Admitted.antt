@@ -270,7 +270,7 @@ good-of n ends p h =
 -- ## Empty bays
 
 module _ (q : ℕ → Bool) where
-  same-filter : (q′ : ℕ → Bool) (xs : List ℕ) → ((x : ℕ) → In x xs → q′ x ≡ q x) → filter q′ xs ≡ filter q xs
+  pub same-filter : (q′ : ℕ → Bool) (xs : List ℕ) → ((x : ℕ) → In x xs → q′ x ≡ q x) → filter q′ xs ≡ filter q xs
   unfolding filter
   same-filter q′ [] f = refl
   same-filter q′ (x ∷ xs) f =
@@ -292,7 +292,7 @@ module _ (q : ℕ → Bool) where
       let ih = filter-more b xs (n .1) (In-cases b x xs i (λ z. not-both (eq-eqb x b (sym z)) e) (λ k. k)) h in
       by-cases (q x) (λ d. rw (e, d) (ap suc ih)) (λ d. rw (e, d) ih))
 
-filter-nothing : (xs : List ℕ) → filter (λ x. elem x []) xs ≡ []
+pub filter-nothing : (xs : List ℕ) → filter (λ x. elem x []) xs ≡ []
 unfolding filter elem
 filter-nothing [] = refl
 filter-nothing (x ∷ xs) = filter-nothing xs

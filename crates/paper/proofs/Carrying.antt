@@ -124,7 +124,7 @@ abbrev pub Pair : Bay → List Bay → Bay → Bay → Type 0
 Pair u [] a b = ⊥
 Pair u (x ∷ xs) a b = ((a ≡ u) × (b ≡ x)) ⊎ Pair x xs a b
 
-pair-in : (u : Bay) (l : List Bay) (a b : Bay) → Pair u l a b → In b l
+pub pair-in : (u : Bay) (l : List Bay) (a b : Bay) → Pair u l a b → In b l
 pair-in u [] a b h = absurd h
 pair-in u (x ∷ xs) a b h = ⊎-elim (λ k. rw (k .1) (In-head x xs)) (λ k. In-tail b x xs (pair-in x xs a b k)) h
 
@@ -167,7 +167,7 @@ pair-joined Y u [] v a b ch h = absurd h
 pair-joined Y u (x ∷ xs) v a b ch h = ⊎-elim (λ k. rw (k .0, k .1) (ch .0)) (λ k. pair-joined Y x xs v a b (ch .1) k) h
 
 -- in a list with no bay twice, what follows v stands behind it
-follows-in : (pre : List Bay) (u v : Bay) (vs : List Bay) (b : Bay) → NoDup (u ∷ (pre ++ (v ∷ vs))) → Pair u (pre ++ (v ∷ vs)) v b → In b vs
+pub follows-in : (pre : List Bay) (u v : Bay) (vs : List Bay) (b : Bay) → NoDup (u ∷ (pre ++ (v ∷ vs))) → Pair u (pre ++ (v ∷ vs)) v b → In b vs
 follows-in [] u v vs b n h =
     ⊎-elim (λ k. absurd (Out-head u v vs (n .0) (sym (k .0)))) (λ k. pair-in v vs v b k) h
 follows-in (x ∷ pre) u v vs b n h =
@@ -177,7 +177,7 @@ follows-in (x ∷ pre) u v vs b n h =
     h
 
 -- a place below the length is the place of a member
-placeOf-in : (p : Placement) (b : Bay) → carrierAt p b < length p → bayOf p (carrierAt p b) ≡ b
+pub placeOf-in : (p : Placement) (b : Bay) → carrierAt p b < length p → bayOf p (carrierAt p b) ≡ b
 unfolding placeOf
 placeOf-in [] b h = absurd (omega arith)
 placeOf-in (c ∷ p) b h =

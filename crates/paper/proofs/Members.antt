@@ -314,3 +314,32 @@ module _ (q : ℕ → Bool) where
 
   pub lowest-none : (xs : List ℕ) → lowestOf q xs ≡ none → (a : ℕ) → In a xs → q a ≡ false
   lowest-none xs h a i = by-cases (q a) (λ e. let r = lowest-some xs a i e in never-some (r .0) (sym h ∙ r .1)) (λ e. e)
+
+-- ## A search that goes up and ends at the first that it finds
+
+-- of the numbers below e, the lowest that passes; n while there is none
+pub record Passed (q : ℕ → Bool) (n lowest e : ℕ) : Type 0 where
+  pub most : lowest ≤ n
+  pub hit : lowest < n → q lowest ≡ true
+  pub before : (k : ℕ) → k < e → k < lowest → q k ≡ false
+
+module _ (q : ℕ → Bool) (n : ℕ) where
+  pub passed-none : Passed q n n 0
+  passed-none = record { most = omega arith; hit = λ h. absurd (omega arith); before = λ k h l. absurd (omega arith) }
+
+  module _ (lowest e : ℕ) (p : Passed q n lowest e) where
+    pub passed-hit : e < lowest → q e ≡ true → Passed q n e (e + 1)
+    passed-hit h t = record { most = omega (arith, p .most); hit = λ l. t; before = λ k i l. p .before k l (omega arith) }
+
+    pub passed-miss : q e ≡ false → Passed q n lowest (e + 1)
+    passed-miss f = record {
+      most = p .most;
+      hit = p .hit;
+      before = λ k i l. by-cases (eqb k e) (λ z. rw (eqb-true k e z) f) (λ z. let d = eqb-false k e z in p .before k (omega arith) l);
+    }
+
+    pub passed-there : lowest ≤ e → lowest < n → find q (upTo n) ≡ some lowest
+    passed-there end h = (find-exactly q n lowest) .1 (h, p .hit h, λ k l. p .before k (omega arith) l)
+
+    pub passed-nowhere : lowest ≤ e → n ≤ lowest → find q (upTo n) ≡ none
+    passed-nowhere end h = none-find q (upTo n) (λ k i. let l = count-high 0 n k i in p .before k (omega arith) (omega arith))

@@ -28,15 +28,15 @@ abbrev pub TooLong : ℕ → ℕ → Type 0
 TooLong lent needed = (lent < needed) ⊎ (most-crossings < needed)
 
 module _ (lent : ℕ) where
-  within-stuck : (c : Carrier) → within lent (stuck c) ≡ refused (stopped c)
+  pub within-stuck : (c : Carrier) → within lent (stuck c) ≡ refused (stopped c)
   unfolding within
   within-stuck c = refl
 
-  within-fits : (xs : List Crossing) → length xs ≤ lent → length xs ≤ most-crossings → within lent (planned xs) ≡ accepted xs
+  pub within-fits : (xs : List Crossing) → length xs ≤ lent → length xs ≤ most-crossings → within lent (planned xs) ≡ accepted xs
   unfolding within crossingsOf
   within-fits xs h k = rw (or-neither _ _ (le-ltb lent (length xs) h) (le-ltb most-crossings (length xs) k))
 
-  within-long : (xs : List Crossing) → TooLong lent (length xs) → within lent (planned xs) ≡ refused (room (length xs))
+  pub within-long : (xs : List Crossing) → TooLong lent (length xs) → within lent (planned xs) ≡ refused (room (length xs))
   unfolding within crossingsOf
   within-long xs h =
       let t : ltb lent (length xs) or ltb most-crossings (length xs) ≡ true =
@@ -55,11 +55,11 @@ module _ (n : ℕ) (ends : List Bay) (s g : Placement) (lent : ℕ) where
   abbrev outcome : Outcome
   outcome = procedure (yardOf n ends) g s
 
-  plan-clean : firstSix n ends s g 0 ≡ none → plan n ends s g lent ≡ within lent outcome
+  pub plan-clean : firstSix n ends s g 0 ≡ none → plan n ends s g lent ≡ within lent outcome
   unfolding plan unless
   plan-clean h = rw h
 
-  plan-unclean : (r : Refusal) → firstSix n ends s g 0 ≡ some r → plan n ends s g lent ≡ refused r
+  pub plan-unclean : (r : Refusal) → firstSix n ends s g 0 ≡ some r → plan n ends s g lent ≡ refused r
   unfolding plan unless
   plan-unclean r h = rw h
 

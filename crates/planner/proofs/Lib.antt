@@ -1,4 +1,3 @@
 pub mod Determined
 pub mod Letting
 pub mod Saying
-pub mod Temp

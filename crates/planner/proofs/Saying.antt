@@ -13,8 +13,7 @@ use Rattle.paper.specs.Procedure.{Outcome, planned, stuck, procedure}
 use Rattle.paper.specs.Yard.{Bay, Placement, Crossing, Carrier, pack, crossings, after, legalPlan, most-crossings}
 use Rattle.paper.specs.Docket.{Refusal, stopped, room, yardOf}
 use Rattle.paper.specs.Answers.{Answer, accepted, refused, firstSix, within, written, unless, plan, planEnd, check}
-use Rattle.paper.proofs.Planning.{accepted-right, TooLong}
-use Rattle.planner.proofs.Temp.{within-stuck, within-fits, within-long, plan-clean, plan-unclean}
+use Rattle.paper.proofs.Planning.{accepted-right, TooLong, within-stuck, within-fits, within-long, plan-clean, plan-unclean}
 use Rattle.paper.proofs.Tests.{never}
 use Rattle.paper.proofs.Handing.{handed-passes}
 use Rattle.docket.specs.Reading.{refusalOf}

@@ -35,11 +35,11 @@ length-more : (n : ℕ) → 10 ≤ n → length (decimal n) ≡ length (decimal 
 length-more n h = ap length (decimal-more n h) ∙ length-append (decimal (n / 10)) ((48 + n % 10) ∷ [])
 
 -- k + 1 digits are enough below ten times 10^k
-unfoldable tenTo : ℕ → ℕ
+unfoldable pub tenTo : ℕ → ℕ
 tenTo zero = 10
 tenTo (suc k) = 10 * tenTo k
 
-short : (k n : ℕ) → n < tenTo k → length (decimal n) ≤ suc k
+pub short : (k n : ℕ) → n < tenTo k → length (decimal n) ≤ suc k
 unfolding tenTo
 short zero n h = omega (arith, ap length (decimal-one n h))
 short (suc k) n h =

@@ -83,9 +83,9 @@ fn actions(plan: &[u64], out: &mut [u8]) -> usize
     at
 }
 
-// A refusal's line.
+// A refusal's line, of 64 bytes at most.
 pub fn refusal(r: Refusal, out: &mut [u8]) -> usize
-    ensures { λ n. ⌜ Wrote (now (out .entry)) 0 (printed (refused (refusalOf r))) (now (out .exit)) n ⌝ }
+    ensures { λ n. ⌜ Wrote (now (out .entry)) 0 (printed (refused (refusalOf r))) (now (out .exit)) n × (n ≤ 64) ⌝ }
 {
     let end = put_named(out, 0, b"; refused ", docket::number(r));
     if docket::carries(r) {

@@ -5,7 +5,7 @@ use mathlib.Core.Path.{_≡_, refl, sym, ap, _∙_}
 use mathlib.Core.Bool.{Bool, true, false}
 use mathlib.Core.List.{List, [], _∷_, _++_, append-assoc}
 use mathlib.Core.Option.{Option, none, some}
-use Prim.Native.Nat.{ℕ, zero, suc, _+_, _-_, _≤_, _<_}
+use Prim.Native.Nat.{ℕ, zero, suc, _+_, _-_, _*_, _≤_, _<_}
 use native.Mathlib.Decide.{ℕ-discrete, decLt}
 use native.Mathlib.Numerals.{add-one}
 use native.Mathlib.Omega.{arith}
@@ -17,18 +17,21 @@ use Rattle.paper.proofs.Members.{lowest-least}
 use Rattle.paper.specs.Basics.{if_then_else_, _and_, find, concat, elem, In}
 use Rattle.paper.specs.Yard.{Bay, joined}
 use Rattle.paper.specs.Path.{rings, nearestFirst, ringOf, inward, shortestPath, pathBetween}
-use Rattle.paper.proofs.Tests.{by-cases, not-both, and-left, and-right, and-both, never-some}
+use Rattle.paper.proofs.Tests.{by-cases, not-both, and-left, and-right, and-both, never-some, never}
 use Rattle.paper.proofs.Members.{In-nil, find-passes, find-in, find-some, none-find}
 use Rattle.paper.proofs.Rings.{distance-in, distance-least, in-concat}
 use Rattle.paper.proofs.Nearest.{find-here, find-later}
 use Rattle.paper.proofs.Shortest.{Rising, find-lowest, rings-rise}
 use Rattle.paper.proofs.Shortest.{Next, next, inward-zero}
-use Rattle.words.specs.Sets.{mem, memRow, Lowest, span}
+use Rattle.words.specs.Sets.{mem, memRow, Lowest, words, span}
 use Rattle.words.proofs.Sets.{row-zero}
-use Rattle.rings.specs.Search.{Shown, ringOn, Searched}
-use Rattle.rings.specs.Ways.{Inside, pathIn, PathFound, WayFound}
+use Rattle.rings.specs.Search.{Shown, ringOn, Searched, GoesOn}
+use Rattle.docket.specs.declared.Bay.{Bay as Held}
+use Rattle.rings.specs.declared.Near.{Near}
+use Rattle.rings.specs.declared.Near.the-variants.{Found, Nowhere, Farther}
+use Rattle.rings.specs.Ways.{Inside, pathIn, PathFound, WayFound, PathNear, WayNear, Ends, pathBy, wayBy}
 use Rattle.rings.specs.declared.Path.the-variants.{First, NoPath}
-use Rattle.rings.specs.declared.Way.the-variants.{NoWay}
+use Rattle.rings.specs.declared.Way.the-variants.{To, NoWay}
 use Rattle.rings.proofs.Searching.{ring-inside, in-yard}
 
 -- ## The first that passes, in rings
@@ -63,10 +66,10 @@ module _ {n : ℕ} {table held : List ℕ} (s : Shown n table held) (x : Bay) (m
   rises : (d : ℕ) → Rising (ringOn s x d)
   rises d = rings-rise (s .yard) (s .bays) x d
 
-  -- the lowest wanted bay of the ring where the search ended
+  -- the lowest wanted bay of the ring where the search ended; none where it went as far as there are rings
   pub nearest-lowest : (q : Bay → Bool) (wanted rows : List ℕ) (r e : ℕ) → ((b : ℕ) → b < n → mem wanted b ≡ q b) → Searched s x wanted rows r
-      → Lowest (λ b. memRow rows r b and memRow wanted 0 b) 0 span e → orNone e ≡ find q (nearestFirst (s .yard) (s .bays) x)
-  nearest-lowest q wanted rows r e w f l =
+      → Lowest (λ b. memRow rows r b and memRow wanted 0 b) 0 span e → (span ≤ e → GoesOn n rows r) → orNone e ≡ find q (nearestFirst (s .yard) (s .bays) x)
+  nearest-lowest q wanted rows r e w f l goes =
       let rs = rings (s .yard) (s .bays) x in
       let low : (d b : ℕ) → In b (ringOn s x d) → b < n = in-yard s x most hx in
       let early : (i b : ℕ) → i < r → In b (getD rs i []) → q b ≡ false = λ i b k y. sym (w b (low i b y)) ∙ f .before i b k y in
@@ -90,15 +93,15 @@ module _ {n : ℕ} {table held : List ℕ} (s : Shown n table held) (x : Bay) (m
               | yes m ↦ early d b m y
               | no m ↦ elim (ℕ-discrete d r) [
                 | yes v ↦ let y′ : In b (getD rs r []) = rw v at y in sym (w b (low r b y′)) ∙ missing b y′
-                | no v ↦ In-nil b (rw (f .last missing d (omega arith)) at y)
+                | no v ↦ In-nil b (rw (f .last (goes (omega arith)) missing d (omega arith)) at y)
               ]
             ])))
       ]
 
   -- the search for the one bay u ends at the ring of u, where u is reached at all
   pub search-finds : (wanted rows : List ℕ) (u r : ℕ) → ((b : ℕ) → mem wanted b ≡ eqb b u) → Searched s x wanted rows r
-      → In u (nearestFirst (s .yard) (s .bays) x) → In u (ringOn s x r) × (ringOf (s .yard) u (rings (s .yard) (s .bays) x) ≡ r)
-  search-finds wanted rows u r w f i =
+      → (elem u (ringOn s x r) ≡ false → GoesOn n rows r) → In u (nearestFirst (s .yard) (s .bays) x) → In u (ringOn s x r) × (ringOf (s .yard) u (rings (s .yard) (s .bays) x) ≡ r)
+  search-finds wanted rows u r w f goes i =
       let rs = rings (s .yard) (s .bays) x in
       let d : ℕ = ringOf (s .yard) u rs in
       let y : In u (getD rs d []) = distance-in (s .yard) u rs i in
@@ -109,7 +112,7 @@ module _ {n : ℕ} {table held : List ℕ} (s : Shown n table held) (x : Bay) (m
           | yes v ↦ (rw v at y, v)
           | no v ↦ by-cases (elem u (ringOn s x r))
               (λ k. let least : d ≤ r = distance-least (s .yard) u rs r k in absurd (omega arith))
-              (λ k. In-nil u (rw (f .last (λ b z. w b ∙ ne-eqb b u (λ q. not-both (rw q at z) k)) d (omega arith)) at y))
+              (λ k. In-nil u (rw (f .last (goes k) (λ b z. w b ∙ ne-eqb b u (λ q. not-both (rw q at z) k)) d (omega arith)) at y))
         ]
       ]
 
@@ -171,11 +174,11 @@ module _ {n : ℕ} {table rows : List ℕ} {d x : ℕ} (t : Inside n table rows 
 module _ {n : ℕ} {table held : List ℕ} (s : Shown n table held) (most : n ≤ span) where
   pub nearest-at : (x : Bay) (hx : x < n) (q : Bay → Bool) (wanted rows : List ℕ) (r e : ℕ) → ((b : ℕ) → b < n → mem wanted b ≡ q b) → Searched s x wanted rows r
       → Lowest (λ b. memRow rows r b and memRow wanted 0 b) 0 span e → e < span → some e ≡ find q (nearestFirst (s .yard) (s .bays) x)
-  nearest-at x hx q wanted rows r e w f l k = rw (lt-ltb e span k) at (nearest-lowest s x most hx q wanted rows r e w f l)
+  nearest-at x hx q wanted rows r e w f l k = rw (lt-ltb e span k) at (nearest-lowest s x most hx q wanted rows r e w f l (λ h. absurd (omega arith)))
 
   pub nearest-nowhere : (x : Bay) (hx : x < n) (q : Bay → Bool) (wanted rows : List ℕ) (r e : ℕ) → ((b : ℕ) → b < n → mem wanted b ≡ q b) → Searched s x wanted rows r
-      → Lowest (λ b. memRow rows r b and memRow wanted 0 b) 0 span e → span ≤ e → none ≡ find q (nearestFirst (s .yard) (s .bays) x)
-  nearest-nowhere x hx q wanted rows r e w f l k = rw (le-ltb e span k) at (nearest-lowest s x most hx q wanted rows r e w f l)
+      → Lowest (λ b. memRow rows r b and memRow wanted 0 b) 0 span e → span ≤ e → GoesOn n rows r → none ≡ find q (nearestFirst (s .yard) (s .bays) x)
+  nearest-nowhere x hx q wanted rows r e w f l k o = rw (le-ltb e span k) at (nearest-lowest s x most hx q wanted rows r e w f l (λ h. o))
 
   module _ (u v : Bay) (hv : v < n) (wanted rows : List ℕ) (d : ℕ) (w : (b : ℕ) → mem wanted b ≡ eqb b u) (f : Searched s v wanted rows d) (hu : u < n) where
     abbrev pub inside : true ≡ memRow rows d u → Inside n table rows d u
@@ -194,16 +197,16 @@ module _ {n : ℕ} {table held : List ℕ} (s : Shown n table held) (most : n �
     path-first k room e =
         let Y = s .yard in
         let i : In u (nearestFirst Y (s .bays) v) = in-concat Y u (rings Y (s .bays) v) d (inside k .start) in
-        let same : ringOf Y u (rings Y (s .bays) v) ≡ d = search-finds s v most hv wanted rows u d w f i .1 in
+        let same : ringOf Y u (rings Y (s .bays) v) ≡ d = search-finds s v most hv wanted rows u d w f (λ o. not-both (inside k .start) o) i .1 in
         record { fits = omega (arith, f .far); same = rw (i, same) (ap some e) }
 
-    pub path-none : (room : List ℕ) → false ≡ memRow rows d u → PathFound s u v room NoPath
+    pub path-none : (room : List ℕ) → false ≡ memRow rows d u → GoesOn n rows d → PathFound s u v room NoPath
     unfolding pathBetween
-    path-none room k =
+    path-none room k goes =
         let Y = s .yard in
         let out : elem u (ringOn s v d) ≡ false = sym (f .rowing d u (omega arith) (omega arith)) ∙ sym k in
         let o : elem u (nearestFirst Y (s .bays) v) ≡ false =
-        by-cases (elem u (nearestFirst Y (s .bays) v)) (λ i. not-both (search-finds s v most hv wanted rows u d w f i .0) out) (λ o. o) in
+        by-cases (elem u (nearestFirst Y (s .bays) v)) (λ i. not-both (search-finds s v most hv wanted rows u d w f (λ o. goes) i .0) out) (λ o. o) in
         record { fits = omega arith; same = rw o }
 
 -- ## The way to the nearest
@@ -211,3 +214,36 @@ module _ {n : ℕ} {table held : List ℕ} (s : Shown n table held) (most : n �
 module _ {n : ℕ} {table held : List ℕ} (s : Shown n table held) (x : Bay) (q : Bay → Bool) where
   pub way-none : (room : List ℕ) → none ≡ find q (nearestFirst (s .yard) (s .bays) x) → WayFound s x q room NoWay
   way-none room h = record { nearest = h; fits = omega arith; path = λ e k. never-some e k }
+
+-- ## What few rows find
+
+pub ends-nowhere : {n d : ℕ} {rows : List ℕ} → GoesOn n rows d → Ends n rows d Nowhere
+ends-nowhere o = record { never-found = λ e m k. never (cc); nowhere = λ k. o; few = λ k. never (cc) }
+
+pub ends-farther : {n d : ℕ} {rows : List ℕ} → length rows < n * words → Ends n rows d Farther
+ends-farther h = record { never-found = λ e m k. never (cc); nowhere = λ k. never (cc); few = λ k. h }
+
+module _ {n : ℕ} {table held : List ℕ} (s : Shown n table held) where
+  pub path-ended : {u v : Bay} {rows rows′ room : List ℕ} {d : ℕ} {r : Near} → Ends n rows′ d r → length rows′ ≡ length rows → (GoesOn n rows′ d → PathFound s u v room NoPath) → PathNear s u v rows room r
+  path-ended z l f = record { found = λ e m k. absurd (z .never-found e m k); nowhere = λ k. f (z .nowhere k); few = λ k. omega (arith, z .few k, l) }
+
+  pub way-ended : {x : Bay} {q : Bay → Bool} {rows rows′ room : List ℕ} {d : ℕ} {r : Near} → Ends n rows′ d r → length rows′ ≡ length rows → (GoesOn n rows′ d → WayFound s x q room NoWay) → WayNear s x q rows room r
+  way-ended z l f = record { found = λ e m k. absurd (z .never-found e m k); nowhere = λ k. f (z .nowhere k); few = λ k. omega (arith, z .few k, l) }
+
+  pub path-near : {u v : Bay} {rows room : List ℕ} {e : Held} {m : ℕ} → PathFound s u v room (First m) → PathNear s u v rows room (Found e m)
+  path-near {m = m} f = record { found = λ e m′ k. (let z : m ≡ m′ = cc in rw z at f); nowhere = λ k. never (cc); few = λ k. never (cc) }
+
+  pub way-near : {x : Bay} {q : Bay → Bool} {rows room : List ℕ} {e : Held} {m : ℕ} → WayFound s x q room (To e m) → WayNear s x q rows room (Found e m)
+  way-near {e = e} {m = m} f = record { found = λ e′ m′ k. (let y : e ≡ e′ = cc in let z : m ≡ m′ = cc in rw (y, z) at f); nowhere = λ k. never (cc); few = λ k. never (cc) }
+
+  by-near : {P : Type 0} (r : Near) → ((e : Held) (m : ℕ) → r ≡ Found e m → P) → (r ≡ Nowhere → P) → (r ≡ Farther → P) → P
+  by-near (Found e m) f g h = f e m refl
+  by-near Nowhere f g h = g refl
+  by-near Farther f g h = h refl
+
+  -- where the rows reached, what was found is the answer
+  pub path-reached : {u v : Bay} {rows room : List ℕ} (r : Near) → PathNear s u v rows room r → (r ≡ Farther → ⊥) → PathFound s u v room (pathBy r)
+  path-reached r p h = by-near r (λ e m k. rw k (p .found e m k)) (λ k. rw k (p .nowhere k)) (λ k. absurd (h k))
+
+  pub way-reached : {x : Bay} {q : Bay → Bool} {rows room : List ℕ} (r : Near) → WayNear s x q rows room r → (r ≡ Farther → ⊥) → WayFound s x q room (wayBy r)
+  way-reached r p h = by-near r (λ e m k. rw k (p .found e m k)) (λ k. rw k (p .nowhere k)) (λ k. absurd (h k))

@@ -22,7 +22,9 @@ use Rattle.words.specs.Sets.{mem, memRow, Lowest, Kept, Settled, span, words, a
 use Rattle.words.proofs.Sets.{row-zero, zeros, mem-zeros}
 use Rattle.words.proofs.Besides.{equal-tests, anyBelow-some, anyBelow-of}
 use Rattle.yard.specs.Table.{Table}
-use Rattle.rings.specs.Search.{NextRing, Shown, around, ringOn, Searched}
+use mathlib.Core.Logic.{⊎-elim}
+use Rattle.rings.specs.Search.{NextRing, Shown, around, ringOn, Searched, GoesOn}
+use Rattle.rings.specs.Widening.{Widened}
 
 pub elem-append : (b : ℕ) (xs ys : List ℕ) → elem b (xs ++ ys) ≡ elem b xs or elem b ys
 elem-append b xs ys =
@@ -130,6 +132,10 @@ ring-dry Y held x d (suc i) e h = elim (decLt (suc i) (Y .bays)) [
   | no k ↦ ring-beyond Y held x (suc i) (omega arith)
 ]
 
+-- what is beside the ring, settled, is the next ring
+pub ring-settled : {table seen ring seen′ ring′ next : List ℕ} → Beside table ring next span → Settled next seen seen′ ring′ → Widened table seen ring seen′ ring′
+ring-settled p s = record { ringed = λ b h. s .ringed b h ∙ rw (p .same b h); all-seen = s .all-seen }
+
 -- what is beside the ring, settled and kept, is the next ring
 pub ring-kept : (table : List ℕ) (d : ℕ) (seen ring rows seen′ ring′ rows′ next : List ℕ) → Beside table ring next span → Settled next seen seen′ ring′
     → Kept rows (d + 1) ring′ rows′ → NextRing table d seen ring rows seen′ ring′ rows′
@@ -159,6 +165,11 @@ regroup false false true = refl
 regroup false false false = refl
 
 module _ {n : ℕ} {table held : List ℕ} (s : Shown n table held) (x : Bay) where
+  -- the two sets stand at ring d
+  pub record Widening (d : ℕ) (seen ring : List ℕ) : Type 0 where
+    pub seeing : (b : ℕ) → b < span → mem seen b ≡ elem b (s .bays ++ within (s .yard) (s .bays) x d)
+    pub ringing : (b : ℕ) → b < span → mem ring b ≡ elem b (ringOn s x d)
+
   -- the search stands at ring d, and no ring before it has a wanted bay
   pub record Searching (wanted : List ℕ) (d : ℕ) (seen ring rows : List ℕ) : Type 0 where
     pub far : d < n
@@ -176,23 +187,54 @@ module _ {n : ℕ} {table held : List ℕ} (s : Shown n table held) (x : Bay) wh
       → (b : ℕ) → b < span → mem ring b ≡ true → b < n
   searching-inside wanted d seen ring rows most hx g b h m = in-yard most hx d b (sym (g .ringing b h) ∙ m)
 
+  pub widening-first : (seen₁ ring₀ : List ℕ) {seen ring : List ℕ} → x < n → ((b : ℕ) → b < span → mem seen₁ b ≡ mem held b) → ((y : ℕ) → mem seen y ≡ mem seen₁ y or eqb y x)
+      → ((y : ℕ) → mem ring₀ y ≡ false) → ((y : ℕ) → mem ring y ≡ mem ring₀ y or eqb y x) → Widening 0 seen ring
+  widening-first seen₁ ring₀ h same f z r =
+      let first : ringOn s x 0 ≡ x ∷ [] = ring-first (s .yard) (s .bays) x (rw (s .joins .bays) (omega arith)) in
+      let start : within (s .yard) (s .bays) x 0 ≡ x ∷ [] = unfold seenFrom in refl in
+      record {
+        seeing = λ b l. f b ∙ rw (same b l, s .holds b l, start, elem-append, elem-one b x);
+        ringing = λ b l. r b ∙ rw (z b, first, elem-one b x) (unfold _or_ in refl);
+      }
+
+  pub widening-more : {d : ℕ} {seen ring seen′ ring′ : List ℕ} → n ≤ span → x < n → d + 1 < n → Widening d seen ring → Widened table seen ring seen′ ring′ → Widening (d + 1) seen′ ring′
+  widening-more {d} {seen} {ring} {seen′} {ring′} most hx h w e =
+      let Y = s .yard in
+      let bays = s .bays in
+      let near : suc d < Y .bays = rw (s .joins .bays) (omega arith) in
+      let ringing′ : (b : ℕ) → b < span → mem ring′ b ≡ elem b (ringOn s x (d + 1)) =
+      λ b k. e .ringed b k
+      ∙ next-ring Y bays n table ring seen (ringOn s x d) (within Y bays x d) (s .joins) most (w .ringing) (w .seeing)
+      (λ c i. in-yard most hx d c i) b k
+      ∙ rw (add-one, ring-more Y bays x d near)
+      in
+      record {
+        seeing = λ b k.
+            e .all-seen b k ∙ rw (w .seeing b k, ringing′ b k, add-one, within-more Y bays x d near, elem-append, elem-append, elem-append)
+            (regroup (elem b bays) (elem b (within Y bays x d)) (elem b (ringOn s x (suc d))));
+        ringing = ringing′;
+      }
+
+  -- each bay of the ring has its row in the table
+  pub widening-rows : {d : ℕ} {seen ring : List ℕ} → n ≤ span → x < n → n * words ≤ length table → Widening d seen ring → (b : ℕ) → b < span → mem ring b ≡ true → b * words + words ≤ length table
+  widening-rows {d} most hx size w b h m = let l : b < n = in-yard most hx d b (sym (w .ringing b h) ∙ m) in omega arith
+
+  -- there are as many rings as bays
+  pub ring-none : (i : ℕ) → n ≤ i → ringOn s x i ≡ []
+  ring-none i h = ring-beyond (s .yard) (s .bays) x i (rw (s .joins .bays) (omega arith))
+
   pub searching-first : (wanted seen₀ seen₁ seen ring₀ ring rows₀ rows : List ℕ) → x < n
       → Kept seen₀ 0 held seen₁ → ((y : ℕ) → mem seen y ≡ mem seen₁ y or eqb y x)
       → ((y : ℕ) → mem ring₀ y ≡ false) → ((y : ℕ) → mem ring y ≡ mem ring₀ y or eqb y x)
       → Kept rows₀ 0 ring rows → Searching wanted 0 seen ring rows
   searching-first wanted seen₀ seen₁ seen ring₀ ring rows₀ rows h k sn z r w =
-      let Y = s .yard in
-      let first : ringOn s x 0 ≡ x ∷ [] = ring-first Y (s .bays) x (rw (s .joins .bays) (omega arith)) in
-      let ringing : (b : ℕ) → b < span → mem ring b ≡ elem b (ringOn s x 0) = λ b l. r b ∙ rw (z b, first, elem-one b x) (unfold _or_ in refl) in
+      let g = widening-first seen₁ ring₀ h (λ b l. sym (row-zero seen₁ b) ∙ k .row b l) sn z r in
       record {
         far = omega arith;
-        seeing = λ b l.
-            let same : mem seen₁ b ≡ mem held b = sym (row-zero seen₁ b) ∙ k .row b l in
-            let start : within Y (s .bays) x 0 ≡ x ∷ [] = unfold seenFrom in refl in
-            sn b ∙ rw (same, s .holds b l, start, elem-append, elem-one b x);
-        ringing = ringing;
-        rowing = λ i b g l. let e : i ≡ 0 = omega arith in rw e (w .row b l ∙ ringing b l);
-        before = λ i b g. absurd (omega arith);
+        seeing = g .seeing;
+        ringing = g .ringing;
+        rowing = λ i b j l. let e : i ≡ 0 = omega arith in rw e (w .row b l ∙ g .ringing b l);
+        before = λ i b j. absurd (omega arith);
       }
 
   -- no wanted bay is in row d
@@ -205,23 +247,13 @@ module _ {n : ℕ} {table held : List ℕ} (s : Shown n table held) (x : Bay) wh
       → Lowest (λ y. memRow rows d y and memRow wanted 0 y) 0 span r → span ≤ r
       → NextRing table d seen ring rows seen′ ring′ rows′ → Searching wanted (d + 1) seen′ ring′ rows′
   searching-more wanted d seen ring rows seen′ ring′ rows′ r most hx h g l m e =
-      let Y = s .yard in
-      let bays = s .bays in
-      let near : suc d < Y .bays = rw (s .joins .bays) (omega arith) in
-      let ringing′ : (b : ℕ) → b < span → mem ring′ b ≡ elem b (ringOn s x (d + 1)) =
-      λ b k. e .ringed b k
-      ∙ next-ring Y bays n table ring seen (ringOn s x d) (within Y bays x d) (s .joins) most (g .ringing) (g .seeing)
-      (λ c i. in-yard most hx d c i) b k
-      ∙ rw (add-one, ring-more Y bays x d near)
-      in
+      let w = widening-more most hx h (record { seeing = g .seeing; ringing = g .ringing }) (record { ringed = e .ringed; all-seen = e .all-seen }) in
       record {
         far = h;
-        seeing = λ b k.
-            e .all-seen b k ∙ rw (g .seeing b k, ringing′ b k, add-one, within-more Y bays x d near, elem-append, elem-append, elem-append)
-            (regroup (elem b bays) (elem b (within Y bays x d)) (elem b (ringOn s x (suc d))));
-        ringing = ringing′;
+        seeing = w .seeing;
+        ringing = w .ringing;
         rowing = λ i b j k. elim (ℕ-discrete i (d + 1)) [
-          | yes q ↦ rw q (e .row b k ∙ ringing′ b k)
+          | yes q ↦ rw q (e .row b k ∙ w .ringing b k)
           | no q ↦ e .others i b q k ∙ g .rowing i b (omega arith) k
         ];
         before = λ i b k y. elim (ℕ-discrete i d) [
@@ -236,32 +268,38 @@ module _ {n : ℕ} {table held : List ℕ} (s : Shown n table held) (x : Bay) wh
   -- ## Where the search ends
 
   searched : (wanted : List ℕ) (d : ℕ) (seen ring rows : List ℕ) → Searching wanted d seen ring rows
-      → (((b : ℕ) → In b (ringOn s x d) → mem wanted b ≡ false) → (i : ℕ) → d < i → ringOn s x i ≡ []) → Searched s x wanted rows d
-  searched wanted d seen ring rows g f = record { far = g .far; rowing = g .rowing; before = g .before; last = f }
+      → (d + 1) * words ≤ length rows → (GoesOn n rows d → ((b : ℕ) → In b (ringOn s x d) → mem wanted b ≡ false) → (i : ℕ) → d < i → ringOn s x i ≡ []) → Searched s x wanted rows d
+  searched wanted d seen ring rows g k f = record { far = g .far; rowing = g .rowing; before = g .before; roomy = k; last = f }
 
   -- the ring has a wanted bay
   pub searched-wanted : (wanted : List ℕ) (d : ℕ) (seen ring rows : List ℕ) (r : ℕ) → Searching wanted d seen ring rows
-      → Lowest (λ y. memRow rows d y and memRow wanted 0 y) 0 span r → r < span → Searched s x wanted rows d
-  searched-wanted wanted d seen ring rows r g l h =
-      searched wanted d seen ring rows g
-      (λ f.
+      → Lowest (λ y. memRow rows d y and memRow wanted 0 y) 0 span r → r < span → (d + 1) * words ≤ length rows → Searched s x wanted rows d
+  searched-wanted wanted d seen ring rows r g l h k =
+      searched wanted d seen ring rows g k
+      (λ o f.
       let z : memRow rows d r and mem wanted r ≡ true = rw (row-zero wanted r) at (l .hit h) in
       let i : In r (ringOn s x d) = sym (g .rowing d r (omega arith) h) ∙ and-left _ _ z in
       not-both (and-right _ _ z) (f r i))
 
   -- there are as many rings as bays
-  pub searched-all : (wanted : List ℕ) (d : ℕ) (seen ring rows : List ℕ) → Searching wanted d seen ring rows → n ≤ d + 1 → Searched s x wanted rows d
-  searched-all wanted d seen ring rows g h =
-      searched wanted d seen ring rows g (λ f i k. ring-beyond (s .yard) (s .bays) x i (rw (s .joins .bays) (omega arith)))
+  pub searched-all : (wanted : List ℕ) (d : ℕ) (seen ring rows : List ℕ) → Searching wanted d seen ring rows → n ≤ d + 1 → (d + 1) * words ≤ length rows → Searched s x wanted rows d
+  searched-all wanted d seen ring rows g h m =
+      searched wanted d seen ring rows g m (λ o f i k. ring-beyond (s .yard) (s .bays) x i (rw (s .joins .bays) (omega arith)))
 
   -- the ring is empty
   pub searched-dry : (wanted : List ℕ) (d : ℕ) (seen ring rows : List ℕ) (r : ℕ) → n ≤ span → x < n → Searching wanted d seen ring rows
-      → Lowest (mem ring) 0 span r → span ≤ r → Searched s x wanted rows d
-  searched-dry wanted d seen ring rows r most hx g l h =
+      → Lowest (mem ring) 0 span r → span ≤ r → (d + 1) * words ≤ length rows → Searched s x wanted rows d
+  searched-dry wanted d seen ring rows r most hx g l h m =
       let none : ringOn s x d ≡ [] = no-member (ringOn s x d) (λ b i.
       let low : b < n = in-yard most hx d b i in
       not-both (g .ringing b (omega arith) ∙ i) (l .before b (omega arith) (omega arith))) in
-      searched wanted d seen ring rows g (λ f i k. ring-dry (s .yard) (s .bays) x d i none k)
+      searched wanted d seen ring rows g m (λ o f i k. ring-dry (s .yard) (s .bays) x d i none k)
+
+  -- there is no row for another ring
+  pub searched-short : (wanted : List ℕ) (d : ℕ) (seen ring rows : List ℕ) → Searching wanted d seen ring rows → d + 1 < n → length rows < (d + 2) * words
+      → (d + 1) * words ≤ length rows → Searched s x wanted rows d
+  searched-short wanted d seen ring rows g h k m =
+      searched wanted d seen ring rows g m (λ o f i j. absurd (⊎-elim (λ l. omega arith) (λ l. omega arith) o))
 
 -- ## The set of one bay
 

@@ -3,12 +3,13 @@
 use mathlib.Core.Path.{_≡_}
 use mathlib.Core.Bool.{false, not}
 use mathlib.Core.List.{List, []}
-use Prim.Native.Nat.{ℕ, _+_, _≤_, _<_}
-use lib.ListN.{getD}
+use mathlib.Core.Logic.{_⊎_}
+use Prim.Native.Nat.{ℕ, _+_, _*_, _≤_, _<_}
+use lib.ListN.{length, getD}
 use Rattle.paper.specs.Basics.{_and_, _or_, elem, In}
 use Rattle.paper.specs.Yard.{Bay, Yard}
 use Rattle.paper.specs.Path.{rings}
-use Rattle.words.specs.Sets.{mem, memRow, span, anyBelow, reaches}
+use Rattle.words.specs.Sets.{mem, memRow, words, span, anyBelow, reaches}
 use Rattle.yard.specs.Table.{Table}
 
 -- from ring d and the bays seen so far to ring d + 1, which becomes row d + 1
@@ -17,6 +18,10 @@ pub record NextRing (table : List ℕ) (d : ℕ) (seen ring rows seen′ ring′
   pub all-seen : (b : ℕ) → b < span → mem seen′ b ≡ mem seen b or mem ring′ b
   pub row : (b : ℕ) → b < span → memRow rows′ (d + 1) b ≡ mem ring′ b
   pub others : (e b : ℕ) → (e ≡ d + 1 → ⊥) → b < span → memRow rows′ e b ≡ memRow rows e b
+
+-- after row r there is a row for another ring, or no other ring
+abbrev pub GoesOn : ℕ → List ℕ → ℕ → Type 0
+GoesOn n rows r = (n ≤ r + 1) ⊎ ((r + 2) * words ≤ length rows)
 
 -- ring d around x
 abbrev pub around : Yard → List Bay → Bay → ℕ → List Bay
@@ -33,9 +38,11 @@ module _ {n : ℕ} {table held : List ℕ} (s : Shown n table held) (x : Bay) wh
   abbrev pub ringOn : ℕ → List Bay
   ringOn d = around (s .yard) (s .bays) x d
 
-  -- What the search answers: the rows up to r are the rings; r is the first ring with a wanted bay, or else the last ring.
+  -- What the search answers: the rows up to r are the rings; r is the first ring with a wanted bay, or else the last ring, or the last for
+  -- which there is a row.
   pub record Searched (wanted rows : List ℕ) (r : ℕ) : Type 0 where
     pub far : r < n
     pub rowing : (i b : ℕ) → i ≤ r → b < span → memRow rows i b ≡ elem b (ringOn i)
     pub before : (i b : ℕ) → i < r → In b (ringOn i) → mem wanted b ≡ false
-    pub last : ((b : ℕ) → In b (ringOn r) → mem wanted b ≡ false) → (i : ℕ) → r < i → ringOn i ≡ []
+    pub roomy : (r + 1) * words ≤ length rows
+    pub last : GoesOn n rows r → ((b : ℕ) → In b (ringOn r) → mem wanted b ≡ false) → (i : ℕ) → r < i → ringOn i ≡ []

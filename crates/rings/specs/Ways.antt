@@ -4,16 +4,19 @@ use mathlib.Core.Path.{_≡_}
 use mathlib.Core.Bool.{Bool}
 use mathlib.Core.List.{List}
 use mathlib.Core.Option.{Option, none, some}
-use Prim.Native.Nat.{ℕ, _-_, _≤_, _<_}
-use lib.ListN.{take}
+use Prim.Native.Nat.{ℕ, _-_, _*_, _≤_, _<_}
+use lib.ListN.{length, take}
 use Rattle.paper.specs.Basics.{_and_, find, elem, In, Out}
 use Rattle.paper.specs.Yard.{Bay, Yard}
 use Rattle.paper.specs.Path.{rings, nearestFirst, inward, shortestPath, pathBetween}
-use Rattle.words.specs.Sets.{mem, memRow, span, anyBelow, reaches}
+use Rattle.words.specs.Sets.{mem, memRow, words, span, anyBelow, reaches}
 use Rattle.yard.specs.Table.{Table}
-use Rattle.rings.specs.Search.{Shown, around}
+use Rattle.rings.specs.Search.{Shown, around, GoesOn}
 use Rattle.rings.specs.declared.Path.{Path}
 use Rattle.rings.specs.declared.Path.the-variants.{First, NoPath}
+use Rattle.docket.specs.declared.Bay.{Bay as Held}
+use Rattle.rings.specs.declared.Near.{Near}
+use Rattle.rings.specs.declared.Near.the-variants.{Found, Nowhere, Farther}
 use Rattle.rings.specs.declared.Way.{Way}
 use Rattle.rings.specs.declared.Way.the-variants.{To, NoWay}
 
@@ -37,6 +40,23 @@ endOf (To e m) = some (e .0)
 abbrev pub wayLength : Way → ℕ
 wayLength NoWay = 0
 wayLength (To e m) = m
+
+-- what was found, where the rows reached
+abbrev pub pathBy : Near → Path
+pathBy (Found e m) = First m
+pathBy Nowhere = NoPath
+pathBy Farther = NoPath
+
+abbrev pub wayBy : Near → Way
+wayBy (Found e m) = To e m
+wayBy Nowhere = NoWay
+wayBy Farther = NoWay
+
+-- a search that ended at row d with nothing found
+pub record Ends (n : ℕ) (rows : List ℕ) (d : ℕ) (r : Near) : Type 0 where
+  pub never-found : (e : Held) (m : ℕ) → r ≡ Found e m → ⊥
+  pub nowhere : r ≡ Nowhere → GoesOn n rows d
+  pub few : r ≡ Farther → length rows < n * words
 
 -- ## The path inward
 
@@ -107,3 +127,14 @@ module _ {n : ℕ} {table held : List ℕ} (s : Shown n table held) where
     pub nearest : endOf r ≡ find q (nearestFirst (s .yard) (s .bays) x)
     pub fits : wayLength r ≤ n
     pub path : (e : Bay) → endOf r ≡ some e → take (wayLength r) room ≡ shortestPath (s .yard) (s .bays) x e
+
+  -- the same of what is sought in few rows: where they do not reach, they are fewer than the bays
+  pub record PathNear (u v : Bay) (rows room : List ℕ) (r : Near) : Type 0 where
+    pub found : (e : Held) (m : ℕ) → r ≡ Found e m → PathFound u v room (First m)
+    pub nowhere : r ≡ Nowhere → PathFound u v room NoPath
+    pub few : r ≡ Farther → length rows < n * words
+
+  pub record WayNear (x : Bay) (q : Bay → Bool) (rows room : List ℕ) (r : Near) : Type 0 where
+    pub found : (e : Held) (m : ℕ) → r ≡ Found e m → WayFound x q room (To e m)
+    pub nowhere : r ≡ Nowhere → WayFound x q room NoWay
+    pub few : r ≡ Farther → length rows < n * words

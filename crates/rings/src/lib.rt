@@ -8,7 +8,14 @@ ghost use lib.ListN.{length, take};
 ghost use Rattle.paper.specs.Basics.{_and_};
 ghost use Rattle.words.specs.Sets.{mem, memRow, words, span};
 ghost use Rattle.rings.specs.Search.{NextRing, Shown, Searched};
-ghost use Rattle.rings.specs.Ways.{Inside, pathIn, Ended, Narrowed, Outside, pathOut, KeptBeside, PathFound, WayFound};
+ghost use Rattle.rings.specs.Widening.{Widened};
+ghost use Rattle.rings.specs.Ways.{Inside, pathIn, Ended, Narrowed, Outside, pathOut, KeptBeside, PathFound, WayFound, PathNear, WayNear, Ends, pathBy, wayBy};
+
+// Words of the rows that a search is lent at first: 32 rings, which do in most yards and are soon cleared.
+pub const NEAR: usize = 32 * words::WORDS;
+
+// Words of rows for any search.
+const ALL: usize = words::SPAN * words::WORDS;
 
 // So many first bays of the lent room are the path, if there is one.
 pub enum Path {
@@ -22,6 +29,14 @@ pub enum Way {
     NoWay,
 }
 
+// What a search in few rows finds: the bay to which a path leads and the number of its bays; that there is none; or that the rows
+// don't reach so far.
+enum Near {
+    Found(Bay, usize),
+    Nowhere,
+    Farther,
+}
+
 // One more ring, which becomes row d + 1.
 fn next_ring(
     table: &[u64],
@@ -31,7 +46,7 @@ fn next_ring(
     ring: &mut [u64],
     rows: &mut [u64],
 )
-    requires { ⌜ (n * words ≤ length (now table)) × (length (now seen) ≡ words) × (length (now ring) ≡ words) × (n * words ≤ length (now rows)) × (d + 1 < n) × ((b : ℕ) → b < span → mem (now ring) b ≡ true → b < n) ⌝ }
+    requires { ⌜ (n * words ≤ length (now table)) × (length (now seen) ≡ words) × (length (now ring) ≡ words) × ((d + 2) * words ≤ length (now rows)) × (d + 1 < n) × ((b : ℕ) → b < span → mem (now ring) b ≡ true → b < n) ⌝ }
     ensures { λ _. ⌜ NextRing (now (table .entry)) d (now (seen .entry)) (now (ring .entry)) (now (rows .entry)) (now (seen .exit)) (now (ring .exit)) (now (rows .exit)) ⌝ }
 {
     let mut next = [0u64; words::WORDS];
@@ -40,7 +55,7 @@ fn next_ring(
     words::keep(rows, d + 1, ring);
 }
 
-// Ring by ring around x, until a ring has a wanted bay or there is no further one; answers the number of that ring.
+// Ring by ring around x, until a ring has a wanted bay, or there is no further one, or no row for it; answers the number of that ring.
 pub fn search(
     table: &[u64],
     n: usize,
@@ -49,7 +64,7 @@ pub fn search(
     wanted: &[u64],
     rows: &mut [u64],
 ) -> usize
-    requires { ⌜ (n ≤ span) × (x .0 < n) × (n * words ≤ length (now table)) × (length (now held) ≡ words) × (length (now wanted) ≡ words) × (n * words ≤ length (now rows)) × Shown n (now table) (now held) ⌝ }
+    requires { ⌜ (n ≤ span) × (x .0 < n) × (n * words ≤ length (now table)) × (length (now held) ≡ words) × (length (now wanted) ≡ words) × (words ≤ length (now rows)) × Shown n (now table) (now held) ⌝ }
     ensures { λ r. ⌜ ((s : Shown n (now (table .entry)) (now (held .entry))) → Searched s (x .0) (now (wanted .entry)) (now (rows .exit)) r) ⌝ }
 {
     let middle = x.0 as usize;
@@ -70,6 +85,9 @@ pub fn search(
         if n <= d + 1 {
             return d;
         }
+        if rows.len() < (d + 2) * words::WORDS {
+            return d;
+        }
         next_ring(table, n, d, &mut seen, &mut ring, rows);
         d += 1;
     }
@@ -77,7 +95,7 @@ pub fn search(
 
 // The path from x, d rails from the bay in the middle of the rows: each next bay is the lowest neighbour in the ring one nearer.
 fn inward(table: &[u64], n: usize, rows: &[u64], d: usize, x: Bay, path: &mut [u16])
-    requires { ⌜ (n ≤ span) × (d < n) × (n * words ≤ length (now table)) × (n * words ≤ length (now rows)) × (n ≤ length (now path)) × Inside n (now table) (now rows) d (x .0) ⌝ }
+    requires { ⌜ (n ≤ span) × (d < n) × (n * words ≤ length (now table)) × ((d + 1) * words ≤ length (now rows)) × (n ≤ length (now path)) × Inside n (now table) (now rows) d (x .0) ⌝ }
     ensures { λ _. ⌜ ((t : Inside n (now (table .entry)) (now (rows .entry)) d (x .0)) → take (d + 1) (now (path .exit)) ≡ pathIn t) ⌝ }
 {
     let mut u = x.0 as usize;
@@ -116,7 +134,7 @@ fn keep_beside(table: &[u64], i: usize, rows: &mut [u64], kept: &mut [u64])
 
 // From e back, each ring keeps only the bays beside those kept in the ring after it: the bays on the shortest paths to e.
 fn narrow(table: &[u64], n: usize, rows: &mut [u64], d: usize, e: Bay)
-    requires { ⌜ (n ≤ span) × (d < n) × (e .0 < n) × (n * words ≤ length (now table)) × (n * words ≤ length (now rows)) × Ended n (now table) (now rows) d (e .0) ⌝ }
+    requires { ⌜ (n ≤ span) × (d < n) × (e .0 < n) × (n * words ≤ length (now table)) × ((d + 1) * words ≤ length (now rows)) × Ended n (now table) (now rows) d (e .0) ⌝ }
     ensures { λ _. ⌜ ((t : Ended n (now (table .entry)) (now (rows .entry)) d (e .0)) → Narrowed t 1 (now (rows .exit))) ⌝ }
 {
     let last = e.0 as usize;
@@ -132,7 +150,7 @@ fn narrow(table: &[u64], n: usize, rows: &mut [u64], d: usize, e: Bay)
 
 // The path from x through the kept bays: each next bay is the lowest neighbour in the row one further.
 fn outward(table: &[u64], n: usize, rows: &[u64], d: usize, x: Bay, path: &mut [u16])
-    requires { ⌜ (n ≤ span) × (d < n) × (n * words ≤ length (now table)) × (n * words ≤ length (now rows)) × (n ≤ length (now path)) × Outside n (now table) (now rows) d (x .0) ⌝ }
+    requires { ⌜ (n ≤ span) × (d < n) × (n * words ≤ length (now table)) × ((d + 1) * words ≤ length (now rows)) × (n ≤ length (now path)) × Outside n (now table) (now rows) d (x .0) ⌝ }
     ensures { λ _. ⌜ ((t : Outside n (now (table .entry)) (now (rows .entry)) d (x .0)) → take (d + 1) (now (path .exit)) ≡ pathOut t) ⌝ }
 {
     let mut u = x.0 as usize;
@@ -145,7 +163,65 @@ fn outward(table: &[u64], n: usize, rows: &[u64], d: usize, x: Bay, path: &mut [
     path[i] = u as u16;
 }
 
-// The shortest path from u to v through bays not held.
+// The shortest path from u to v through bays not held, if the rows reach so far.
+fn path_near(
+    table: &[u64],
+    n: usize,
+    held: &[u64],
+    u: Bay,
+    v: Bay,
+    rows: &mut [u64],
+    path: &mut [u16],
+) -> Near
+    requires { ⌜ (n ≤ span) × (u .0 < n) × (v .0 < n) × (n * words ≤ length (now table)) × (length (now held) ≡ words) × (words ≤ length (now rows)) × (n ≤ length (now path)) × Shown n (now table) (now held) ⌝ }
+    ensures { λ r. ⌜ ((s : Shown n (now (table .entry)) (now (held .entry))) → PathNear s (u .0) (v .0) (now (rows .entry)) (now (path .exit)) r) ⌝ }
+{
+    let from = u.0 as usize;
+    let mut start = [0u64; words::WORDS];
+    words::add(&mut start, from);
+    let d = search(table, n, held, v, &start, rows);
+    if words::is_in(rows, d * words::SPAN + from) {
+        inward(table, n, rows, d, u, path);
+        return Near::Found(v, d + 1);
+    }
+    ended(n, rows, d)
+}
+
+// Where the search ended at row d with nothing found: there is nothing, or the rows were too few.
+fn ended(n: usize, rows: &[u64], d: usize) -> Near
+    requires { ⌜ (n ≤ span) × (d < n) ⌝ }
+    ensures { λ r. ⌜ Ends n (now (rows .entry)) d r ⌝ }
+{
+    if n <= d + 1 {
+        return Near::Nowhere;
+    }
+    if rows.len() < (d + 2) * words::WORDS {
+        return Near::Farther;
+    }
+    Near::Nowhere
+}
+
+fn path_of(near: Near) -> Path
+    ensures { λ r. ⌜ r ≡ pathBy near ⌝ }
+{
+    match near {
+        Near::Found(_, m) => Path::First(m),
+        Near::Nowhere => Path::NoPath,
+        Near::Farther => Path::NoPath,
+    }
+}
+
+fn way_of(near: Near) -> Way
+    ensures { λ r. ⌜ r ≡ wayBy near ⌝ }
+{
+    match near {
+        Near::Found(e, m) => Way::To(e, m),
+        Near::Nowhere => Way::NoWay,
+        Near::Farther => Way::NoWay,
+    }
+}
+
+// The shortest path from u to v through bays not held. Few rows do mostly, and are soon cleared; where they don't, all are taken.
 pub fn path_between(
     table: &[u64],
     n: usize,
@@ -155,21 +231,45 @@ pub fn path_between(
     rows: &mut [u64],
     path: &mut [u16],
 ) -> Path
-    requires { ⌜ (n ≤ span) × (u .0 < n) × (v .0 < n) × (n * words ≤ length (now table)) × (length (now held) ≡ words) × (n * words ≤ length (now rows)) × (n ≤ length (now path)) × Shown n (now table) (now held) ⌝ }
+    requires { ⌜ (n ≤ span) × (u .0 < n) × (v .0 < n) × (n * words ≤ length (now table)) × (length (now held) ≡ words) × (words ≤ length (now rows)) × (n ≤ length (now path)) × Shown n (now table) (now held) ⌝ }
     ensures { λ r. ⌜ ((s : Shown n (now (table .entry)) (now (held .entry))) → PathFound s (u .0) (v .0) (now (path .exit)) r) ⌝ }
 {
-    let from = u.0 as usize;
-    let mut start = [0u64; words::WORDS];
-    words::add(&mut start, from);
-    let d = search(table, n, held, v, &start, rows);
-    if words::is_in(rows, d * words::SPAN + from) {
-        inward(table, n, rows, d, u, path);
-        return Path::First(d + 1);
+    let near = path_near(table, n, held, u, v, rows, path);
+    match near {
+        Near::Found(_, m) => Path::First(m),
+        Near::Nowhere => Path::NoPath,
+        Near::Farther => {
+            let mut all = [0u64; ALL];
+            path_of(path_near(table, n, held, u, v, &mut all, path))
+        }
     }
-    Path::NoPath
 }
 
-// The shortest path from x to the nearest wanted bay, through bays not held, from the one search around x.
+// The shortest path from x to the nearest wanted bay, through bays not held, from the one search around x, if the rows reach so far.
+fn way_near(
+    table: &[u64],
+    n: usize,
+    held: &[u64],
+    x: Bay,
+    wanted: &[u64],
+    rows: &mut [u64],
+    path: &mut [u16],
+) -> Near
+    requires { ⌜ (n ≤ span) × (x .0 < n) × (n * words ≤ length (now table)) × (length (now held) ≡ words) × (length (now wanted) ≡ words) × (words ≤ length (now rows)) × (n ≤ length (now path)) × (mem (now held) (x .0) ≡ false) × Shown n (now table) (now held) ⌝ }
+    ensures { λ r. ⌜ ((s : Shown n (now (table .entry)) (now (held .entry))) (q : ℕ → Bool) → ((b : ℕ) → b < n → mem (now (wanted .entry)) b ≡ q b) → WayNear s (x .0) q (now (rows .entry)) (now (path .exit)) r) ⌝ }
+{
+    let d = search(table, n, held, x, wanted, rows);
+    let b = words::lowest_common(rows, d, wanted, 0);
+    if words::SPAN <= b {
+        return ended(n, rows, d);
+    }
+    let e = Bay(b as u16);
+    narrow(table, n, rows, d, e);
+    outward(table, n, rows, d, x, path);
+    Near::Found(e, d + 1)
+}
+
+// The shortest path from x to the nearest wanted bay, through bays not held.
 pub fn way_to_nearest(
     table: &[u64],
     n: usize,
@@ -179,16 +279,26 @@ pub fn way_to_nearest(
     rows: &mut [u64],
     path: &mut [u16],
 ) -> Way
-    requires { ⌜ (n ≤ span) × (x .0 < n) × (n * words ≤ length (now table)) × (length (now held) ≡ words) × (length (now wanted) ≡ words) × (n * words ≤ length (now rows)) × (n ≤ length (now path)) × (mem (now held) (x .0) ≡ false) × Shown n (now table) (now held) ⌝ }
+    requires { ⌜ (n ≤ span) × (x .0 < n) × (n * words ≤ length (now table)) × (length (now held) ≡ words) × (length (now wanted) ≡ words) × (words ≤ length (now rows)) × (n ≤ length (now path)) × (mem (now held) (x .0) ≡ false) × Shown n (now table) (now held) ⌝ }
     ensures { λ r. ⌜ ((s : Shown n (now (table .entry)) (now (held .entry))) (q : ℕ → Bool) → ((b : ℕ) → b < n → mem (now (wanted .entry)) b ≡ q b) → WayFound s (x .0) q (now (path .exit)) r) ⌝ }
 {
-    let d = search(table, n, held, x, wanted, rows);
-    let b = words::lowest_common(rows, d, wanted, 0);
-    if words::SPAN <= b {
-        return Way::NoWay;
+    let near = way_near(table, n, held, x, wanted, rows, path);
+    match near {
+        Near::Found(e, m) => Way::To(e, m),
+        Near::Nowhere => Way::NoWay,
+        Near::Farther => {
+            let mut all = [0u64; ALL];
+            way_of(way_near(table, n, held, x, wanted, &mut all, path))
+        }
     }
-    let e = Bay(b as u16);
-    narrow(table, n, rows, d, e);
-    outward(table, n, rows, d, x, path);
-    Way::To(e, d + 1)
+}
+
+// One ring more, of which no row is kept.
+pub fn widen(table: &[u64], seen: &mut [u64], ring: &mut [u64])
+    requires { ⌜ (length (now seen) ≡ words) × (length (now ring) ≡ words) × ((b : ℕ) → b < span → mem (now ring) b ≡ true → b * words + words ≤ length (now table)) ⌝ }
+    ensures { λ _. ⌜ Widened (now (table .entry)) (now (seen .entry)) (now (ring .entry)) (now (seen .exit)) (now (ring .exit)) ⌝ }
+{
+    let mut next = [0u64; words::WORDS];
+    words::beside(table, ring, &mut next);
+    words::settle(&next, seen, ring);
 }

@@ -8,13 +8,14 @@ use mathlib.Core.Option.{none, some}
 use Prim.Native.Nat.{ℕ, _≤_, _<_, _+_}
 use native.Mathlib.Omega.{arith}
 use native.Mathlib.Numerals.{add-one}
-use lib.ListN.{length, getD, take}
+use lib.ListN.{length, getD, take, length-take}
 use lib.Dec.{eqb}
-use lib.Seq.{take-suc}
+use lib.Seq.{take-suc, getD-take}
+use borrow.Author.Tests.{not-true}
 use Rattle.paper.specs.Basics.{_or_, elem, In, Out}
 use Rattle.paper.specs.Procedure.{_then_, cross, vacate, holding, swap, step}
 use Rattle.paper.specs.Yard.{Bay, Carrier, Placement, bayOf, carrierAt, Crossing, crossing, after, joined}
-use Rattle.paper.proofs.Members.{In-head, in-count}
+use Rattle.paper.proofs.Members.{In-head, In-tail, in-count}
 use Rattle.paper.proofs.Playing.{Sound, after-length, placeOf-bay, placeOf-there, bay-in}
 use Rattle.paper.proofs.Tests.{by-cases, not-both, never-some}
 use Rattle.paper.proofs.Vacating.{Vacated, vacate-vacates, vacate-empty}
@@ -23,7 +24,7 @@ use Rattle.swap.specs.Seeking.{Beside}
 use Rattle.rings.specs.Search.{Shown}
 use Rattle.rings.proofs.Searching.{elem-append, elem-one}
 use Rattle.vacate.specs.Placed.{Placed, Played}
-use Rattle.vacate.proofs.Playing.{played-then, carrier-is}
+use Rattle.vacate.proofs.Playing.{played-none, played-then, carrier-is, carrier-none}
 use Rattle.bring.specs.Acting.{Tabled, Acts}
 use Rattle.bring.proofs.Acting.{acts-some}
 use Rattle.step.specs.Asking.{Loopless}
@@ -75,6 +76,15 @@ module _ {n : ℕ} {table : List ℕ} (t : Tabled n table) (most : n ≤ span) (
   pub met-beside : vacate (t .yard) (holding finished r p) w p ≡ none → Beside (t .yard) r (getD standing w 0) p
   met-beside e = record { sound = sound-of t most loopless; beside = rw (met-carrier e .1) railed }
 
+  -- where a finished carrier stands at w it is held
+  pub held-fails : finished ≤ length p → getD standing w 0 < finished → vacate (t .yard) (holding finished r p) w p ≡ none
+  unfolding vacate
+  held-fails many low =
+      let c : carrierAt p w < finished = rw (k .stands w hw) at low in
+      let i : In w p = by-cases (elem w p) (λ e. e) (λ o. absurd (omega (arith, carrier-none p w o))) in
+      let h : In w (take finished p) = rw (getD-take finished p (carrierAt p w) 0 c ∙ placeOf-bay p w i) at (bay-in (take finished p) (carrierAt p w) (rw length-take (omega arith))) in
+      rw (i, In-tail w (bayOf p r) (take finished p) h)
+
   -- by a swap
   pub stepped-swap : {out : List ℕ} {at : ℕ} {p′ standing′ empty′ out′ : List ℕ} {z : Tried} → vacate (t .yard) (holding finished r p) w p ≡ none
       → Acts (swap (t .yard) r (getD standing w 0) p) n p standing empty out at p′ standing′ empty′ out′ z → Acts (step (t .yard) finished r w p) n p standing empty out at p′ standing′ empty′ out′ z
@@ -105,3 +115,11 @@ module _ {n : ℕ} {table : List ℕ} (t : Tabled n table) (most : n ≤ span) (
         let same : carrierAt q (bayOf q r) ≡ r = carrier-is q (bayOf q r) r (x .placed .apart) (rw (x .moved, after-length) hr) refl in
         let y′ = rw same at y in
         acts-some (rw (made, ← (x .moved))) (played-then x y′)
+
+  -- by crossing alone, where w is empty
+  pub free : true ≡ mem empty w → Out w p
+  free h = not-true (elem w p) (sym (k .empties w hw) ∙ sym h)
+
+  pub stepped-free : {out : List ℕ} {at b : ℕ} {p′ standing′ empty′ out′ : List ℕ} → true ≡ mem empty w → Played (crossing (carrierAt p (bayOf p r)) (bayOf p r) w ∷ []) n p p′ standing′ empty′ out at out′ b
+      → Acts (step (t .yard) finished r w p) n p standing empty out at p′ standing′ empty′ out′ (Done b)
+  stepped-free {out = out} {at = at} h y = stepped-cross [] (vacate-empty (t .yard) (holding finished r p) w p (free h)) (played-none n p standing empty out at k) y

@@ -27,8 +27,8 @@ fn hold(placement: &[u16], finished: usize, r: Carrier, held: &mut [u64])
     }
 }
 
-// One step of r to w: it is vacated, then r crosses; or else r is swapped with the carrier there.
-pub fn step(
+// The step where a carrier may stand at w: it is vacated, then r crosses; or else r is swapped with the carrier there.
+fn make_way(
     table: &[u64],
     finished: usize,
     r: Carrier,
@@ -44,7 +44,7 @@ pub fn step(
     ensures { λ z. ⌜ (Within at 150000 z) × ((t : Tabled (length (now (standing .entry))) (now (table .entry))) → Acts (steps (t .yard) finished (r .0) (w .0) (now (placement .entry))) (length (now (standing .entry))) (now (placement .entry)) (now (standing .entry)) (now (empty .entry)) (now (out .entry)) at (now (placement .exit)) (now (standing .exit)) (now (empty .exit)) (now (out .exit)) z) ⌝ }
 {
     let mut held = [0u64; words::WORDS];
-    let mut rows = [0u64; 1024];
+    let mut rows = [0u64; rings::NEAR];
     hold(placement, finished, r, &mut held);
     let vacated = bring::make_room(
         table,
@@ -65,4 +65,43 @@ pub fn step(
     let own = r.0 as usize;
     let u = Bay(placement[own]);
     Tried::Done(vacate::cross(placement, standing, empty, u, w, out, a))
+}
+
+// One step of r to w: it is vacated, then r crosses; or else r is swapped with the carrier there. Vacating an empty bay moves
+// nothing, and a finished carrier's bay is held: both want no search.
+pub fn step(
+    table: &[u64],
+    finished: usize,
+    r: Carrier,
+    w: Bay,
+    placement: &mut [u16],
+    standing: &mut [u16],
+    empty: &mut [u64],
+    out: &mut [u64],
+    at: usize,
+) -> Tried
+    requires { ⌜ Ready (now table) (now placement) (now standing) (now empty) ⌝ }
+    requires { ⌜ (r .0 < length (now placement)) × (finished ≤ length (now placement)) × (w .0 < length (now standing)) × (memRow (now table) (getD (now placement) (r .0) 0) (w .0) ≡ true) × Loopless (length (now standing)) (now table) × (at < 2 ^ 60) ⌝ }
+    ensures { λ z. ⌜ (Within at 150000 z) × ((t : Tabled (length (now (standing .entry))) (now (table .entry))) → Acts (steps (t .yard) finished (r .0) (w .0) (now (placement .entry))) (length (now (standing .entry))) (now (placement .entry)) (now (standing .entry)) (now (empty .entry)) (now (out .entry)) at (now (placement .exit)) (now (standing .exit)) (now (empty .exit)) (now (out .exit)) z) ⌝ }
+{
+    let bay = w.0 as usize;
+    if words::is_in(empty, bay) {
+        let own = r.0 as usize;
+        let u = Bay(placement[own]);
+        return Tried::Done(vacate::cross(placement, standing, empty, u, w, out, at));
+    }
+    let s = standing[bay];
+    if (s as usize) < finished {
+        return swap::swap(
+            table,
+            r,
+            Carrier(s as u32),
+            placement,
+            standing,
+            empty,
+            out,
+            at,
+        );
+    }
+    make_way(table, finished, r, w, placement, standing, empty, out, at)
 }

@@ -4,7 +4,7 @@ use mathlib.Core.Path.{_≡_, sym, _∙_, ap}
 use mathlib.Core.Bool.{true, false, not}
 use mathlib.Core.List.{List, []}
 use mathlib.Core.Option.{none, some}
-use Prim.Native.Nat.{ℕ, _≤_, _<_}
+use Prim.Native.Nat.{ℕ, _+_, _≤_, _<_}
 use native.Mathlib.Omega.{arith}
 use lib.ListN.{length, getD, set, length-set}
 use native.Mathlib.Decide.{ℕ-discrete}
@@ -14,22 +14,22 @@ use borrow.Author.Tests.{ne-eqb}
 use Rattle.paper.specs.Basics.{find, elem, placeOf, upTo, In}
 use Rattle.paper.specs.Path.{nearestFirst}
 use Rattle.paper.specs.Procedure.{trade, trial, swap}
-use Rattle.paper.specs.Yard.{Bay, Carrier, bayOf}
+use Rattle.paper.specs.Yard.{Bay, Carrier, Crossing, bayOf}
 use Rattle.paper.proofs.Members.{find-passes, find-in, nothing-in-nil, count-high, in-count}
 use Rattle.paper.proofs.Playing.{Apart, placeOf-bay, placeOf-there, bay-in}
 use Rattle.paper.proofs.Rings.{walk-free, reached-walk, reached-sym}
 use Rattle.paper.proofs.Swapping.{swap-trades}
-use Rattle.paper.proofs.Tests.{by-cases, by-option, not-both, and-right, never}
+use Rattle.paper.proofs.Tests.{by-cases, by-option, not-both, and-right}
 use Rattle.paper.proofs.Trading.{traded, traded-length, trade-first, trade-second, trade-other, trade-twice, trade-there, traded-bay}
 use Rattle.paper.proofs.Vacating.{plan-apart}
 use Rattle.docket.specs.Reading.{isSome}
-use Rattle.swap.specs.Seeking.{Beside, standingTraded, fitting}
+use Rattle.swap.specs.Seeking.{Beside, standingTraded, fitting, Logged, Written}
 use Rattle.words.proofs.Besides.{equal-tests}
 use Rattle.vacate.specs.Placed.{Placed}
 use Rattle.vacate.proofs.Playing.{unchanged, carrier-is, carrier-none}
 use Rattle.bring.specs.Acting.{Tabled, Acts}
 use Rattle.bring.proofs.Acting.{acts-none, acts-some}
-use Rattle.trial.specs.Trying.{Wrote, Near}
+use Rattle.trial.specs.Trying.{Near}
 use Rattle.swap.proofs.Seeking.{swap-found, near-of}
 use Rattle.bring.specs.declared.Tried.the-variants.{Done}
 use Rattle.bring.specs.declared.Tried.the-variants.{Failed}
@@ -107,24 +107,17 @@ module _ {n : ℕ} {table : List ℕ} (t : Tabled n table) {p standing empty : L
     unfolding fitting
     some-trial = and-right _ _ (find-passes (fitting (t .yard) r s p) (nearestFirst (t .yard) [] (bayOf p r)) (sym found))
 
-    pub never-failed : {P : Type 0} {out : List ℕ} {at : ℕ} {out′ : List ℕ} → Wrote (trial (t .yard) r s v p) out at out′ Failed → P
-    never-failed w =
+    pub committed : {out : List ℕ} {at : ℕ} {out′ log : List ℕ} {m : ℕ} (p′ standing′ : List ℕ) → p′ ≡ traded r s p → standing′ ≡ standingTraded r s p standing
+        → ((xs : List Crossing) → trial (t .yard) r s v p ≡ some xs → Logged xs log m) → Written (t .yard) r s v p log m out at out′
+        → Acts (swap (t .yard) r s p) n p standing empty out at p′ standing′ empty out′ (Done (at + m))
+    committed {at = at} {m = m} p′ standing′ e d l w =
         by-option (trial (t .yard) r s v p)
-        (λ e. not-both some-trial (rw e))
-        (λ xs e. let z = w .succeeds xs e .1 in never (cc))
-
-    pub committed : {out : List ℕ} {at : ℕ} {out′ : List ℕ} {m : ℕ} (p′ standing′ : List ℕ) → p′ ≡ traded r s p → standing′ ≡ standingTraded r s p standing → Wrote (trial (t .yard) r s v p) out at out′ (Done m)
-        → Acts (swap (t .yard) r s p) n p standing empty out at p′ standing′ empty out′ (Done m)
-    committed {m = m} p′ standing′ e d w =
-        by-option (trial (t .yard) r s v p)
-        (λ f. let z = w .fails f in never (cc))
+        (λ f. not-both some-trial (rw f))
         (λ xs f.
-        let q = w .succeeds xs f in
-        let same : m ≡ q .0 = let z = q .1 in cc in
         let made : swap (t .yard) r s p ≡ some xs = is-trial ∙ f in
         let tr = swap-trades (t .yard) (b .sound) r s (ne-eqb r s (λ y. differ (sym y))) p (k .apart) hr hs (b .beside) xs home made in
         let apart : Apart (traded r s p) = rw (tr .1) at (plan-apart (t .yard) p xs (k .apart) (tr .0)) in
-        acts-some made (record { moved = e ∙ sym (tr .1); placed = rw (e, d) (placed-traded k r s hr hs differ apart (omega arith)); stored = q .2 .stored; counted = same ∙ q .2 .counted }))
+        acts-some made (record { moved = e ∙ sym (tr .1); placed = rw (e, d) (placed-traded k r s hr hs differ apart (omega arith)); stored = w .stored xs f (l xs f); counted = ap (λ (j : ℕ). at + j) (l xs f .counted) }))
 
   pub not-found : {out : List ℕ} {at : ℕ} → none ≡ find (fitting (t .yard) r s p) (nearestFirst (t .yard) [] (bayOf p r)) → Acts (swap (t .yard) r s p) n p standing empty out at p standing empty out Failed
   not-found {out} f = acts-none (swap-found (t .yard) r s p ∙ rw (← f)) (unchanged p standing empty out)

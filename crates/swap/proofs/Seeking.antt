@@ -3,18 +3,20 @@
 -- Assumes nothing.
 use mathlib.Core.Path.{_≡_, sym, _∙_, ap, refl}
 use mathlib.Core.Bool.{Bool, true, false}
-use mathlib.Core.List.{List, [], _∷_}
+use mathlib.Core.List.{List, [], _∷_, map}
 use mathlib.Core.Option.{Option, none, some}
 use Prim.Native.Nat.{ℕ, suc, _≤_, _<_, _-_, _+_, zero}
 use native.Mathlib.Omega.{arith}
-use lib.ListN.{length, getD}
+use native.Mathlib.Numerals.{add-one}
+use lib.ListN.{length, getD, set, take, length-map}
+use lib.Seq.{sets, sets-eq, length-sets, length-take-le, take-all, take-append-le, take-length, take-suc}
 use lib.Dec.{leb, ltb}
 use native.Mathlib.Decide.{ℕ-discrete, decLt}
 use borrow.Author.Tests.{le-leb, lt-ltb, le-ltb}
 use Rattle.paper.specs.Basics.{_and_, _or_, _>>=_, filter, find, concat, firstOf, elem, countFrom, In}
 use Rattle.paper.specs.Path.{rings, nearestFirst, ringOf}
 use Rattle.paper.specs.Procedure.{trial, swap}
-use Rattle.paper.specs.Yard.{Bay, Carrier, Yard, Placement, bayOf, Crossing, joined, neighbours, junction}
+use Rattle.paper.specs.Yard.{Bay, Carrier, Yard, Placement, bayOf, Crossing, pack, joined, neighbours, junction}
 use Rattle.paper.proofs.Members.{find-passes, In-nil, find-in, find-some, nothing-in-nil, in-count, none-find}
 use Rattle.paper.proofs.Nearest.{find-here, find-later}
 use Rattle.paper.proofs.Rings.{distance-in, in-concat, reached-sym}
@@ -22,11 +24,12 @@ use Rattle.paper.proofs.Shortest.{Rising, find-lowest, rings-rise}
 use Rattle.paper.proofs.Tests.{by-cases, by-option, not-both, and-right, and-both, never}
 use Rattle.docket.specs.Reading.{isSome}
 use Rattle.words.specs.Sets.{mem, words, span, memRow, Lowest}
-use Rattle.swap.specs.Seeking.{Beside, fitting}
+use Rattle.swap.specs.Seeking.{Beside, fitting, TriedAt, Written}
 use Rattle.words.proofs.Sets.{zeros, mem-zeros}
-use Rattle.rings.specs.Search.{Searched}
-use Rattle.rings.proofs.Searching.{in-yard}
+use Rattle.rings.proofs.Searching.{in-yard, ring-none}
+use Rattle.vacate.proofs.Playing.{sets-append}
 use Rattle.bring.specs.Acting.{Tabled}
+use Rattle.bring.specs.declared.Tried.{Tried}
 use Rattle.trial.specs.Trying.{Wrote, Near}
 use Rattle.trial.proofs.Copying.{freeShown}
 use Rattle.bring.specs.declared.Tried.the-variants.{Done}
@@ -48,7 +51,7 @@ pub swap-found : (Y : Yard) (r s : Carrier) (p : Placement) → swap Y r s p ≡
 unfolding swap
 swap-found Y r s p = first-found Y r s p (nearestFirst Y [] (bayOf p r))
 
-pub fitting-not : (Y : Yard) (r s : Carrier) (p : Placement) (v : Bay) → junction Y v ≡ false → fitting Y r s p v ≡ false
+fitting-not : (Y : Yard) (r s : Carrier) (p : Placement) (v : Bay) → junction Y v ≡ false → fitting Y r s p v ≡ false
 unfolding fitting _and_
 fitting-not Y r s p v e = rw e
 
@@ -58,13 +61,53 @@ is-some {o} w = by-option o (λ e. let z = w .fails e in never (cc)) (λ xs e. r
 is-none : {o : Option (List Crossing)} {out : List ℕ} {at : ℕ} {out′ : List ℕ} → Wrote o out at out′ Failed → isSome o ≡ false
 is-none {o} w = by-option o (λ e. rw e) (λ xs e. let z = w .succeeds xs e .1 in never (cc))
 
-pub fitting-tried : (Y : Yard) (r s : Carrier) (v : Bay) (p : List ℕ) {out : List ℕ} {at : ℕ} {out′ : List ℕ} {m : ℕ} → junction Y v ≡ true → Wrote (trial Y r s v p) out at out′ (Done m) → fitting Y r s p v ≡ true
+fitting-tried : (Y : Yard) (r s : Carrier) (v : Bay) (p : List ℕ) {out : List ℕ} {at : ℕ} {out′ : List ℕ} {m : ℕ} → junction Y v ≡ true → Wrote (trial Y r s v p) out at out′ (Done m) → fitting Y r s p v ≡ true
 unfolding fitting
 fitting-tried Y r s v p j w = and-both _ _ j (is-some w)
 
-pub fitting-failed : (Y : Yard) (r s : Carrier) (v : Bay) (p : List ℕ) {out : List ℕ} {at : ℕ} {out′ : List ℕ} → Wrote (trial Y r s v p) out at out′ Failed → fitting Y r s p v ≡ false
+fitting-failed : (Y : Yard) (r s : Carrier) (v : Bay) (p : List ℕ) {out : List ℕ} {at : ℕ} {out′ : List ℕ} → Wrote (trial Y r s v p) out at out′ Failed → fitting Y r s p v ≡ false
 unfolding fitting
 fitting-failed Y r s v p w = by-cases (junction Y v and isSome (trial Y r s v p)) (λ e. not-both (and-right _ _ e) (is-none w)) (λ e. e)
+
+-- ## The log
+
+log-front : (vs log : List ℕ) → length vs ≤ length log → take (length vs) (sets log 0 vs) ≡ vs
+log-front vs log h = let k : length vs ≤ length vs = omega arith in rw (sets-eq vs log 0 (omega arith), take-append-le) (take-length vs)
+
+-- what the trial leaves in the log that it was lent
+pub tried-at : (Y : Yard) (r s : Carrier) (v : Bay) (p : List ℕ) {log log′ : List ℕ} {z : Tried} → junction Y v ≡ true → Wrote (trial Y r s v p) log 0 log′ z → TriedAt Y r s v p log′ z
+tried-at Y r s v p {log} {log′} j w = record {
+  fails = λ e. fitting-failed Y r s v p (rw e at w);
+  fits = λ m e. fitting-tried Y r s v p j (rw e at w);
+  logged = λ m e xs h.
+      let q = w .succeeds xs h in
+      let same : m ≡ q .0 = let y = q .1 in cc in
+      let long : m ≡ length (map pack xs) = omega (arith, q .2 .counted, length-map xs pack) in
+      record {
+        counted = omega (arith, q .2 .counted);
+        stored = λ l.
+            let room : length (map pack xs) ≤ length log = omega (arith, ap length (q .2 .stored), length-sets log 0 (map pack xs)) in
+            rw (long, q .2 .stored) (log-front (map pack xs) log room);
+      };
+}
+
+pub tried-not : (Y : Yard) (r s : Carrier) (v : Bay) (p log : List ℕ) → junction Y v ≡ false → TriedAt Y r s v p log Failed
+tried-not Y r s v p log j = record { fails = λ e. fitting-not Y r s p v j; fits = λ m e. never (cc); logged = λ m e. never (cc) }
+
+pub put-more : (out₀ out ns : List ℕ) (at i : ℕ) → i < length ns → out ≡ sets out₀ at (take i ns) → set out (at + i) (getD ns i 0) ≡ sets out₀ at (take (i + 1) ns)
+put-more out₀ out ns at i h e =
+    let tl : length (take i ns) ≡ i = length-take-le i ns (omega arith) in
+    rw (add-one, take-suc ns i 0 h, sets-append, tl, ← e)
+
+pub put-end : (out₀ out ns : List ℕ) (at i : ℕ) → length ns ≤ i → out ≡ sets out₀ at (take i ns) → out ≡ sets out₀ at ns
+put-end out₀ out ns at i h e = e ∙ ap (sets out₀ at) (take-all i ns h)
+
+module _ {Y : Yard} {r s : Carrier} {v : Bay} {p log : List ℕ} {m : ℕ} {out : List ℕ} {at : ℕ} {out′ : List ℕ} where
+  pub written-log : m ≤ length log → out′ ≡ sets out at (take m log) → Written Y r s v p log m out at out′
+  written-log h e = record { stored = λ xs t l. e ∙ ap (sets out at) (l .stored h) }
+
+  pub written-again : {z : Tried} → Wrote (trial Y r s v p) out at out′ z → Written Y r s v p log m out at out′
+  written-again w = record { stored = λ xs t l. w .succeeds xs t .2 .stored }
 
 -- ## Junctions
 
@@ -159,20 +202,15 @@ module _ {n : ℕ} {table : List ℕ} (t : Tabled n table) (r s : Carrier) (p : 
       sym (find-rings (fitting (t .yard) r s p) rs d v (g .rings-before)
       (find-is (fitting (t .yard) r s p) (getD rs d []) v (rings-rise (t .yard) [] (bayOf p r) d) i h (g .below)))
 
-  module _ (most : n ≤ span) (hu : bayOf p r < n) {rows : List ℕ} {far : ℕ} (search : Searched (freeShown t) (bayOf p r) (zeros words) rows far) where
-    -- the ring of the code
-    pub ring-is : (d : ℕ) (ring : List ℕ) → d ≤ far → ((y : ℕ) → y < span → mem ring y ≡ mem (zeros words) y or memRow rows d y) → (y : ℕ) → y < span → mem ring y ≡ elem y (getD rs d [])
-    unfolding _or_
-    ring-is d ring h f y k = f y k ∙ rw (mem-zeros words y) (search .rowing d y h k)
-
-    pub sought-end : (d : ℕ) → far < d → Sought (t .yard) r s p d 0 → none ≡ find (fitting (t .yard) r s p) (nearestFirst (t .yard) [] (bayOf p r))
+  module _ (most : n ≤ span) (hu : bayOf p r < n) where
+    pub sought-end : (d : ℕ) → n ≤ d → Sought (t .yard) r s p d 0 → none ≡ find (fitting (t .yard) r s p) (nearestFirst (t .yard) [] (bayOf p r))
     sought-end d h g =
         sym (none-find (fitting (t .yard) r s p) (concat rs) (λ b i.
         let e : ℕ = ringOf (t .yard) b rs in
         let y : In b (getD rs e []) = distance-in (t .yard) b rs i in
         elim (decLt e d) [
           | yes m ↦ g .rings-before e b m y
-          | no m ↦ In-nil b (rw (search .last (λ z k. mem-zeros words z) e (omega arith)) at y)
+          | no m ↦ In-nil b (rw (ring-none (freeShown t) (bayOf p r) e (omega arith)) at y)
         ]))
 
     module _ (d : ℕ) (ring : List ℕ) (same : (y : ℕ) → y < span → mem ring y ≡ elem y (getD rs d [])) where

@@ -1,18 +1,21 @@
 -- A swap in code: which junctions fit, how the answer reads, and what is left where the two carriers have traded places.
 -- Assumes nothing.
 use mathlib.Core.Path.{_≡_}
-use mathlib.Core.Bool.{Bool, true}
-use mathlib.Core.List.{List}
+use mathlib.Core.Bool.{Bool, true, false}
+use mathlib.Core.List.{List, map}
 use mathlib.Core.Option.{Option, none, some}
-use Prim.Native.Nat.{ℕ}
-use lib.ListN.{getD, set}
+use Prim.Native.Nat.{ℕ, _≤_}
+use lib.ListN.{length, getD, set, take}
+use lib.Seq.{sets}
 use Rattle.paper.specs.Basics.{_and_}
 use Rattle.paper.specs.Procedure.{trial, swap}
-use Rattle.paper.specs.Yard.{Bay, Carrier, Yard, Placement, bayOf, Crossing, joined, junction}
+use Rattle.paper.specs.Yard.{Bay, Carrier, Yard, Placement, bayOf, Crossing, pack, joined, junction}
 use Rattle.paper.proofs.Playing.{Sound}
 use Rattle.paper.proofs.Trading.{traded}
 use Rattle.docket.specs.Reading.{isSome}
 use Rattle.bring.specs.Acting.{Tabled}
+use Rattle.bring.specs.declared.Tried.{Tried}
+use Rattle.bring.specs.declared.Tried.the-variants.{Done, Failed}
 use Rattle.swap.specs.declared.Junction.the-variants.{At}
 use Rattle.swap.specs.declared.Junction.{Junction}
 use Rattle.swap.specs.declared.Junction.the-variants.{Missing}
@@ -31,12 +34,35 @@ abbrev pub standingTraded : Carrier → Carrier → List ℕ → List ℕ → Li
 standingTraded r s p standing = set (set standing (getD p r 0) s) (getD p s 0) r
 
 abbrev pub junctionAt : Junction → Option ℕ
-junctionAt (At v) = some (v .0)
+junctionAt (At v m) = some (v .0)
 junctionAt Missing = none
+
+abbrev pub Counted : Junction → Type 0
+Counted (At v m) = m ≤ 150000
+Counted Missing = Unit {0}
 
 -- v is a junction whose trial succeeds
 unfoldable pub fitting : Yard → Carrier → Carrier → Placement → Bay → Bool
 fitting Y r s p v = junction Y v and isSome (trial Y r s v p)
+
+-- the log holds the trial's crossings, if they are not more than its places
+pub record Logged (xs : List Crossing) (log : List ℕ) (m : ℕ) : Type 0 where
+  pub counted : m ≡ length xs
+  pub stored : m ≤ length log → take m log ≡ map pack xs
+
+-- the trial at v was logged, and v fits; or it does not fit
+pub record TriedAt (Y : Yard) (r s : Carrier) (v : Bay) (p : Placement) (log : List ℕ) (z : Tried) : Type 0 where
+  pub fails : z ≡ Failed → fitting Y r s p v ≡ false
+  pub fits : (m : ℕ) → z ≡ Done m → fitting Y r s p v ≡ true
+  pub logged : (m : ℕ) → z ≡ Done m → (xs : List Crossing) → trial Y r s v p ≡ some xs → Logged xs log m
+
+abbrev pub LoggedAt : Yard → Carrier → Carrier → Placement → List ℕ → Junction → Type 0
+LoggedAt Y r s p log (At v m) = (xs : List Crossing) → trial Y r s (v .0) p ≡ some xs → Logged xs log m
+LoggedAt Y r s p log Missing = Unit {0}
+
+-- what was logged is written
+pub record Written (Y : Yard) (r s : Carrier) (v : Bay) (p : Placement) (log : List ℕ) (m : ℕ) (out : List ℕ) (at : ℕ) (out′ : List ℕ) : Type 0 where
+  pub stored : (xs : List Crossing) → trial Y r s v p ≡ some xs → Logged xs log m → out′ ≡ sets out at (map pack xs)
 
 -- r and s stand side by side in a sound yard
 pub record Beside (Y : Yard) (r s : Carrier) (p : Placement) : Type 0 where

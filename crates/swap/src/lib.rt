@@ -6,17 +6,18 @@ ghost use mathlib.Core.Path.{_≡_};
 ghost use mathlib.Core.List.{List, []};
 ghost use Prim.Native.Nat.{ℕ, _+_, _*_, _^_, _≤_, _<_};
 ghost use lib.ListN.{length, getD};
+ghost use lib.Seq.{sets};
 ghost use Rattle.paper.specs.Basics.{find};
 ghost use Rattle.paper.specs.Yard.{bayOf};
 ghost use Rattle.paper.specs.Path.{nearestFirst};
 ghost use Rattle.words.specs.Sets.{words, span};
 ghost use Rattle.bring.specs.Acting.{Tabled, Ready, Within, Acts};
 ghost use Rattle.trial.specs.Trying.{Near};
-ghost use Rattle.swap.specs.Seeking.{junctions, junctionAt, fitting, Beside, placementTraded, standingTraded, SideBySide, swaps};
+ghost use Rattle.swap.specs.Seeking.{junctions, junctionAt, fitting, TriedAt, Counted, LoggedAt, Written, Beside, placementTraded, standingTraded, SideBySide, swaps};
 
-// The junction of a swap, or that there is none.
+// The junction of a swap and how many crossings its trial has, or that there is none.
 pub enum Junction {
-    At(Bay),
+    At(Bay, usize),
     Missing,
 }
 
@@ -38,8 +39,8 @@ fn is_junction(table: &[u64], n: usize, v: Bay) -> bool
     words::next_from(&row, b + 1) < words::SPAN
 }
 
-// Whether v is a junction whose trial succeeds.
-fn fits(
+// The trial at v, if v is a junction; its crossings go to the log as far as that is so long.
+fn try_junction(
     table: &[u64],
     v: Bay,
     r: Carrier,
@@ -47,34 +48,20 @@ fn fits(
     placement: &[u16],
     standing: &[u16],
     empty: &[u64],
-) -> bool
+    log: &mut [u64],
+) -> Tried
     requires { ⌜ Ready (now table) (now placement) (now standing) (now empty) ⌝ }
     requires { ⌜ (r .0 < length (now placement)) × (s .0 < length (now placement)) × (s .0 ≡ r .0 → ⊥) × (v .0 < length (now standing)) ⌝ }
-    ensures { λ z. ⌜ ((t : Tabled (length (now (standing .entry))) (now (table .entry))) → Near (t .yard) (r .0) (s .0) (v .0) (now (placement .entry)) → z ≡ fitting (t .yard) (r .0) (s .0) (now (placement .entry)) (v .0)) ⌝ }
+    ensures { λ z. ⌜ (Within 0 150000 z) × ((t : Tabled (length (now (standing .entry))) (now (table .entry))) → Near (t .yard) (r .0) (s .0) (v .0) (now (placement .entry)) → TriedAt (t .yard) (r .0) (s .0) (v .0) (now (placement .entry)) (now (log .exit)) z) ⌝ }
 {
     let n = standing.len();
     if is_junction(table, n, v) {
-        let mut nothing = [0u64; 1];
-        let tried = trial::try_at(
-            table,
-            v,
-            r,
-            s,
-            placement,
-            standing,
-            empty,
-            &mut nothing[..0],
-            0,
-        );
-        let Tried::Done(_) = tried else {
-            return false;
-        };
-        return true;
+        return trial::try_at(table, v, r, s, placement, standing, empty, log, 0);
     }
-    false
+    Tried::Failed
 }
 
-// The first junction, nearest to r first and ties lowest, whose trial succeeds.
+// The first junction, nearest to r first and ties lowest, whose trial succeeds; the log is left as that trial leaves it.
 fn seek(
     table: &[u64],
     r: Carrier,
@@ -82,32 +69,34 @@ fn seek(
     placement: &[u16],
     standing: &[u16],
     empty: &[u64],
+    log: &mut [u64],
 ) -> Junction
     requires { ⌜ Ready (now table) (now placement) (now standing) (now empty) ⌝ }
     requires { ⌜ (r .0 < length (now placement)) × (s .0 < length (now placement)) × (s .0 ≡ r .0 → ⊥) ⌝ }
-    ensures { λ z. ⌜ ((t : Tabled (length (now (standing .entry))) (now (table .entry))) → Beside (t .yard) (r .0) (s .0) (now (placement .entry)) → junctionAt z ≡ find (fitting (t .yard) (r .0) (s .0) (now (placement .entry))) (nearestFirst (t .yard) [] (bayOf (now (placement .entry)) (r .0)))) ⌝ }
+    ensures { λ z. ⌜ (Counted z) × ((t : Tabled (length (now (standing .entry))) (now (table .entry))) → Beside (t .yard) (r .0) (s .0) (now (placement .entry)) → (junctionAt z ≡ find (fitting (t .yard) (r .0) (s .0) (now (placement .entry))) (nearestFirst (t .yard) [] (bayOf (now (placement .entry)) (r .0)))) × LoggedAt (t .yard) (r .0) (s .0) (now (placement .entry)) (now (log .exit)) z) ⌝ }
 {
     let carrier = r.0 as usize;
-    let u = Bay(placement[carrier]);
+    let u = placement[carrier] as usize;
     let n = standing.len();
-    let none = [0u64; words::WORDS];
-    let mut rows = [0u64; 1024];
-    let far = rings::search(table, n, &none, u, &none, &mut rows);
+    let mut seen = [0u64; words::WORDS];
+    let mut ring = [0u64; words::WORDS];
+    words::add(&mut seen, u);
+    words::add(&mut ring, u);
     let mut d = 0;
     'nearest: loop {
-        if far < d {
+        if n <= d {
             break 'nearest Junction::Missing;
         }
-        let mut ring = [0u64; words::WORDS];
-        words::join_row(&mut ring, &rows, d);
         let mut v = words::next_from(&ring, 0);
         while v < words::SPAN {
             let bay = Bay(v as u16);
-            if fits(table, bay, r, s, placement, standing, empty) {
-                break 'nearest Junction::At(bay);
+            let tried = try_junction(table, bay, r, s, placement, standing, empty, log);
+            if let Tried::Done(m) = tried {
+                break 'nearest Junction::At(bay, m);
             }
             v = words::next_from(&ring, v + 1);
         }
+        rings::widen(table, &mut seen, &mut ring);
         d += 1;
     }
 }
@@ -129,6 +118,43 @@ fn trade(placement: &mut [u16], standing: &mut [u16], r: Carrier, s: Carrier)
     standing[b] = r.0 as u16;
 }
 
+// The numbers go to the list from place `at` on, as far as it is so long.
+fn put_all(out: &mut [u64], at: usize, numbers: &[u64])
+    requires { ⌜ (at < 2 ^ 60) × (length (now numbers) ≤ 256) ⌝ }
+    ensures { λ _. ⌜ now (out .exit) ≡ sets (now (out .entry)) at (now (numbers .entry)) ⌝ }
+{
+    let mut i = 0;
+    while i < numbers.len() {
+        bring::put(out, at + i, numbers[i]);
+        i += 1;
+    }
+}
+
+// The crossings of the trial at v go to the list: copied where the log holds them all, else played again.
+fn write(
+    table: &[u64],
+    v: Bay,
+    r: Carrier,
+    s: Carrier,
+    placement: &[u16],
+    standing: &[u16],
+    empty: &[u64],
+    log: &[u64],
+    m: usize,
+    out: &mut [u64],
+    at: usize,
+)
+    requires { ⌜ Ready (now table) (now placement) (now standing) (now empty) ⌝ }
+    requires { ⌜ (r .0 < length (now placement)) × (s .0 < length (now placement)) × (s .0 ≡ r .0 → ⊥) × (v .0 < length (now standing)) × (at < 2 ^ 60) × (length (now log) ≡ 256) ⌝ }
+    ensures { λ _. ⌜ ((t : Tabled (length (now (standing .entry))) (now (table .entry))) → Near (t .yard) (r .0) (s .0) (v .0) (now (placement .entry)) → Written (t .yard) (r .0) (s .0) (v .0) (now (placement .entry)) (now (log .entry)) m (now (out .entry)) at (now (out .exit))) ⌝ }
+{
+    if m <= log.len() {
+        put_all(out, at, &log[..m]);
+        return;
+    }
+    trial::try_at(table, v, r, s, placement, standing, empty, out, at);
+}
+
 // Swap of r with its neighbour s.
 pub fn swap(
     table: &[u64],
@@ -144,14 +170,12 @@ pub fn swap(
     requires { ⌜ (r .0 < length (now placement)) × (s .0 < length (now placement)) × (s .0 ≡ r .0 → ⊥) × (at < 2 ^ 60) × SideBySide (length (now standing)) (now table) (r .0) (s .0) (now placement) ⌝ }
     ensures { λ z. ⌜ (Within at 150000 z) × ((t : Tabled (length (now (standing .entry))) (now (table .entry))) → Beside (t .yard) (r .0) (s .0) (now (placement .entry)) → Acts (swaps (t .yard) (r .0) (s .0) (now (placement .entry))) (length (now (standing .entry))) (now (placement .entry)) (now (standing .entry)) (now (empty .entry)) (now (out .entry)) at (now (placement .exit)) (now (standing .exit)) (now (empty .entry)) (now (out .exit)) z) ⌝ }
 {
-    let found = seek(table, r, s, placement, standing, empty);
-    let Junction::At(v) = found else {
+    let mut log = [0u64; 256];
+    let found = seek(table, r, s, placement, standing, empty, &mut log);
+    let Junction::At(v, m) = found else {
         return Tried::Failed;
     };
-    let done = trial::try_at(table, v, r, s, placement, standing, empty, out, at);
-    let Tried::Done(m) = done else {
-        return Tried::Failed;
-    };
+    write(table, v, r, s, placement, standing, empty, &log, m, out, at);
     trade(placement, standing, r, s);
-    Tried::Done(m)
+    Tried::Done(at + m)
 }

@@ -12,7 +12,7 @@ use lib.Dec.{eqb, ltb}
 use lib.Seq.{take-all, take-suc-set, take-suc, getD-drop}
 use borrow.Author.Tests.{eqb-true, le-ltb}
 use Rattle.paper.specs.Basics.{_and_, elem, upTo, In}
-use Rattle.paper.specs.Path.{Route, Way, nearestFirst, shortestPath, pathBetween}
+use Rattle.paper.specs.Path.{Free, Route, Way, nearestFirst, shortestPath, pathBetween}
 use Rattle.paper.specs.Procedure.{trialLed, trial}
 use Rattle.paper.specs.Yard.{Bay, Carrier, Yard, Placement, bayOf}
 use Rattle.paper.proofs.Members.{nothing-in-nil, count-high, in-count}
@@ -83,6 +83,24 @@ path-found {n} t u v path hu hv e =
           let same : getD path k 0 ≡ getD (u ∷ way .rest) k 0 = ap (λ (l : List ℕ). getD l k 0) cons in
           omega (arith, t .joins .bays),
     )
+
+one-only : (l rest : List ℕ) (v : ℕ) → l ≡ v ∷ rest → length l ≤ 1 → v ∷ [] ≡ l
+one-only l [] v e h = sym e
+one-only l (x ∷ rest) v e h = let z : length l ≡ suc (suc (length rest)) = ap length e in absurd (omega arith)
+
+-- the shortest path of a bay to itself is the bay alone
+path-alone : (Y : Yard) (v : Bay) → In v (upTo (Y .bays)) → In v (nearestFirst Y [] v) → v ∷ [] ≡ shortestPath Y [] v v
+path-alone Y v h i =
+    let f : Free Y [] v = (h, nothing-in-nil v) in
+    let s = shortest-path Y [] v v f f i in
+    one-only (shortestPath Y [] v v) (s .way .rest) v (s .way .starts) (s .fewest (v ∷ []) (record { rest = []; starts = refl; free = f; route = refl }))
+
+pub path-own : {Y : Yard} {r s : Carrier} {v : Bay} {p : Placement} → Near Y r s v p → In v (upTo (Y .bays)) → bayOf p r ≡ v → bayOf p r ∷ [] ≡ shortestPath Y [] (bayOf p r) v
+path-own {Y = Y} {v = v} near h e = rw e (path-alone Y v h (rw e at (near .reached)))
+
+pub alone-inside : (u n : ℕ) → u < n → (k : ℕ) → k < 1 → getD (u ∷ []) k 0 < n
+alone-inside u n h zero m = h
+alone-inside u n h (suc k) m = absurd (omega arith)
 
 pub path-missing : {P : Type 0} {Y : Yard} {r s : Carrier} {v : Bay} {p : Placement} → Near Y r s v p → none ≡ pathBetween Y [] (bayOf p r) v → P
 unfolding pathBetween

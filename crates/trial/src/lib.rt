@@ -109,7 +109,7 @@ fn set_up(
     requires { ⌜ (l .0 < length (now placement)) × (m .0 < length (now placement)) × (m .0 ≡ l .0 → ⊥) × (v .0 < length (now standing)) × ((k : ℕ) → k < length (now path) → getD (now path) k 0 < length (now standing)) × (length (now path) ≤ 256) × (at < 2 ^ 60) ⌝ }
     ensures { λ r. ⌜ (TwoBy at 70000 r) × ((t : Tabled (length (now (standing .entry))) (now (table .entry))) → SetsUp (t .yard) (l .0) (m .0) (v .0) (now (path .entry)) (length (now (standing .entry))) (now (placement .entry)) (now (out .entry)) at (now (placement .exit)) (now (standing .exit)) (now (empty .exit)) (now (out .exit)) r) ⌝ }
 {
-    let mut rows = [0u64; 1024];
+    let mut rows = [0u64; rings::NEAR];
     let brought = bring::bring(
         table,
         path,
@@ -287,8 +287,8 @@ fn try_on(
     )
 }
 
-// A trial at v of the swap of r with its neighbour s.
-pub fn try_at(
+// A trial at v, where it is not r's own bay: the path is found.
+fn try_along(
     table: &[u64],
     v: Bay,
     r: Carrier,
@@ -307,7 +307,7 @@ pub fn try_at(
     let u = Bay(placement[carrier]);
     let n = standing.len();
     let none = [0u64; words::WORDS];
-    let mut rows = [0u64; 1024];
+    let mut rows = [0u64; rings::NEAR];
     let mut path = [0u16; words::SPAN];
     let Path::First(k) = rings::path_between(table, n, &none, u, v, &mut rows, &mut path) else {
         return Tried::Failed;
@@ -324,4 +324,29 @@ pub fn try_at(
         out,
         at,
     )
+}
+
+// A trial at v of the swap of r with its neighbour s. From r's own bay, the nearest junction, the path is that bay alone.
+pub fn try_at(
+    table: &[u64],
+    v: Bay,
+    r: Carrier,
+    s: Carrier,
+    placement: &[u16],
+    standing: &[u16],
+    empty: &[u64],
+    out: &mut [u64],
+    at: usize,
+) -> Tried
+    requires { ⌜ Ready (now table) (now placement) (now standing) (now empty) ⌝ }
+    requires { ⌜ (r .0 < length (now placement)) × (s .0 < length (now placement)) × (s .0 ≡ r .0 → ⊥) × (v .0 < length (now standing)) × (at < 2 ^ 60) ⌝ }
+    ensures { λ z. ⌜ (Within at 150000 z) × ((t : Tabled (length (now (standing .entry))) (now (table .entry))) → Near (t .yard) (r .0) (s .0) (v .0) (now (placement .entry)) → Wrote (trials (t .yard) (r .0) (s .0) (v .0) (now (placement .entry))) (now (out .entry)) at (now (out .exit)) z) ⌝ }
+{
+    let carrier = r.0 as usize;
+    let u = placement[carrier];
+    if u == v.0 {
+        let path = [u];
+        return try_on(table, &path, v, r, s, placement, standing, empty, out, at);
+    }
+    try_along(table, v, r, s, placement, standing, empty, out, at)
 }

@@ -103,7 +103,7 @@ pub fn vacate(
     out: &mut [u64],
     at: usize,
 ) -> Vacated
-    requires { ⌜ (length (now standing) ≤ span) × (x .0 < length (now standing)) × (length (now standing) * words ≤ length (now table)) × (length (now held) ≡ words) × (length (now empty) ≡ words) × (length (now standing) * words ≤ length (now rows)) × (at < 2 ^ 62) × Placed (length (now standing)) (now placement) (now standing) (now empty) × Shown (length (now standing)) (now table) (now held) ⌝ }
+    requires { ⌜ (length (now standing) ≤ span) × (x .0 < length (now standing)) × (length (now standing) * words ≤ length (now table)) × (length (now held) ≡ words) × (length (now empty) ≡ words) × (words ≤ length (now rows)) × (at < 2 ^ 62) × Placed (length (now standing)) (now placement) (now standing) (now empty) × Shown (length (now standing)) (now table) (now held) ⌝ }
     ensures { λ r. ⌜ ((s : Shown (length (now (standing .entry))) (now (table .entry)) (now (held .entry))) → Vacates s (x .0) (now (placement .entry)) (now (standing .entry)) (now (empty .entry)) (now (out .entry)) at (now (placement .exit)) (now (standing .exit)) (now (empty .exit)) (now (out .exit)) r) ⌝ }
 {
     let bay = x.0 as usize;

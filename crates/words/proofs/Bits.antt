@@ -6,12 +6,13 @@ use native.Mathlib.Nat.{div-self, div-eq-of-lt, mul-mod-left, pow-suc, one-mul, 
 use native.Mathlib.Decide.{ℕ-discrete, decLt}
 use native.Mathlib.Numerals.{one-add}
 use native.Mathlib.Omega.{arith}
-use lib.Bits.{bitAnd, bitOr, and-shr, or-shr, and-step, or-step}
-use lib.Count.{trailingZeros, under}
+use lib.Bits.{bitAnd, bitOr, and-lt, and-shr, or-shr, and-step, or-step}
+use lib.Count.{trailingZeros, under, trailing-of-zero}
 use lib.Dec.{eqb}
 use lib.Pow.{pow-pos, pow-lt, pow-add, shl-shr, shr-shr, shr-lt}
 use borrow.Author.Tests.{eq-eqb, ne-eqb}
 use Rattle.paper.specs.Basics.{_and_, _or_}
+use Rattle.paper.proofs.Tests.{not-both}
 use Rattle.words.specs.Sets.{bit, on, lessWord}
 
 -- ---- bits as numbers
@@ -106,6 +107,33 @@ below-lowest (suc d) w k h = go (w % 2) refl k h (λ j l. below-lowest d (w / 2)
     go zero e (suc j) l f = bit-half w j ∙ f j (omega arith)
     go (suc r) e j l f = absurd (omega arith)
 
+-- one less than w clears w's lowest bit and leaves those above it
+pred-lowest : (d w : ℕ) → 0 < w → w < 2 ^ d → bit (w - 1) (trailingZeros d w) ≡ 0
+unfolding trailingZeros
+pred-lowest zero w h l = absurd (omega arith)
+pred-lowest (suc d) w h l =
+    go (w % 2) refl (λ e. pred-lowest d (w / 2) (omega arith) (let p : 2 ^ suc d ≡ 2 ^ d * 2 = pow-suc 2 d in omega arith))
+  where
+    go : (r : ℕ) → w % 2 ≡ r → (w % 2 ≡ 0 → bit (w / 2 - 1) (trailingZeros d (w / 2)) ≡ 0) → bit (w - 1) (under r (trailingZeros d (w / 2))) ≡ 0
+    go zero e f =
+        let q : (w - 1) / 2 ≡ w / 2 - 1 = omega arith in
+        bit-half (w - 1) (trailingZeros d (w / 2)) ∙ ap (λ (n : ℕ). bit n (trailingZeros d (w / 2))) q ∙ f e
+    go (suc r) e f = bit-low (w - 1) ∙ omega arith
+
+pred-above : (d w k : ℕ) → 0 < w → w < 2 ^ d → trailingZeros d w < k → bit (w - 1) k ≡ bit w k
+unfolding trailingZeros
+pred-above zero w k h l a = absurd (omega arith)
+pred-above (suc d) w zero h l a = absurd (omega arith)
+pred-above (suc d) w (suc k) h l a =
+    bit-half (w - 1) k
+    ∙ go (w % 2) refl a (λ e b. pred-above d (w / 2) k (omega arith) (let p : 2 ^ suc d ≡ 2 ^ d * 2 = pow-suc 2 d in omega arith) b)
+    ∙ sym (bit-half w k)
+  where
+    go : (r : ℕ) → w % 2 ≡ r → under r (trailingZeros d (w / 2)) < suc k
+        → (w % 2 ≡ 0 → trailingZeros d (w / 2) < k → bit (w / 2 - 1) k ≡ bit (w / 2) k) → bit ((w - 1) / 2) k ≡ bit (w / 2) k
+    go zero e b f = let q : (w - 1) / 2 ≡ w / 2 - 1 = omega arith in ap (λ (n : ℕ). bit n k) q ∙ f e (omega arith)
+    go (suc r) e b f = let q : (w - 1) / 2 ≡ w / 2 = omega arith in ap (λ (n : ℕ). bit n k) q
+
 -- what is shifted has its bits below what is left of the word
 pub lowest-left : (w s : ℕ) → s < 64 → w < 2 ^ 64 → 0 < w / 2 ^ s → trailingZeros 64 (w / 2 ^ s) < 64 - s
 lowest-left w s h l p =
@@ -178,6 +206,34 @@ on-lowest w h l = let r = lowest-set 64 w h l in (r .0, rw (r .1))
 pub on-below : (w k : ℕ) → k < trailingZeros 64 w → on w k ≡ false
 unfolding on
 on-below w k h = rw (below-lowest 64 w k h)
+
+-- a word less its lowest bit, which the code takes off by `w & (w - 1)`
+abbrev pub later : ℕ → ℕ
+later w = bitAnd w (w - 1)
+
+module _ (w : ℕ) (h : 0 < w) (l : w < 2 ^ 64) where
+  pub later-off : (k : ℕ) → k ≤ trailingZeros 64 w → on (later w) k ≡ false
+  unfolding on
+  later-off k b = elim (decLt k (trailingZeros 64 w)) [
+    | yes q ↦ let z : min 0 (bit (w - 1) k) ≡ 0 = omega arith in rw (bit-and w (w - 1) k, below-lowest 64 w k q, z)
+    | no q ↦
+        let e : k ≡ trailingZeros 64 w = omega arith in
+        let z : min (bit w (trailingZeros 64 w)) 0 ≡ 0 = omega arith in
+        rw (bit-and w (w - 1) k, e, pred-lowest 64 w h l, z)
+  ]
+
+  pub later-on : (k : ℕ) → trailingZeros 64 w < k → on (later w) k ≡ on w k
+  unfolding on
+  later-on k b = let e : min (bit w k) (bit w k) ≡ bit w k = omega arith in rw (bit-and w (w - 1) k, pred-above 64 w k h l b, e)
+
+  pub later-lowest : trailingZeros 64 w < trailingZeros 64 (later w)
+  later-lowest = elim (decLt (trailingZeros 64 w) (trailingZeros 64 (later w))) [
+    | yes q ↦ q
+    | no q ↦ elim (decLt 0 (later w)) [
+      | yes p ↦ not-both (on-lowest (later w) p (and-lt 64 w (w - 1) l (omega arith)) .1) (later-off (trailingZeros 64 (later w)) (omega arith))
+      | no p ↦ let z : later w ≡ 0 = omega arith in absurd (omega (arith, on-lowest w h l .0, rw z at q, trailing-of-zero 64))
+    ]
+  ]
 
 pub on-shr : (w s k : ℕ) → on (w / 2 ^ s) k ≡ on w (s + k)
 unfolding on

@@ -6,12 +6,12 @@ use Prim.Native.Nat.{ℕ, _+_, _-_, _*_, _/_, _%_, _^_, _≤_, _<_}
 use native.Mathlib.Decide.{ℕ-discrete, decLt}
 use native.Mathlib.Omega.{arith}
 use lib.Bits.{bitAnd, bitOr}
-use lib.Count.{trailingZeros, trailing-le}
+use lib.Count.{trailingZeros}
 use lib.ListN.{length, getD, set}
 use lib.Seq.{getD-set-same, getD-set-other}
 use Rattle.paper.specs.Basics.{_and_, _or_}
 use Rattle.words.specs.Sets.{on, mem, memRow, words, span, lessWord, Lowest, Settled, Kept}
-use Rattle.words.proofs.Bits.{on-or, on-and, on-less, on-not, on-zero, on-lowest, on-below, on-shr}
+use Rattle.words.proofs.Bits.{on-or, on-and, on-less, on-zero, on-lowest, on-below, on-shr}
 use Rattle.words.proofs.Sets.{mem-out, mem-row, or-false}
 
 -- the words below i are f's; those from i on are f's
@@ -178,15 +178,6 @@ common-word s a t b i k h =
     let r : x % 64 ≡ k = omega arith in
     rw (mem-row s a x, mem-row t b x, q, r, on-and)
 
-pub missing-word : (ws : List ℕ) (i k : ℕ) → getD ws i 0 < 2 ^ 64 → 0 + k < 64
-    → not (mem ws (i * 64 + 0 + k)) ≡ on (2 ^ 64 - 1 - getD ws i 0) k
-unfolding mem
-missing-word ws i k f h =
-    let x : ℕ = i * 64 + 0 + k in
-    let q : x / 64 ≡ i = omega arith in
-    let r : x % 64 ≡ k = omega arith in
-    rw (q, r) (sym (on-not (getD ws i 0) k (omega arith) f))
-
 pub next-word : (ws : List ℕ) (i s k : ℕ) → s < 64 → s + k < 64 → mem ws (i * 64 + s + k) ≡ on (getD ws i 0 / 2 ^ s) k
 unfolding mem
 next-word ws i s k hs h =
@@ -194,13 +185,3 @@ next-word ws i s k hs h =
     let q : x / 64 ≡ i = omega arith in
     let r : x % 64 ≡ s + k = omega arith in
     rw (q, r) (sym (on-shr (getD ws i 0) s k))
-
--- the place found fits a word
-pub place-fits : (i s w : ℕ) → i < words → s < 64 → i * 64 + s + trailingZeros 64 w < 2 ^ 64
-place-fits i s w h k = omega (arith, trailing-le 64 w)
-
-pub whole-fits : (i w : ℕ) → i < words → i * 64 + trailingZeros 64 w < 2 ^ 64
-whole-fits i w h = omega (arith, trailing-le 64 w)
-
-pub zeros-fit : (w : ℕ) → trailingZeros 64 w < 2 ^ 64
-zeros-fit w = omega (arith, trailing-le 64 w)

@@ -136,7 +136,7 @@ ones-pass f (suc d) a w h g =
     head (suc zero) e q ih = let t : f a ≡ true = rw e at q in rw t (omega (arith, ih, ones-step w))
     head (suc (suc r)) e q ih = absurd (omega arith)
 
-word-bit : (ws : List ℕ) (i k : ℕ) → k < 64 → mem ws (64 * i + k) ≡ on (getD ws i 0) k
+pub word-bit : (ws : List ℕ) (i k : ℕ) → k < 64 → mem ws (64 * i + k) ≡ on (getD ws i 0) k
 unfolding mem
 word-bit ws i k l =
     let q : (64 * i + k) / 64 ≡ i = omega arith in

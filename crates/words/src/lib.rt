@@ -3,6 +3,7 @@ ghost use mathlib.Core.Path.{_≡_};
 ghost use mathlib.Core.Bool.{Bool, true, false, not};
 ghost use Prim.Native.Nat.{ℕ, _+_, _-_, _*_, _/_, _^_, _≤_, _<_};
 ghost use lib.ListN.{length, getD};
+ghost use lib.Count.{trailingZeros};
 ghost use lib.Dec.{eqb};
 ghost use Rattle.paper.specs.Basics.{_and_, _or_};
 ghost use Rattle.words.specs.Sets.{mem, memRow, members, words, span, Lowest, Settled, Kept, Beside};
@@ -128,6 +129,14 @@ pub fn keep(rows: &mut [u64], d: usize, ring: &[u64])
     }
 }
 
+// The lowest bay of word i, if it has one.
+fn lowest_of(i: usize, word: u64) -> usize
+    requires { ⌜ i < words ⌝ }
+    ensures { λ r. ⌜ r ≡ i * 64 + trailingZeros 64 word ⌝ }
+{
+    i * 64 + wide(u64::trailing_zeros(word))
+}
+
 // The lowest bay that is in row a of s and in row b of t; SPAN where there is none.
 pub fn lowest_common(s: &[u64], a: usize, t: &[u64], b: usize) -> usize
     requires { ⌜ (a * words + words ≤ length (now s)) × (b * words + words ≤ length (now t)) ⌝ }
@@ -137,23 +146,7 @@ pub fn lowest_common(s: &[u64], a: usize, t: &[u64], b: usize) -> usize
     while i < WORDS {
         let both = s[a * WORDS + i] & t[b * WORDS + i];
         if both != 0 {
-            return i * 64 + u64::trailing_zeros(both) as usize;
-        }
-        i += 1;
-    }
-    SPAN
-}
-
-// The lowest bay that is not in the set; SPAN where there is none.
-pub fn lowest_missing(ws: &[u64]) -> usize
-    requires { ⌜ length (now ws) ≡ words ⌝ }
-    ensures { λ r. ⌜ Lowest (λ x. not (mem (now (ws .entry)) x)) 0 span r ⌝ }
-{
-    let mut i = 0;
-    while i < WORDS {
-        let out = !ws[i];
-        if out != 0 {
-            return i * 64 + u64::trailing_zeros(out) as usize;
+            return lowest_of(i, both);
         }
         i += 1;
     }
@@ -170,7 +163,7 @@ pub fn next_from(ws: &[u64], a: usize) -> usize
     while i < WORDS {
         let rest = ws[i] >> s;
         if rest != 0 {
-            return i * 64 + s + u64::trailing_zeros(rest) as usize;
+            return lowest_of(i, rest) + s;
         }
         i += 1;
         s = 0;
@@ -178,15 +171,34 @@ pub fn next_from(ws: &[u64], a: usize) -> usize
     SPAN
 }
 
-// The bays that stand in the rows of the set's members.
+// The rows of the bays of word i join what is found; each time its lowest bit is taken off what is left of the word.
+fn join_word(table: &[u64], set: &[u64], i: usize, found: &mut [u64])
+    requires { ⌜ (i < words) × (length (now set) ≡ words) × (length (now found) ≡ words) × ((a : ℕ) → a < span → mem (now set) a ≡ true → a * words + words ≤ length (now table)) × Beside (now table) (now set) (now found) (i * 64) ⌝ }
+    ensures { λ _. ⌜ Beside (now (table .entry)) (now (set .entry)) (now (found .exit)) (i * 64 + 64) ⌝ }
+{
+    let mut left = set[i];
+    while left != 0 {
+        join_row(found, table, lowest_of(i, left));
+        left = left & (left - 1);
+    }
+}
+
+// The bays that stand in the rows of the set's members. They are gathered in an array of its own, which the compiler holds in registers.
 pub fn beside(table: &[u64], set: &[u64], found: &mut [u64])
     requires { ⌜ (length (now set) ≡ words) × (length (now found) ≡ words) × ((a : ℕ) → a < span → mem (now set) a ≡ true → a * words + words ≤ length (now table)) ⌝ }
     ensures { λ _. ⌜ Beside (now (table .entry)) (now (set .entry)) (now (found .exit)) span ⌝ }
 {
-    clear(found);
-    let mut a = next_from(set, 0);
-    while a < SPAN {
-        join_row(found, table, a);
-        a = next_from(set, a + 1);
+    let mut all = [0u64; WORDS];
+    let mut i = 0;
+    while i < WORDS {
+        join_word(table, set, i, &mut all);
+        i += 1;
     }
+    keep(found, 0, &all);
+}
+
+fn wide(x: u32) -> usize
+    ensures { λ r. ⌜ (r ≡ x) × (r < 2 ^ 32) ⌝ }
+{
+    x as usize
 }

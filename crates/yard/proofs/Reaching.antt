@@ -8,12 +8,12 @@ use Prim.Native.Nat.{ℕ, zero, suc, _+_, _≤_, _<_}
 use native.Mathlib.Omega.{arith}
 use lib.Dec.{eqb}
 use borrow.Author.Tests.{eqb-true}
-use Rattle.paper.specs.Basics.{_or_, elem, upTo, In}
+use Rattle.paper.specs.Basics.{_or_, elem, find, upTo, In}
 use Rattle.paper.specs.Yard.{Bay, Yard, joined}
 use Rattle.paper.specs.Path.{nearestFirst, Free}
 use Rattle.paper.specs.Docket.{apartBay}
 use Rattle.paper.proofs.Tests.{by-cases, not-both, and-left, and-right, and-both, or-left, or-right, or-cases}
-use Rattle.paper.proofs.Members.{in-count, count-high, nothing-in-nil, find-exactly, none-find}
+use Rattle.paper.proofs.Members.{in-count, count-high, nothing-in-nil, Passed, passed-there, passed-nowhere}
 use Rattle.paper.proofs.Rings.{Walk, here, on, walk-free, reached-walk}
 use Rattle.paper.proofs.Reach.{enough}
 use Rattle.words.specs.Sets.{mem, span, Lowest, Settled, Beside, reaches}
@@ -123,23 +123,22 @@ module _ (Y : Yard) (n : ℕ) (table : List ℕ) (some-bay : 0 < n) (most : n �
 
 -- ---- the lowest bay that is not seen
 
-module _ (Y : Yard) (n : ℕ) (table seen : List ℕ) (most : n ≤ span) (r : Reaches n table seen) (t : Table Y n table) where
-  unreached : (b : Bay) → b < span → not (mem seen b) ≡ not (elem b (nearestFirst Y [] 0))
-  unreached b h = ap not (r .same Y t b h)
+module _ (Y : Yard) (n : ℕ) (table seen : List ℕ) (most : n ≤ span) (r : Reaches n table seen) (t : Table Y n table) (lowest b : ℕ)
+    (p : Passed (λ x. not (mem seen x)) n lowest b) (end : lowest ≤ b) where
+  unreached : (x : Bay) → x < span → not (mem seen x) ≡ not (elem x (nearestFirst Y [] 0))
+  unreached x h = ap not (r .same Y t x h)
 
-  pub apart-there : (b : ℕ) → Lowest (λ x. not (mem seen x)) 0 span b → b < n → apartBay Y ≡ some b
-  unfolding apartBay
-  apart-there b l h =
-      (find-exactly (λ c. not (elem c (nearestFirst Y [] 0))) (Y .bays) b) .1 (
-        omega (arith, t .bays),
-        sym (unreached b (omega arith)) ∙ l .hit (omega arith),
-        λ e k. sym (unreached e (omega arith)) ∙ l .before e (omega arith) k,
-      )
+  passed-apart : Passed (λ x. not (elem x (nearestFirst Y [] 0))) n lowest b
+  passed-apart = record {
+    most = p .most;
+    hit = λ h. sym (unreached lowest (omega arith)) ∙ p .hit h;
+    before = λ k h l. sym (unreached k (omega (arith, p .most))) ∙ p .before k h l;
+  }
 
-  pub apart-nowhere : (b : ℕ) → Lowest (λ x. not (mem seen x)) 0 span b → n ≤ b → apartBay Y ≡ none
+  pub apart-there : lowest < n → apartBay Y ≡ some lowest
   unfolding apartBay
-  apart-nowhere b l h =
-      none-find (λ c. not (elem c (nearestFirst Y [] 0))) (upTo (Y .bays))
-      (λ e i.
-      let k = count-high 0 (Y .bays) e i in
-      sym (unreached e (omega (arith, t .bays))) ∙ l .before e (omega arith) (omega (arith, t .bays)))
+  apart-there h = ap (λ m. find (λ x. not (elem x (nearestFirst Y [] 0))) (upTo m)) (t .bays) ∙ passed-there _ n lowest b passed-apart end h
+
+  pub apart-nowhere : n ≤ lowest → apartBay Y ≡ none
+  unfolding apartBay
+  apart-nowhere h = ap (λ m. find (λ x. not (elem x (nearestFirst Y [] 0))) (upTo m)) (t .bays) ∙ passed-nowhere _ n lowest b passed-apart end h

@@ -9,10 +9,11 @@ use lib.Dec.{eqb, ltb}
 use lib.ListN.{length, getD, take}
 use lib.Seq.{take-suc, take-all}
 use borrow.Author.Tests.{ltb-true, lt-ltb, le-ltb, eqb-true}
-use Rattle.paper.specs.Basics.{_and_, _or_, filter, elem, countFrom, upTo, In}
+use Rattle.paper.specs.Basics.{_and_, _or_, filter, elem, countFrom, upTo}
 use Rattle.paper.specs.Yard.{Bay, Placement, occupied}
 use Rattle.paper.proofs.Tests.{by-cases, not-both, and-left, and-right, and-both}
-use Rattle.paper.proofs.Members.{In-head, In-tail, filter-in, filter-passes, in-filter, in-count, count-high, count-low}
+use Rattle.paper.proofs.Members.{filter-in, filter-passes, in-filter, in-count, count-high, count-low}
+use Rattle.paper.proofs.Admitted.{same-filter, filter-nothing}
 use Rattle.words.specs.Sets.{mem, members, words, span}
 use Rattle.words.proofs.Sets.{count-split, filter-append, or-false}
 use Rattle.words.proofs.Besides.{equal-tests}
@@ -94,23 +95,10 @@ occupying-all n place c set h o =
 
 -- ---- how many
 
-filter-agree : (q r : ℕ → Bool) (xs : List ℕ) → ((x : ℕ) → In x xs → q x ≡ r x) → length (filter q xs) ≡ length (filter r xs)
-unfolding filter
-filter-agree q r [] f = refl
-filter-agree q r (x ∷ xs) f =
-    let ih = filter-agree q r xs (λ y i. f y (In-tail y x xs i)) in
-    let e = f x (In-head x xs) in
-    by-cases (r x) (λ d. rw (e, d) (ap suc ih)) (λ d. rw (e, d) ih)
-
 filter-few : (q : ℕ → Bool) (a k : ℕ) → length (filter q (countFrom a k)) ≤ k
 unfolding filter countFrom
 filter-few q a zero = omega arith
 filter-few q a (suc k) = let ih = filter-few q (suc a) k in by-cases (q a) (λ e. rw e (omega arith)) (λ e. rw e (omega arith))
-
-filter-nothing : (xs : List ℕ) → length (filter (λ x. false) xs) ≡ 0
-unfolding filter
-filter-nothing [] = refl
-filter-nothing (x ∷ xs) = filter-nothing xs
 
 module _ (n : ℕ) (place : Placement) (set : List ℕ) (most : n ≤ span) (long : length set ≡ words) (o : Occupies n place set) where
   pub occupied-few : length (occupied n place) ≤ n
@@ -120,18 +108,20 @@ module _ (n : ℕ) (place : Placement) (set : List ℕ) (most : n ≤ span) (lon
   below : length (filter (mem set) (upTo n)) ≡ length (occupied n place)
   unfolding occupied
   below =
-      filter-agree (mem set) (λ b. elem b place) (upTo n)
+      ap length
+      (same-filter (λ b. elem b place) (mem set) (upTo n)
       (λ x i.
       let k = count-high 0 n x i in
-      o .same x ∙ sym (stands-occupied n place x) ∙ stands-inside n place x (omega arith))
+      o .same x ∙ sym (stands-occupied n place x) ∙ stands-inside n place x (omega arith)))
 
   above : length (filter (mem set) (countFrom n (span - n))) ≡ 0
   above =
-      filter-agree (mem set) (λ x. false) (countFrom n (span - n))
+      ap length
+      (same-filter (λ x. elem x []) (mem set) (countFrom n (span - n))
       (λ x i.
       let k = count-low n (span - n) x i in
-      o .same x ∙ sym (stands-occupied n place x) ∙ stands-outside n place x k)
-      ∙ filter-nothing (countFrom n (span - n))
+      o .same x ∙ sym (stands-occupied n place x) ∙ stands-outside n place x k ∙ unfold elem in refl)
+      ∙ filter-nothing (countFrom n (span - n)))
 
   pub occupied-ones : length (members set) ≡ length (occupied n place)
   unfolding members

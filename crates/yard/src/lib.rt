@@ -220,16 +220,23 @@ fn reach(n: usize, table: &[u64; Yard::TABLE], seen: &mut [u64])
     }
 }
 
-// The lowest bay that is not reached from bay 0.
+// The lowest bay that is not reached from bay 0: going up, the first that is found ends the search.
 fn lowest_apart(n: usize, table: &[u64; Yard::TABLE]) -> Found
     requires { ⌜ (0 < n) × (n ≤ most-bays) ⌝ }
     ensures { λ r. ⌜ ((Y : PaperYard) → Table Y n (now (table .entry)) → Finds (apartBay Y) n r) ⌝ }
 {
     let mut seen = [0u64; WORDS];
     reach(n, table, &mut seen);
-    let b = words::lowest_missing(&seen);
-    if b < n {
-        return Found::At(b);
+    let mut lowest = n;
+    let mut b = 0;
+    while b < lowest {
+        if !words::is_in(&seen, b) {
+            lowest = b;
+        }
+        b += 1;
+    }
+    if lowest < n {
+        return Found::At(lowest);
     }
     Found::Nothing
 }

@@ -1,4 +1,5 @@
--- `bring::bring_one` meets its contract. The vacate holds both bays, so both carriers are where they were when they cross.
+-- `bring::bring_one` meets its contract. The vacate holds both bays, so both carriers are where they were when they cross. Either carrier's
+-- bay would be low enough to be held: that it is m's is what the vacate's answer asks.
 -- Assumes nothing.
 use mathlib.Core.Path.{_≡_}
 use native.Mathlib.Omega.{arith}
@@ -39,19 +40,31 @@ slice-aggregate-add : tie.Need-slice-aggregate-add
 slice-aggregate-add c = search needs
 
 cast-add : tie.Need-cast-add
-cast-add c = omega (arith, c .before .before .before .before .before .before .before .before .before .before .before .pre .0 .placed .inside (c .before .before .before .before .before .before .before .before .before .before .before .args .l .0) (c .before .before .before .before .before .before .before .before .before .before .before .pre .1 .0))
+cast-add c =
+    let p = c .before .before .before .before .before .before .before .before .before .before .before .pre in
+    let a = c .before .before .before .before .before .before .before .before .before .before .before .args in
+    omega (arith, p .0 .placed .inside (a .l .0) (p .1 .0))
 
 add-requires : tie.Need-add-requires
-add-requires c κs = let i = c .before .before .before .before .before .before .before .before .before .before .before .pre .0 .placed .inside (c .before .before .before .before .before .before .before .before .before .before .before .args .l .0) (c .before .before .before .before .before .before .before .before .before .before .before .pre .1 .0) in omega (arith, c .before .before .before .before .before .before .before .before .before .before .before .pre .0 .most)
+add-requires c κs =
+    let p = c .before .before .before .before .before .before .before .before .before .before .before .pre in
+    let a = c .before .before .before .before .before .before .before .before .before .before .before .args in
+    omega (arith, p .0 .placed .inside (a .l .0) (p .1 .0), p .0 .most)
 
 slice-aggregate-add-2 : tie.Need-slice-aggregate-add-2
 slice-aggregate-add-2 c = search needs
 
 cast-add-2 : tie.Need-cast-add-2
-cast-add-2 c = omega (arith, c .before .before .before .before .before .before .before .before .before .before .before .before .before .before .pre .0 .placed .inside (c .before .before .before .before .before .before .before .before .before .before .before .before .before .before .args .m .0) (c .before .before .before .before .before .before .before .before .before .before .before .before .before .before .pre .1 .1))
+cast-add-2 c =
+    let p = c .before .before .before .before .before .before .before .before .before .before .before .before .before .before .pre in
+    let a = c .before .before .before .before .before .before .before .before .before .before .before .before .before .before .args in
+    omega (arith, p .0 .placed .inside (a .l .0) (p .1 .0), p .0 .placed .inside (a .m .0) (p .1 .1))
 
 add-requires-2 : tie.Need-add-requires-2
-add-requires-2 c κs = let i = c .before .before .before .before .before .before .before .before .before .before .before .before .before .before .pre .0 .placed .inside (c .before .before .before .before .before .before .before .before .before .before .before .before .before .before .args .m .0) (c .before .before .before .before .before .before .before .before .before .before .before .before .before .before .pre .1 .1) in omega (arith, c .before .before .before .before .before .before .before .before .before .before .before .before .before .before .pre .0 .most)
+add-requires-2 c κs =
+    let p = c .before .before .before .before .before .before .before .before .before .before .before .before .before .before .pre in
+    let a = c .before .before .before .before .before .before .before .before .before .before .before .before .before .before .args in
+    omega (arith, p .0 .placed .inside (a .l .0) (p .1 .0), p .0 .placed .inside (a .m .0) (p .1 .1), p .0 .most)
 
 slice-aggregate-make-room : tie.Need-slice-aggregate-make-room
 slice-aggregate-make-room c = search needs

@@ -5,7 +5,7 @@ use borrow.Author.Needs.{needs}
 use denote.Ref.{now}
 use Rattle.yard.specs.Opening.{openedOf}
 use Rattle.checker.specs.Reading.{checkedOf}
-use Rattle.checker.proofs.Six.{six-refused, as-many, few-carriers, starts-inside, six-passed}
+use Rattle.checker.proofs.Six.{six-refused, as-many, few-carriers, starts-inside, goals-inside, six-passed}
 use Rattle.checker.proofs.check.Statement.{statement}
 use Rattle.checker.proofs.check.Tie as tie
 
@@ -22,7 +22,7 @@ check-from-requires : tie.Need-check-from-requires
 check-from-requires c κs =
     let s = c .before .before .before .before .before .before .before .before .before in
     let passes = ap openedOf (sym (c .before .enum-told .given .1)) ∙ c .before .before .before .«open» .ensures .answer in
-    (as-many (s .args .bays) (now (s .args .rails)) (now (s .args .start)) (now (s .args .goal)) (now (s .args .plan)) passes, few-carriers (s .args .bays) (now (s .args .rails)) (now (s .args .start)) (now (s .args .goal)) (now (s .args .plan)) passes, starts-inside (s .args .bays) (now (s .args .rails)) (now (s .args .start)) (now (s .args .goal)) (now (s .args .plan)) passes)
+    (as-many (s .args .bays) (now (s .args .rails)) (now (s .args .start)) (now (s .args .goal)) (now (s .args .plan)) passes, few-carriers (s .args .bays) (now (s .args .rails)) (now (s .args .start)) (now (s .args .goal)) (now (s .args .plan)) passes, starts-inside (s .args .bays) (now (s .args .rails)) (now (s .args .start)) (now (s .args .goal)) (now (s .args .plan)) passes, goals-inside (s .args .bays) (now (s .args .rails)) (now (s .args .start)) (now (s .args .goal)) (now (s .args .plan)) passes)
 
 returns : tie.Need-returns
 returns c = let s = c .before .before .before .before .before .before .before .before .before in six-refused (s .args .bays) (now (s .args .rails)) (now (s .args .start)) (now (s .args .goal)) (now (s .args .plan)) _ (ap openedOf (sym (c .before .opened .given .1)) ∙ c .before .before .before .«open» .ensures .answer)

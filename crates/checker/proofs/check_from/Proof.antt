@@ -21,7 +21,7 @@ slice-aggregate-check-crossings : tie.Need-slice-aggregate-check-crossings
 slice-aggregate-check-crossings c = sym (enough (length (now (c .before .before .before .before .args .start))) (omega arith))
 
 check-crossings-requires : tie.Need-check-crossings-requires
-check-crossings-requires c κs = (enough (length (now (c .before .before .before .before .args .start))) (omega arith), c .before .before .before .before .pre .0, c .before .before .before .before .pre .1, c .before .before .before .before .pre .2)
+check-crossings-requires c κs = (enough (length (now (c .before .before .before .before .args .start))) (omega arith), c .before .before .before .before .pre .0, c .before .before .before .before .pre .1, c .before .before .before .before .pre .2, c .before .before .before .before .pre .3)
 
 returns : tie.Need-returns
 returns c = search needs

@@ -20,7 +20,7 @@ use Rattle.clear.proofs.keep_one.Tie as tie
 abbrev Inv-loop : tie.InvT-loop
 Inv-loop table others a held placement₀ standing₀ empty₀ out₀ at rows₀ x₀ placement standing empty out rows x =
     (x ≤ span) × (a ≤ x) × (x < span → mem others x ≡ true) × (length placement ≡ length placement₀) × (length standing ≡ length standing₀) × (length empty ≡ length empty₀) × (length out ≡ length out₀)
-    × (length rows ≡ 1024) × Unchanged placement₀ standing₀ empty₀ out₀ placement standing empty out × ((v : Shown (length standing₀) table held) → Stuck (v .yard) (v .bays) others a x placement₀)
+    × (length rows ≡ 128) × Unchanged placement₀ standing₀ empty₀ out₀ placement standing empty out × ((v : Shown (length standing₀) table held) → Stuck (v .yard) (v .bays) others a x placement₀)
 
 abbrev μ-loop : tie.MeasureT-loop
 μ-loop table others a held placement₀ standing₀ empty₀ out₀ at rows₀ x₀ placement standing empty out rows x =

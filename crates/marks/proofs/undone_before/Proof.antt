@@ -1,44 +1,28 @@
--- `marks::undone_before` meets its contract. What is left to look at decides: it goes up from 0, so the first that is met is the lowest.
+-- `marks::undone_before` meets its contract. Going up, the first crossing that is found ends the loop, so no lower one is left out.
 -- Assumes nothing.
-use mathlib.Core.Path.{sym, _∙_, ap}
+use mathlib.Core.Path.{sym, _∙_}
 use mathlib.Core.Logic.{⊎-elim}
 use Prim.Native.Nat.{_≤_, _-_}
 use native.Mathlib.Omega.{arith}
 use borrow.Author.Needs.{needs}
-use denote.Ref.{now}
-use Rattle.paper.specs.Basics.{find, upTo}
 use Rattle.paper.specs.Yard.{crossings}
-use Rattle.paper.specs.Dependence.{depend}
+use Rattle.paper.proofs.Members.{Passed, passed-none, passed-hit, passed-miss, passed-there, passed-nowhere}
 use Rattle.docket.specs.Reading.{crossingOf}
-use Rattle.plans.proofs.Searching.{FoundFrom, found-start, found-hit, found-miss, found-end}
-use Rattle.marks.proofs.Telling.{waitsFor, waits, waits-not-done, waits-not-free}
+use Rattle.marks.proofs.Telling.{waitsFor}
 use Rattle.marks.proofs.undone_before.Statement.{statement}
 use Rattle.marks.proofs.undone_before.Tie as tie
 
 abbrev Inv-loop : tie.InvT-loop
-Inv-loop plan marks x name e₀ e = (e ≤ name) × FoundFrom (waitsFor (crossings plan) marks (crossingOf x)) name (find (waitsFor (crossings plan) marks (crossingOf x)) (upTo name)) e
+Inv-loop plan marks x name lowest₀ e₀ lowest e = (e ≤ name) × (lowest ≤ name) × Passed (waitsFor (crossings plan) marks (crossingOf x)) name lowest e
 
 abbrev μ-loop : tie.MeasureT-loop
-μ-loop plan marks x name e₀ e = name - e
+μ-loop plan marks x name lowest₀ e₀ lowest e = name - e
 
 loop-holds : tie.Need-loop-holds Inv-loop μ-loop
-loop-holds c = let s = c .before .before in (omega arith, found-start (waitsFor (crossings (now (s .args .plan))) (now (s .args .marks)) (crossingOf (s .args .x))) (s .args .name))
+loop-holds c = (omega arith, omega arith, passed-none _ _)
 
-crossing-at-requires : tie.Need-crossing-at-requires Inv-loop μ-loop
-crossing-at-requires c κs = search needs
-
-depends-requires : tie.Need-depends-requires Inv-loop μ-loop
-depends-requires c κs = search needs
-
-shared-slice-read-if2 : tie.Need-shared-slice-read-if2 Inv-loop μ-loop
-shared-slice-read-if2 c = search needs
-
-returns : tie.Need-returns Inv-loop μ-loop
-returns c =
-    let s = c .before .before .before .before .before .before .before .before .before in
-    let t = c .before .before .before .before .before .before .loop in
-    found-hit (waitsFor (crossings (now (s .args .plan))) (now (s .args .marks)) (crossingOf (s .args .x))) (s .args .name) _ (t .e) (t .inv .1) (c .before .before .before .before .before .loop-test .taken)
-    (waits (crossings (now (s .args .plan))) (now (s .args .marks)) (crossingOf (s .args .x)) (t .e) (sym (ap (depend (crossingOf (s .args .x))) (c .before .before .before .before .crossing-at .ensures)) ∙ sym (c .before .before .before .depends .ensures) ∙ c .before .before .if1 .taken) (c .if2 .taken))
+waits-for-requires : tie.Need-waits-for-requires Inv-loop μ-loop
+waits-for-requires c κs = search needs
 
 add-e : tie.Need-add-e Inv-loop μ-loop
 add-e c = search needs
@@ -48,21 +32,17 @@ loop-less c = search needs
 
 loop-again : tie.Need-loop-again Inv-loop μ-loop
 loop-again c =
-    let s = c .before .before .before .before .before .before .before in
-    let t = c .before .before .before .before .loop in
-    let on = found-miss (waitsFor (crossings (now (s .args .plan))) (now (s .args .marks)) (crossingOf (s .args .x))) (s .args .name) _ (t .e) (t .inv .1) (c .before .before .before .loop-test .taken) in (
-      search needs,
-      on (⊎-elim
-          (λ w. waits-not-done (crossings (now (s .args .plan))) (now (s .args .marks)) (crossingOf (s .args .x)) (t .e) (w .2 .left))
-          (λ w. waits-not-free (crossings (now (s .args .plan))) (now (s .args .marks)) (crossingOf (s .args .x)) (t .e) (sym (ap (depend (crossingOf (s .args .x))) (c .before .before .crossing-at .ensures)) ∙ sym (c .before .depends .ensures) ∙ w .left))
-          (c .if1 .came)),
-    )
+    let l = c .before .before .before .loop in
+    ⊎-elim
+    (λ w. (omega arith, omega (arith, w .1), rw (w .1) (passed-hit _ _ (l .lowest) (l .e) (l .inv .2) (omega arith) (sym (c .before .waits-for .ensures) ∙ w .0 .taken))))
+    (λ w. (omega arith, omega (arith, w .1), rw (w .1) (passed-miss _ _ (l .lowest) (l .e) (l .inv .2) (sym (c .before .waits-for .ensures) ∙ w .0 .left))))
+    (c .if1 .came)
+
+returns : tie.Need-returns Inv-loop μ-loop
+returns c = let l = c .before .before .loop in sym (passed-there _ _ (l .lowest) (l .e) (l .inv .2) (omega arith) (c .if2 .taken))
 
 returns-2 : tie.Need-returns-2 Inv-loop μ-loop
-returns-2 c =
-    let s = c .before .before .before .before in
-    let t = c .before .loop in
-    found-end (waitsFor (crossings (now (s .args .plan))) (now (s .args .marks)) (crossingOf (s .args .x))) (s .args .name) _ (t .e) (t .inv .1) (c .loop-test .left)
+returns-2 c = let l = c .before .before .loop in sym (passed-nowhere _ _ (l .lowest) (l .e) (l .inv .2) (omega arith) (c .if2 .left))
 
 pub undone-before-spec : {M : Type 1} → statement M
 undone-before-spec =
@@ -71,11 +51,9 @@ undone-before-spec =
     Inv-loop
     μ-loop
     loop-holds
-    crossing-at-requires
-    depends-requires
-    shared-slice-read-if2
-    returns
+    waits-for-requires
     add-e
     loop-less
     loop-again
+    returns
     returns-2)

@@ -30,7 +30,7 @@ same-length-2 : tie.Need-same-length-2
 same-length-2 c = search needs
 
 returns-2 : tie.Need-returns-2
-returns-2 c = rw (plan-over (c .before .before .before .before .before .before .before .args .plan .now) (c .before .before .before .before .if1 .left)) (c .before .before .refusal .ensures)
+returns-2 c = rw (plan-over (c .before .before .before .before .before .before .before .args .plan .now) (c .before .before .before .before .if1 .left)) (c .before .before .refusal .ensures .0)
 
 pub plan-spec : {M : Type 1} → statement M
 plan-spec =

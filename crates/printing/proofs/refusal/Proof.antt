@@ -46,7 +46,7 @@ same-length : tie.Need-same-length
 same-length c = search needs
 
 returns : tie.Need-returns
-returns c = rw (← refusal-carried (refusalOf (c .before .before .before .before .before .before .before .before .before .before .before .before .before .before .before .before .before .before .before .before .args .r)) (c .before .before .before .before .before .before .before .before .carried .result) (some-carried _ _ (sym (c .before .before .before .before .before .before .before .before .before .before .before .before .carries .ensures) ∙ c .before .before .before .before .before .before .before .before .before .before .before .if1 .taken) (c .before .before .before .before .before .before .before .before .carried .ensures)), ← c .before .before .before .before .before .before .before .before .before .before .before .before .before .before .before .before .number .ensures) (wrote-then (wrote-then (c .before .before .before .before .before .before .before .before .before .before .before .before .before .before .before .put-named .ensures) (c .before .before .before .before .before .before .before .put-named2 .ensures)) (c .before .before .put-text .ensures))
+returns c = (rw (← refusal-carried (refusalOf (c .before .before .before .before .before .before .before .before .before .before .before .before .before .before .before .before .before .before .before .before .args .r)) (c .before .before .before .before .before .before .before .before .carried .result) (some-carried _ _ (sym (c .before .before .before .before .before .before .before .before .before .before .before .before .carries .ensures) ∙ c .before .before .before .before .before .before .before .before .before .before .before .if1 .taken) (c .before .before .before .before .before .before .before .before .carried .ensures)), ← c .before .before .before .before .before .before .before .before .before .before .before .before .before .before .before .before .number .ensures) (wrote-then (wrote-then (c .before .before .before .before .before .before .before .before .before .before .before .before .before .before .before .put-named .ensures) (c .before .before .before .before .before .before .before .put-named2 .ensures)) (c .before .before .put-text .ensures)), omega (arith, c .before .before .put-text .ensures .counted, c .before .before .before .before .before .before .before .put-named2 .ensures .counted, c .before .before .before .before .before .before .before .before .before .before .before .before .before .before .before .put-named .ensures .counted, named-short (text "; refused ") (c .before .before .before .before .before .before .before .before .before .before .before .before .before .before .before .before .number .result) (search needs), named-short (text " ") (c .before .before .before .before .before .before .before .before .carried .result) (search needs)))
 
 slice-aggregate-put-text-2 : tie.Need-slice-aggregate-put-text-2
 slice-aggregate-put-text-2 c = search needs
@@ -58,7 +58,7 @@ same-length-2 : tie.Need-same-length-2
 same-length-2 c = search needs
 
 returns-2 : tie.Need-returns-2
-returns-2 c = rw (← refusal-plain (refusalOf (c .before .before .before .before .before .before .before .before .before .before .before .before .before .before .args .r)) (none-carried _ (sym (c .before .before .before .before .before .before .carries .ensures) ∙ c .before .before .before .before .before .if1 .left)), ← c .before .before .before .before .before .before .before .before .before .before .number .ensures) (wrote-then (c .before .before .before .before .before .before .before .before .before .put-named .ensures) (c .before .before .put-text2 .ensures))
+returns-2 c = (rw (← refusal-plain (refusalOf (c .before .before .before .before .before .before .before .before .before .before .before .before .before .before .args .r)) (none-carried _ (sym (c .before .before .before .before .before .before .carries .ensures) ∙ c .before .before .before .before .before .if1 .left)), ← c .before .before .before .before .before .before .before .before .before .before .number .ensures) (wrote-then (c .before .before .before .before .before .before .before .before .before .put-named .ensures) (c .before .before .put-text2 .ensures)), omega (arith, c .before .before .put-text2 .ensures .counted, c .before .before .before .before .before .before .before .before .before .put-named .ensures .counted, named-short (text "; refused ") (c .before .before .before .before .before .before .before .before .before .before .number .result) (search needs)))
 
 pub refusal-spec : {M : Type 1} → statement M
 refusal-spec =

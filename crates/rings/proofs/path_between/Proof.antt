@@ -1,46 +1,31 @@
--- `rings::path_between` meets its contract. The search around v for u alone ends at u's ring if u is reached at all, and the path inward from there is the paper's.
+-- `rings::path_between` meets its contract. Where the few rows do not reach, all of them do.
 -- Assumes nothing.
-use mathlib.Core.Path.{sym, _∙_}
 use native.Mathlib.Omega.{arith}
+use Rattle.rings.proofs.Reading.{path-reached}
 use borrow.Author.Needs.{needs}
-use Rattle.rings.proofs.Searching.{only}
-use Rattle.rings.proofs.Reading.{inside, path-first, path-none}
 use Rattle.rings.proofs.path_between.Statement.{statement}
 use Rattle.rings.proofs.path_between.Tie as tie
-use Rattle.rings.proofs.path_between.Reads as reads
-use Rattle.rings.proofs.path_between.Lts as lts
-use Rattle.rings.proofs.inward.Reads as inward-reads
-use Rattle.rings.proofs.search.Reads as search-reads
 
-cast-from : tie.Need-cast-from
-cast-from c = search needs
+path-near-requires : tie.Need-path-near-requires
+path-near-requires c κs = search needs
 
-slice-aggregate-add : tie.Need-slice-aggregate-add
-slice-aggregate-add c = search needs
+enum-known-near : tie.Need-enum-known-near
+enum-known-near c = search needs
 
-add-requires : tie.Need-add-requires
-add-requires c κs = search needs
+enum-told : tie.Need-enum-told
+enum-told c = search needs
 
-slice-aggregate-search : tie.Need-slice-aggregate-search
-slice-aggregate-search c = search needs
+enum-told-2 : tie.Need-enum-told-2
+enum-told-2 c = search needs
 
-search-requires : tie.Need-search-requires
-search-requires c κs = search needs
+slice-aggregate-path-near : tie.Need-slice-aggregate-path-near
+slice-aggregate-path-near c = search needs
 
-mul-is-in : tie.Need-mul-is-in
-mul-is-in c = let f = c .before .before .before .search .ensures (c .before .before .before .before .before .before .before .before .before .before .before .before .before .before .pre .7) .far in omega (arith, f, c .before .before .before .before .before .before .before .before .before .before .before .before .before .before .pre .0)
+path-near-requires-2 : tie.Need-path-near-requires-2
+path-near-requires-2 c κs = search needs
 
-add-is-in : tie.Need-add-is-in
-add-is-in c = let f = c .before .before .before .search .ensures (c .before .before .before .before .before .before .before .before .before .before .before .before .before .before .pre .7) .far in omega (arith, f, c .before .before .before .before .before .before .before .before .before .before .before .before .before .before .pre .0, c .before .before .before .before .before .before .before .before .before .before .before .before .before .before .pre .1)
-
-is-in-requires : tie.Need-is-in-requires
-is-in-requires c κs = let f = c .before .before .before .search .ensures (c .before .before .before .before .before .before .before .before .before .before .before .before .before .before .pre .7) .far in omega (arith, f, c .before .before .before .before .before .before .before .before .before .before .before .before .before .before .pre .0, c .before .before .before .before .before .before .before .before .before .before .before .before .before .before .pre .1, c .before .before .before .before .before .before .before .before .before .before .before .before .before .before .pre .5)
-
-inward-requires : tie.Need-inward-requires
-inward-requires c κs = let p = c .before .before .before .before .before .before .before .before .before .before .before .before .before .before .before .before .before .before .pre in let f = c .before .before .before .before .before .before .before .search .ensures (p .7) in (p .0, f .far, p .3, omega arith, p .6, inside (p .7) (p .0) _ _ (p .2) _ _ _ (only _ _ (c .before .before .before .before .before .before .before .before .before .before .before .add .ensures)) f (p .1) (sym (c .before .before .if1 .taken) ∙ c .before .before .before .is-in .ensures))
-
-add-t28 : tie.Need-add-t28
-add-t28 c = let f = c .before .before .before .before .before .before .before .before .before .before .search .ensures (c .before .before .before .before .before .before .before .before .before .before .before .before .before .before .before .before .before .before .before .before .before .pre .7) .far in omega (arith, f, c .before .before .before .before .before .before .before .before .before .before .before .before .before .before .before .before .before .before .before .before .before .pre .0)
+path-of-requires : tie.Need-path-of-requires
+path-of-requires c κs = search needs
 
 same-length : tie.Need-same-length
 same-length c = search needs
@@ -49,30 +34,43 @@ same-length-2 : tie.Need-same-length-2
 same-length-2 c = search needs
 
 returns : tie.Need-returns
-returns c = let p = c .before .before .before .before .before .before .before .before .before .before .before .before .before .before .before .before .before .before .before .before .before .pre in λ s. let f = c .before .before .before .before .before .before .before .before .before .before .search .ensures s in let w = only _ _ (c .before .before .before .before .before .before .before .before .before .before .before .before .before .before .add .ensures) in let k = sym (c .before .before .before .before .before .if1 .taken) ∙ c .before .before .before .before .before .before .is-in .ensures in path-first s (p .0) _ _ (p .2) _ _ _ w f (p .1) k _ (c .before .before .inward .ensures (inside s (p .0) _ _ (p .2) _ _ _ w f (p .1) k))
+returns c = λ s. c .before .before .before .before .before .before .before .path-near .ensures s .found _ _ (c .before .near .given .1)
 
 same-length-3 : tie.Need-same-length-3
 same-length-3 c = search needs
 
+same-length-4 : tie.Need-same-length-4
+same-length-4 c = search needs
+
 returns-2 : tie.Need-returns-2
-returns-2 c = let p = c .before .before .before .before .before .before .before .before .before .before .before .before .before .before .before .before .pre in λ s. path-none s (p .0) _ _ (p .2) _ _ _ (only _ _ (c .before .before .before .before .before .before .before .before .before .add .ensures)) (c .before .before .before .before .before .search .ensures s) (p .1) _ (sym (c .if1 .left) ∙ c .before .is-in .ensures)
+returns-2 c = λ s. c .before .before .before .before .before .before .path-near .ensures s .nowhere (c .enum-told .given .1)
+
+same-length-5 : tie.Need-same-length-5
+same-length-5 c = search needs
+
+same-length-6 : tie.Need-same-length-6
+same-length-6 c = search needs
+
+returns-3 : tie.Need-returns-3
+returns-3 c = λ s. let n = c .before .before .before .before .path-near2 .ensures s in rw (c .path-of .ensures) (path-reached s _ n (λ k. let h = n .few k in absurd (omega (arith, h, c .before .before .before .before .before .before .before .before .before .before .before .before .before .before .before .before .before .before .before .before .pre .0))))
 
 pub path-between-spec : {M : Type 1} → statement M
 path-between-spec =
     tie.close
     (tie.spec
-    cast-from
-    slice-aggregate-add
-    add-requires
-    slice-aggregate-search
-    search-requires
-    mul-is-in
-    add-is-in
-    is-in-requires
-    inward-requires
-    add-t28
+    path-near-requires
+    enum-known-near
+    enum-told
+    enum-told-2
+    slice-aggregate-path-near
+    path-near-requires-2
+    path-of-requires
     same-length
     same-length-2
     returns
     same-length-3
-    returns-2)
+    same-length-4
+    returns-2
+    same-length-5
+    same-length-6
+    returns-3)

@@ -1,14 +1,14 @@
 -- `rings::search` meets its contract. At each turn the rows up to d are the rings and none before d has a wanted bay; the loop ends at the first that has one, at an empty ring, or at ring n − 1, behind which there is none.
 -- Assumes nothing.
 use mathlib.Core.Path.{_≡_, refl}
-use Prim.Native.Nat.{_-_, _<_}
+use Prim.Native.Nat.{_-_, _+_, _*_, _≤_, _<_}
 use native.Mathlib.Omega.{arith}
 use lib.ListN.{length}
 use borrow.Author.Needs.{needs}
 use Rattle.words.specs.Sets.{words}
 use Rattle.rings.specs.Search.{Shown}
 use Rattle.words.proofs.Sets.{mem-zeros}
-use Rattle.rings.proofs.Searching.{Searching, searching-first, searching-inside, searching-more, searched-wanted, searched-all, searched-dry}
+use Rattle.rings.proofs.Searching.{Searching, searching-first, searching-inside, searching-more, searched-wanted, searched-all, searched-dry, searched-short}
 use Rattle.rings.proofs.search.Statement.{statement}
 use Rattle.rings.proofs.search.Tie as tie
 use Rattle.rings.proofs.search.Reads as reads
@@ -16,7 +16,7 @@ use Rattle.rings.proofs.search.Lts as lts
 use Rattle.rings.proofs.next_ring.Reads as next-ring-reads
 
 abbrev Inv-loop : tie.InvT-loop
-Inv-loop table n held wanted rows₀ middle seen₀ ring₀ d₀ rows seen ring d = (length rows ≡ length rows₀) × (length seen ≡ words) × (length ring ≡ words) × (d < n) × ((s : Shown n table held) → Searching s middle wanted d seen ring rows)
+Inv-loop table n held wanted rows₀ middle seen₀ ring₀ d₀ rows seen ring d = (length rows ≡ length rows₀) × (length seen ≡ words) × (length ring ≡ words) × (d < n) × ((d + 1) * words ≤ length rows) × ((s : Shown n table held) → Searching s middle wanted d seen ring rows)
 
 abbrev μ-loop : tie.MeasureT-loop
 μ-loop table n held wanted rows₀ middle seen₀ ring₀ d₀ rows seen ring d = n - d
@@ -49,7 +49,7 @@ keep-requires-2 : tie.Need-keep-requires-2 Inv-loop μ-loop
 keep-requires-2 c κs = search needs
 
 loop-holds : tie.Need-loop-holds Inv-loop μ-loop
-loop-holds c = (refl, omega arith, omega arith, omega arith, λ s. searching-first s _ _ _ _ _ _ _ _ _ (c .before .before .before .before .before .before .before .before .before .before .before .before .before .before .before .before .before .before .before .pre .1) (c .before .before .before .before .before .before .before .before .before .before .before .before .keep .ensures) (c .before .before .before .before .before .before .before .before .before .add .ensures) (mem-zeros words) (c .before .before .before .before .before .before .add2 .ensures) (c .before .before .keep2 .ensures))
+loop-holds c = (refl, omega arith, omega arith, omega arith, omega arith, λ s. searching-first s _ _ _ _ _ _ _ _ _ (c .before .before .before .before .before .before .before .before .before .before .before .before .before .before .before .before .before .before .before .pre .1) (c .before .before .before .before .before .before .before .before .before .before .before .before .keep .ensures) (c .before .before .before .before .before .before .before .before .before .add .ensures) (mem-zeros words) (c .before .before .before .before .before .before .add2 .ensures) (c .before .before .keep2 .ensures))
 
 lowest-common-requires : tie.Need-lowest-common-requires Inv-loop μ-loop
 lowest-common-requires c κs = search needs
@@ -58,7 +58,7 @@ same-length : tie.Need-same-length Inv-loop μ-loop
 same-length c = search needs
 
 returns : tie.Need-returns Inv-loop μ-loop
-returns c = λ s. searched-wanted s _ _ _ _ _ _ _ (c .before .before .before .loop .inv .4 s) (c .before .lowest-common .ensures) (c .if1 .taken)
+returns c = λ s. searched-wanted s _ _ _ _ _ _ _ (c .before .before .before .loop .inv .5 s) (c .before .lowest-common .ensures) (c .if1 .taken) (c .before .before .before .loop .inv .4)
 
 slice-aggregate-next-from : tie.Need-slice-aggregate-next-from Inv-loop μ-loop
 slice-aggregate-next-from c = search needs
@@ -70,7 +70,7 @@ same-length-2 : tie.Need-same-length-2 Inv-loop μ-loop
 same-length-2 c = search needs
 
 returns-2 : tie.Need-returns-2 Inv-loop μ-loop
-returns-2 c = λ s. searched-dry s _ _ _ _ _ _ _ (c .before .before .before .before .before .before .before .before .before .before .before .before .before .before .before .before .before .before .before .before .before .before .before .before .before .before .pre .0) (c .before .before .before .before .before .before .before .before .before .before .before .before .before .before .before .before .before .before .before .before .before .before .before .before .before .before .pre .1) (c .before .before .before .before .before .before .loop .inv .4 s) (c .before .next-from .ensures) (omega arith)
+returns-2 c = λ s. searched-dry s _ _ _ _ _ _ _ (c .before .before .before .before .before .before .before .before .before .before .before .before .before .before .before .before .before .before .before .before .before .before .before .before .before .before .pre .0) (c .before .before .before .before .before .before .before .before .before .before .before .before .before .before .before .before .before .before .before .before .before .before .before .before .before .before .pre .1) (c .before .before .before .before .before .before .loop .inv .5 s) (c .before .next-from .ensures) (omega arith) (c .before .before .before .before .before .before .loop .inv .4)
 
 add-if3 : tie.Need-add-if3 Inv-loop μ-loop
 add-if3 c = search needs
@@ -79,7 +79,19 @@ same-length-3 : tie.Need-same-length-3 Inv-loop μ-loop
 same-length-3 c = search needs
 
 returns-3 : tie.Need-returns-3 Inv-loop μ-loop
-returns-3 c = λ s. searched-all s _ _ _ _ _ _ (c .before .before .before .before .before .before .before .loop .inv .4 s) (c .if3 .taken)
+returns-3 c = λ s. searched-all s _ _ _ _ _ _ (c .before .before .before .before .before .before .before .loop .inv .5 s) (c .if3 .taken) (c .before .before .before .before .before .before .before .loop .inv .4)
+
+add-if4 : tie.Need-add-if4 Inv-loop μ-loop
+add-if4 c = omega (arith, c .before .before .before .before .before .before .before .before .before .before .before .before .before .before .before .before .before .before .before .before .before .before .before .before .before .before .before .pre .0, c .before .before .before .before .before .before .before .loop .inv .3)
+
+mul-if4 : tie.Need-mul-if4 Inv-loop μ-loop
+mul-if4 c = omega (arith, c .before .before .before .before .before .before .before .before .before .before .before .before .before .before .before .before .before .before .before .before .before .before .before .before .before .before .before .pre .0, c .before .before .before .before .before .before .before .loop .inv .3)
+
+same-length-4 : tie.Need-same-length-4 Inv-loop μ-loop
+same-length-4 c = search needs
+
+returns-4 : tie.Need-returns-4 Inv-loop μ-loop
+returns-4 c = λ s. searched-short s _ _ _ _ _ _ (c .before .before .before .before .before .before .before .before .loop .inv .5 s) (omega (arith, c .before .if3 .left)) (c .if4 .taken) (c .before .before .before .before .before .before .before .before .loop .inv .4)
 
 slice-aggregate-next-ring : tie.Need-slice-aggregate-next-ring Inv-loop μ-loop
 slice-aggregate-next-ring c = search needs
@@ -88,16 +100,16 @@ slice-aggregate-next-ring-2 : tie.Need-slice-aggregate-next-ring-2 Inv-loop μ-l
 slice-aggregate-next-ring-2 c = search needs
 
 next-ring-requires : tie.Need-next-ring-requires Inv-loop μ-loop
-next-ring-requires c κs = let p = c .before .before .before .before .before .before .before .before .before .before .before .before .before .before .before .before .before .before .before .before .before .before .before .before .before .before .before .before .before .before .pre in (search needs, search needs, search needs, search needs, omega arith, searching-inside (p .6) _ _ _ _ _ _ (p .0) (p .1) (c .before .before .before .before .before .before .before .before .before .before .loop .inv .4 (p .6)))
+next-ring-requires c κs = let p = c .before .before .before .before .before .before .before .before .before .before .before .before .before .before .before .before .before .before .before .before .before .before .before .before .before .before .before .before .before .before .before .pre in (search needs, search needs, search needs, omega (arith, c .before .before .before .if4 .left), omega (arith, c .before .before .before .before .if3 .left), searching-inside (p .6) _ _ _ _ _ _ (p .0) (p .1) (c .before .before .before .before .before .before .before .before .before .before .before .loop .inv .5 (p .6)))
 
 add-d : tie.Need-add-d Inv-loop μ-loop
-add-d c = omega (arith, c .before .before .before .before .before .before .before .before .before .before .before .before .before .before .before .before .before .before .before .before .before .before .before .before .before .before .before .before .before .before .before .before .before .before .before .pre .0, c .before .before .before .before .before .before .before .before .before .before .before .before .before .before .before .loop .inv .3)
+add-d c = omega (arith, c .before .before .before .before .before .before .before .before .before .before .before .before .before .before .before .before .before .before .before .before .before .before .before .before .before .before .before .before .before .before .before .before .before .before .before .before .pre .0, c .before .before .before .before .before .before .before .before .before .before .before .before .before .before .before .before .loop .inv .3)
 
 loop-less : tie.Need-loop-less Inv-loop μ-loop
 loop-less c = search needs
 
 loop-again : tie.Need-loop-again Inv-loop μ-loop
-loop-again c = (omega arith, omega arith, omega arith, omega arith, λ s. searching-more s _ _ _ _ _ _ _ _ _ _ (c .before .before .before .before .before .before .before .before .before .before .before .before .before .before .before .before .before .before .before .before .before .before .before .before .before .before .before .before .before .before .before .before .before .before .before .pre .0) (c .before .before .before .before .before .before .before .before .before .before .before .before .before .before .before .before .before .before .before .before .before .before .before .before .before .before .before .before .before .before .before .before .before .before .before .pre .1) (omega arith) (c .before .before .before .before .before .before .before .before .before .before .before .before .before .before .before .loop .inv .4 s) (c .before .before .before .before .before .before .before .before .before .before .before .before .before .lowest-common .ensures) (c .before .before .before .before .before .before .before .before .before .before .before .before .if1 .left) (c .before .before .before .before .next-ring .ensures))
+loop-again c = (omega arith, omega arith, omega arith, omega (arith, c .before .before .before .before .before .before .before .before .before .if3 .left), omega (arith, c .before .before .before .before .before .before .before .before .if4 .left), λ s. searching-more s _ _ _ _ _ _ _ _ _ _ (c .before .before .before .before .before .before .before .before .before .before .before .before .before .before .before .before .before .before .before .before .before .before .before .before .before .before .before .before .before .before .before .before .before .before .before .before .pre .0) (c .before .before .before .before .before .before .before .before .before .before .before .before .before .before .before .before .before .before .before .before .before .before .before .before .before .before .before .before .before .before .before .before .before .before .before .before .pre .1) (omega arith) (c .before .before .before .before .before .before .before .before .before .before .before .before .before .before .before .before .loop .inv .5 s) (c .before .before .before .before .before .before .before .before .before .before .before .before .before .before .lowest-common .ensures) (c .before .before .before .before .before .before .before .before .before .before .before .before .before .if1 .left) (c .before .before .before .before .next-ring .ensures))
 
 pub search-spec : {M : Type 1} → statement M
 search-spec =
@@ -125,6 +137,10 @@ search-spec =
     add-if3
     same-length-3
     returns-3
+    add-if4
+    mul-if4
+    same-length-4
+    returns-4
     slice-aggregate-next-ring
     slice-aggregate-next-ring-2
     next-ring-requires

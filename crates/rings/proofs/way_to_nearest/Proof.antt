@@ -1,63 +1,76 @@
--- `rings::way_to_nearest` meets its contract. The lowest wanted bay of the ring where the search ended is the nearest; narrowed, the rings hold the bays on shortest paths to it, and the path outward is the paper's.
+-- `rings::way_to_nearest` meets its contract. Where the few rows do not reach, all of them do.
 -- Assumes nothing.
-use mathlib.Core.Path.{refl}
 use native.Mathlib.Omega.{arith}
+use Rattle.rings.proofs.Reading.{way-reached}
 use borrow.Author.Needs.{needs}
-use Rattle.rings.proofs.Reading.{nearest-nowhere, way-none}
-use Rattle.rings.proofs.Narrowing.{end-inside, ended, outside, way-found}
 use Rattle.rings.proofs.way_to_nearest.Statement.{statement}
 use Rattle.rings.proofs.way_to_nearest.Tie as tie
-use Rattle.rings.proofs.way_to_nearest.Reads as reads
-use Rattle.rings.proofs.way_to_nearest.Lts as lts
-use Rattle.rings.proofs.narrow.Reads as narrow-reads
-use Rattle.rings.proofs.outward.Reads as outward-reads
-use Rattle.rings.proofs.search.Reads as search-reads
 
-search-requires : tie.Need-search-requires
-search-requires c κs = search needs
+way-near-requires : tie.Need-way-near-requires
+way-near-requires c κs = search needs
 
-lowest-common-requires : tie.Need-lowest-common-requires
-lowest-common-requires c κs = let f = c .before .before .before .search .ensures (c .before .before .before .before .before .before .before .before .before .before .pre .8) .far in (omega arith, omega arith)
+enum-known-near : tie.Need-enum-known-near
+enum-known-near c = search needs
+
+enum-told : tie.Need-enum-told
+enum-told c = search needs
+
+enum-told-2 : tie.Need-enum-told-2
+enum-told-2 c = search needs
+
+slice-aggregate-way-near : tie.Need-slice-aggregate-way-near
+slice-aggregate-way-near c = search needs
+
+way-near-requires-2 : tie.Need-way-near-requires-2
+way-near-requires-2 c κs = let p = c .before .before .before .before .before .before .before .before .before .before .before .before .before .before .before .before .pre in (p .0, p .1, p .2, p .3, p .4, search needs, omega (arith, p .6, c .before .before .before .before .before .before .before .before .way-near .kept .1 .1 .1 .1 .1 .1 .0), p .7, p .8)
+
+way-of-requires : tie.Need-way-of-requires
+way-of-requires c κs = search needs
 
 same-length : tie.Need-same-length
 same-length c = search needs
 
-returns : tie.Need-returns
-returns c = let p = c .before .before .before .before .before .before .before .before .before .before .before .before .pre in λ s q w. way-none s _ q _ (nearest-nowhere s (p .0) _ (p .1) q _ _ _ _ w (c .before .before .before .before .before .search .ensures s) (c .before .lowest-common .ensures) (c .if1 .taken))
-
-cast-t16 : tie.Need-cast-t16
-cast-t16 c = search needs
-
-narrow-requires : tie.Need-narrow-requires
-narrow-requires c κs = let p = c .before .before .before .before .before .before .before .before .before .before .before .before .before .pre in let f = c .before .before .before .before .before .before .search .ensures (p .8) in let l = c .before .before .lowest-common .ensures in let h = c .before .if1 .left in (p .0, f .far, end-inside (p .8) (p .0) _ (p .1) (p .7) _ _ _ _ f l h, p .2, omega arith, ended (p .8) (p .0) _ (p .1) (p .7) _ _ _ _ f l h)
-
-outward-requires : tie.Need-outward-requires
-outward-requires c κs = let p = c .before .before .before .before .before .before .before .before .before .before .before .before .before .before .before .before .before .before .pre in let f = c .before .before .before .before .before .before .before .before .before .before .before .search .ensures (p .8) in let l = c .before .before .before .before .before .before .before .lowest-common .ensures in let h = c .before .before .before .before .before .before .if1 .left in (p .0, f .far, p .2, omega arith, p .6, outside (p .8) (p .0) _ (p .1) (p .7) _ _ _ _ f l h _ (c .before .before .before .before .narrow .ensures (ended (p .8) (p .0) _ (p .1) (p .7) _ _ _ _ f l h)))
-
-add-t24 : tie.Need-add-t24
-add-t24 c = let f = c .before .before .before .before .before .before .before .before .before .before .before .before .before .before .search .ensures (c .before .before .before .before .before .before .before .before .before .before .before .before .before .before .before .before .before .before .before .before .before .pre .8) .far in omega (arith, f, c .before .before .before .before .before .before .before .before .before .before .before .before .before .before .before .before .before .before .before .before .before .pre .0)
-
 same-length-2 : tie.Need-same-length-2
 same-length-2 c = search needs
+
+returns : tie.Need-returns
+returns c = λ s q w. c .before .before .before .before .before .before .before .way-near .ensures s q w .found _ _ (c .before .near .given .1)
 
 same-length-3 : tie.Need-same-length-3
 same-length-3 c = search needs
 
+same-length-4 : tie.Need-same-length-4
+same-length-4 c = search needs
+
 returns-2 : tie.Need-returns-2
-returns-2 c = let p = c .before .before .before .before .before .before .before .before .before .before .before .before .before .before .before .before .before .before .before .before .before .pre in let l = c .before .before .before .before .before .before .before .before .before .before .lowest-common .ensures in let h = c .before .before .before .before .before .before .before .before .before .if1 .left in λ s q w. let f = c .before .before .before .before .before .before .before .before .before .before .before .before .before .before .search .ensures s in let z = c .before .before .before .before .before .before .before .narrow .ensures (ended s (p .0) _ (p .1) (p .7) _ _ _ _ f l h) in way-found s (p .0) _ (p .1) (p .7) _ _ _ _ f l h _ _ z q _ w (c .before .before .outward .ensures (outside s (p .0) _ (p .1) (p .7) _ _ _ _ f l h _ z)) refl refl
+returns-2 c = λ s q w. c .before .before .before .before .before .before .way-near .ensures s q w .nowhere (c .enum-told .given .1)
+
+same-length-5 : tie.Need-same-length-5
+same-length-5 c = search needs
+
+same-length-6 : tie.Need-same-length-6
+same-length-6 c = search needs
+
+returns-3 : tie.Need-returns-3
+returns-3 c = λ s q w. let n = c .before .before .before .before .way-near2 .ensures s q w in rw (c .way-of .ensures) (way-reached s _ n (λ k. let h = n .few k in absurd (omega (arith, h, c .before .before .before .before .before .before .before .before .before .before .before .before .before .before .before .before .before .before .before .before .before .pre .0))))
 
 pub way-to-nearest-spec : {M : Type 1} → statement M
 way-to-nearest-spec =
     tie.close
     (tie.spec
-    search-requires
-    lowest-common-requires
+    way-near-requires
+    enum-known-near
+    enum-told
+    enum-told-2
+    slice-aggregate-way-near
+    way-near-requires-2
+    way-of-requires
     same-length
-    returns
-    cast-t16
-    narrow-requires
-    outward-requires
-    add-t24
     same-length-2
+    returns
     same-length-3
-    returns-2)
+    same-length-4
+    returns-2
+    same-length-5
+    same-length-6
+    returns-3)

@@ -49,10 +49,10 @@ shared-slice-read-add-2 : tie.Need-shared-slice-read-add-2 Inv-loop μ-loop
 shared-slice-read-add-2 c = search needs
 
 cast-add-2 : tie.Need-cast-add-2 Inv-loop μ-loop
-cast-add-2 c = let z = c .before .before .before .before .before .before .before .before .before .before .before .before .before .before .before .before .pre in omega (arith, z .3 (c .before .before .before .loop .c) (omega (arith, c .before .before .loop-test .taken, z .1)))
+cast-add-2 c = let z = c .before .before .before .before .before .before .before .before .before .before .before .before .before .before .before .before .pre in omega (arith, z .3 (c .before .before .before .loop .c) (omega (arith, c .before .before .loop-test .taken, z .1, z .0)))
 
 add-requires-2 : tie.Need-add-requires-2 Inv-loop μ-loop
-add-requires-2 c κs = let z = c .before .before .before .before .before .before .before .before .before .before .before .before .before .before .before .before .pre in omega (arith, z .3 (c .before .before .before .loop .c) (omega (arith, c .before .before .loop-test .taken, z .1)), z .2, c .before .before .before .loop .inv .1)
+add-requires-2 c κs = let z = c .before .before .before .before .before .before .before .before .before .before .before .before .before .before .before .before .pre in omega (arith, z .3 (c .before .before .before .loop .c) (omega (arith, c .before .before .loop-test .taken, z .1, z .0)), z .2, c .before .before .before .loop .inv .1)
 
 add-c : tie.Need-add-c Inv-loop μ-loop
 add-c c = search needs

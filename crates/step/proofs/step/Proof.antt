@@ -1,85 +1,42 @@
--- `step::step` meets its contract. Where the vacate fails nothing has moved, so the swap starts where the step did.
+-- `step::step` meets its contract. Vacating an empty bay moves nothing, so the step is the crossing alone; a finished carrier's bay is held, so the
+-- step is the swap; else the contract is that of making way.
 -- Assumes nothing.
-use mathlib.Core.Path.{_≡_, ap, refl}
-use Prim.Native.Nat.{_<_}
 use native.Mathlib.Omega.{arith}
-use lib.ListN.{length, getD}
+use mathlib.Core.Path.{sym, _∙_}
 use borrow.Author.Needs.{needs}
-use Rattle.bring.proofs.Acting.{acted-done, acted-failed}
-use Rattle.clear.proofs.Clearing.{ready-again}
-use Rattle.step.proofs.Stepping.{heldBy, met-carrier, met-other, met-beside, stepped-swap, r-there, r-inside, w-empty, stepped-cross}
-use Rattle.bring.specs.declared.Tried.the-variants.{Done}
-use Rattle.bring.specs.declared.Tried.the-variants.{Failed}
+use Rattle.paper.proofs.Playing.{bay-in}
+use Rattle.step.proofs.Stepping.{free, stepped-free, held-fails, met-carrier, met-other, met-beside, stepped-swap}
 use Rattle.step.proofs.step.Statement.{statement}
 use Rattle.step.proofs.step.Tie as tie
-
-slice-aggregate-hold : tie.Need-slice-aggregate-hold
-slice-aggregate-hold c = search needs
-
-hold-requires : tie.Need-hold-requires
-hold-requires c κs =
-    let p = c .before .before .before .before .before .before .before .pre .0 in
-    let z = c .before .before .before .before .before .before .before .pre .1 in
-    (z .0, z .1, refl, λ k h. omega (arith, p .placed .inside k h, p .most))
-
-slice-aggregate-make-room : tie.Need-slice-aggregate-make-room
-slice-aggregate-make-room c = search needs
-
-slice-aggregate-make-room-2 : tie.Need-slice-aggregate-make-room-2
-slice-aggregate-make-room-2 c = search needs
-
-make-room-requires : tie.Need-make-room-requires
-make-room-requires c κs =
-    let p = c .before .before .before .before .before .before .before .before .before .before .before .before .before .before .before .pre .0 in
-    let z = c .before .before .before .before .before .before .before .before .before .before .before .before .before .before .before .pre .1 in
-    (p, (z .2, c .before .before .before .before .before .before .before .hold .kept .1 .1 .1 .0, omega (arith, p .most), omega (arith, z .5), heldBy (p .tabled) (c .before .before .before .before .before .before .before .before .before .before .before .before .before .before .before .args .finished) (c .before .before .before .before .before .before .before .before .before .before .before .before .before .before .before .args .r .0) (c .before .before .before .before .before .before .before .before .before .before .before .before .before .before .before .args .placement .now) (c .before .before .before .before .before .before .before .hold .ensures)))
-
-enum-known-vacated : tie.Need-enum-known-vacated
-enum-known-vacated c = search needs
-
-enum-told : tie.Need-enum-told
-enum-told c = search needs
 
 cast-bay : tie.Need-cast-bay
 cast-bay c = search needs
 
-mul-t35 : tie.Need-mul-t35
-mul-t35 c = search needs
+is-in-requires : tie.Need-is-in-requires
+is-in-requires c κs = search needs
 
-slice-read-t37 : tie.Need-slice-read-t37
-slice-read-t37 c = search needs
+cast-own : tie.Need-cast-own
+cast-own c = search needs
 
-cast-t38 : tie.Need-cast-t38
-cast-t38 c =
-    let p = c .before .before .before .before .before .before .before .before .before .before .before .before .before .before .before .before .before .before .before .before .before .before .before .before .before .before .before .before .before .pre .0 in
-    let z = c .before .before .before .before .before .before .before .before .before .before .before .before .before .before .before .before .before .before .before .before .before .before .before .before .before .before .before .before .before .pre .1 in
-    let e : c .before .before .before .before .before .before .before .before .before .before .before .before .before .make-room .result ≡ Failed = c .before .before .enum-told .given .1 in
-    let a = rw e at (c .before .before .before .before .before .before .before .before .before .before .before .before .before .make-room .ensures .1 (heldBy (p .tabled) (c .before .before .before .before .before .before .before .before .before .before .before .before .before .before .before .before .before .before .before .before .before .before .before .before .before .before .before .before .before .args .finished) (c .before .before .before .before .before .before .before .before .before .before .before .before .before .before .before .before .before .before .before .before .before .before .before .before .before .before .before .before .before .args .r .0) (c .before .before .before .before .before .before .before .before .before .before .before .before .before .before .before .before .before .before .before .before .before .before .before .before .before .before .before .before .before .args .placement .now) (c .before .before .before .before .before .before .before .before .before .before .before .before .before .before .before .before .before .before .before .before .before .hold .ensures))) in
-    let u = a .fails (acted-failed a) .1 in
-    let h : getD (c .before .before .before .before .before .before .before .before .before .before .before .before .before .make-room .last .1 .1 .1 .1 .0) (c .before .before .before .before .before .before .before .before .before .before .before .before .before .before .before .before .before .before .before .before .before .before .before .before .before .before .before .before .before .args .w .0) 0 < length (c .before .before .before .before .before .before .before .before .before .before .before .before .before .before .before .before .before .before .before .before .before .before .before .before .before .before .before .before .before .args .placement .now) = rw (u .same-standing) (met-carrier (p .tabled) (p .most) (z .4) (c .before .before .before .before .before .before .before .before .before .before .before .before .before .before .before .before .before .before .before .before .before .before .before .before .before .before .before .before .before .args .finished) (c .before .before .before .before .before .before .before .before .before .before .before .before .before .before .before .before .before .before .before .before .before .before .before .before .before .before .before .before .before .args .r .0) (c .before .before .before .before .before .before .before .before .before .before .before .before .before .before .before .before .before .before .before .before .before .before .before .before .before .before .before .before .before .args .w .0) (c .before .before .before .before .before .before .before .before .before .before .before .before .before .before .before .before .before .before .before .before .before .before .before .before .before .before .before .before .before .args .placement .now) (p .placed) (z .0) (z .2) (z .3) (acted-failed a) .0) in
-    omega (arith, h, p .most, p .placed .few)
+mul-t17 : tie.Need-mul-t17
+mul-t17 c = search needs
 
-swap-requires : tie.Need-swap-requires
-swap-requires c κs =
-    let p = c .before .before .before .before .before .before .before .before .before .before .before .before .before .before .before .before .before .before .before .before .before .before .before .before .before .before .before .before .before .before .before .before .before .pre .0 in
-    let z = c .before .before .before .before .before .before .before .before .before .before .before .before .before .before .before .before .before .before .before .before .before .before .before .before .before .before .before .before .before .before .before .before .before .pre .1 in
-    let e : c .before .before .before .before .before .before .before .before .before .before .before .before .before .before .before .before .before .make-room .result ≡ Failed = c .before .before .before .before .before .before .enum-told .given .1 in
-    let a = rw e at (c .before .before .before .before .before .before .before .before .before .before .before .before .before .before .before .before .before .make-room .ensures .1 (heldBy (p .tabled) (c .before .before .before .before .before .before .before .before .before .before .before .before .before .before .before .before .before .before .before .before .before .before .before .before .before .before .before .before .before .before .before .before .before .args .finished) (c .before .before .before .before .before .before .before .before .before .before .before .before .before .before .before .before .before .before .before .before .before .before .before .before .before .before .before .before .before .before .before .before .before .args .r .0) (c .before .before .before .before .before .before .before .before .before .before .before .before .before .before .before .before .before .before .before .before .before .before .before .before .before .before .before .before .before .before .before .before .before .args .placement .now) (c .before .before .before .before .before .before .before .before .before .before .before .before .before .before .before .before .before .before .before .before .before .before .before .before .before .hold .ensures))) in
-    let f = acted-failed a in
-    let u = a .fails f .1 in
-    let m = met-carrier (p .tabled) (p .most) (z .4) (c .before .before .before .before .before .before .before .before .before .before .before .before .before .before .before .before .before .before .before .before .before .before .before .before .before .before .before .before .before .before .before .before .before .args .finished) (c .before .before .before .before .before .before .before .before .before .before .before .before .before .before .before .before .before .before .before .before .before .before .before .before .before .before .before .before .before .before .before .before .before .args .r .0) (c .before .before .before .before .before .before .before .before .before .before .before .before .before .before .before .before .before .before .before .before .before .before .before .before .before .before .before .before .before .before .before .before .before .args .w .0) (c .before .before .before .before .before .before .before .before .before .before .before .before .before .before .before .before .before .before .before .before .before .before .before .before .before .before .before .before .before .before .before .before .before .args .placement .now) (p .placed) (z .0) (z .2) (z .3) f in
-    let b = met-beside (p .tabled) (p .most) (z .4) (c .before .before .before .before .before .before .before .before .before .before .before .before .before .before .before .before .before .before .before .before .before .before .before .before .before .before .before .before .before .before .before .before .before .args .finished) (c .before .before .before .before .before .before .before .before .before .before .before .before .before .before .before .before .before .before .before .before .before .before .before .before .before .before .before .before .before .before .before .before .before .args .r .0) (c .before .before .before .before .before .before .before .before .before .before .before .before .before .before .before .before .before .before .before .before .before .before .before .before .before .before .before .before .before .before .before .before .before .args .w .0) (c .before .before .before .before .before .before .before .before .before .before .before .before .before .before .before .before .before .before .before .before .before .before .before .before .before .before .before .before .before .before .before .before .before .args .placement .now) (p .placed) (z .0) (z .2) (z .3) f in
-    let sp : c .before .before .before .before .before .before .before .before .before .before .before .before .before .before .before .before .before .make-room .last .1 .1 .1 .0 ≡ c .before .before .before .before .before .before .before .before .before .before .before .before .before .before .before .before .before .before .before .before .before .before .before .before .before .before .before .before .before .before .before .before .before .args .placement .now = u .same-placement in
-    let ss : c .before .before .before .before .before .before .before .before .before .before .before .before .before .before .before .before .before .make-room .last .1 .1 .1 .1 .0 ≡ c .before .before .before .before .before .before .before .before .before .before .before .before .before .before .before .before .before .before .before .before .before .before .before .before .before .before .before .before .before .before .before .before .before .args .standing .now = u .same-standing in
-    let se : c .before .before .before .before .before .before .before .before .before .before .before .before .before .before .before .before .before .make-room .last .1 .1 .1 .1 .1 .0 ≡ c .before .before .before .before .before .before .before .before .before .before .before .before .before .before .before .before .before .before .before .before .before .before .before .before .before .before .before .before .before .before .before .before .before .args .empty .now = u .same-empty in (
-      ready-again p _ _ _ (ap length ss) (ap length se) (rw (sp, ss, se) (p .placed)),
-      (
-        rw sp (z .0),
-        rw (sp, ss) (m .0),
-        rw ss (met-other (p .tabled) (p .most) (z .4) (c .before .before .before .before .before .before .before .before .before .before .before .before .before .before .before .before .before .before .before .before .before .before .before .before .before .before .before .before .before .before .before .before .before .args .finished) (c .before .before .before .before .before .before .before .before .before .before .before .before .before .before .before .before .before .before .before .before .before .before .before .before .before .before .before .before .before .before .before .before .before .args .r .0) (c .before .before .before .before .before .before .before .before .before .before .before .before .before .before .before .before .before .before .before .before .before .before .before .before .before .before .before .before .before .before .before .before .before .args .w .0) (c .before .before .before .before .before .before .before .before .before .before .before .before .before .before .before .before .before .before .before .before .before .before .before .before .before .before .before .before .before .before .before .before .before .args .placement .now) (p .placed) (z .0) (z .2) (z .3) f),
-        z .5,
-        rw (sp, ss) (record { tabled = p .tabled; beside = b }),
-      ),
+slice-read-t19 : tie.Need-slice-read-t19
+slice-read-t19 c = search needs
+
+cross-requires : tie.Need-cross-requires
+cross-requires c κs =
+    let p = c .before .before .before .before .before .before .before .before .before .before .before .before .before .before .before .pre .0 in
+    let z = c .before .before .before .before .before .before .before .before .before .before .before .before .before .before .before .pre .1 in
+    let h = sym (c .before .before .before .before .before .before .if1 .taken) ∙ c .before .before .before .before .before .before .before .is-in .ensures in (
+      p .placed .inside (c .before .before .before .before .before .before .before .before .before .before .before .before .before .before .before .args .r .0) (z .0),
+      z .2,
+      p .most,
+      p .empty-size,
+      omega (arith, z .5),
+      bay-in (c .before .before .before .before .before .before .before .before .before .before .before .before .before .before .before .args .placement .now) (c .before .before .before .before .before .before .before .before .before .before .before .before .before .before .before .args .r .0) (z .0),
+      free (p .tabled) (p .most) (z .4) (c .before .before .before .before .before .before .before .before .before .before .before .before .before .before .before .args .finished) (c .before .before .before .before .before .before .before .before .before .before .before .before .before .before .before .args .r .0) (c .before .before .before .before .before .before .before .before .before .before .before .before .before .before .before .args .w .0) (c .before .before .before .before .before .before .before .before .before .before .before .before .before .before .before .args .placement .now) (p .placed) (z .0) (z .2) (z .3) h,
+      p .placed,
     )
 
 same-length : tie.Need-same-length
@@ -96,46 +53,39 @@ same-length-4 c = search needs
 
 returns : tie.Need-returns
 returns c =
-    let p = c .before .before .before .before .before .before .before .before .before .before .before .before .before .before .before .before .before .before .before .before .before .before .before .before .before .before .before .before .before .before .before .before .before .before .before .before .before .before .before .before .pre .0 in
-    let z = c .before .before .before .before .before .before .before .before .before .before .before .before .before .before .before .before .before .before .before .before .before .before .before .before .before .before .before .before .before .before .before .before .before .before .before .before .before .before .before .before .pre .1 in
-    let e : c .before .before .before .before .before .before .before .before .before .before .before .before .before .before .before .before .before .before .before .before .before .before .before .before .make-room .result ≡ Failed = c .before .before .before .before .before .before .before .before .before .before .before .before .before .enum-told .given .1 in (
-      c .before .before .before .before .before .before .swap .ensures .0,
-      λ t.
-          let a = rw e at (c .before .before .before .before .before .before .before .before .before .before .before .before .before .before .before .before .before .before .before .before .before .before .before .before .make-room .ensures .1 (heldBy t (c .before .before .before .before .before .before .before .before .before .before .before .before .before .before .before .before .before .before .before .before .before .before .before .before .before .before .before .before .before .before .before .before .before .before .before .before .before .before .before .before .args .finished) (c .before .before .before .before .before .before .before .before .before .before .before .before .before .before .before .before .before .before .before .before .before .before .before .before .before .before .before .before .before .before .before .before .before .before .before .before .before .before .before .before .args .r .0) (c .before .before .before .before .before .before .before .before .before .before .before .before .before .before .before .before .before .before .before .before .before .before .before .before .before .before .before .before .before .before .before .before .before .before .before .before .before .before .before .before .args .placement .now) (c .before .before .before .before .before .before .before .before .before .before .before .before .before .before .before .before .before .before .before .before .before .before .before .before .before .before .before .before .before .before .before .before .hold .ensures))) in
-          let f = acted-failed a in
-          let u = a .fails f .1 in
-          let se : c .before .before .before .before .before .before .before .before .before .before .before .before .before .before .before .before .before .before .before .before .before .before .before .before .make-room .last .1 .1 .1 .1 .1 .0 ≡ c .before .before .before .before .before .before .before .before .before .before .before .before .before .before .before .before .before .before .before .before .before .before .before .before .before .before .before .before .before .before .before .before .before .before .before .before .before .before .before .before .args .empty .now = u .same-empty in
-          rw se (stepped-swap t (p .most) (z .4) (c .before .before .before .before .before .before .before .before .before .before .before .before .before .before .before .before .before .before .before .before .before .before .before .before .before .before .before .before .before .before .before .before .before .before .before .before .before .before .before .before .args .finished) (c .before .before .before .before .before .before .before .before .before .before .before .before .before .before .before .before .before .before .before .before .before .before .before .before .before .before .before .before .before .before .before .before .before .before .before .before .before .before .before .before .args .r .0) (c .before .before .before .before .before .before .before .before .before .before .before .before .before .before .before .before .before .before .before .before .before .before .before .before .before .before .before .before .before .before .before .before .before .before .before .before .before .before .before .before .args .w .0) (c .before .before .before .before .before .before .before .before .before .before .before .before .before .before .before .before .before .before .before .before .before .before .before .before .before .before .before .before .before .before .before .before .before .before .before .before .before .before .before .before .args .placement .now) (p .placed) (z .0) (z .2) (z .3) f
-          ((rw (u .same-placement, u .same-standing, u .same-empty, u .same-list) at (c .before .before .before .before .before .before .swap .ensures .1)) t (met-beside t (p .most) (z .4) (c .before .before .before .before .before .before .before .before .before .before .before .before .before .before .before .before .before .before .before .before .before .before .before .before .before .before .before .before .before .before .before .before .before .before .before .before .before .before .before .before .args .finished) (c .before .before .before .before .before .before .before .before .before .before .before .before .before .before .before .before .before .before .before .before .before .before .before .before .before .before .before .before .before .before .before .before .before .before .before .before .before .before .before .before .args .r .0) (c .before .before .before .before .before .before .before .before .before .before .before .before .before .before .before .before .before .before .before .before .before .before .before .before .before .before .before .before .before .before .before .before .before .before .before .before .before .before .before .before .args .w .0) (c .before .before .before .before .before .before .before .before .before .before .before .before .before .before .before .before .before .before .before .before .before .before .before .before .before .before .before .before .before .before .before .before .before .before .before .before .before .before .before .before .args .placement .now) (p .placed) (z .0) (z .2) (z .3) f))),
+    let p = c .before .before .before .before .before .before .before .before .before .before .before .before .before .before .before .before .before .before .before .before .before .before .before .before .pre .0 in
+    let z = c .before .before .before .before .before .before .before .before .before .before .before .before .before .before .before .before .before .before .before .before .before .before .before .before .pre .1 in
+    let h = sym (c .before .before .before .before .before .before .before .before .before .before .before .before .before .before .before .if1 .taken) ∙ c .before .before .before .before .before .before .before .before .before .before .before .before .before .before .before .before .is-in .ensures in
+    let crossed = c .before .before .before .before .before .before .before .before .cross .ensures in (
+      omega (arith, crossed .counted),
+      λ t. stepped-free t (p .most) (z .4) (c .before .before .before .before .before .before .before .before .before .before .before .before .before .before .before .before .before .before .before .before .before .before .before .before .args .finished) (c .before .before .before .before .before .before .before .before .before .before .before .before .before .before .before .before .before .before .before .before .before .before .before .before .args .r .0) (c .before .before .before .before .before .before .before .before .before .before .before .before .before .before .before .before .before .before .before .before .before .before .before .before .args .w .0) (c .before .before .before .before .before .before .before .before .before .before .before .before .before .before .before .before .before .before .before .before .before .before .before .before .args .placement .now) (p .placed) (z .0) (z .2) (z .3) h crossed,
     )
 
-cast-own : tie.Need-cast-own
-cast-own c = search needs
+mul-s : tie.Need-mul-s
+mul-s c = search needs
 
-mul-t47 : tie.Need-mul-t47
-mul-t47 c = search needs
+slice-read-s : tie.Need-slice-read-s
+slice-read-s c = search needs
 
-slice-read-t49 : tie.Need-slice-read-t49
-slice-read-t49 c = search needs
+cast-if2 : tie.Need-cast-if2
+cast-if2 c = omega (arith, c .slice-known10 .given (c .before .before .before .before .before .before .before .before .before .before .args .w .0))
 
-cross-requires : tie.Need-cross-requires
-cross-requires c κs =
-    let p = c .before .before .before .before .before .before .before .before .before .before .before .before .before .before .before .before .before .before .before .before .before .before .before .before .before .before .before .before .before .before .before .before .before .before .pre .0 in
-    let z = c .before .before .before .before .before .before .before .before .before .before .before .before .before .before .before .before .before .before .before .before .before .before .before .before .before .before .before .before .before .before .before .before .before .before .pre .1 in
-    let m = c .before .before .before .before .before .before .before .vacated .given .0 .0 in
-    let e : c .before .before .before .before .before .before .before .before .before .before .before .before .before .before .before .before .before .before .make-room .result ≡ Done m = c .before .before .before .before .before .before .before .vacated .given .1 in
-    let few = rw e at (c .before .before .before .before .before .before .before .before .before .before .before .before .before .before .before .before .before .before .make-room .ensures .0) in
-    let kw : length (c .before .before .before .before .before .before .before .before .before .before .before .before .before .before .before .before .before .before .make-room .last .1 .1 .1 .1 .0) ≡ length (c .before .before .before .before .before .before .before .before .before .before .before .before .before .before .before .before .before .before .before .before .before .before .before .before .before .before .before .before .before .before .before .before .before .before .args .standing .now) = c .before .before .before .before .before .before .before .before .before .before .before .before .before .before .before .before .before .before .make-room .kept .1 .1 .1 .1 .0 in
-    let kf : length (c .before .before .before .before .before .before .before .before .before .before .before .before .before .before .before .before .before .before .make-room .last .1 .1 .1 .1 .1 .0) ≡ length (c .before .before .before .before .before .before .before .before .before .before .before .before .before .before .before .before .before .before .before .before .before .before .before .before .before .before .before .before .before .before .before .before .before .before .args .empty .now) = c .before .before .before .before .before .before .before .before .before .before .before .before .before .before .before .before .before .before .make-room .kept .1 .1 .1 .1 .1 .0 in
-    let d = acted-done (rw e at (c .before .before .before .before .before .before .before .before .before .before .before .before .before .before .before .before .before .before .make-room .ensures .1 (heldBy (p .tabled) (c .before .before .before .before .before .before .before .before .before .before .before .before .before .before .before .before .before .before .before .before .before .before .before .before .before .before .before .before .before .before .before .before .before .before .args .finished) (c .before .before .before .before .before .before .before .before .before .before .before .before .before .before .before .before .before .before .before .before .before .before .before .before .before .before .before .before .before .before .before .before .before .before .args .r .0) (c .before .before .before .before .before .before .before .before .before .before .before .before .before .before .before .before .before .before .before .before .before .before .before .before .before .before .before .before .before .before .before .before .before .before .args .placement .now) (c .before .before .before .before .before .before .before .before .before .before .before .before .before .before .before .before .before .before .before .before .before .before .before .before .before .before .hold .ensures)))) in (
-      rw kw (d .2 .placed .inside (c .before .before .before .before .before .before .before .before .before .before .before .before .before .before .before .before .before .before .before .before .before .before .before .before .before .before .before .before .before .before .before .before .before .before .args .r .0) (r-inside (p .tabled) (p .most) (z .4) (c .before .before .before .before .before .before .before .before .before .before .before .before .before .before .before .before .before .before .before .before .before .before .before .before .before .before .before .before .before .before .before .before .before .before .args .finished) (c .before .before .before .before .before .before .before .before .before .before .before .before .before .before .before .before .before .before .before .before .before .before .before .before .before .before .before .before .before .before .before .before .before .before .args .r .0) (c .before .before .before .before .before .before .before .before .before .before .before .before .before .before .before .before .before .before .before .before .before .before .before .before .before .before .before .before .before .before .before .before .before .before .args .w .0) (c .before .before .before .before .before .before .before .before .before .before .before .before .before .before .before .before .before .before .before .before .before .before .before .before .before .before .before .before .before .before .before .before .before .before .args .placement .now) (p .placed) (z .0) (z .2) (z .3) (d .0) (d .1) _ (d .2 .moved))),
-      rw kw (z .2),
-      omega (arith, p .most, kw),
-      omega (arith, p .empty-size, kf),
-      omega (arith, few, z .5),
-      r-there (p .tabled) (p .most) (z .4) (c .before .before .before .before .before .before .before .before .before .before .before .before .before .before .before .before .before .before .before .before .before .before .before .before .before .before .before .before .before .before .before .before .before .before .args .finished) (c .before .before .before .before .before .before .before .before .before .before .before .before .before .before .before .before .before .before .before .before .before .before .before .before .before .before .before .before .before .before .before .before .before .before .args .r .0) (c .before .before .before .before .before .before .before .before .before .before .before .before .before .before .before .before .before .before .before .before .before .before .before .before .before .before .before .before .before .before .before .before .before .before .args .w .0) (c .before .before .before .before .before .before .before .before .before .before .before .before .before .before .before .before .before .before .before .before .before .before .before .before .before .before .before .before .before .before .before .before .before .before .args .placement .now) (p .placed) (z .0) (z .2) (z .3) (d .0) (d .1) _ (d .2 .moved),
-      w-empty (p .tabled) (p .most) (z .4) (c .before .before .before .before .before .before .before .before .before .before .before .before .before .before .before .before .before .before .before .before .before .before .before .before .before .before .before .before .before .before .before .before .before .before .args .finished) (c .before .before .before .before .before .before .before .before .before .before .before .before .before .before .before .before .before .before .before .before .before .before .before .before .before .before .before .before .before .before .before .before .before .before .args .r .0) (c .before .before .before .before .before .before .before .before .before .before .before .before .before .before .before .before .before .before .before .before .before .before .before .before .before .before .before .before .before .before .before .before .before .before .args .w .0) (c .before .before .before .before .before .before .before .before .before .before .before .before .before .before .before .before .before .before .before .before .before .before .before .before .before .before .before .before .before .before .before .before .before .before .args .placement .now) (p .placed) (z .0) (z .2) (z .3) (d .0) (d .1) _ (d .2 .moved),
-      rw kw (d .2 .placed),
+cast-t32 : tie.Need-cast-t32
+cast-t32 c = search needs
+
+swap-requires : tie.Need-swap-requires
+swap-requires c κs =
+    let p = c .before .before .before .before .before .before .before .before .before .before .before .before .before .before .before .pre .0 in
+    let z = c .before .before .before .before .before .before .before .before .before .before .before .before .before .before .before .pre .1 in
+    let f = held-fails (p .tabled) (p .most) (z .4) (c .before .before .before .before .before .before .before .before .before .before .before .before .before .before .before .args .finished) (c .before .before .before .before .before .before .before .before .before .before .before .before .before .before .before .args .r .0) (c .before .before .before .before .before .before .before .before .before .before .before .before .before .before .before .args .w .0) (c .before .before .before .before .before .before .before .before .before .before .before .before .before .before .before .args .placement .now) (p .placed) (z .0) (z .2) (z .3) (z .1) (omega (arith, c .before .before .before .before .if2 .taken)) in (
+      p,
+      (
+        z .0,
+        met-carrier (p .tabled) (p .most) (z .4) (c .before .before .before .before .before .before .before .before .before .before .before .before .before .before .before .args .finished) (c .before .before .before .before .before .before .before .before .before .before .before .before .before .before .before .args .r .0) (c .before .before .before .before .before .before .before .before .before .before .before .before .before .before .before .args .w .0) (c .before .before .before .before .before .before .before .before .before .before .before .before .before .before .before .args .placement .now) (p .placed) (z .0) (z .2) (z .3) f .0,
+        met-other (p .tabled) (p .most) (z .4) (c .before .before .before .before .before .before .before .before .before .before .before .before .before .before .before .args .finished) (c .before .before .before .before .before .before .before .before .before .before .before .before .before .before .before .args .r .0) (c .before .before .before .before .before .before .before .before .before .before .before .before .before .before .before .args .w .0) (c .before .before .before .before .before .before .before .before .before .before .before .before .before .before .before .args .placement .now) (p .placed) (z .0) (z .2) (z .3) f,
+        z .5,
+        record { tabled = p .tabled; beside = met-beside (p .tabled) (p .most) (z .4) (c .before .before .before .before .before .before .before .before .before .before .before .before .before .before .before .args .finished) (c .before .before .before .before .before .before .before .before .before .before .before .before .before .before .before .args .r .0) (c .before .before .before .before .before .before .before .before .before .before .before .before .before .before .before .args .w .0) (c .before .before .before .before .before .before .before .before .before .before .before .before .before .before .before .args .placement .now) (p .placed) (z .0) (z .2) (z .3) f },
+      ),
     )
 
 same-length-5 : tie.Need-same-length-5
@@ -152,46 +102,60 @@ same-length-8 c = search needs
 
 returns-2 : tie.Need-returns-2
 returns-2 c =
-    let p = c .before .before .before .before .before .before .before .before .before .before .before .before .before .before .before .before .before .before .before .before .before .before .before .before .before .before .before .before .before .before .before .before .before .before .before .before .before .before .before .before .before .before .before .pre .0 in
-    let z = c .before .before .before .before .before .before .before .before .before .before .before .before .before .before .before .before .before .before .before .before .before .before .before .before .before .before .before .before .before .before .before .before .before .before .before .before .before .before .before .before .before .before .before .pre .1 in
-    let m = c .before .before .before .before .before .before .before .before .before .before .before .before .before .before .before .before .vacated .given .0 .0 in
-    let e : c .before .before .before .before .before .before .before .before .before .before .before .before .before .before .before .before .before .before .before .before .before .before .before .before .before .before .before .make-room .result ≡ Done m = c .before .before .before .before .before .before .before .before .before .before .before .before .before .before .before .before .vacated .given .1 in
-    let few = rw e at (c .before .before .before .before .before .before .before .before .before .before .before .before .before .before .before .before .before .before .before .before .before .before .before .before .before .before .before .make-room .ensures .0) in
-    let kw : length (c .before .before .before .before .before .before .before .before .before .before .before .before .before .before .before .before .before .before .before .before .before .before .before .before .before .before .before .make-room .last .1 .1 .1 .1 .0) ≡ length (c .before .before .before .before .before .before .before .before .before .before .before .before .before .before .before .before .before .before .before .before .before .before .before .before .before .before .before .before .before .before .before .before .before .before .before .before .before .before .before .before .before .before .before .args .standing .now) = c .before .before .before .before .before .before .before .before .before .before .before .before .before .before .before .before .before .before .before .before .before .before .before .before .before .before .before .make-room .kept .1 .1 .1 .1 .0 in
-    let crossed = rw kw at (c .before .before .before .before .before .before .before .before .cross .ensures) in (
-      omega (arith, few, crossed .counted),
+    let p = c .before .before .before .before .before .before .before .before .before .before .before .before .before .before .before .before .before .before .before .before .before .before .pre .0 in
+    let z = c .before .before .before .before .before .before .before .before .before .before .before .before .before .before .before .before .before .before .before .before .before .before .pre .1 in (
+      c .before .before .before .before .before .before .swap .ensures .0,
       λ t.
-          let d = acted-done (rw e at (c .before .before .before .before .before .before .before .before .before .before .before .before .before .before .before .before .before .before .before .before .before .before .before .before .before .before .before .make-room .ensures .1 (heldBy t (c .before .before .before .before .before .before .before .before .before .before .before .before .before .before .before .before .before .before .before .before .before .before .before .before .before .before .before .before .before .before .before .before .before .before .before .before .before .before .before .before .before .before .before .args .finished) (c .before .before .before .before .before .before .before .before .before .before .before .before .before .before .before .before .before .before .before .before .before .before .before .before .before .before .before .before .before .before .before .before .before .before .before .before .before .before .before .before .before .before .before .args .r .0) (c .before .before .before .before .before .before .before .before .before .before .before .before .before .before .before .before .before .before .before .before .before .before .before .before .before .before .before .before .before .before .before .before .before .before .before .before .before .before .before .before .before .before .before .args .placement .now) (c .before .before .before .before .before .before .before .before .before .before .before .before .before .before .before .before .before .before .before .before .before .before .before .before .before .before .before .before .before .before .before .before .before .before .before .hold .ensures)))) in
-          stepped-cross t (p .most) (z .4) (c .before .before .before .before .before .before .before .before .before .before .before .before .before .before .before .before .before .before .before .before .before .before .before .before .before .before .before .before .before .before .before .before .before .before .before .before .before .before .before .before .before .before .before .args .finished) (c .before .before .before .before .before .before .before .before .before .before .before .before .before .before .before .before .before .before .before .before .before .before .before .before .before .before .before .before .before .before .before .before .before .before .before .before .before .before .before .before .before .before .before .args .r .0) (c .before .before .before .before .before .before .before .before .before .before .before .before .before .before .before .before .before .before .before .before .before .before .before .before .before .before .before .before .before .before .before .before .before .before .before .before .before .before .before .before .before .before .before .args .w .0) (c .before .before .before .before .before .before .before .before .before .before .before .before .before .before .before .before .before .before .before .before .before .before .before .before .before .before .before .before .before .before .before .before .before .before .before .before .before .before .before .before .before .before .before .args .placement .now) (p .placed) (z .0) (z .2) (z .3) (d .0) (d .1) (d .2) crossed,
+          let f = held-fails t (p .most) (z .4) (c .before .before .before .before .before .before .before .before .before .before .before .before .before .before .before .before .before .before .before .before .before .before .args .finished) (c .before .before .before .before .before .before .before .before .before .before .before .before .before .before .before .before .before .before .before .before .before .before .args .r .0) (c .before .before .before .before .before .before .before .before .before .before .before .before .before .before .before .before .before .before .before .before .before .before .args .w .0) (c .before .before .before .before .before .before .before .before .before .before .before .before .before .before .before .before .before .before .before .before .before .before .args .placement .now) (p .placed) (z .0) (z .2) (z .3) (z .1) (omega (arith, c .before .before .before .before .before .before .before .before .before .before .before .if2 .taken)) in
+          stepped-swap t (p .most) (z .4) (c .before .before .before .before .before .before .before .before .before .before .before .before .before .before .before .before .before .before .before .before .before .before .args .finished) (c .before .before .before .before .before .before .before .before .before .before .before .before .before .before .before .before .before .before .before .before .before .before .args .r .0) (c .before .before .before .before .before .before .before .before .before .before .before .before .before .before .before .before .before .before .before .before .before .before .args .w .0) (c .before .before .before .before .before .before .before .before .before .before .before .before .before .before .before .before .before .before .before .before .before .before .args .placement .now) (p .placed) (z .0) (z .2) (z .3) f (c .before .before .before .before .before .before .swap .ensures .1 t (met-beside t (p .most) (z .4) (c .before .before .before .before .before .before .before .before .before .before .before .before .before .before .before .before .before .before .before .before .before .before .args .finished) (c .before .before .before .before .before .before .before .before .before .before .before .before .before .before .before .before .before .before .before .before .before .before .args .r .0) (c .before .before .before .before .before .before .before .before .before .before .before .before .before .before .before .before .before .before .before .before .before .before .args .w .0) (c .before .before .before .before .before .before .before .before .before .before .before .before .before .before .before .before .before .before .before .before .before .before .args .placement .now) (p .placed) (z .0) (z .2) (z .3) f)),
     )
+
+make-way-requires : tie.Need-make-way-requires
+make-way-requires c κs = search needs
+
+same-length-9 : tie.Need-same-length-9
+same-length-9 c = search needs
+
+same-length-10 : tie.Need-same-length-10
+same-length-10 c = search needs
+
+same-length-11 : tie.Need-same-length-11
+same-length-11 c = search needs
+
+same-length-12 : tie.Need-same-length-12
+same-length-12 c = search needs
+
+returns-3 : tie.Need-returns-3
+returns-3 c = search needs
 
 pub step-spec : {M : Type 1} → statement M
 step-spec =
     tie.close
     (tie.spec
-    slice-aggregate-hold
-    hold-requires
-    slice-aggregate-make-room
-    slice-aggregate-make-room-2
-    make-room-requires
-    enum-known-vacated
-    enum-told
     cast-bay
-    mul-t35
-    slice-read-t37
-    cast-t38
-    swap-requires
+    is-in-requires
+    cast-own
+    mul-t17
+    slice-read-t19
+    cross-requires
     same-length
     same-length-2
     same-length-3
     same-length-4
     returns
-    cast-own
-    mul-t47
-    slice-read-t49
-    cross-requires
+    mul-s
+    slice-read-s
+    cast-if2
+    cast-t32
+    swap-requires
     same-length-5
     same-length-6
     same-length-7
     same-length-8
-    returns-2)
+    returns-2
+    make-way-requires
+    same-length-9
+    same-length-10
+    same-length-11
+    same-length-12
+    returns-3)

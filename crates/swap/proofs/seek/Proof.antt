@@ -2,74 +2,83 @@
 -- Assumes nothing.
 use mathlib.Core.Path.{_≡_, sym, _∙_, refl}
 use mathlib.Core.Bool.{true}
-use Prim.Native.Nat.{_≤_, _<_, _-_, _+_}
+use Prim.Native.Nat.{_≤_, _<_, _-_}
 use native.Mathlib.Omega.{arith}
 use lib.ListN.{length}
 use borrow.Author.Needs.{needs}
-use Rattle.words.specs.Sets.{mem, span}
+use Rattle.paper.specs.Yard.{bayOf}
+use Rattle.words.specs.Sets.{mem, words, span}
+use Rattle.words.proofs.Sets.{zeros, mem-zeros}
 use Rattle.swap.specs.Seeking.{Beside}
+use Rattle.rings.proofs.Searching.{Widening, widening-first, widening-more, widening-rows}
 use Rattle.bring.specs.Acting.{Tabled}
+use Rattle.bring.specs.declared.Tried.the-variants.{Done, Failed}
 use Rattle.trial.proofs.Copying.{freeShown}
-use Rattle.swap.proofs.Seeking.{Sought, sought-first, sought-found, ring-is, sought-end, sought-start, sought-more, sought-next, reached-from, ring-low, near-of}
+use Rattle.swap.proofs.Seeking.{Sought, sought-first, sought-found, sought-end, sought-start, sought-more, sought-next, reached-from, ring-low, near-of}
 use Rattle.swap.proofs.seek.Statement.{statement}
 use Rattle.swap.proofs.seek.Tie as tie
 
 abbrev Inv-loop : tie.InvT-loop
-Inv-loop table r s placement standing empty carrier n rows far d ring v₀ v =
-    (v ≤ span) × (v < span → mem ring v ≡ true) × ((t : Tabled (length standing) table) → Beside (t .yard) (r .0) (s .0) placement → Sought (t .yard) (r .0) (s .0) placement d v)
+Inv-loop table r s placement standing empty log₀ carrier u n seen ring d v₀ log v = (length log ≡ length log₀) × (v ≤ span) × (v < span → mem ring v ≡ true) × ((t : Tabled (length standing) table) → Beside (t .yard) (r .0) (s .0) placement → Sought (t .yard) (r .0) (s .0) placement d v)
 
 abbrev μ-loop : tie.MeasureT-loop
-μ-loop table r s placement standing empty carrier n rows far d ring v₀ v =
-    span - v
+μ-loop table r s placement standing empty log₀ carrier u n seen ring d v₀ log v = span - v
 
 abbrev Inv-nearest : tie.InvT-nearest
-Inv-nearest table r s placement standing empty carrier n rows far d₀ d =
-    (d ≤ far + 1) × ((t : Tabled (length standing) table) → Beside (t .yard) (r .0) (s .0) placement → Sought (t .yard) (r .0) (s .0) placement d 0)
+Inv-nearest table r s placement standing empty log₀ carrier u n seen₀ ring₀ d₀ log seen ring d = (length log ≡ length log₀) × (length seen ≡ words) × (length ring ≡ words) × (d ≤ length standing) × ((t : Tabled (length standing) table) → d < length standing → Widening (freeShown t) (bayOf placement (r .0)) d seen ring) × ((t : Tabled (length standing) table) → Beside (t .yard) (r .0) (s .0) placement → Sought (t .yard) (r .0) (s .0) placement d 0)
 
 abbrev μ-nearest : tie.MeasureT-nearest
-μ-nearest table r s placement standing empty carrier n rows far d₀ d =
-    far + 1 - d
+μ-nearest table r s placement standing empty log₀ carrier u n seen₀ ring₀ d₀ log seen ring d = length standing - d
 
 cast-carrier : tie.Need-cast-carrier Inv-loop μ-loop Inv-nearest μ-nearest
 cast-carrier c = search needs
 
-mul-t17 : tie.Need-mul-t17 Inv-loop μ-loop Inv-nearest μ-nearest
-mul-t17 c = search needs
+mul-u : tie.Need-mul-u Inv-loop μ-loop Inv-nearest μ-nearest
+mul-u c = search needs
 
-shared-slice-read-t19 : tie.Need-shared-slice-read-t19 Inv-loop μ-loop Inv-nearest μ-nearest
-shared-slice-read-t19 c = search needs
+shared-slice-read-u : tie.Need-shared-slice-read-u Inv-loop μ-loop Inv-nearest μ-nearest
+shared-slice-read-u c = search needs
 
-slice-aggregate-search : tie.Need-slice-aggregate-search Inv-loop μ-loop Inv-nearest μ-nearest
-slice-aggregate-search c = search needs
+cast-u : tie.Need-cast-u Inv-loop μ-loop Inv-nearest μ-nearest
+cast-u c =
+    let p = c .before .before .before .before .before .before .before .pre .0 in
+    let z = c .before .before .before .before .before .before .before .pre .1 in
+    let a = c .before .before .before .before .before .before .before .args in
+    let hu = p .placed .inside (a .r .0) (z .0) in
+    omega (arith, hu, p .most)
 
-slice-aggregate-search-2 : tie.Need-slice-aggregate-search-2 Inv-loop μ-loop Inv-nearest μ-nearest
-slice-aggregate-search-2 c = search needs
+slice-aggregate-add : tie.Need-slice-aggregate-add Inv-loop μ-loop Inv-nearest μ-nearest
+slice-aggregate-add c = search needs
 
-slice-aggregate-search-3 : tie.Need-slice-aggregate-search-3 Inv-loop μ-loop Inv-nearest μ-nearest
-slice-aggregate-search-3 c = search needs
+add-requires : tie.Need-add-requires Inv-loop μ-loop Inv-nearest μ-nearest
+add-requires c κs =
+    let p = c .before .before .before .before .before .before .before .before .pre .0 in
+    let z = c .before .before .before .before .before .before .before .before .pre .1 in
+    let a = c .before .before .before .before .before .before .before .before .args in
+    let hu = p .placed .inside (a .r .0) (z .0) in
+    omega (arith, hu, p .most)
 
-search-requires : tie.Need-search-requires Inv-loop μ-loop Inv-nearest μ-nearest
-search-requires c κs =
-    let p = c .before .before .before .before .before .before .before .before .before .pre .0 in
-    (p .most, p .placed .inside (c .before .before .before .before .before .before .before .before .before .args .r .0) (c .before .before .before .before .before .before .before .before .before .pre .1 .0), omega (arith, p .table-size), refl, refl, omega (arith, p .most), freeShown (p .tabled))
+slice-aggregate-add-2 : tie.Need-slice-aggregate-add-2 Inv-loop μ-loop Inv-nearest μ-nearest
+slice-aggregate-add-2 c = search needs
+
+add-requires-2 : tie.Need-add-requires-2 Inv-loop μ-loop Inv-nearest μ-nearest
+add-requires-2 c κs =
+    let p = c .before .before .before .before .before .before .before .before .before .before .before .pre .0 in
+    let z = c .before .before .before .before .before .before .before .before .before .before .before .pre .1 in
+    let a = c .before .before .before .before .before .before .before .before .before .before .before .args in
+    let hu = p .placed .inside (a .r .0) (z .0) in
+    omega (arith, hu, p .most)
 
 nearest-holds : tie.Need-nearest-holds Inv-loop μ-loop Inv-nearest μ-nearest
-nearest-holds c = (omega arith, λ t b. sought-first t _ _ _)
+nearest-holds c =
+    let p = c .before .before .before .before .before .before .before .before .before .before .before .before .before .pre .0 in
+    let z = c .before .before .before .before .before .before .before .before .before .before .before .before .before .pre .1 in
+    let a = c .before .before .before .before .before .before .before .before .before .before .before .before .before .args in
+    let hu = p .placed .inside (a .r .0) (z .0) in
+    (refl, search needs, search needs, omega arith, λ t h. widening-first (freeShown t) _ (zeros words) (zeros words) hu (λ b l. refl) (c .before .before .before .before .add .ensures) (mem-zeros words) (c .before .add2 .ensures), λ t b. sought-first t _ _ _)
 
-slice-aggregate-join-row : tie.Need-slice-aggregate-join-row Inv-loop μ-loop Inv-nearest μ-nearest
-slice-aggregate-join-row c = search needs
-
-slice-aggregate-join-row-2 : tie.Need-slice-aggregate-join-row-2 Inv-loop μ-loop Inv-nearest μ-nearest
-slice-aggregate-join-row-2 c = search needs
-
-join-row-requires : tie.Need-join-row-requires Inv-loop μ-loop Inv-nearest μ-nearest
-join-row-requires c κs =
-    let p = c .before .before .before .before .before .before .before .before .before .before .before .before .before .before .before .pre .0 in
-    let q = c .before .before .before .before .before .search .ensures (freeShown (p .tabled)) in
-    let kept : length (c .before .before .before .before .before .search .last .1 .1 .1 .1 .1 .0) ≡ 1024 = c .before .before .before .before .before .search .kept .1 .1 .1 .1 .1 .0 in
-    (refl, omega (arith, q .far, p .most, c .before .before .if1 .left, kept))
-
-slice-aggregate-next-from : tie.Need-slice-aggregate-next-from Inv-loop μ-loop Inv-nearest μ-nearest
+slice-aggregate-next-from :
+    tie.Need-slice-aggregate-next-from Inv-loop μ-loop Inv-nearest μ-nearest
 slice-aggregate-next-from c = search needs
 
 next-from-requires : tie.Need-next-from-requires Inv-loop μ-loop Inv-nearest μ-nearest
@@ -77,30 +86,34 @@ next-from-requires c κs = search needs
 
 loop-holds : tie.Need-loop-holds Inv-loop μ-loop Inv-nearest μ-nearest
 loop-holds c =
-    let p = c .before .before .before .before .before .before .before .before .before .before .before .before .before .before .before .before .before .before .before .pre .0 in
-    let hu = p .placed .inside (c .before .before .before .before .before .before .before .before .before .before .before .before .before .before .before .before .before .before .before .args .r .0) (c .before .before .before .before .before .before .before .before .before .before .before .before .before .before .before .before .before .before .before .pre .1 .0) in
-    let l = c .next-from .ensures in (
-      l .upto,
-      l .hit,
-      λ t b.
-          let q = c .before .before .before .before .before .before .before .before .before .search .ensures (freeShown t) in
-          sought-start t _ _ _ (p .most) hu q _ _ (ring-is t (c .before .before .before .before .before .before .before .before .before .before .before .before .before .before .before .before .before .before .before .args .r .0) (c .before .before .before .before .before .before .before .before .before .before .before .before .before .before .before .before .before .before .before .args .s .0) (c .before .before .before .before .before .before .before .before .before .before .before .before .before .before .before .before .before .before .before .args .placement .now) (p .most) hu q _ _ (c .before .before .before .before .before .before .if1 .left) (c .before .before .before .join-row .ensures)) _ (c .before .before .before .before .before .before .before .nearest .inv .1 t b) l,
-    )
+    let p = c .before .before .before .before .before .before .before .before .before .before .before .before .before .before .before .before .before .pre .0 in
+    let z = c .before .before .before .before .before .before .before .before .before .before .before .before .before .before .before .before .before .pre .1 in
+    let a = c .before .before .before .before .before .before .before .before .before .before .before .before .before .before .before .before .before .args in
+    let hu = p .placed .inside (a .r .0) (z .0) in
+    let l = c .next-from .ensures in
+    (refl, l .upto, l .hit, λ t b. sought-start t _ _ _ (p .most) hu _ _ (c .before .before .before .nearest .inv .4 t (c .before .before .if1 .left) .ringing) _ (c .before .before .before .nearest .inv .5 t b) l)
 
-cast-t36 : tie.Need-cast-t36 Inv-loop μ-loop Inv-nearest μ-nearest
-cast-t36 c = search needs
+cast-t31 : tie.Need-cast-t31 Inv-loop μ-loop Inv-nearest μ-nearest
+cast-t31 c = search needs
 
-fits-requires : tie.Need-fits-requires Inv-loop μ-loop Inv-nearest μ-nearest
-fits-requires c κs =
-    let p = c .before .before .before .before .before .before .before .before .before .before .before .before .before .before .before .before .before .before .before .before .before .pre .0 in
-    let z = c .before .before .before .before .before .before .before .before .before .before .before .before .before .before .before .before .before .before .before .before .before .pre .1 in
-    let hu = p .placed .inside (c .before .before .before .before .before .before .before .before .before .before .before .before .before .before .before .before .before .before .before .before .before .args .r .0) (z .0) in
-    let q = c .before .before .before .before .before .before .before .before .before .before .before .search .ensures (freeShown (p .tabled)) in
-    let h = c .loop-test .taken in
-    let i = sym (ring-is (p .tabled) (c .before .before .before .before .before .before .before .before .before .before .before .before .before .before .before .before .before .before .before .before .before .args .r .0) (c .before .before .before .before .before .before .before .before .before .before .before .before .before .before .before .before .before .before .before .before .before .args .s .0) (c .before .before .before .before .before .before .before .before .before .before .before .before .before .before .before .before .before .before .before .before .before .args .placement .now) (p .most) hu q _ _ (c .before .before .before .before .before .before .before .before .if1 .left) (c .before .before .before .before .before .join-row .ensures) _ h) ∙ c .before .loop .inv .1 h in
-    (p, (z .0, z .1, z .2, ring-low (p .tabled) (c .before .before .before .before .before .before .before .before .before .before .before .before .before .before .before .before .before .before .before .before .before .args .r .0) (c .before .before .before .before .before .before .before .before .before .before .before .before .before .before .before .before .before .before .before .before .before .args .s .0) (c .before .before .before .before .before .before .before .before .before .before .before .before .before .before .before .before .before .before .before .before .before .args .placement .now) (p .most) hu q _ _ i))
+try-junction-requires : tie.Need-try-junction-requires Inv-loop μ-loop Inv-nearest μ-nearest
+try-junction-requires c κs =
+    let p = c .before .before .before .before .before .before .before .before .before .before .before .before .before .before .before .before .before .before .before .before .pre .0 in
+    let z = c .before .before .before .before .before .before .before .before .before .before .before .before .before .before .before .before .before .before .before .before .pre .1 in
+    let a = c .before .before .before .before .before .before .before .before .before .before .before .before .before .before .before .before .before .before .before .before .args in
+    let hu = p .placed .inside (a .r .0) (z .0) in
+    let h = c .before .loop-test .taken in
+    let i = sym (c .before .before .before .before .before .before .nearest .inv .4 (p .tabled) (c .before .before .before .before .before .if1 .left) .ringing _ h) ∙ c .before .before .loop .inv .2 h in
+    (p, (z .0, z .1, z .2, ring-low (p .tabled) (a .r .0) (a .s .0) (a .placement .now) (p .most) hu _ _ i))
 
-slice-aggregate-next-from-2 : tie.Need-slice-aggregate-next-from-2 Inv-loop μ-loop Inv-nearest μ-nearest
+enum-known-tried : tie.Need-enum-known-tried Inv-loop μ-loop Inv-nearest μ-nearest
+enum-known-tried c = search needs
+
+enum-told : tie.Need-enum-told Inv-loop μ-loop Inv-nearest μ-nearest
+enum-told c = search needs
+
+slice-aggregate-next-from-2 :
+    tie.Need-slice-aggregate-next-from-2 Inv-loop μ-loop Inv-nearest μ-nearest
 slice-aggregate-next-from-2 c = search needs
 
 add-next-from : tie.Need-add-next-from Inv-loop μ-loop Inv-nearest μ-nearest
@@ -114,57 +127,89 @@ loop-less c = search needs
 
 loop-again : tie.Need-loop-again Inv-loop μ-loop Inv-nearest μ-nearest
 loop-again c =
-    let p = c .before .before .before .before .before .before .before .before .before .before .before .before .before .before .before .before .before .before .before .before .before .before .before .before .before .pre .0 in
-    let z = c .before .before .before .before .before .before .before .before .before .before .before .before .before .before .before .before .before .before .before .before .before .before .before .before .before .pre .1 in
-    let hu = p .placed .inside (c .before .before .before .before .before .before .before .before .before .before .before .before .before .before .before .before .before .before .before .before .before .before .before .before .before .args .r .0) (z .0) in
-    let h = c .before .before .before .before .loop-test .taken in
-    let l = c .next-from2 .ensures in (
+    let p = c .before .before .before .before .before .before .before .before .before .before .before .before .before .before .before .before .before .before .before .before .before .before .before .before .before .before .before .pre .0 in
+    let z = c .before .before .before .before .before .before .before .before .before .before .before .before .before .before .before .before .before .before .before .before .before .before .before .before .before .before .before .pre .1 in
+    let a = c .before .before .before .before .before .before .before .before .before .before .before .before .before .before .before .before .before .before .before .before .before .before .before .before .before .before .before .args in
+    let hu = p .placed .inside (a .r .0) (z .0) in
+    let h = c .before .before .before .before .before .before .before .before .loop-test .taken in
+    let l = c .next-from2 .ensures in
+    let e : c .before .before .before .before .before .before .try-junction .result ≡ Failed = c .before .before .enum-told .given .1 in (
+      search needs,
       l .upto,
       l .hit,
       λ t b.
-          let q = c .before .before .before .before .before .before .before .before .before .before .before .before .before .before .before .search .ensures (freeShown t) in
-          let same = ring-is t (c .before .before .before .before .before .before .before .before .before .before .before .before .before .before .before .before .before .before .before .before .before .before .before .before .before .args .r .0) (c .before .before .before .before .before .before .before .before .before .before .before .before .before .before .before .before .before .before .before .before .before .before .before .before .before .args .s .0) (c .before .before .before .before .before .before .before .before .before .before .before .before .before .before .before .before .before .before .before .before .before .before .before .before .before .args .placement .now) (p .most) hu q _ _ (c .before .before .before .before .before .before .before .before .before .before .before .before .if1 .left) (c .before .before .before .before .before .before .before .before .before .join-row .ensures) in
-          let i = sym (same _ h) ∙ c .before .before .before .before .before .loop .inv .1 h in
-          let near = near-of b (reached-from t (c .before .before .before .before .before .before .before .before .before .before .before .before .before .before .before .before .before .before .before .before .before .before .before .before .before .args .r .0) (c .before .before .before .before .before .before .before .before .before .before .before .before .before .before .before .before .before .before .before .before .before .before .before .before .before .args .s .0) (c .before .before .before .before .before .before .before .before .before .before .before .before .before .before .before .before .before .before .before .before .before .before .before .before .before .args .placement .now) (p .most) hu q _ _ i) in
-          sought-more t _ _ _ (p .most) hu q _ _ same _ _ (c .before .before .before .before .before .loop .inv .2 t b) (sym (c .before .before .before .fits2 .ensures t near) ∙ c .before .before .if2 .left) l,
+          let same = c .before .before .before .before .before .before .before .before .before .before .before .before .before .nearest .inv .4 t (c .before .before .before .before .before .before .before .before .before .before .before .before .if1 .left) .ringing in
+          let i = sym (same _ h) ∙ c .before .before .before .before .before .before .before .before .before .loop .inv .2 h in
+          let near = near-of b (reached-from t (a .r .0) (a .s .0) (a .placement .now) (p .most) hu _ _ i) in
+          sought-more t _ _ _ (p .most) hu _ _ same _ _ (c .before .before .before .before .before .before .before .before .before .loop .inv .3 t b) (c .before .before .before .before .before .before .try-junction .ensures .1 t near .fails e) l,
     )
 
-add-d : tie.Need-add-d Inv-loop μ-loop Inv-nearest μ-nearest
-add-d c =
+slice-aggregate-widen : tie.Need-slice-aggregate-widen Inv-loop μ-loop Inv-nearest μ-nearest
+slice-aggregate-widen c = search needs
+
+slice-aggregate-widen-2 : tie.Need-slice-aggregate-widen-2 Inv-loop μ-loop Inv-nearest μ-nearest
+slice-aggregate-widen-2 c = search needs
+
+widen-requires : tie.Need-widen-requires Inv-loop μ-loop Inv-nearest μ-nearest
+widen-requires c κs =
     let p = c .before .before .before .before .before .before .before .before .before .before .before .before .before .before .before .before .before .before .before .before .before .pre .0 in
-    let q = c .before .before .before .before .before .before .before .before .before .before .before .search .ensures (freeShown (p .tabled)) in
-    omega (arith, c .before .before .before .before .before .before .before .before .if1 .left, q .far, p .most)
+    let z = c .before .before .before .before .before .before .before .before .before .before .before .before .before .before .before .before .before .before .before .before .before .pre .1 in
+    let a = c .before .before .before .before .before .before .before .before .before .before .before .before .before .before .before .before .before .before .before .before .before .args in
+    let hu = p .placed .inside (a .r .0) (z .0) in
+    let n = c .before .before .before .before .before .before .before .nearest .inv in
+    (n .1, n .2, widening-rows (freeShown (p .tabled)) _ (p .most) hu (p .table-size) (n .4 (p .tabled) (c .before .before .before .before .before .before .if1 .left)))
+
+add-d : tie.Need-add-d Inv-loop μ-loop Inv-nearest μ-nearest
+add-d c = search needs
 
 nearest-less : tie.Need-nearest-less Inv-loop μ-loop Inv-nearest μ-nearest
 nearest-less c = search needs
 
 nearest-again : tie.Need-nearest-again Inv-loop μ-loop Inv-nearest μ-nearest
 nearest-again c =
-    let p = c .before .before .before .before .before .before .before .before .before .before .before .before .before .before .before .before .before .before .before .before .before .pre .0 in
-    let hu = p .placed .inside (c .before .before .before .before .before .before .before .before .before .before .before .before .before .before .before .before .before .before .before .before .before .args .r .0) (c .before .before .before .before .before .before .before .before .before .before .before .before .before .before .before .before .before .before .before .before .before .pre .1 .0) in (
-      omega (arith, c .before .before .before .before .before .before .before .before .if1 .left),
-      λ t b.
-          let q = c .before .before .before .before .before .before .before .before .before .before .before .search .ensures (freeShown t) in
-          sought-next t _ _ _ (p .most) hu q _ _ (ring-is t (c .before .before .before .before .before .before .before .before .before .before .before .before .before .before .before .before .before .before .before .before .before .args .r .0) (c .before .before .before .before .before .before .before .before .before .before .before .before .before .before .before .before .before .before .before .before .before .args .s .0) (c .before .before .before .before .before .before .before .before .before .before .before .before .before .before .before .before .before .before .before .before .before .args .placement .now) (p .most) hu q _ _ (c .before .before .before .before .before .before .before .before .if1 .left) (c .before .before .before .before .before .join-row .ensures)) _ (c .before .loop .inv .2 t b) (c .loop-test .left),
+    let p = c .before .before .before .before .before .before .before .before .before .before .before .before .before .before .before .before .before .before .before .before .before .before .before .before .pre .0 in
+    let z = c .before .before .before .before .before .before .before .before .before .before .before .before .before .before .before .before .before .before .before .before .before .before .before .before .pre .1 in
+    let a = c .before .before .before .before .before .before .before .before .before .before .before .before .before .before .before .before .before .before .before .before .before .before .before .before .args in
+    let hu = p .placed .inside (a .r .0) (z .0) in
+    let n = c .before .before .before .before .before .before .before .before .before .before .nearest .inv in
+    let h = c .before .before .before .before .before .before .before .before .before .if1 .left in (
+      omega (arith, c .before .before .before .before .before .before .loop .inv .0, n .0),
+      search needs,
+      search needs,
+      omega arith,
+      λ t k. widening-more (freeShown t) _ (p .most) hu k (n .4 t h) (c .before .before .widen .ensures),
+      λ t b. sought-next t _ _ _ (p .most) hu _ _ (n .4 t h .ringing) _ (c .before .before .before .before .before .before .loop .inv .3 t b) (c .before .before .before .before .before .loop-test .left),
     )
+
+same-length : tie.Need-same-length Inv-loop μ-loop Inv-nearest μ-nearest
+same-length c = c .before .nearest .inv .0
 
 returns : tie.Need-returns Inv-loop μ-loop Inv-nearest μ-nearest
 returns c =
-    let p = c .before .before .before .before .before .before .before .before .before .before .before .before .before .pre .0 in
-    let hu = p .placed .inside (c .before .before .before .before .before .before .before .before .before .before .before .before .before .args .r .0) (c .before .before .before .before .before .before .before .before .before .before .before .before .before .pre .1 .0) in
-    λ t b. sought-end t _ _ _ (p .most) hu (c .before .before .before .search .ensures (freeShown t)) _ (c .if1 .taken) (c .before .nearest .inv .1 t b)
+    let p = c .before .before .before .before .before .before .before .before .before .before .before .before .before .before .before .pre .0 in
+    let z = c .before .before .before .before .before .before .before .before .before .before .before .before .before .before .before .pre .1 in
+    let a = c .before .before .before .before .before .before .before .before .before .before .before .before .before .before .before .args in
+    let hu = p .placed .inside (a .r .0) (z .0) in
+    (tt, λ t b. (sought-end t _ _ _ (p .most) hu _ (c .if1 .taken) (c .before .nearest .inv .5 t b), tt))
+
+same-length-2 : tie.Need-same-length-2 Inv-loop μ-loop Inv-nearest μ-nearest
+same-length-2 c = search needs
 
 returns-2 : tie.Need-returns-2 Inv-loop μ-loop Inv-nearest μ-nearest
 returns-2 c =
-    let p = c .before .before .before .before .before .before .before .before .before .before .before .before .before .before .before .before .before .before .before .before .before .before .before .pre .0 in
-    let z = c .before .before .before .before .before .before .before .before .before .before .before .before .before .before .before .before .before .before .before .before .before .before .before .pre .1 in
-    let hu = p .placed .inside (c .before .before .before .before .before .before .before .before .before .before .before .before .before .before .before .before .before .before .before .before .before .before .before .args .r .0) (z .0) in
-    let h = c .before .before .loop-test .taken in
-    λ t b.
-    let q = c .before .before .before .before .before .before .before .before .before .before .before .before .before .search .ensures (freeShown t) in
-    let i = sym (ring-is t (c .before .before .before .before .before .before .before .before .before .before .before .before .before .before .before .before .before .before .before .before .before .before .before .args .r .0) (c .before .before .before .before .before .before .before .before .before .before .before .before .before .before .before .before .before .before .before .before .before .before .before .args .s .0) (c .before .before .before .before .before .before .before .before .before .before .before .before .before .before .before .before .before .before .before .before .before .before .before .args .placement .now) (p .most) hu q _ _ (c .before .before .before .before .before .before .before .before .before .before .if1 .left) (c .before .before .before .before .before .before .before .join-row .ensures) _ h) ∙ c .before .before .before .loop .inv .1 h in
-    let near = near-of b (reached-from t (c .before .before .before .before .before .before .before .before .before .before .before .before .before .before .before .before .before .before .before .before .before .before .before .args .r .0) (c .before .before .before .before .before .before .before .before .before .before .before .before .before .before .before .before .before .before .before .before .before .before .before .args .s .0) (c .before .before .before .before .before .before .before .before .before .before .before .before .before .before .before .before .before .before .before .before .before .before .before .args .placement .now) (p .most) hu q _ _ i) in
-    sought-found t _ _ _ _ _ (c .before .before .before .loop .inv .2 t b) i (sym (c .before .fits2 .ensures t near) ∙ c .if2 .taken)
+    let p = c .before .before .before .before .before .before .before .before .before .before .before .before .before .before .before .before .before .before .before .before .before .before .before .before .before .before .pre .0 in
+    let z = c .before .before .before .before .before .before .before .before .before .before .before .before .before .before .before .before .before .before .before .before .before .before .before .before .before .before .pre .1 in
+    let a = c .before .before .before .before .before .before .before .before .before .before .before .before .before .before .before .before .before .before .before .before .before .before .before .before .before .before .args in
+    let hu = p .placed .inside (a .r .0) (z .0) in
+    let h = c .before .before .before .before .before .before .before .loop-test .taken in
+    let e : c .before .before .before .before .before .try-junction .result ≡ Done (c .before .tried .given .0 .0) = c .before .tried .given .1 in (
+      rw e at (c .before .before .before .before .before .try-junction .ensures .0),
+      λ t b.
+          let i = sym (c .before .before .before .before .before .before .before .before .before .before .before .before .nearest .inv .4 t (c .before .before .before .before .before .before .before .before .before .before .before .if1 .left) .ringing _ h) ∙ c .before .before .before .before .before .before .before .before .loop .inv .2 h in
+          let near = near-of b (reached-from t (a .r .0) (a .s .0) (a .placement .now) (p .most) hu _ _ i) in
+          let w = c .before .before .before .before .before .try-junction .ensures .1 t near in
+          (sought-found t _ _ _ _ _ (c .before .before .before .before .before .before .before .before .loop .inv .3 t b) i (w .fits _ e), w .logged _ e),
+    )
 
 pub seek-spec : {M : Type 1} → statement M
 seek-spec =
@@ -175,28 +220,33 @@ seek-spec =
     Inv-nearest
     μ-nearest
     cast-carrier
-    mul-t17
-    shared-slice-read-t19
-    slice-aggregate-search
-    slice-aggregate-search-2
-    slice-aggregate-search-3
-    search-requires
+    mul-u
+    shared-slice-read-u
+    cast-u
+    slice-aggregate-add
+    add-requires
+    slice-aggregate-add-2
+    add-requires-2
     nearest-holds
-    slice-aggregate-join-row
-    slice-aggregate-join-row-2
-    join-row-requires
     slice-aggregate-next-from
     next-from-requires
     loop-holds
-    cast-t36
-    fits-requires
+    cast-t31
+    try-junction-requires
+    enum-known-tried
+    enum-told
     slice-aggregate-next-from-2
     add-next-from
     next-from-requires-2
     loop-less
     loop-again
+    slice-aggregate-widen
+    slice-aggregate-widen-2
+    widen-requires
     add-d
     nearest-less
     nearest-again
+    same-length
     returns
+    same-length-2
     returns-2)

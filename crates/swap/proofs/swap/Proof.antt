@@ -1,16 +1,16 @@
--- `swap::swap` meets its contract. The bay found is the paper's junction, and its trial succeeds again.
+-- `swap::swap` meets its contract. The bay found is the paper's junction, and what is written is its trial.
 -- Assumes nothing.
 use mathlib.Core.Path.{_≡_, sym, _∙_, ap, refl}
 use native.Mathlib.Omega.{arith}
 use borrow.Author.Needs.{needs}
 use Rattle.swap.specs.Seeking.{junctionAt}
-use Rattle.swap.proofs.Committing.{found-low, found-near, never-failed, committed, not-found}
-use Rattle.swap.specs.declared.Junction.the-variants.{At}
-use Rattle.bring.specs.declared.Tried.the-variants.{Done}
-use Rattle.bring.specs.declared.Tried.the-variants.{Failed}
-use Rattle.swap.specs.declared.Junction.the-variants.{Missing}
+use Rattle.swap.specs.declared.Junction.the-variants.{At, Missing}
+use Rattle.swap.proofs.Committing.{found-low, found-near, committed, not-found}
 use Rattle.swap.proofs.swap.Statement.{statement}
 use Rattle.swap.proofs.swap.Tie as tie
+
+slice-aggregate-seek : tie.Need-slice-aggregate-seek
+slice-aggregate-seek c = search needs
 
 seek-requires : tie.Need-seek-requires
 seek-requires c κs = search needs
@@ -29,25 +29,38 @@ same-length-2 c = search needs
 
 returns : tie.Need-returns
 returns c =
-    let p = c .before .before .before .before .before .before .before .before .before .before .pre .0 in
-    let z = c .before .before .before .before .before .before .before .before .before .before .pre .1 in
-    let e : c .before .before .seek .result ≡ Missing = c .enum-told .given .1 in
-    (tt, λ t b. not-found t (p .placed) refl _ _ (z .0) (z .1) (z .2) b (sym (ap junctionAt e) ∙ c .before .before .seek .ensures t b))
+    let p = c .before .before .before .before .before .before .before .before .before .before .before .before .pre .0 in
+    let z = c .before .before .before .before .before .before .before .before .before .before .before .before .pre .1 in
+    let e : c .before .before .before .seek .result ≡ Missing = c .enum-told .given .1 in
+    (tt, λ t b. not-found t (p .placed) refl _ _ (z .0) (z .1) (z .2) b (sym (ap junctionAt e) ∙ c .before .before .before .seek .ensures .1 t b .0))
 
-try-at-requires : tie.Need-try-at-requires
-try-at-requires c κs =
-    let p = c .before .before .before .before .before .before .before .before .before .before .before .before .before .before .pre .0 in
-    let z = c .before .before .before .before .before .before .before .before .before .before .before .before .before .before .pre .1 in
+slice-aggregate-write : tie.Need-slice-aggregate-write
+slice-aggregate-write c = search needs
+
+write-requires : tie.Need-write-requires
+write-requires c κs =
+    let p = c .before .before .before .before .before .before .before .before .before .before .before .before .before .before .before .before .before .pre .0 in
+    let z = c .before .before .before .before .before .before .before .before .before .before .before .before .before .before .before .before .before .pre .1 in
+    let g = c .before .before .before .before .before .found .given in
+    let e : c .before .before .before .before .before .before .before .before .seek .result ≡ At (g .0 .0) (g .0 .1 .0) = g .1 in
     let w = z .4 in
-    let e : c .before .before .before .before .before .before .seek .result ≡ At (c .before .before .before .before .found .given .0 .0) = c .before .before .before .before .found .given .1 in
-    let f = sym (ap junctionAt e) ∙ c .before .before .before .before .before .before .seek .ensures (w .tabled) (w .beside) in
-    (p, (z .0, z .1, z .2, found-low (w .tabled) (p .placed) refl _ _ (z .0) (z .1) (z .2) (w .beside) _ f, z .3))
+    let f = sym (ap junctionAt e) ∙ c .before .before .before .before .before .before .before .before .seek .ensures .1 (w .tabled) (w .beside) .0 in
+    (p, (z .0, z .1, z .2, found-low (w .tabled) (p .placed) refl _ _ (z .0) (z .1) (z .2) (w .beside) _ f, z .3, search needs))
 
-enum-known-done : tie.Need-enum-known-done
-enum-known-done c = search needs
+trade-requires : tie.Need-trade-requires
+trade-requires c κs =
+    let p = c .before .before .before .before .before .before .before .before .before .before .before .before .before .before .before .before .before .before .before .before .before .before .pre .0 in
+    let z = c .before .before .before .before .before .before .before .before .before .before .before .before .before .before .before .before .before .before .before .before .before .before .pre .1 in
+    (z .0, z .1, omega (arith, p .placed .few, p .most), p .placed .inside _ (z .0), p .placed .inside _ (z .1))
 
-enum-told-2 : tie.Need-enum-told-2
-enum-told-2 c = search needs
+add-t32 : tie.Need-add-t32
+add-t32 c =
+    let p = c .before .before .before .before .before .before .before .before .before .before .before .before .before .before .before .before .before .before .before .before .before .before .before .before .before .before .before .pre .0 in
+    let z = c .before .before .before .before .before .before .before .before .before .before .before .before .before .before .before .before .before .before .before .before .before .before .before .before .before .before .before .pre .1 in
+    let g = c .before .before .before .before .before .before .before .before .before .before .before .before .before .before .before .found .given in
+    let e : c .before .before .before .before .before .before .before .before .before .before .before .before .before .before .before .before .before .before .seek .result ≡ At (g .0 .0) (g .0 .1 .0) = g .1 in
+    let m = rw e at (c .before .before .before .before .before .before .before .before .before .before .before .before .before .before .before .before .before .before .seek .ensures .0) in
+    omega (arith, m, z .3)
 
 same-length-3 : tie.Need-same-length-3
 same-length-3 c = search needs
@@ -60,62 +73,34 @@ same-length-5 c = search needs
 
 returns-2 : tie.Need-returns-2
 returns-2 c =
-    let p = c .before .before .before .before .before .before .before .before .before .before .before .before .before .before .before .before .before .before .before .pre .0 in
-    let z = c .before .before .before .before .before .before .before .before .before .before .before .before .before .before .before .before .before .before .before .pre .1 in
-    let e : c .before .before .before .before .before .before .before .before .before .before .before .seek .result ≡ At (c .before .before .before .before .before .before .before .before .before .found .given .0 .0) = c .before .before .before .before .before .before .before .before .before .found .given .1 in
-    let d : c .before .before .before .before .try-at .result ≡ Failed = c .enum-told2 .given .1 in (
-      tt,
-      λ t b.
-          let f = sym (ap junctionAt e) ∙ c .before .before .before .before .before .before .before .before .before .before .before .seek .ensures t b in
-          never-failed t (p .placed) refl _ _ (z .0) (z .1) (z .2) b _ f (rw d at (c .before .before .before .before .try-at .ensures .1 t (found-near t (p .placed) refl _ _ (z .0) (z .1) (z .2) b _ f))),
-    )
-
-trade-requires : tie.Need-trade-requires
-trade-requires c κs =
-    let p = c .before .before .before .before .before .before .before .before .before .before .before .before .before .before .before .before .before .before .before .before .before .before .pre .0 in
-    let z = c .before .before .before .before .before .before .before .before .before .before .before .before .before .before .before .before .before .before .before .before .before .before .pre .1 in
-    (z .0, z .1, omega (arith, p .placed .few, p .most), p .placed .inside _ (z .0), p .placed .inside _ (z .1))
-
-same-length-6 : tie.Need-same-length-6
-same-length-6 c = search needs
-
-same-length-7 : tie.Need-same-length-7
-same-length-7 c = search needs
-
-same-length-8 : tie.Need-same-length-8
-same-length-8 c = search needs
-
-returns-3 : tie.Need-returns-3
-returns-3 c =
     let p = c .before .before .before .before .before .before .before .before .before .before .before .before .before .before .before .before .before .before .before .before .before .before .before .before .before .before .before .pre .0 in
     let z = c .before .before .before .before .before .before .before .before .before .before .before .before .before .before .before .before .before .before .before .before .before .before .before .before .before .before .before .pre .1 in
-    let e : c .before .before .before .before .before .before .before .before .before .before .before .before .before .before .before .before .before .before .before .seek .result ≡ At (c .before .before .before .before .before .before .before .before .before .before .before .before .before .before .before .before .before .found .given .0 .0) = c .before .before .before .before .before .before .before .before .before .before .before .before .before .before .before .before .before .found .given .1 in
-    let d : c .before .before .before .before .before .before .before .before .before .before .before .before .try-at .result ≡ Done (c .before .before .before .before .before .before .before .before .done .given .0 .0) = c .before .before .before .before .before .before .before .before .done .given .1 in (
-      rw d at (c .before .before .before .before .before .before .before .before .before .before .before .before .try-at .ensures .0),
+    let g = c .before .before .before .before .before .before .before .before .before .before .before .before .before .before .before .found .given in
+    let e : c .before .before .before .before .before .before .before .before .before .before .before .before .before .before .before .before .before .before .seek .result ≡ At (g .0 .0) (g .0 .1 .0) = g .1 in
+    let m = rw e at (c .before .before .before .before .before .before .before .before .before .before .before .before .before .before .before .before .before .before .seek .ensures .0) in (
+      omega (arith, m),
       λ t b.
-          let f = sym (ap junctionAt e) ∙ c .before .before .before .before .before .before .before .before .before .before .before .before .before .before .before .before .before .before .before .seek .ensures t b in
-          committed t (p .placed) refl _ _ (z .0) (z .1) (z .2) b _ f _ _ (c .before .before .before .before .trade .ensures .0) (c .before .before .before .before .trade .ensures .1) (rw d at (c .before .before .before .before .before .before .before .before .before .before .before .before .try-at .ensures .1 t (found-near t (p .placed) refl _ _ (z .0) (z .1) (z .2) b _ f))),
+          let q = c .before .before .before .before .before .before .before .before .before .before .before .before .before .before .before .before .before .before .seek .ensures .1 t b in
+          let f = sym (ap junctionAt e) ∙ q .0 in
+          committed t (p .placed) refl _ _ (z .0) (z .1) (z .2) b _ f _ _ (c .before .before .before .before .trade .ensures .0) (c .before .before .before .before .trade .ensures .1) (rw e at (q .1)) (c .before .before .before .before .before .before .before .before .before .write .ensures t (found-near t (p .placed) refl _ _ (z .0) (z .1) (z .2) b _ f)),
     )
 
 pub swap-spec : {M : Type 1} → statement M
 swap-spec =
     tie.close
     (tie.spec
+    slice-aggregate-seek
     seek-requires
     enum-known-found
     enum-told
     same-length
     same-length-2
     returns
-    try-at-requires
-    enum-known-done
-    enum-told-2
+    slice-aggregate-write
+    write-requires
+    trade-requires
+    add-t32
     same-length-3
     same-length-4
     same-length-5
-    returns-2
-    trade-requires
-    same-length-6
-    same-length-7
-    same-length-8
-    returns-3)
+    returns-2)

@@ -1,57 +1,50 @@
--- Between two members of the set no row is joined, so what is found stays what the rows below hold; past the last member that is all.
+-- Word by word: what is gathered stays what the rows of the bays below hold, and past the last word that is all.
 use mathlib.Core.Path.{_≡_, refl}
-use mathlib.Core.Bool.{true}
-use Prim.Native.Nat.{_-_, _≤_, _<_}
+use Prim.Native.Nat.{_+_, _-_, _*_, _≤_}
 use native.Mathlib.Omega.{arith}
-use lib.ListN.{length, set}
+use lib.ListN.{length}
 use borrow.Author.Needs.{needs}
-use Rattle.words.specs.Sets.{mem, span, Beside}
-use Rattle.words.proofs.Besides.{beside-none, beside-more}
+use Rattle.words.specs.Sets.{words, span, Beside}
+use Rattle.words.proofs.Sets.{mem-zeros}
+use Rattle.words.proofs.Besides.{beside-none, beside-kept}
 use Rattle.words.proofs.beside.Statement.{statement}
 use Rattle.words.proofs.beside.Tie as tie
 
 abbrev Inv-loop : tie.InvT-loop
-Inv-loop table set found₀ a₀ found a = (length found ≡ length found₀) × (a ≤ span) × (a < span → mem set a ≡ true) × Beside table set found a
+Inv-loop table set found all₀ i₀ all i = (length all ≡ words) × (i ≤ words) × Beside table set all (i * 64)
 
 abbrev μ-loop : tie.MeasureT-loop
-μ-loop table set found₀ a₀ found a = span - a
-
-clear-requires : tie.Need-clear-requires Inv-loop μ-loop
-clear-requires c κs = search needs
-
-next-from-requires : tie.Need-next-from-requires Inv-loop μ-loop
-next-from-requires c κs = search needs
+μ-loop table set found all₀ i₀ all i = words - i
 
 loop-holds : tie.Need-loop-holds Inv-loop μ-loop
-loop-holds c = (refl, c .next-from .ensures .upto, c .next-from .ensures .hit, beside-none _ _ _ _ (c .before .before .before .clear .ensures) (c .next-from .ensures))
+loop-holds c = (refl, omega arith, beside-none _ _ _ (mem-zeros words))
 
-join-row-requires : tie.Need-join-row-requires Inv-loop μ-loop
-join-row-requires c κs = let l = c .before .before .before .before .before .before .before .before .before .before .before .pre .2 (c .before .before .loop .a) (c .before .loop-test .taken) (c .before .before .loop .inv .2 (c .before .loop-test .taken)) in (omega arith, omega arith)
+slice-aggregate-join-word : tie.Need-slice-aggregate-join-word Inv-loop μ-loop
+slice-aggregate-join-word c = search needs
 
-add-next-from : tie.Need-add-next-from Inv-loop μ-loop
-add-next-from c = search needs
+join-word-requires : tie.Need-join-word-requires Inv-loop μ-loop
+join-word-requires c κs = (omega arith, omega arith, omega arith, c .before .before .before .before .before .before .pre .2, c .before .before .loop .inv .2)
 
-next-from-requires-2 : tie.Need-next-from-requires-2 Inv-loop μ-loop
-next-from-requires-2 c κs = search needs
+add-i : tie.Need-add-i Inv-loop μ-loop
+add-i c = search needs
 
 loop-less : tie.Need-loop-less Inv-loop μ-loop
-loop-less c = omega (arith, c .next-from2 .ensures .from)
+loop-less c = search needs
 
 loop-again : tie.Need-loop-again Inv-loop μ-loop
-loop-again c =
-    let b = c .before .before .before .before .before in
-    let l = b .before .loop in (
-      omega arith,
-      c .next-from2 .ensures .upto,
-      c .next-from2 .ensures .hit,
-      beside-more _ _ (l .found) _ (l .a) _ (l .inv .3) (l .inv .2 (b .loop-test .taken)) (c .before .before .before .join-row .ensures) (c .next-from2 .ensures),
-    )
+loop-again c = let e : (c .before .before .before .before .loop .i + 1) * 64 ≡ c .before .before .before .before .loop .i * 64 + 64 = omega arith in (omega arith, omega arith, rw e (c .before .join-word .ensures))
+
+slice-aggregate-keep : tie.Need-slice-aggregate-keep Inv-loop μ-loop
+slice-aggregate-keep c = search needs
+
+keep-requires : tie.Need-keep-requires Inv-loop μ-loop
+keep-requires c κs = (omega arith, omega arith)
 
 same-length : tie.Need-same-length Inv-loop μ-loop
 same-length c = search needs
 
 returns : tie.Need-returns Inv-loop μ-loop
-returns c = let e : c .before .loop .a ≡ span = omega arith in rw e at (c .before .loop .inv .3)
+returns c = let e : c .before .before .before .before .before .before .loop .i * 64 ≡ span = omega arith in beside-kept _ _ _ _ _ _ (c .before .before .keep .ensures) (rw e at (c .before .before .before .before .before .before .loop .inv .2))
 
 pub beside-spec : {M : Type 1} → statement M
 beside-spec =
@@ -59,13 +52,13 @@ beside-spec =
     (tie.spec
     Inv-loop
     μ-loop
-    clear-requires
-    next-from-requires
     loop-holds
-    join-row-requires
-    add-next-from
-    next-from-requires-2
+    slice-aggregate-join-word
+    join-word-requires
+    add-i
     loop-less
     loop-again
+    slice-aggregate-keep
+    keep-requires
     same-length
     returns)

@@ -7,7 +7,7 @@ use lib.Bits.{and-lt}
 use borrow.Author.Needs.{needs}
 use Rattle.paper.specs.Basics.{_and_}
 use Rattle.words.specs.Sets.{memRow, words, span}
-use Rattle.words.proofs.Loops.{lowest-on, lowest-whole, common-word, whole-fits, zeros-fit}
+use Rattle.words.proofs.Loops.{lowest-on, lowest-whole, common-word}
 use Rattle.words.proofs.lowest_common.Statement.{statement}
 use Rattle.words.proofs.lowest_common.Tie as tie
 
@@ -44,23 +44,18 @@ mul-both-4 c = search needs
 shared-slice-read-both-2 : tie.Need-shared-slice-read-both-2 Inv-loop μ-loop
 shared-slice-read-both-2 c = search needs
 
-mul-result : tie.Need-mul-result Inv-loop μ-loop
-mul-result c = search needs
-
-cast-result : tie.Need-cast-result Inv-loop μ-loop
-cast-result c = record { fits = zeros-fit _ }
-
-add-result : tie.Need-add-result Inv-loop μ-loop
-add-result c = record { fits = whole-fits (c .before .before .before .before .loop .i) _ (omega arith) }
+lowest-of-requires : tie.Need-lowest-of-requires Inv-loop μ-loop
+lowest-of-requires c κs = search needs
 
 returns : tie.Need-returns Inv-loop μ-loop
 returns c =
-    let b = c .before .before .before .before in
+    let b = c .before .before .before .before .before in
     let l = b .loop in
-    let a = b .before .args in
-    lowest-whole (λ x. memRow (a .s .now) (a .a) x and memRow (a .t .now) (a .b) x) (l .i) _ span (omega arith) (omega arith)
-    (and-lt 64 _ _ (c .before .before .shared-slice-known .given (a .a * words + l .i) .fits) (c .before .shared-slice-known2 .given (a .b * words + l .i) .fits))
-    (λ k h. common-word (a .s .now) (a .a) (a .t .now) (a .b) (l .i) k h) (λ k g q. l .inv .1 k g (omega arith))
+    let a = b .before .before .before .args in
+    rw (c .lowest-of .ensures)
+    (lowest-whole (λ x. memRow (a .s .now) (a .a) x and memRow (a .t .now) (a .b) x) (l .i) _ span (omega arith) (omega arith)
+    (and-lt 64 _ _ (c .before .before .before .shared-slice-known3 .given (a .a * words + l .i) .fits) (c .before .before .shared-slice-known4 .given (a .b * words + l .i) .fits))
+    (λ k h. common-word (a .s .now) (a .a) (a .t .now) (a .b) (l .i) k h) (λ k g q. l .inv .1 k g (omega arith)))
 
 add-i : tie.Need-add-i Inv-loop μ-loop
 add-i c = search needs
@@ -72,7 +67,7 @@ loop-again : tie.Need-loop-again Inv-loop μ-loop
 loop-again c =
     let b = c .before .before .before .before in
     let l = b .loop in
-    let a = b .before .args in
+    let a = b .before .before .before .args in
     (omega arith, lowest-on (λ x. memRow (a .s .now) (a .a) x and memRow (a .t .now) (a .b) x) 0 (l .i) _ 0 (omega arith) (c .if1 .left) (λ k h. common-word (a .s .now) (a .a) (a .t .now) (a .b) (l .i) k h) (λ k g q. l .inv .1 k g (omega arith)))
 
 returns-2 : tie.Need-returns-2 Inv-loop μ-loop
@@ -95,9 +90,7 @@ lowest-common-spec =
     add-both-2
     mul-both-4
     shared-slice-read-both-2
-    mul-result
-    cast-result
-    add-result
+    lowest-of-requires
     returns
     add-i
     loop-less

@@ -1,0 +1,4 @@
+pub mod Joining
+pub mod Enough
+pub mod Prefix
+pub mod Fitting

@@ -1,0 +1,12 @@
+-- The contract of `program::program` determines its answer and every byte of the lent list: any two that it allows are equal.
+use mathlib.Core.Path.{_≡_, sym, _∙_}
+use mathlib.Core.List.{List}
+use mathlib.Core.Option.{Option}
+use Prim.Native.Nat.{ℕ}
+use Rattle.paper.specs.Text.{Text}
+use Rattle.paper.specs.Program.{program}
+use Rattle.stores.specs.Writing.{Wrote}
+
+pub program-determined : (mapFile scenarioFile : Option Text) {before out out′ : List ℕ} {n n′ : ℕ} → Wrote before 0 (program mapFile scenarioFile) out n
+    → Wrote before 0 (program mapFile scenarioFile) out′ n′ → (n ≡ n′) × (out ≡ out′)
+program-determined mapFile scenarioFile a b = (a .counted ∙ sym (b .counted), a .left ∙ sym (b .left))

@@ -1,0 +1,4 @@
+pub mod Telling
+pub mod Ordering
+pub mod Room
+pub mod Determined

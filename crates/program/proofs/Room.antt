@@ -1,0 +1,78 @@
+-- Every print fits in 180,250 bytes: an accepted plan names carriers and bays below 256, so that each of its 8,192 lines at most has 22 bytes.
+use mathlib.Core.Path.{_≡_, refl, sym, _∙_, ap}
+use mathlib.Core.List.{List, [], _∷_, _++_, map}
+use Prim.Native.Nat.{ℕ, zero, suc, _+_, _*_, _≤_, _<_}
+use native.Mathlib.Omega.{arith}
+use native.Mathlib.Numerals.{add-one}
+use lib.ListN.{length, take, getD, length-append, length-map}
+use lib.Seq.{take-length}
+use Rattle.paper.specs.Yard.{Bay, Placement, Crossing, pack, unpack, crossings}
+use Rattle.paper.specs.Answers.{accepted, refused, plan}
+use Rattle.paper.specs.OnePass.{Fits}
+use Rattle.paper.specs.Text.{text}
+use Rattle.paper.specs.Print.{decimal, actionLine, costLine, ended, printed}
+use Rattle.paper.specs.Program.{program-room}
+use Rattle.paper.proofs.Tests.{never}
+use Rattle.paper.proofs.Planning.{accepted-exactly}
+use Rattle.paper.proofs.Handing.{handed-passes, check-fits}
+use Rattle.printing.specs.Parts.{named, actionLines, handed}
+use Rattle.printing.proofs.Digits.{tenTo, short}
+use Rattle.printing.proofs.Lines.{action-parts, cost-parts, lines-none, lines-more, plan-parts}
+use Rattle.planner.specs.declared.Planned.{Planned}
+use Rattle.planner.specs.declared.Planned.the-variants.{Accepted}
+use Rattle.planner.specs.Statement.{told, plannedOf, PlanSays}
+use Rattle.program.specs.Printout.{print-room, Prints}
+use Rattle.program.proofs.Telling.{by-answer, by-planned, handed-is, handed-in}
+
+three : (n : ℕ) → n < 256 → length (decimal n) ≤ 3
+unfolding tenTo
+three n h = short 2 n (omega arith)
+
+four : (n : ℕ) → n ≤ 8192 → length (decimal n) ≤ 4
+unfolding tenTo
+four n h = short 3 n (omega arith)
+
+action-fits : (x : Crossing) → x .carrier < 256 → x .from < 256 → x .to < 256 → length (ended (actionLine x ∷ [])) ≤ 22
+unfolding named
+action-fits x c f t =
+    rw (← action-parts x) (simp length-append (omega (arith, three (x .carrier) c, three (x .from) f, three (x .to) t)))
+
+cost-fits : (n : ℕ) → n ≤ 8192 → length (ended (costLine n ∷ [])) ≤ 26
+unfolding named
+cost-fits n h = rw (← cost-parts n) (simp length-append (omega (arith, four n h)))
+
+lines-fit : (list : List ℕ) → Fits 256 256 list → (i : ℕ) → i ≤ length list → length (actionLines (take i list)) ≤ 22 * i
+lines-fit list f zero h = rw lines-none (omega arith)
+lines-fit list f (suc i) h =
+    let k : i < length list = omega arith in
+    let g = f i k in
+    let a = action-fits (unpack (getD list i 0)) (g .0) (g .1) (g .2) in
+    let ih = lines-fit list f i (omega arith) in
+    rw (← add-one i, lines-more list i k) (simp length-append (omega arith))
+
+pub plan-fits : (n : ℕ) (ends : List Bay) (s g : Placement) (xs : List Crossing) → plan n ends s g program-room ≡ accepted xs → length (printed (accepted xs)) ≤ print-room
+plan-fits n ends s g xs e =
+    let a = (accepted-exactly n ends s g program-room xs) .0 e in
+    let p = handed-passes n ends s g program-room xs e in
+    let m = length-map xs pack in
+    let c = lines-fit (map pack xs) (check-fits n ends s g (map pack xs) (p .0)) (length (map pack xs)) (omega arith) in
+    let t = ap actionLines (take-length (map pack xs)) in
+    let k = rw t at c in
+    let few : length (map pack xs) ≤ 8192 = omega (arith, a .2) in
+    let whole : printed (accepted xs) ≡ actionLines (map pack xs) ++ ended (costLine (length (map pack xs)) ∷ []) =
+    ap printed (sym (handed-is (map pack xs) (omega arith) ∙ ap accepted (p .1))) ∙ sym (plan-parts (map pack xs) (omega arith)) in
+    rw whole (simp length-append (omega (arith, cost-fits (length (map pack xs)) few)))
+
+-- so what the planner answers is printed within that room
+pub order-room : {n : ℕ} {ends : List Bay} {s g : Placement} {lent : List ℕ} {r : Planned} {lent′ : List ℕ} → PlanSays n ends s g lent r lent′ → program-room ≡ length lent
+    → {before after : List ℕ} {k : ℕ} → Prints r lent′ before after k → k ≤ print-room
+order-room {n} {ends} {s} {g} {lent} {r} {lent′} says e {before} {after} {k} p =
+    let h = handed-in says e in
+    by-answer (plan n ends s g program-room)
+    (λ xs q.
+    let w : k ≡ 0 + length (printed (accepted xs)) = p .prints (plan n ends s g program-room) h .counted ∙ ap (λ a. 0 + length (printed a)) q in
+    omega (arith, plan-fits n ends s g xs q))
+    (λ d q.
+    by-planned r
+    (λ m f. let y : plannedOf (Accepted m) ≡ told (refused d) = rw (f, q) at (h .tells) in never (cc))
+    (λ c f. omega (arith, p .short c f)))

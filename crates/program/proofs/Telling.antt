@@ -1,0 +1,97 @@
+-- What is printed from the planner's answer and the lent list is the print of the paper's answer: a plan's numbers read as its crossings.
+use mathlib.Core.Path.{_≡_, refl, sym, _∙_, ap}
+use mathlib.Core.Bool.{Bool, true, false}
+use mathlib.Core.List.{List, [], _∷_, _++_, map}
+use mathlib.Core.Option.{Option, none, some}
+use Prim.Native.Nat.{ℕ, _+_, _≤_}
+use native.Mathlib.Omega.{arith}
+use lib.Dec.{leb}
+use lib.ListN.{length, take, drop, length-map, length-append}
+use lib.Seq.{length-take-le, take-at}
+use borrow.Author.Tests.{le-leb}
+use Rattle.paper.specs.Basics.{if_then_else_}
+use Rattle.paper.specs.Yard.{Bay, Placement, Crossing, pack, crossings, most-crossings}
+use Rattle.paper.specs.Answers.{Answer, accepted, refused, plan, written, planEnd}
+use Rattle.paper.specs.Print.{printed}
+use Rattle.paper.specs.Program.{program-room}
+use Rattle.paper.proofs.Tests.{never}
+use Rattle.paper.proofs.Handing.{handed-passes}
+use Rattle.docket.specs.declared.Refusal.{Refusal}
+use Rattle.docket.specs.Reading.{refusalOf}
+use Rattle.stores.specs.Writing.{Wrote}
+use Rattle.printing.specs.Parts.{handed}
+use Rattle.planner.specs.declared.Planned.{Planned}
+use Rattle.planner.specs.declared.Planned.the-variants.{Accepted, Refused}
+use Rattle.planner.specs.Statement.{long, told, plannedOf, PlanSays}
+use Rattle.program.specs.Printout.{Within, Handed, Prints}
+
+pub by-answer : {P : Type 0} (a : Answer) → ((xs : List Crossing) → a ≡ accepted xs → P) → ((r : _) → a ≡ refused r → P) → P
+by-answer (accepted xs) f g = f xs refl
+by-answer (refused r) f g = g r refl
+
+pub handed-is : (list : List ℕ) → length list ≤ most-crossings → handed list ≡ accepted (crossings list)
+unfolding handed
+handed-is list h = rw (le-leb (length list) most-crossings h)
+
+pub by-planned : {P : Type 0} (r : Planned) → ((m : ℕ) → r ≡ Accepted m → P) → ((f : Refusal) → r ≡ Refused f → P) → P
+by-planned (Accepted m) f g = f m refl
+by-planned (Refused d) f g = g d refl
+
+module _ {r : Planned} {list : List ℕ} where
+  plan-told : (m : ℕ) → r ≡ Accepted m → Within r list → (a : Answer) → Handed r list a → handed (take m list) ≡ a
+  plan-told m e w a h =
+      by-answer a
+      (λ xs q.
+      let y : long m ≡ long (length xs) = rw (e, q) at (h .tells) in
+      let n : m ≡ length xs = cc in
+      let k = length-take-le m list (w .inside m e) in
+      let i = w .few in
+      handed-is (take m list) (omega (arith, w .inside m e)) ∙ ap accepted (ap (λ j. crossings (take j list)) n ∙ h .stands xs q) ∙ sym q)
+      (λ f q. let y : long m ≡ told (refused f) = rw (e, q) at (h .tells) in never (cc))
+
+  refusal-told : (f : Refusal) → r ≡ Refused f → (a : Answer) → Handed r list a → refused (refusalOf f) ≡ a
+  refusal-told f e a h =
+      by-answer a
+      (λ xs q. let y : plannedOf (Refused f) ≡ told (accepted xs) = rw (e, q) at (h .tells) in never (cc))
+      (λ g q. let y : plannedOf (Refused f) ≡ told (refused g) = rw (e, q) at (h .tells) in let z : refusalOf f ≡ g = cc in ap refused z ∙ sym q)
+
+  pub plan-prints : (m : ℕ) → r ≡ Accepted m → Within r list → {before after : List ℕ} {n : ℕ} → Wrote before 0 (printed (handed (take m list))) after n → Prints r list before after n
+  plan-prints m e w {before} {after} {n} p = record {
+    prints = λ a h. rw (ap printed (sym (plan-told m e w a h))) p;
+    short = λ f q. never (cc);
+  }
+
+  pub refusal-prints : (f : Refusal) → r ≡ Refused f → {before after : List ℕ} {n : ℕ} → Wrote before 0 (printed (refused (refusalOf f))) after n → n ≤ 64 → Prints r list before after n
+  refusal-prints f e p h = record { prints = λ a k. rw (ap printed (sym (refusal-told f e a k))) p; short = λ g q. h }
+
+-- ## The planner's promise
+module _ {n : ℕ} {ends : List Bay} {s g : Placement} {lent : List ℕ} {r : Planned} {lent′ : List ℕ} (says : PlanSays n ends s g lent r lent′) where
+  -- where a plan was accepted, its numbers begin the list
+  begun : (xs : List Crossing) → plan n ends s g (length lent) ≡ accepted xs → lent′ ≡ map pack xs ++ drop (length xs) lent
+  unfolding written
+  begun xs q = says .leaves ∙ rw q refl
+
+  pub handed-by : Handed r lent′ (plan n ends s g (length lent))
+  handed-by = record {
+    tells = says .answers;
+    stands = λ xs q.
+        ap (λ l. crossings (take (length xs) l)) (begun xs q)
+        ∙ ap crossings (take-at (map pack xs) (drop (length xs) lent) (length xs) (length-map xs pack))
+        ∙ (handed-passes n ends s g (length lent) xs q) .1;
+  }
+
+  pub within-by : length lent′ ≤ most-crossings → Within r lent′
+  within-by h = record {
+    inside = λ m e.
+        by-answer (plan n ends s g (length lent))
+        (λ xs q.
+        let y : long m ≡ long (length xs) = rw (e, q) at (says .answers) in
+        let k : m ≡ length xs = cc in
+        omega (arith, ap length (begun xs q), length-append (map pack xs) (drop (length xs) lent), length-map xs pack))
+        (λ f q. let y : long m ≡ told (refused f) = rw (e, q) at (says .answers) in never (cc));
+    few = h;
+  }
+
+  -- with the room that the program lends
+  pub handed-in : program-room ≡ length lent → Handed r lent′ (plan n ends s g program-room)
+  handed-in e = rw e handed-by

@@ -1,0 +1,33 @@
+-- What the planner's answer and the list it was lent have to do with the paper's answer.
+-- Assumes nothing.
+use mathlib.Core.Path.{_≡_}
+use mathlib.Core.List.{List}
+use Prim.Native.Nat.{ℕ, _≤_}
+use lib.ListN.{length, take}
+use Rattle.paper.specs.Yard.{Crossing, crossings, most-crossings}
+use Rattle.paper.specs.Answers.{Answer, accepted}
+use Rattle.paper.specs.Print.{printed}
+use Rattle.docket.specs.declared.Refusal.{Refusal}
+use Rattle.stores.specs.Writing.{Wrote}
+use Rattle.planner.specs.declared.Planned.{Planned}
+use Rattle.planner.specs.declared.Planned.the-variants.{Accepted, Refused}
+use Rattle.planner.specs.Statement.{told, plannedOf}
+
+-- 8,192 lines of 22 bytes and the cost's 26
+abbrev pub print-room : ℕ
+print-room = 180250
+
+-- a plan lies in the list, and is not too long to print
+pub record Within (r : Planned) (list : List ℕ) : Type 0 where
+  pub inside : (m : ℕ) → r ≡ Accepted m → m ≤ length list
+  pub few : length list ≤ most-crossings
+
+-- it is told, and a plan stands in the list
+pub record Handed (r : Planned) (list : List ℕ) (a : Answer) : Type 0 where
+  pub tells : plannedOf r ≡ told a
+  pub stands : (xs : List Crossing) → a ≡ accepted xs → crossings (take (length xs) list) ≡ xs
+
+-- what is printed of it, and that a refusal's line is short
+pub record Prints (r : Planned) (list before after : List ℕ) (n : ℕ) : Type 0 where
+  pub prints : (a : Answer) → Handed r list a → Wrote before 0 (printed a) after n
+  pub short : (f : Refusal) → r ≡ Refused f → n ≤ 64

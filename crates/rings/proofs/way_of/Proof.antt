@@ -1,0 +1,29 @@
+-- `rings::way_of` meets its contract.
+-- Assumes nothing.
+use mathlib.Core.Path.{sym, ap}
+use Rattle.rings.specs.Ways.{wayBy}
+use borrow.Author.Needs.{needs}
+use Rattle.rings.proofs.way_of.Statement.{statement}
+use Rattle.rings.proofs.way_of.Tie as tie
+
+enum-known-near : tie.Need-enum-known-near
+enum-known-near c = search needs
+
+enum-told : tie.Need-enum-told
+enum-told c = search needs
+
+enum-told-2 : tie.Need-enum-told-2
+enum-told-2 c = search needs
+
+returns : tie.Need-returns
+returns c = sym (ap wayBy (c .before .near .given .1))
+
+returns-2 : tie.Need-returns-2
+returns-2 c = search needs
+
+returns-3 : tie.Need-returns-3
+returns-3 c = search needs
+
+pub way-of-spec : {M : Type 1} → statement M
+way-of-spec =
+    tie.close (tie.spec enum-known-near enum-told enum-told-2 returns returns-2 returns-3)
