@@ -1,5 +1,7 @@
 -- The bays looked after are those from i on; each turn adds the bay before them, as the paper's way home does.
 -- Assumes nothing.
+use Rattle.paper.specs.Basics.{_or_}
+use mathlib.Core.Bool.{Bool, true, false}
 use mathlib.Core.Path.{_≡_, sym, _∙_, ap, refl}
 use mathlib.Core.List.{List, [], _∷_, _++_}
 use Prim.Native.Nat.{ℕ, suc, _≤_, _<_, _+_, zero}
@@ -27,6 +29,13 @@ use Rattle.bring.specs.declared.Tried.the-variants.{Failed}
 use Rattle.home.specs.declared.Staged.the-variants.{Planned}
 use Rattle.home.specs.declared.Staged.the-variants.{Stuck}
 use Rattle.docket.specs.declared.Carrier.{Carrier as Named}
+
+-- what was found stays found where the next is another
+pub or-unless : (a b : Bool) → (b ≡ true → ⊥) → a ≡ a or b
+unfolding _or_
+or-unless true b h = refl
+or-unless false true h = absurd (h refl)
+or-unless false false h = refl
 
 -- ## Whose goal a bay is
 

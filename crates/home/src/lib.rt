@@ -7,6 +7,8 @@ ghost use mathlib.Core.Bool.{true};
 ghost use mathlib.Core.List.{List};
 ghost use Prim.Native.Nat.{ℕ, _+_, _*_, _^_, _≤_, _<_};
 ghost use lib.ListN.{length, getD, take};
+ghost use lib.Dec.{eqb};
+ghost use Rattle.paper.specs.Basics.{_or_, elem};
 ghost use Rattle.paper.specs.Yard.{bayOf, carrierAt};
 ghost use Rattle.paper.proofs.Playing.{Apart};
 ghost use Rattle.words.specs.Sets.{memRow};
@@ -20,8 +22,31 @@ pub enum Staged {
     Stuck(Carrier),
 }
 
-// The finished carrier whose goal is v; `finished` where there is none.
-fn bound_for(goals: &[u16], finished: usize, v: Bay) -> usize
+fn or_same(found: bool, goal: u16, v: u16) -> bool
+    ensures { λ r. ⌜ r ≡ found or eqb v goal ⌝ }
+{
+    if goal == v {
+        return true;
+    }
+    found
+}
+
+// Whether v is a finished carrier's goal. All of them are compared, since the compiler then compares several at once.
+fn is_goal(goals: &[u16], finished: usize, v: Bay) -> bool
+    requires { ⌜ finished ≤ length (now goals) ⌝ }
+    ensures { λ r. ⌜ r ≡ elem (v .0) (take finished (now (goals .entry))) ⌝ }
+{
+    let mut found = false;
+    let mut c = 0;
+    while c < finished {
+        found = or_same(found, goals[c], v.0);
+        c += 1;
+    }
+    found
+}
+
+// The first finished carrier whose goal is v; `finished` where there is none.
+fn first_for(goals: &[u16], finished: usize, v: Bay) -> usize
     requires { ⌜ finished ≤ length (now goals) ⌝ }
     ensures { λ r. ⌜ r ≡ carrierAt (take finished (now (goals .entry))) (v .0) ⌝ }
 {
@@ -31,6 +56,17 @@ fn bound_for(goals: &[u16], finished: usize, v: Bay) -> usize
             return c;
         }
         c += 1;
+    }
+    finished
+}
+
+// The same; at most bays there is none, and that is soon known.
+fn bound_for(goals: &[u16], finished: usize, v: Bay) -> usize
+    requires { ⌜ finished ≤ length (now goals) ⌝ }
+    ensures { λ r. ⌜ r ≡ carrierAt (take finished (now (goals .entry))) (v .0) ⌝ }
+{
+    if is_goal(goals, finished, v) {
+        return first_for(goals, finished, v);
     }
     finished
 }

@@ -44,7 +44,7 @@ pub hold-none : (p h₀ h₁ : List ℕ) (r : Carrier) → ((y : ℕ) → mem h�
 unfolding _or_
 hold-none p h₀ h₁ r f g b = g b ∙ rw (f b) (sym (elem-one b (bayOf p r)))
 
-elem-snoc : (b x : ℕ) (l : List ℕ) → elem b (l ++ (x ∷ [])) ≡ elem b l or eqb b x
+pub elem-snoc : (b x : ℕ) (l : List ℕ) → elem b (l ++ (x ∷ [])) ≡ elem b l or eqb b x
 elem-snoc b x l = elem-append b l (x ∷ []) ∙ rw elem-one
 
 pub hold-more : (p h h′ : List ℕ) (r : Carrier) (c : ℕ) → c < length p → ((b : ℕ) → mem h b ≡ elem b (bayOf p r ∷ take c p)) → ((y : ℕ) → mem h′ y ≡ mem h y or eqb y (bayOf p c))
