@@ -1,16 +1,17 @@
 /*
- * Planning, plan check, slots and report log of a pallet vault, by document 01.
+ * Planning, plan check, slots, report log and shortening of a pallet vault, by document 01 and request E10 of document 02.
  *
- * Every function takes any numbers and lists at all, and answers document 01's number: 0 where it accepts, else the refusal's. Through `value` it
+ * Every function takes any numbers and lists at all, and answers the documents' number: 0 where it accepts, else the refusal's. Through `value` it
  * stores what the refusal carries, or the length written, and 0 where there is neither. Each function is proved to do so for every input.
  *
  * What the caller sees to:
  * - each list has at least as many elements as the length after it says; a list of length 0 may be NULL;
  * - `value` is not NULL;
- * - a list that may be written (`plan` of sejjekoru_plan, `slots`, `marks`) and `*value` overlap no other argument.
+ * - a list that may be written (`plan` of sejjekoru_plan, `slots`, `marks` of sejjekoru_report, `out`) and `*value` overlap no other argument.
  *
  * Nothing is kept between calls and nothing is allocated: threads may call at the same time, each with written lists of its own. Of the calling
- * thread's stack sejjekoru_plan takes some 600 KiB (measured, for any yard), the others less than 20 KiB.
+ * thread's stack sejjekoru_plan takes some 600 KiB (measured, for any yard), sejjekoru_shorten some 140 KiB (measured, on 65,536 crossings), the
+ * others less than 20 KiB.
  */
 #ifndef SEJJEKORU_H
 #define SEJJEKORU_H
@@ -24,7 +25,7 @@ extern "C" {
 
 /* The answers, each with what `value` then holds. */
 enum {
-    SEJJEKORU_ACCEPTED = 0,   /* plan, slots: the length written; else 0 */
+    SEJJEKORU_ACCEPTED = 0,   /* plan, slots, shorten: the length written; else 0 */
     SEJJEKORU_SIZE = 1,       /* 0 */
     SEJJEKORU_RAIL = 2,       /* the first bad rail */
     SEJJEKORU_APART = 3,      /* the lowest bay that cannot be reached from bay 0 */
@@ -38,6 +39,7 @@ enum {
     SEJJEKORU_MARKS = 11,     /* 0 */
     SEJJEKORU_UNKNOWN = 12,   /* 0 */
     SEJJEKORU_EARLY = 13,     /* the lowest undone name that it depends on */
+    SEJJEKORU_BEGUN = 25,     /* 0; some crossing of the plan to be shortened is done */
     SEJJEKORU_ALREADY = 100   /* 0; a report of a crossing that is done */
 };
 
@@ -85,6 +87,19 @@ uint64_t sejjekoru_report(uint64_t bays,
                           uint8_t *marks, size_t marks_len,
                           uint64_t name,
                           uint64_t *value);
+
+/*
+ * Drops the plan's there-and-back trips, and writes what is left to the first places of `out`: as legal, with the same end, no longer, in the same
+ * order. Names are places in what is left, so `marks` is handed in and nothing may be done yet. Answers 0 to 6, 8 to 11, 25.
+ */
+uint64_t sejjekoru_shorten(uint64_t bays,
+                           const uint16_t *rails, size_t rails_len,
+                           const uint16_t *start, size_t start_len,
+                           const uint16_t *goal, size_t goal_len,
+                           const uint64_t *plan, size_t plan_len,
+                           const uint8_t *marks, size_t marks_len,
+                           uint64_t *out, size_t out_len,
+                           uint64_t *value);
 
 #ifdef __cplusplus
 }

@@ -2,3 +2,4 @@ pub mod Telling
 pub mod Ordering
 pub mod Room
 pub mod Determined
+pub mod Shortening

@@ -7,7 +7,8 @@ use native.Mathlib.Numerals.{add-one}
 use lib.ListN.{length, take, getD, length-append, length-map}
 use lib.Seq.{take-length}
 use Rattle.paper.specs.Yard.{Bay, Placement, Crossing, pack, unpack, crossings}
-use Rattle.paper.specs.Answers.{accepted, refused, plan}
+use mathlib.Core.Option.{none}
+use Rattle.paper.specs.Answers.{Answer, accepted, refused, plan, check}
 use Rattle.paper.specs.OnePass.{Fits}
 use Rattle.paper.specs.Text.{text}
 use Rattle.paper.specs.Print.{decimal, actionLine, costLine, ended, printed}
@@ -21,8 +22,12 @@ use Rattle.printing.proofs.Lines.{action-parts, cost-parts, lines-none, lines-m
 use Rattle.planner.specs.declared.Planned.{Planned}
 use Rattle.planner.specs.declared.Planned.the-variants.{Accepted}
 use Rattle.planner.specs.Statement.{told, plannedOf, PlanSays}
-use Rattle.program.specs.Printout.{print-room, Prints}
+use Rattle.trips.specs.Trips.{shorten}
+use Rattle.trips.proofs.Shortened.{shortened-passes}
+use Rattle.program.specs.Printout.{print-room, Handed, Prints}
+use Rattle.program.specs.Short.{shortAnswer, ShortIn}
 use Rattle.program.proofs.Telling.{by-answer, by-planned, handed-is, handed-in}
+use Rattle.program.proofs.Shortening.{left-fewer}
 
 three : (n : ℕ) → n < 256 → length (decimal n) ≤ 3
 unfolding tenTo
@@ -50,29 +55,56 @@ lines-fit list f (suc i) h =
     let ih = lines-fit list f i (omega arith) in
     rw (← add-one i, lines-more list i k) (simp length-append (omega arith))
 
+passing-fits : (n : ℕ) (ends : List Bay) (s g : Placement) (xs : List Crossing) → check n ends s g (map pack xs) ≡ none → crossings (map pack xs) ≡ xs
+    → length xs ≤ 8192 → length (printed (accepted xs)) ≤ print-room
+passing-fits n ends s g xs passes reads h =
+    let m = length-map xs pack in
+    let c = lines-fit (map pack xs) (check-fits n ends s g (map pack xs) passes) (length (map pack xs)) (omega arith) in
+    let t = ap actionLines (take-length (map pack xs)) in
+    let k = rw t at c in
+    let few : length (map pack xs) ≤ 8192 = omega arith in
+    let whole : printed (accepted xs) ≡ actionLines (map pack xs) ++ ended (costLine (length (map pack xs)) ∷ []) =
+    ap printed (sym (handed-is (map pack xs) (omega arith) ∙ ap accepted reads)) ∙ sym (plan-parts (map pack xs) (omega arith)) in
+    rw whole (simp length-append (omega (arith, cost-fits (length (map pack xs)) few)))
+
 pub plan-fits : (n : ℕ) (ends : List Bay) (s g : Placement) (xs : List Crossing) → plan n ends s g program-room ≡ accepted xs → length (printed (accepted xs)) ≤ print-room
 plan-fits n ends s g xs e =
     let a = (accepted-exactly n ends s g program-room xs) .0 e in
     let p = handed-passes n ends s g program-room xs e in
-    let m = length-map xs pack in
-    let c = lines-fit (map pack xs) (check-fits n ends s g (map pack xs) (p .0)) (length (map pack xs)) (omega arith) in
-    let t = ap actionLines (take-length (map pack xs)) in
-    let k = rw t at c in
-    let few : length (map pack xs) ≤ 8192 = omega (arith, a .2) in
-    let whole : printed (accepted xs) ≡ actionLines (map pack xs) ++ ended (costLine (length (map pack xs)) ∷ []) =
-    ap printed (sym (handed-is (map pack xs) (omega arith) ∙ ap accepted (p .1))) ∙ sym (plan-parts (map pack xs) (omega arith)) in
-    rw whole (simp length-append (omega (arith, cost-fits (length (map pack xs)) few)))
+    passing-fits n ends s g xs (p .0) (p .1) (omega (arith, a .2))
 
--- so what the planner answers is printed within that room
-pub order-room : {n : ℕ} {ends : List Bay} {s g : Placement} {lent : List ℕ} {r : Planned} {lent′ : List ℕ} → PlanSays n ends s g lent r lent′ → program-room ≡ length lent
-    → {before after : List ℕ} {k : ℕ} → Prints r lent′ before after k → k ≤ print-room
-order-room {n} {ends} {s} {g} {lent} {r} {lent′} says e {before} {after} {k} p =
-    let h = handed-in says e in
+-- a shortened plan passes the check too
+pub short-fits : (n : ℕ) (ends : List Bay) (s g : Placement) (ys : List Crossing) → shortAnswer (plan n ends s g program-room) ≡ accepted ys → length (printed (accepted ys)) ≤ print-room
+short-fits n ends s g ys e =
     by-answer (plan n ends s g program-room)
     (λ xs q.
-    let w : k ≡ 0 + length (printed (accepted xs)) = p .prints (plan n ends s g program-room) h .counted ∙ ap (λ a. 0 + length (printed a)) q in
-    omega (arith, plan-fits n ends s g xs q))
+    let a = (accepted-exactly n ends s g program-room xs) .0 q in
+    let p = handed-passes n ends s g program-room xs q in
+    let y : accepted (shorten xs) ≡ accepted ys = rw q at e in
+    let is : shorten (crossings (map pack xs)) ≡ ys = ap shorten (p .1) ∙ cc in
+    let left = shortened-passes n ends s g (map pack xs) (p .0) in
+    let few : length (shorten (crossings (map pack xs))) ≤ length (map pack xs) = left-fewer n ends s g (map pack xs) (p .0) in
+    passing-fits n ends s g ys (rw is at (left .0)) (rw is at (left .1)) (omega (arith, a .2, length-map xs pack, ap length is)))
+    (λ d q. let y : refused d ≡ accepted ys = rw q at e in never (cc))
+
+-- an answer that fits is printed within that room
+room-for : {r : Planned} {list : List ℕ} {a : Answer} → Handed r list a → ((xs : List Crossing) → a ≡ accepted xs → length (printed (accepted xs)) ≤ print-room)
+    → {before after : List ℕ} {k : ℕ} → Prints r list before after k → k ≤ print-room
+room-for {r} {list} {a} h fit {before} {after} {k} p =
+    by-answer a
+    (λ xs q.
+    let w : k ≡ 0 + length (printed (accepted xs)) = p .prints a h .counted ∙ ap (λ b. 0 + length (printed b)) q in
+    omega (arith, fit xs q))
     (λ d q.
     by-planned r
     (λ m f. let y : plannedOf (Accepted m) ≡ told (refused d) = rw (f, q) at (h .tells) in never (cc))
     (λ c f. omega (arith, p .short c f)))
+
+-- so what the planner answers is printed within that room
+pub order-room : {n : ℕ} {ends : List Bay} {s g : Placement} {lent : List ℕ} {r : Planned} {lent′ : List ℕ} → PlanSays n ends s g lent r lent′ → program-room ≡ length lent
+    → {before after : List ℕ} {k : ℕ} → Prints r lent′ before after k → k ≤ print-room
+order-room {n} {ends} {s} {g} says e p = room-for (handed-in says e) (plan-fits n ends s g) p
+
+pub short-room : {n : ℕ} {ends : List Bay} {s g : Placement} {r : Planned} {list : List ℕ} → ShortIn n ends s g r list
+    → {before after : List ℕ} {k : ℕ} → Prints r list before after k → k ≤ print-room
+short-room {n} {ends} {s} {g} h p = room-for (h .handed) (short-fits n ends s g) p

@@ -1,1 +1,2 @@
 pub mod Printout
+pub mod Short

@@ -2,6 +2,7 @@
 use filing::Order;
 use filing::Ordered;
 use planner::Planned;
+use shorten::Shortened;
 ghost use mathlib.Core.Path.{_≡_};
 ghost use Prim.Native.Nat.{_≤_};
 ghost use lib.ListN.{length, take};
@@ -11,6 +12,7 @@ ghost use Rattle.paper.specs.Program.{program as printedFor, program-room};
 ghost use Rattle.stores.specs.Writing.{Wrote};
 ghost use Rattle.filing.specs.Filing.{fileOf};
 ghost use Rattle.program.specs.Printout.{print-room, Within, Prints};
+ghost use Rattle.program.specs.Short.{shortAnswer, programShort, PlannedIn, ShortIn};
 
 // Room for every print, and for every order's rails and carriers.
 pub const PRINT_BYTES: usize = 180250;
@@ -72,6 +74,92 @@ pub fn program(map: &[u8], mapped: bool, scenario: &[u8], listed: bool, out: &mu
     );
     match ordered {
         Ordered::Order(order) => print_order(order, &ends, &starts, &goals, out),
+        Ordered::Refused(r) => printing::refusal(r, out),
+    }
+}
+
+// The plan without its there-and-back trips, in the other list. None of it is done, and there is room for all of it, so that it is never refused.
+fn shorten_planned(
+    answer: Planned,
+    bays: u64,
+    ends: &[u16],
+    starts: &[u16],
+    goals: &[u16],
+    plan: &[u64],
+    short: &mut [u64],
+) -> Planned
+    requires { ⌜ PlannedIn bays (now ends) (now starts) (now goals) answer (now plan) × (length (now short) ≡ program-room) ⌝ }
+    ensures { λ r. ⌜ ShortIn bays (now (ends .entry)) (now (starts .entry)) (now (goals .entry)) r (now (short .exit)) ⌝ }
+{
+    match answer {
+        Planned::Accepted(m) => {
+            let n = m as usize;
+            let marks = [0u8; CROSSINGS];
+            let shorter = shorten::shorten(
+                bays,
+                ends,
+                starts,
+                goals,
+                &plan[..n],
+                &marks[..n],
+                short,
+            );
+            match shorter {
+                Shortened::Written(left) => Planned::Accepted(left),
+                Shortened::Begun => Planned::Accepted(0),
+                Shortened::Refused(r) => Planned::Refused(r),
+            }
+        }
+        Planned::Refused(r) => Planned::Refused(r),
+    }
+}
+
+// The order's plan, shortened, or why it has none.
+fn print_short(order: Order, ends: &[u16], starts: &[u16], goals: &[u16], out: &mut [u8]) -> usize
+    requires { ⌜ (order .ends ≤ length (now ends)) × (order .carriers ≤ length (now starts)) × (order .carriers ≤ length (now goals)) ⌝ }
+    ensures { λ r. ⌜ Wrote (now (out .entry)) 0 (printed (shortAnswer (planned (order .bays) (take (order .ends) (now (ends .entry))) (take (order .carriers) (now (starts .entry))) (take (order .carriers) (now (goals .entry))) program-room))) (now (out .exit)) r × (r ≤ print-room) ⌝ }
+{
+    let n = order.ends;
+    let k = order.carriers;
+    let mut plan = [0u64; CROSSINGS];
+    let mut short = [0u64; CROSSINGS];
+    let found = planner::plan(order.bays, &ends[..n], &starts[..k], &goals[..k], &mut plan);
+    let shorter = shorten_planned(
+        found,
+        order.bays,
+        &ends[..n],
+        &starts[..k],
+        &goals[..k],
+        &plan,
+        &mut short,
+    );
+    print_planned(shorter, &short, out)
+}
+
+// The same as `program`, with the plan shortened.
+pub fn program_short(
+    map: &[u8],
+    mapped: bool,
+    scenario: &[u8],
+    listed: bool,
+    out: &mut [u8],
+) -> usize
+    ensures { λ r. ⌜ Wrote (now (out .entry)) 0 (programShort (fileOf mapped (now (map .entry))) (fileOf listed (now (scenario .entry)))) (now (out .exit)) r × (r ≤ print-room) ⌝ }
+{
+    let mut ends = [0u16; ENDS];
+    let mut starts = [0u16; CARRIERS];
+    let mut goals = [0u16; CARRIERS];
+    let ordered = filing::read_order(
+        map,
+        mapped,
+        scenario,
+        listed,
+        &mut ends,
+        &mut starts,
+        &mut goals,
+    );
+    match ordered {
+        Ordered::Order(order) => print_short(order, &ends, &starts, &goals, out),
         Ordered::Refused(r) => printing::refusal(r, out),
     }
 }

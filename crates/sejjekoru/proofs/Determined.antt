@@ -5,7 +5,7 @@ use mathlib.Core.List.{List}
 use Prim.Native.Nat.{ℕ}
 use Rattle.paper.specs.Yard.{Bay, Placement}
 use Rattle.paper.proofs.Determined.{Determined}
-use Rattle.sejjekoru.specs.Statements.{Tells, TellsAndLeaves, PlanTells, CheckTells, SlotsTell, ReportTells}
+use Rattle.sejjekoru.specs.Statements.{Tells, TellsAndLeaves, PlanTells, CheckTells, SlotsTell, ReportTells, ShortenTells}
 
 tells-determined : {due due-value : ℕ} → Determined (Tells due due-value)
 tells-determined a a′ v v′ s t = (s .numbered ∙ sym (t .numbered), s .valued ∙ sym (t .valued))
@@ -31,3 +31,6 @@ module _ (n : ℕ) (ends : List Bay) (starts goals : Placement) where
 
   pub report-determined : (crossed marks : List ℕ) (name : ℕ) → Determined (Paired (ReportTells n ends starts goals crossed marks name))
   report-determined crossed marks name = left-determined
+
+  pub shorten-determined : (crossed marks out : List ℕ) → Determined (Paired (ShortenTells n ends starts goals crossed marks out))
+  shorten-determined crossed marks out = left-determined

@@ -12,7 +12,9 @@ use Rattle.paper.specs.Answers.{Report, accept, already, refuse}
 use Rattle.paper.proofs.Determined.{docket-tells}
 use Rattle.paper.proofs.Tests.{never}
 use Rattle.planner.specs.Statement.{Told, long, denied}
-use Rattle.sejjekoru.specs.Numbers.{numberOf, valueOf, planNumber, planValue, already-number, reportNumber, reportValue}
+use Rattle.trips.specs.Shortening.{Shortening, shortened, denied as deniedShort, begun, refusalNumber}
+use Rattle.shorten.specs.Statements.{Told as ToldShort, wrote, refuses, has-begun, tells as toldShort}
+use Rattle.sejjekoru.specs.Numbers.{numberOf, valueOf, planNumber, planValue, already-number, reportNumber, reportValue, begun-number, shortenNumber, shortenValue}
 
 -- what a number and its value are read as
 data Read : Type 0 where
@@ -83,3 +85,38 @@ reports-told-apart already (refuse q) e f = not-done q e f
 reports-told-apart (refuse r) accept e f = not-accepted r (sym e) (sym f)
 reports-told-apart (refuse r) already e f = not-done r (sym e) (sym f)
 reports-told-apart (refuse r) (refuse q) e f = ap refuse (refusals-told-apart r q e f)
+
+-- Shortening: 25 is no number of the table,
+not-begun : {P : Type 0} (r : Refusal) → begun-number ≡ number r → P
+not-begun size e = absurd (omega arith)
+not-begun (rail i) e = absurd (omega arith)
+not-begun (apart b) e = absurd (omega arith)
+not-begun crowd e = absurd (omega arith)
+not-begun (start c) e = absurd (omega arith)
+not-begun (goal c) e = absurd (omega arith)
+not-begun (stopped c) e = absurd (omega arith)
+not-begun (room l) e = absurd (omega arith)
+not-begun (illegal i) e = absurd (omega arith)
+not-begun (missed c) e = absurd (omega arith)
+not-begun mismarked e = absurd (omega arith)
+not-begun unknown e = absurd (omega arith)
+not-begun (early d) e = absurd (omega arith)
+not-begun (badMap l) e = absurd (omega arith)
+not-begun (badScenario l) e = absurd (omega arith)
+
+pub shortenings-told-apart : (a b : ToldShort) → shortenNumber a ≡ shortenNumber b → shortenValue a ≡ shortenValue b → a ≡ b
+shortenings-told-apart (wrote m) (wrote k) e f = ap wrote f
+shortenings-told-apart (wrote m) (refuses q) e f = not-accepted q e f
+shortenings-told-apart (wrote m) has-begun e f = absurd (omega arith)
+shortenings-told-apart (refuses r) (wrote k) e f = not-accepted r (sym e) (sym f)
+shortenings-told-apart (refuses r) (refuses q) e f = ap refuses (refusals-told-apart r q e f)
+shortenings-told-apart (refuses r) has-begun e f = not-begun r (sym e)
+shortenings-told-apart has-begun (wrote k) e f = absurd (omega arith)
+shortenings-told-apart has-begun (refuses q) e f = not-begun q e
+shortenings-told-apart has-begun has-begun e f = refl
+
+-- and the numbers are those that the request's definition gives.
+pub shortening-numbered : (a : Shortening) → shortenNumber (toldShort a) ≡ Option·getD (refusalNumber a) 0
+shortening-numbered (shortened xs) = refl
+shortening-numbered (deniedShort r) = refl
+shortening-numbered begun = refl

@@ -5,6 +5,7 @@ use Prim.Native.Nat.{ℕ}
 use Rattle.paper.specs.Docket.{Refusal, number, carried}
 use Rattle.paper.specs.Answers.{Report, accept, already, refuse}
 use Rattle.planner.specs.Statement.{Told, long, denied}
+use Rattle.shorten.specs.Statements.{Told as ToldShort, wrote, refuses, has-begun}
 
 -- the refusal's number in the table, 0 where there is none
 abbrev pub numberOf : Option Refusal → ℕ
@@ -39,3 +40,17 @@ abbrev pub reportValue : Report → ℕ
 reportValue accept = valueOf 0 none
 reportValue already = valueOf 0 none
 reportValue (refuse r) = valueOf 0 (some r)
+
+-- "then 25 if any mark is 1": the change request's number, which the table does not have
+abbrev pub begun-number : ℕ
+begun-number = 25
+
+abbrev pub shortenNumber : ToldShort → ℕ
+shortenNumber (wrote written) = numberOf none
+shortenNumber (refuses r) = numberOf (some r)
+shortenNumber has-begun = begun-number
+
+abbrev pub shortenValue : ToldShort → ℕ
+shortenValue (wrote written) = valueOf written none
+shortenValue (refuses r) = valueOf 0 (some r)
+shortenValue has-begun = valueOf 0 none

@@ -7,7 +7,9 @@ use lib.ListN.{length}
 use Rattle.paper.specs.Yard.{Bay, Placement}
 use Rattle.paper.specs.Answers.{plan, planEnd, check, slotsRefusal, slotsEnd, report, marksEnd}
 use Rattle.planner.specs.Statement.{told}
-use Rattle.sejjekoru.specs.Numbers.{numberOf, valueOf, planNumber, planValue, reportNumber, reportValue}
+use Rattle.trips.specs.Shortening.{shortening, shorteningEnd}
+use Rattle.shorten.specs.Statements.{tells as toldShort}
+use Rattle.sejjekoru.specs.Numbers.{numberOf, valueOf, planNumber, planValue, reportNumber, reportValue, shortenNumber, shortenValue}
 
 -- the number answered and the value stored are the due ones
 pub record Tells (due due-value : ℕ) (number value : ℕ) : Type 0 where
@@ -40,3 +42,8 @@ module _ (n : ℕ) (ends : List Bay) (starts goals : Placement) where
   ReportTells crossed marks name =
       let answer = report n ends starts goals crossed marks name in
       TellsAndLeaves (reportNumber answer) (reportValue answer) (marksEnd n ends starts goals crossed marks name)
+
+  abbrev pub ShortenTells : List ℕ → List ℕ → List ℕ → ℕ → ℕ → List ℕ → Type 0
+  ShortenTells crossed marks out =
+      let answer = toldShort (shortening n ends starts goals crossed marks (length out)) in
+      TellsAndLeaves (shortenNumber answer) (shortenValue answer) (shorteningEnd n ends starts goals crossed marks out)

@@ -3,15 +3,19 @@
 ghost use mathlib.Core.Option.{none, some};
 ghost use Rattle.docket.specs.Reading.{refusalOf};
 ghost use Rattle.sejjekoru.specs.Numbers.{numberOf, valueOf};
-ghost use Rattle.sejjekoru.specs.Statements.{Tells, PlanTells, CheckTells, SlotsTell, ReportTells};
+ghost use Rattle.sejjekoru.specs.Statements.{Tells, PlanTells, CheckTells, SlotsTell, ReportTells, ShortenTells};
 use checker::Checked;
 use docket::Refusal;
 use marks::Reported;
 use planner::Planned;
 use reports::Slotted;
+use shorten::Shortened;
 
 // "already" is no refusal, so the table has no number for it.
 const ALREADY: u64 = 100;
+
+// "some crossing is done already" is shortening's own refusal, so the table has no row for it.
+const BEGUN: u64 = 25;
 
 // Acceptance, with the length written.
 fn accepted(written: u64, value: &mut u64) -> u64
@@ -105,5 +109,29 @@ pub extern "C" fn sejjekoru_report(
             ALREADY
         }
         Reported::Refused(r) => refused(r, value),
+    }
+}
+
+#[no_mangle]
+pub extern "C" fn sejjekoru_shorten(
+    bays: u64,
+    rails: &[u16],
+    start: &[u16],
+    goal: &[u16],
+    plan: &[u64],
+    marks: &[u8],
+    out: &mut [u64],
+    value: &mut u64,
+) -> u64
+    ensures { λ r. ⌜ ShortenTells bays (now (rails .entry)) (now (start .entry)) (now (goal .entry)) (now (plan .entry)) (now (marks .entry)) (now (out .entry)) r (now (value .exit)) (now (out .exit)) ⌝ }
+{
+    let answer = shorten::shorten(bays, rails, start, goal, plan, marks, out);
+    match answer {
+        Shortened::Written(written) => accepted(written, value),
+        Shortened::Begun => {
+            *value = 0;
+            BEGUN
+        }
+        Shortened::Refused(r) => refused(r, value),
     }
 }

@@ -1,8 +1,10 @@
-// `vault MAP SCENARIO` prints the plan that the two files ask for, or one line that says why there is none.
+// `vault MAP SCENARIO` prints the plan that the two files ask for, or one line that says why there is none; `vault --shorten MAP SCENARIO` prints
+// it without its there-and-back trips.
 use libc::STDERR_FILENO;
 use libc::STDOUT_FILENO;
 ghost use Prim.Native.Nat.{_+_, _≤_};
 ghost use lib.ListN.{length};
+ghost use Rattle.program.specs.Printout.{print-room};
 
 // How many of a file's first bytes are in the buffer, and whether it could be read.
 struct Loaded {
@@ -61,8 +63,35 @@ fn load(path: &[u8], buffer: &mut [u8]) -> Loaded
     loaded
 }
 
+// Any other word is a file's name.
+fn is_flag(word: &[u8]) -> bool {
+    if word.len() != 9 {
+        return false;
+    }
+    let dashes = word[0] == b'-' && word[1] == b'-';
+    let half = word[2] == b's' && word[3] == b'h' && word[4] == b'o' && word[5] == b'r';
+    dashes && half && word[6] == b't' && word[7] == b'e' && word[8] == b'n'
+}
+
+// With the flag the plan is shortened.
+fn print(
+    short: bool,
+    map: &[u8],
+    mapped: bool,
+    scenario: &[u8],
+    listed: bool,
+    out: &mut [u8],
+) -> usize
+    ensures { λ r. ⌜ r ≤ print-room ⌝ }
+{
+    if short {
+        return program::program_short(map, mapped, scenario, listed, out);
+    }
+    program::program(map, mapped, scenario, listed, out)
+}
+
 // These many bytes of a file decide the answer, however long it is, and every print fits in these many.
-fn answer(map_path: &[u8], scenario_path: &[u8]) {
+fn answer(short: bool, map_path: &[u8], scenario_path: &[u8]) {
     let mut map = [0u8; filing::MAP_BYTES];
     let mut scenario = [0u8; filing::SCENARIO_BYTES];
     let mut out = [0u8; program::PRINT_BYTES];
@@ -70,7 +99,8 @@ fn answer(map_path: &[u8], scenario_path: &[u8]) {
     let second = load(scenario_path, &mut scenario);
     let m = first.bytes;
     let s = second.bytes;
-    let n = program::program(
+    let n = print(
+        short,
         &map[..m],
         first.readable,
         &scenario[..s],
@@ -80,16 +110,29 @@ fn answer(map_path: &[u8], scenario_path: &[u8]) {
     io::write_all(STDOUT_FILENO, &out[..n]);
 }
 
-fn main() {
-    if os::arg_count() != 3 {
+// The two files are named by the words from `first` on.
+fn answer_from(short: bool, first: usize)
+    requires { ⌜ first ≤ 2 ⌝ }
+{
+    if os::arg_count() != first + 2 {
         io::write_all(
             STDERR_FILENO,
-            b"usage: vault MAP SCENARIO (a grid map and a scenario file; prints the plan or the refusal)\n",
+            b"usage: vault [--shorten] MAP SCENARIO (a grid map and a scenario file; prints the plan or the refusal)\n",
         );
     }
     let mut map = io::buffer();
-    let m = os::arg(1, &mut map);
+    let m = os::arg(first, &mut map);
     let mut scenario = io::buffer();
-    let s = os::arg(2, &mut scenario);
-    answer(&map[..m], &scenario[..s]);
+    let s = os::arg(first + 1, &mut scenario);
+    answer(short, &map[..m], &scenario[..s]);
+}
+
+fn main() {
+    let mut word = io::buffer();
+    let w = os::arg(1, &mut word);
+    if is_flag(&word[..w]) {
+        answer_from(true, 2);
+    } else {
+        answer_from(false, 1);
+    }
 }

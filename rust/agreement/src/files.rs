@@ -1,4 +1,4 @@
-//! The file program on random maps and scenarios, sound and damaged: all that it prints is held against the reference.
+//! The file program on random maps and scenarios, sound and damaged: all that it prints, with `--shorten` too, is held against the reference.
 
 use crate::tally::Tally;
 use std::path::Path;
@@ -31,9 +31,10 @@ fn compare(program: &str, room: &Path, map: Option<&[u8]>, scenario: Option<&[u8
         path
     };
     let (map_path, scenario_path) = (written("map", map), written("scen", scenario));
+    let short = Command::new(program).arg("--shorten").args([&map_path, &scenario_path]).output().expect("the file program");
     let ran = Command::new(program).args([map_path, scenario_path]).output().expect("the file program");
     let expected = reference::program(map, scenario);
-    if ran.stdout != expected {
+    if ran.stdout != expected || short.stdout != reference::program_short(map, scenario) {
         let show = |bytes: &[u8]| String::from_utf8_lossy(bytes).into_owned();
         println!("file program: printed\n{}expected\n{}", show(&ran.stdout), show(&expected));
         println!("map {:?}\nscenario {:?}", map.map(show), scenario.map(show));

@@ -174,6 +174,38 @@ impl<'a> Asked<'a> {
         self.agreed("report", (number, value), answer, kept, &(plan, marks, name))
     }
 
+    pub fn shorten(&self, plan: &[u64], marks: &[u8], room: usize) -> u64 {
+        let Order { bays, rails, start, goal } = self.order;
+        let mut expected = vec![GUARD_64; room];
+        let answer = reference::shorten(*bays, rails, start, goal, plan, marks, &mut expected);
+        let mut lists = self.lists();
+        let mut lent_plan = Lent::new(plan, GUARD_64);
+        let mut lent_marks = Lent::new(marks, GUARD_8);
+        let mut out = Lent::new(&vec![GUARD_64; room], GUARD_64);
+        let mut value = GUARD_64;
+        // SAFETY: as in `plan`.
+        let number = unsafe {
+            raw::sejjekoru_shorten(
+                *bays,
+                lists.rails.pointer(),
+                rails.len(),
+                lists.start.pointer(),
+                start.len(),
+                lists.goal.pointer(),
+                goal.len(),
+                lent_plan.pointer(),
+                plan.len(),
+                lent_marks.pointer(),
+                marks.len(),
+                out.pointer(),
+                room,
+                &mut value,
+            )
+        };
+        let kept = self.kept(&lists) && lent_plan.is(plan, GUARD_64) && lent_marks.is(marks, GUARD_8) && out.is(&expected, GUARD_64);
+        self.agreed("shorten", (number, value), answer, kept, &(plan, marks, room))
+    }
+
     /// The number that both answered; at a disagreement all of the question is printed, and the run ends.
     fn agreed(&self, function: &str, library: (u64, u64), reference: (u64, u64), kept: bool, more: &dyn Debug) -> u64 {
         if library == reference && kept {

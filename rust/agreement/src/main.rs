@@ -19,6 +19,7 @@ fn main() {
     let mut tallies = Vec::new();
     tallies.push(planning());
     tallies.extend(plan_by_plan());
+    tallies.push(shortening());
     if let Some(program) = std::env::args().nth(1) {
         tallies.push(files::run(&program));
     }
@@ -62,4 +63,28 @@ fn plan_by_plan() -> [Tally; 3] {
         report.add(asked.report(&plan, &marks, name));
     }
     [check, slots, report]
+}
+
+/// Longer plans are asked about with their first crossing done: the reference's plain way would take minutes for one.
+const LONG: usize = 4_000;
+
+/// Plans that wander, that the reference made, that are neither; rooms around the length that is left.
+fn shortening() -> Tally {
+    let mut tally = Tally::new("shorten", &[0, 1, 2, 3, 4, 5, 6, 8, 9, 10, 11, 25]);
+    let mut shorter = 0;
+    for seed in 0..PLANS {
+        let mut dice = Dice::new(0x0400_0000 + seed);
+        let (order, plan) = plans::any(&mut dice);
+        let mut marks = plans::fresh_or_not(&mut dice, &plan);
+        if plan.len() > LONG {
+            marks[0] = 1;
+        }
+        let mut ample = vec![0; plan.len()];
+        let (number, left) = reference::shorten(order.bays, &order.rails, &order.start, &order.goal, &plan, &marks, &mut ample);
+        shorter += (number == 0 && left < plan.len() as u64) as u64;
+        let room = orders::room(&mut dice, left as usize);
+        tally.add(Asked::new(&order).shorten(&plan, &marks, room));
+    }
+    println!("{shorter} of the plans to be shortened have a trip there and back\n");
+    tally
 }

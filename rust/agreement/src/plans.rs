@@ -108,6 +108,15 @@ pub fn marks(dice: &mut Dice, plan: &[u64]) -> Vec<u8> {
     marks
 }
 
+/// Marks of a plan to be shortened: all 0 for most, since one that is done ends the work; else as for a report.
+pub fn fresh_or_not(dice: &mut Dice, plan: &[u64]) -> Vec<u8> {
+    match dice.below(10) {
+        0..7 => vec![0; plan.len()],
+        7 => (0..plan.len()).map(|_| dice.any() as u8).collect(),
+        _ => marks(dice, plan),
+    }
+}
+
 fn damage_marks(marks: &mut Vec<u8>, dice: &mut Dice) {
     let name = dice.below(marks.len());
     match dice.below(4) {

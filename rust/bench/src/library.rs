@@ -91,3 +91,28 @@ pub fn report(order: &Order, plan: &[u64], marks: &mut [u8], name: u64) -> (u64,
     };
     (number, value)
 }
+
+pub fn shorten(order: &Order, plan: &[u64], marks: &[u8], out: &mut [u64]) -> (u64, u64) {
+    let Order { bays, rails, start, goal } = order;
+    let mut value = 0;
+    // SAFETY: as in `plan`.
+    let number = unsafe {
+        raw::sejjekoru_shorten(
+            *bays,
+            rails.as_ptr(),
+            rails.len(),
+            start.as_ptr(),
+            start.len(),
+            goal.as_ptr(),
+            goal.len(),
+            plan.as_ptr(),
+            plan.len(),
+            marks.as_ptr(),
+            marks.len(),
+            out.as_mut_ptr(),
+            out.len(),
+            &mut value,
+        )
+    };
+    (number, value)
+}

@@ -4,9 +4,15 @@
 mod library;
 mod plans;
 mod reports;
+mod shortening;
 mod timing;
 
+/// With the argument `shortening` that table alone.
 fn main() {
+    if std::env::args().nth(1).as_deref() == Some("shortening") {
+        return shortening::tables();
+    }
     plans::tables();
     reports::tables();
+    shortening::tables();
 }

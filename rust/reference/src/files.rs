@@ -4,6 +4,7 @@
 use crate::crossing::Crossing;
 use crate::docket::Refusal;
 use crate::planner;
+use crate::shorten;
 
 const ROOM: usize = 8_192;
 const MOST_CARRIER_LINES: usize = 254;
@@ -13,6 +14,15 @@ pub fn program(map: Option<&[u8]>, scenario: Option<&[u8]>) -> Vec<u8> {
     let mut room = vec![0; ROOM];
     match planned(map, scenario, &mut room) {
         Ok(plan) => print(plan),
+        Err(refusal) => print_refusal(refusal),
+    }
+}
+
+/// The same with the plan shortened.
+pub fn program_short(map: Option<&[u8]>, scenario: Option<&[u8]>) -> Vec<u8> {
+    let mut room = vec![0; ROOM];
+    match planned(map, scenario, &mut room) {
+        Ok(plan) => print(&shorten::without_trips(plan)),
         Err(refusal) => print_refusal(refusal),
     }
 }

@@ -1,6 +1,7 @@
-//! The rules of the vault in plain Rust, written from document 01 alone: what the proved library is compared with and raced against.
+//! The rules of the vault in plain Rust, written from document 01 and, for shortening, document 02 alone: what the proved library is
+//! compared with and raced against.
 //!
-//! Every function answers the number of document 01's table (0 accepted, 100 "already") and the value that goes with it, 0 where there is
+//! Every function answers the number of document 01's table (0 accepted, 100 "already", 25 for a plan begun already) and the value that goes with it, 0 where there is
 //! none. A refusal changes no lent list.
 
 mod bays;
@@ -11,11 +12,12 @@ mod files;
 mod log;
 mod planner;
 mod search;
+mod shorten;
 mod yard;
 
-pub use files::program;
+pub use files::{program, program_short};
 
-use docket::{docket, ACCEPTED, ALREADY};
+use docket::{docket, ACCEPTED, ALREADY, BEGUN};
 
 /// Plans from start to goal into `out`; the value of an acceptance is the plan's length.
 pub fn plan(bays: u64, rails: &[u16], start: &[u16], goal: &[u16], out: &mut [u64]) -> (u64, u64) {
@@ -38,5 +40,14 @@ pub fn report(bays: u64, rails: &[u16], start: &[u16], goal: &[u16], plan: &[u64
     docket(answer.map(|told| match told {
         log::Told::Accepted => (ACCEPTED, 0),
         log::Told::Already => (ALREADY, 0),
+    }))
+}
+
+/// Drops the plan's there-and-back trips; the value of an acceptance is the length written.
+pub fn shorten(bays: u64, rails: &[u16], start: &[u16], goal: &[u16], plan: &[u64], marks: &[u8], out: &mut [u64]) -> (u64, u64) {
+    let answer = shorten::shorten(bays, rails, start, goal, plan, marks, out);
+    docket(answer.map(|told| match told {
+        shorten::Answer::Written(length) => (ACCEPTED, length),
+        shorten::Answer::Begun => (BEGUN, 0),
     }))
 }

@@ -87,7 +87,7 @@ pub fn report(bays: u64, rails: &[u16], start: &[u16], goal: &[u16], plan: &[u64
 
 /// Every mark is 0 or 1, and no crossing is done before an earlier one that it depends on: none meets a carrier or a bay that an
 /// undone crossing has touched.
-fn marks_in_order(plan: &[u64], marks: &[u8]) -> bool {
+pub fn marks_in_order(plan: &[u64], marks: &[u8]) -> bool {
     let mut waiting_carrier = [false; 256];
     let mut waiting_bay = [false; 256];
     for (&number, &mark) in plan.iter().zip(marks) {

@@ -1,6 +1,6 @@
-//! The yards that document 01 works by hand.
+//! The yards that document 01 works by hand, and trips there and back by request E10 of document 02.
 
-use reference::{check, plan, report, slots};
+use reference::{check, plan, report, shorten, slots};
 
 const T: [u16; 6] = [0, 1, 1, 2, 1, 3];
 const LINE_OF_FOUR: [u16; 6] = [0, 1, 1, 2, 2, 3];
@@ -94,5 +94,39 @@ fn y10_the_limits() {
 fn y11_room_for_five() {
     let mut out = [7; 5];
     assert_eq!(plan(4, &T, &[1, 0], &[0, 1], &mut out), (8, 6));
+    assert_eq!(out, [7; 5]);
+}
+
+/// What is left of a plan on T, none of it done.
+fn shortened(start: &[u16], goal: &[u16], plan: &[u64]) -> Vec<u64> {
+    let mut out = vec![0; plan.len()];
+    let (number, left) = shorten(4, &T, start, goal, plan, &vec![0; plan.len()], &mut out);
+    assert_eq!(number, 0);
+    out.truncate(left as usize);
+    out
+}
+
+#[test]
+fn up_to_the_last_return() {
+    let plan = crossings(&[(0, 0, 1), (0, 1, 0), (0, 0, 1), (0, 1, 2), (0, 2, 1), (0, 1, 0), (0, 0, 1)]);
+    assert_eq!(shortened(&[0], &[1], &plan), plan[..1]);
+}
+
+/// Another carrier uses bay 1 meanwhile, so leaving it is no trip; its own way there and back is one, and then the first is one too.
+#[test]
+fn a_bay_that_another_used() {
+    assert_eq!(shortened(&[1, 0], &[0, 1], &y1()), y1());
+    let plan = crossings(&[(0, 1, 2), (1, 0, 1), (1, 1, 0), (0, 2, 1)]);
+    assert_eq!(shortened(&[1, 0], &[1, 0], &plan), []);
+}
+
+#[test]
+fn eleven_then_begun_then_room() {
+    let mut out = [7; 5];
+    let mut ask = |marks: &[u8]| shorten(4, &T, &[1, 0], &[0, 1], &y1(), marks, &mut out);
+    assert_eq!(ask(&[1, 0, 0, 0, 0]), (11, 0));
+    assert_eq!(ask(&[0, 1, 0, 0, 0, 0]), (11, 0));
+    assert_eq!(ask(&[1, 0, 0, 0, 0, 0]), (25, 0));
+    assert_eq!(ask(&[0; 6]), (8, 6));
     assert_eq!(out, [7; 5]);
 }

@@ -32,6 +32,8 @@ pub enum Refusal {
     Unknown,
     /// 13: the lowest undone name that the reported crossing depends on.
     Early(u64),
+    /// 25: a crossing of the plan to be shortened is done.
+    Begun,
 }
 
 /// What a report that is not refused answers.
@@ -63,12 +65,13 @@ pub(crate) fn told(number: u64, value: u64) -> Result<u64, Refusal> {
         11 => Refusal::Mismarked,
         12 => Refusal::Unknown,
         13 => Refusal::Early(value),
+        25 => Refusal::Begun,
         _ => unreachable!("the library is proved to answer no other number"),
     })
 }
 
 impl Refusal {
-    /// The number in document 01's table.
+    /// The number in document 01's table; 25 is document 02's.
     pub fn number(self) -> u64 {
         match self {
             Refusal::Size => 1,
@@ -84,13 +87,18 @@ impl Refusal {
             Refusal::Mismarked => 11,
             Refusal::Unknown => 12,
             Refusal::Early(_) => 13,
+            Refusal::Begun => 25,
         }
     }
 
     /// What it carries, if anything.
     pub fn carried(self) -> Option<u64> {
         match self {
-            Refusal::Size | Refusal::Crowd | Refusal::Mismarked | Refusal::Unknown => None,
+            Refusal::Size
+            | Refusal::Crowd
+            | Refusal::Mismarked
+            | Refusal::Unknown
+            | Refusal::Begun => None,
             Refusal::Apart(bay) => Some(u64::from(bay.0)),
             Refusal::Start(c) | Refusal::Goal(c) | Refusal::Stopped(c) | Refusal::Missed(c) => {
                 Some(u64::from(c.0))

@@ -1,4 +1,4 @@
-//! The proved planner, plan check, slots and report log of a pallet vault, with document 01's answers as enums.
+//! The proved planner, plan check, slots, report log and shortening of a pallet vault, with the documents' answers as enums.
 //!
 //! In every function the yard has `bays` bays, `rails` lists the two ends of each rail one after the other, and `start` and `goal` give
 //! the bay of each carrier. Any numbers and lists may be handed in; what does not hold together is refused.
@@ -129,4 +129,38 @@ pub fn report(
         ALREADY => Ok(Reported::Already),
         _ => told(number, value).map(|_| Reported::Accepted),
     }
+}
+
+/// Drops the there-and-back trips of `plan`, of which no crossing may be marked as done, and writes what is left to the first places of
+/// `room`. The answer is its length.
+pub fn shorten(
+    bays: u64,
+    rails: &[u16],
+    start: &[u16],
+    goal: &[u16],
+    plan: &[u64],
+    marks: &[u8],
+    room: &mut [u64],
+) -> Result<usize, Refusal> {
+    let mut value = 0;
+    // SAFETY: as in `plan`.
+    let number = unsafe {
+        raw::sejjekoru_shorten(
+            bays,
+            rails.as_ptr(),
+            rails.len(),
+            start.as_ptr(),
+            start.len(),
+            goal.as_ptr(),
+            goal.len(),
+            plan.as_ptr(),
+            plan.len(),
+            marks.as_ptr(),
+            marks.len(),
+            room.as_mut_ptr(),
+            room.len(),
+            &mut value,
+        )
+    };
+    told(number, value).map(|written| written as usize)
 }

@@ -57,4 +57,21 @@ extern "C" {
         name: u64,
         value: *mut u64,
     ) -> u64;
+
+    pub fn sejjekoru_shorten(
+        bays: u64,
+        rails: *const u16,
+        rails_len: usize,
+        start: *const u16,
+        start_len: usize,
+        goal: *const u16,
+        goal_len: usize,
+        plan: *const u64,
+        plan_len: usize,
+        marks: *const u8,
+        marks_len: usize,
+        out: *mut u64,
+        out_len: usize,
+        value: *mut u64,
+    ) -> u64;
 }

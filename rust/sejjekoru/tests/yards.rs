@@ -1,6 +1,6 @@
 //! The yards that document 01 works by hand, through the library.
 
-use sejjekoru::{check, plan, report, slots, Bay, Carrier, Crossing, Refusal, Reported};
+use sejjekoru::{check, plan, report, shorten, slots, Bay, Carrier, Crossing, Refusal, Reported};
 
 /// Bays, rails, start, goal.
 struct Yard(u64, Vec<u16>, Vec<u16>, Vec<u16>);
@@ -149,4 +149,24 @@ fn y10_limits() {
 #[test]
 fn y11_room() {
     assert_eq!(t([1, 0], [0, 1]).plan(5), Err(Refusal::Room(6)));
+}
+
+#[test]
+fn there_and_back_trips() {
+    let yard = line(6, [0, 5], [1, 5]);
+    let there = crossed(&[(0, 0, 1), (1, 5, 4), (0, 1, 2), (1, 4, 5), (0, 2, 1)]);
+    let shortened = |marks: &[u8], room: usize| {
+        let mut lent = vec![GUARD; room];
+        let answer = shorten(
+            yard.0, &yard.1, &yard.2, &yard.3, &there, marks, &mut lent,
+        );
+        (answer, lent)
+    };
+    let left = crossed(&[(0, 0, 1)]);
+    assert_eq!(shortened(&[0; 5], 2), (Ok(1), vec![left[0], GUARD]));
+    assert_eq!(shortened(&[0; 5], 0), (Err(Refusal::Room(1)), vec![]));
+    let begun = (Err(Refusal::Begun), vec![]);
+    assert_eq!(shortened(&[1, 0, 0, 0, 0], 0), begun);
+    let mismarked = (Err(Refusal::Mismarked), vec![GUARD]);
+    assert_eq!(shortened(&[0; 4], 1), mismarked);
 }

@@ -8,7 +8,7 @@ use Rattle.vault.proofs.answer.Tie as tie
 use Rattle.vault.proofs.answer.Reads as reads
 use Rattle.vault.proofs.answer.Lts as lts
 use Rattle.io.proofs.write_all.Reads as write-all-reads
-use Rattle.program.proofs.program.Reads as program-reads
+use Rattle.vault.proofs.print.Reads as print-reads
 use Rattle.vault.proofs.load.Reads as load-reads
 
 slice-aggregate-load : tie.Need-slice-aggregate-load
@@ -26,20 +26,20 @@ load-requires-2 c κs = search needs
 array-share-prefix-map : tie.Need-array-share-prefix-map
 array-share-prefix-map c = search needs
 
-slice-aggregate-program : tie.Need-slice-aggregate-program
-slice-aggregate-program c = sym (length-take-le _ _ (c .before .before .before .before .before .load .ensures))
+slice-aggregate-print : tie.Need-slice-aggregate-print
+slice-aggregate-print c = sym (length-take-le _ _ (c .before .before .before .before .before .load .ensures))
 
 array-share-prefix-scenario : tie.Need-array-share-prefix-scenario
 array-share-prefix-scenario c = search needs
 
-slice-aggregate-program-2 : tie.Need-slice-aggregate-program-2
-slice-aggregate-program-2 c = sym (length-take-le _ _ (c .before .before .before .load2 .ensures))
+slice-aggregate-print-2 : tie.Need-slice-aggregate-print-2
+slice-aggregate-print-2 c = sym (length-take-le _ _ (c .before .before .before .load2 .ensures))
 
-slice-aggregate-program-3 : tie.Need-slice-aggregate-program-3
-slice-aggregate-program-3 c = search needs
+slice-aggregate-print-3 : tie.Need-slice-aggregate-print-3
+slice-aggregate-print-3 c = search needs
 
-program-requires : tie.Need-program-requires
-program-requires c κs = search needs
+print-requires : tie.Need-print-requires
+print-requires c κs = search needs
 
 array-share-prefix-out : tie.Need-array-share-prefix-out
 array-share-prefix-out c = search needs
@@ -62,11 +62,11 @@ answer-spec =
     slice-aggregate-load-2
     load-requires-2
     array-share-prefix-map
-    slice-aggregate-program
+    slice-aggregate-print
     array-share-prefix-scenario
-    slice-aggregate-program-2
-    slice-aggregate-program-3
-    program-requires
+    slice-aggregate-print-2
+    slice-aggregate-print-3
+    print-requires
     array-share-prefix-out
     slice-aggregate-write-all
     write-all-requires

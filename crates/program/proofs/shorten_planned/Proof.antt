@@ -1,0 +1,81 @@
+-- `program::shorten_planned` meets its contract. Each way out is one law of proofs/Shortening.
+-- Assumes nothing.
+use mathlib.Core.Path.{sym}
+use native.Mathlib.Omega.{arith}
+use lib.Seq.{length-take-le}
+use Rattle.program.proofs.Shortening.{enough, marked, written-short, not-begun, not-refused, refusal-stays}
+use borrow.Author.Needs.{needs}
+use Rattle.program.proofs.shorten_planned.Statement.{statement}
+use Rattle.program.proofs.shorten_planned.Tie as tie
+use Rattle.program.proofs.shorten_planned.Reads as reads
+use Rattle.program.proofs.shorten_planned.Lts as lts
+use Rattle.shorten.proofs.shorten.Reads as shorten-reads
+
+enum-known-answer : tie.Need-enum-known-answer
+enum-known-answer c = search needs
+
+slice-aggregate-shorten : tie.Need-slice-aggregate-shorten
+slice-aggregate-shorten c = sym (length-take-le _ _ (c .before .before .before .before .before .before .before .before .before .pre .0 .within .inside _ (c .before .before .answer .given .1)))
+
+array-share-prefix-marks : tie.Need-array-share-prefix-marks
+array-share-prefix-marks c = omega (arith, c .before .before .before .before .before .before .before .before .before .pre .0 .within .inside _ (c .before .before .answer .given .1), c .before .before .before .before .before .before .before .before .before .pre .0 .sized)
+
+slice-aggregate-shorten-2 : tie.Need-slice-aggregate-shorten-2
+slice-aggregate-shorten-2 c = sym (enough _ (array-share-prefix-marks (c .before)))
+
+shorten-requires : tie.Need-shorten-requires
+shorten-requires c κs = search needs
+
+enum-known-shorter : tie.Need-enum-known-shorter
+enum-known-shorter c = search needs
+
+enum-told : tie.Need-enum-told
+enum-told c = search needs
+
+enum-known-shorter-2 : tie.Need-enum-known-shorter-2
+enum-known-shorter-2 c = search needs
+
+enum-known-answer-2 : tie.Need-enum-known-answer-2
+enum-known-answer-2 c = search needs
+
+same-length : tie.Need-same-length
+same-length c = search needs
+
+returns : tie.Need-returns
+returns c = written-short (c .before .before .before .before .before .before .before .before .before .before .before .before .before .before .before .before .before .pre .0) _ (c .before .before .before .before .before .before .before .before .before .before .answer .given .1) _ (marked (c .before .before .before .before .before .before .before .before .before .before .before .before .before .before .before .before .before .pre .0) _ (c .before .before .before .before .before .before .before .before .before .before .answer .given .1)) _ (c .before .before .before .before .before .before .before .before .before .before .before .before .before .before .before .before .before .pre .1) (c .before .before .before .before .before .shorten .ensures) _ (c .before .shorter .given .1)
+
+same-length-2 : tie.Need-same-length-2
+same-length-2 c = search needs
+
+returns-2 : tie.Need-returns-2
+returns-2 c = not-begun (c .before .before .before .before .before .before .before .before .before .before .before .before .before .before .before .before .pre .0) _ (c .before .before .before .before .before .before .before .before .before .answer .given .1) _ (marked (c .before .before .before .before .before .before .before .before .before .before .before .before .before .before .before .before .pre .0) _ (c .before .before .before .before .before .before .before .before .before .answer .given .1)) _ (c .before .before .before .before .before .before .before .before .before .before .before .before .before .before .before .before .pre .1) (c .before .before .before .before .shorten .ensures) (c .enum-told .given .1)
+
+same-length-3 : tie.Need-same-length-3
+same-length-3 c = search needs
+
+returns-3 : tie.Need-returns-3
+returns-3 c = not-refused (c .before .before .before .before .before .before .before .before .before .before .before .before .before .before .before .before .before .pre .0) _ (c .before .before .before .before .before .before .before .before .before .before .answer .given .1) _ (marked (c .before .before .before .before .before .before .before .before .before .before .before .before .before .before .before .before .before .pre .0) _ (c .before .before .before .before .before .before .before .before .before .before .answer .given .1)) _ (c .before .before .before .before .before .before .before .before .before .before .before .before .before .before .before .before .before .pre .1) (c .before .before .before .before .before .shorten .ensures) _ (c .before .shorter2 .given .1)
+
+returns-4 : tie.Need-returns-4
+returns-4 c = refusal-stays (c .before .before .before .before .before .before .before .before .pre .0) _ (c .before .answer2 .given .1) (c .before .before .before .before .before .before .before .before .pre .1)
+
+pub shorten-planned-spec : {M : Type 1} → statement M
+shorten-planned-spec =
+    tie.close
+    (tie.spec
+    enum-known-answer
+    slice-aggregate-shorten
+    array-share-prefix-marks
+    slice-aggregate-shorten-2
+    shorten-requires
+    enum-known-shorter
+    enum-told
+    enum-known-shorter-2
+    enum-known-answer-2
+    same-length
+    returns
+    same-length-2
+    returns-2
+    same-length-3
+    returns-3
+    returns-4)

@@ -1,0 +1,98 @@
+-- The names to be looked at again are noted one crossing at a time.
+use mathlib.Core.Path.{_≡_, refl, sym, _∙_, ap}
+use mathlib.Core.Bool.{Bool, true, false}
+use mathlib.Core.List.{List}
+use Prim.Native.Nat.{ℕ, zero, suc, _≤_, _<_, _+_, _-_}
+use native.Mathlib.Omega.{arith}
+use lib.Dec.{eqb, ltb}
+use lib.ListN.{length, getD, set, length-set}
+use lib.Seq.{getD-set-same, getD-set-other}
+use borrow.Author.Tests.{eqb-true, eqb-false, eq-eqb, ltb-true, ltb-false}
+use Rattle.paper.specs.Basics.{_and_}
+use Rattle.paper.specs.Yard.{Bay, Carrier, Crossing, named}
+use Rattle.paper.proofs.Tests.{by-cases, not-both, and-left, and-right}
+use Rattle.trips.proofs.Freeing.{LastLeaving, Noted}
+use Rattle.shorten.proofs.Asking.{in-fails}
+
+-- ## The last leaving, looked for downwards
+
+-- none of the names from m to below e leaves b
+abbrev pub NoneLeaves : List ℕ → List Crossing → Bay → ℕ → ℕ → Type 0
+NoneLeaves gs xs b e m = (j : ℕ) → m ≤ j → j < e → eqb (getD gs j 0) 0 and eqb (named xs j .from) b ≡ false
+
+module _ (gs : List ℕ) (xs : List Crossing) (b : Bay) (e : ℕ) where
+  pub none-start : NoneLeaves gs xs b e e
+  none-start j l h = absurd (omega arith)
+
+  pub none-more : (m : ℕ) → NoneLeaves gs xs b e (suc m) → eqb (getD gs m 0) 0 and eqb (named xs m .from) b ≡ false → NoneLeaves gs xs b e m
+  none-more m n h j l k =
+      by-cases (eqb j m) (λ z. rw (eqb-true j m z) h) (λ z. n j (omega (arith, eqb-false j m z)) k)
+
+  -- the last leaving is not above m
+  not-above : (m : ℕ) → NoneLeaves gs xs b e m → (k : ℕ) → LastLeaving gs xs b e k → k < m
+  not-above m n k l =
+      by-cases (ltb k m)
+      (λ z. ltb-true k m z)
+      (λ z. not-both (eq-eqb _ _ (l .leaves)) (in-fails _ _ (n k (ltb-false k m z) (l .before)) (l .stays)))
+
+  pub leaving-found : (m : ℕ) → m < e → NoneLeaves gs xs b e (suc m) → eqb (getD gs m 0) 0 and eqb (named xs m .from) b ≡ true
+      → (k : ℕ) → LastLeaving gs xs b e k → m ≡ k
+  leaving-found m h n t k l =
+      let up = not-above (suc m) n k l in
+      by-cases (ltb k m)
+      (λ z. absurd (l .last m (ltb-true k m z) h (eqb-true _ _ (and-left _ _ t)) (eqb-true _ _ (and-right _ _ t))))
+      (λ z. omega (arith, ltb-false k m z))
+
+  pub leaving-none : NoneLeaves gs xs b e 0 → (k : ℕ) → LastLeaving gs xs b e k → e ≡ k
+  leaving-none n k l = let z = not-above 0 n k l in absurd (omega arith)
+
+-- ## Noting
+
+module _ (gs : List ℕ) (xs : List Crossing) (c : Carrier) where
+  -- nothing to note yet
+  pub noted-start : (i low : ℕ) (todo : List ℕ) → Noted gs xs c i 0 todo todo low
+  noted-start i low todo = record {
+    long = refl;
+    fewer = λ k h. h;
+    below = λ k h. refl;
+    noted = λ e k l h. absurd (omega arith);
+  }
+
+  -- the crossing is dropped, or another carrier's
+  pub noted-not : (i low : ℕ) (todo : List ℕ) → (getD gs i 0 ≡ 0 → named xs i .carrier ≡ c → ⊥) → Noted gs xs c i 1 todo todo low
+  noted-not i low todo n = record {
+    long = refl;
+    fewer = λ k h. h;
+    below = λ k h. refl;
+    noted = λ e k l h u z own f t. let is : e ≡ i = omega arith in n (ap (λ j. getD gs j 0) (sym is) ∙ z) (ap (λ j. named xs j .carrier) (sym is) ∙ own);
+  }
+
+  -- the last leaving of the bay that it enters is noted
+  pub noted-one : (i low p : ℕ) (todo : List ℕ) → p < length todo → low ≤ p → ((k : ℕ) → LastLeaving gs xs (named xs i .to) i k → p ≡ k)
+      → Noted gs xs c i 1 todo (set todo p 1) low
+  noted-one i low p todo h l found = record {
+    long = length-set todo p 1;
+    fewer = λ k z.
+        by-cases (eqb k p)
+        (λ s. let w : _≡_ {A = ℕ} 1 0 = sym (getD-set-same todo p 1 0 h) ∙ ap (λ j. getD (set todo p 1) j 0) (sym (eqb-true k p s)) ∙ z in absurd (omega arith))
+        (λ s. sym (getD-set-other todo p k 1 0 (eqb-false k p s)) ∙ z);
+    below = λ k z. getD-set-other todo p k 1 0 (λ s. omega arith);
+    noted = λ e k u v w z own f t.
+        let is : e ≡ i = omega arith in
+        let same : p ≡ k = found k (rw is at f) in
+        let one : _≡_ {A = ℕ} 1 0 = sym (getD-set-same todo p 1 0 h) ∙ ap (λ j. getD (set todo p 1) j 0) same ∙ t in
+        omega arith;
+  }
+
+  -- one after the other
+  pub noted-both : (i n j m : ℕ) (todo todo₁ todo₂ : List ℕ) (low low₂ : ℕ) → j ≡ i + n → low₂ ≤ low → Noted gs xs c i n todo todo₁ low
+      → Noted gs xs c j m todo₁ todo₂ low₂ → Noted gs xs c i (n + m) todo todo₂ low₂
+  noted-both i n j m todo todo₁ todo₂ low low₂ at l a b = record {
+    long = b .long ∙ a .long;
+    fewer = λ k h. a .fewer k (b .fewer k h);
+    below = λ k h. b .below k h ∙ a .below k (omega arith);
+    noted = λ e k u v w z own f t.
+        by-cases (ltb e (i + n))
+        (λ s. a .noted e k u (ltb-true e (i + n) s) w z own f (b .fewer k t))
+        (λ s. let up = ltb-false e (i + n) s in b .noted e k (omega arith) (omega arith) w z own f t);
+  }

@@ -1,0 +1,71 @@
+-- The search for the last return goes up name by name: a crossing that is dropped or leads elsewhere is passed, a return of the carrier is the
+-- last so far, and another carrier's entering ends it.
+use mathlib.Core.Path.{_≡_, refl, sym, _∙_, ap}
+use mathlib.Core.Bool.{Bool, true, false}
+use mathlib.Core.List.{List, [], _∷_}
+use mathlib.Core.Option.{Option, none, some}
+use Prim.Native.Nat.{ℕ, suc, _≤_, _<_, _+_}
+use native.Mathlib.Omega.{arith}
+use native.Mathlib.Numerals.{add-one}
+use lib.Dec.{eqb}
+use lib.ListN.{length, getD, drop, drop-of-length-le}
+use lib.Seq.{drop-cons}
+use borrow.Author.Tests.{eqb-true}
+use Rattle.paper.specs.Basics.{_and_, _>>=_, orElse}
+use Rattle.paper.specs.Yard.{Crossing, crossings, named}
+use Rattle.paper.proofs.Tests.{and-left, and-right}
+use Rattle.plans.proofs.Rest.{rest-next, rest-none}
+use Rattle.trips.specs.Trips.{enters, isOf}
+use Rattle.trips.specs.Names.{lastPlace}
+use Rattle.trips.proofs.Naming.{place-past, place-back, place-barred}
+use Rattle.shorten.specs.Going.{nameAt, lastFrom}
+use Rattle.shorten.proofs.Asking.{in-fails}
+
+name-past : (last m : ℕ) (o : Option ℕ) → nameAt last m (o >>= λ n. some (suc n)) ≡ nameAt last (suc m) o
+name-past last m none = refl
+name-past last m (some d) = omega arith
+
+name-back : (last m : ℕ) (o : Option ℕ) → nameAt last m (orElse (o >>= λ n. some (suc n)) (some 0)) ≡ nameAt m (suc m) o
+name-back last m none = omega arith
+name-back last m (some d) = omega arith
+
+none-left : (x : Crossing) (ys : List Crossing) → lastPlace (x .carrier) (x .from) [] ys ≡ none
+unfolding lastPlace
+none-left x ys = refl
+
+module _ (plan gone : List ℕ) (same : length gone ≡ length plan) (x : Crossing) (last m : ℕ) where
+  abbrev g : ℕ
+  g = getD gone m 0
+
+  abbrev y : Crossing
+  y = named (crossings plan) m
+
+  here : m < length plan → lastPlace (x .carrier) (x .from) (drop m gone) (drop m (crossings plan))
+      ≡ lastPlace (x .carrier) (x .from) (g ∷ drop (suc m) gone) (y ∷ drop (suc m) (crossings plan))
+  here l = rw (drop-cons gone m 0 (omega arith), rest-next plan m l)
+
+  pub returning-past : m < length plan → eqb g 0 and enters (x .from) y ≡ false
+      → lastFrom x (crossings plan) gone last (m + 1) ≡ lastFrom x (crossings plan) gone last m
+  returning-past l t =
+      rw (add-one m)
+      (sym (ap (nameAt last m) (here l ∙ place-past (x .carrier) (x .from) g (drop (suc m) gone) y (drop (suc m) (crossings plan)) (in-fails g _ t))
+      ∙ name-past last m (lastPlace (x .carrier) (x .from) (drop (suc m) gone) (drop (suc m) (crossings plan)))))
+
+  pub returning-back : m < length plan → eqb g 0 and enters (x .from) y ≡ true → isOf (x .carrier) y ≡ true
+      → lastFrom x (crossings plan) gone m (m + 1) ≡ lastFrom x (crossings plan) gone last m
+  returning-back l t i =
+      rw (add-one m)
+      (sym (ap (nameAt last m)
+      (here l ∙ place-back (x .carrier) (x .from) g (drop (suc m) gone) y (drop (suc m) (crossings plan)) (eqb-true _ _ (and-left _ _ t)) (and-right _ _ t) i)
+      ∙ name-back last m (lastPlace (x .carrier) (x .from) (drop (suc m) gone) (drop (suc m) (crossings plan)))))
+
+  pub returning-barred : m < length plan → eqb g 0 and enters (x .from) y ≡ true → isOf (x .carrier) y ≡ false
+      → last ≡ lastFrom x (crossings plan) gone last m
+  returning-barred l t i =
+      sym (ap (nameAt last m)
+      (here l ∙ place-barred (x .carrier) (x .from) g (drop (suc m) gone) y (drop (suc m) (crossings plan)) (eqb-true _ _ (and-left _ _ t)) (and-right _ _ t) i))
+
+  pub returning-end : length plan ≤ m → last ≡ lastFrom x (crossings plan) gone last m
+  returning-end h =
+      sym (ap (nameAt last m)
+      (ap (λ gs. lastPlace (x .carrier) (x .from) gs (drop m (crossings plan))) (drop-of-length-le gone {i = m} (omega arith)) ∙ none-left x _))

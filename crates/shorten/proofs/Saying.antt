@@ -1,0 +1,96 @@
+-- What shortening says, way out by way out: the check's refusal, 11, 25, and then 8 or the shorter plan.
+use mathlib.Core.Path.{_≡_, refl, sym, _∙_, ap, ap₂}
+use mathlib.Core.Bool.{true, false}
+use mathlib.Core.List.{List, [], _∷_, _++_, map}
+use mathlib.Core.Option.{none, some}
+use Prim.Native.Nat.{ℕ, _<_, _≤_}
+use native.Mathlib.Omega.{arith}
+use borrow.Author.Tests.{lt-ltb, le-ltb}
+use lib.Dec.{ltb}
+use lib.ListN.{length, drop, length-map}
+use Rattle.paper.specs.Basics.{_or_}
+use Rattle.paper.specs.Yard.{Bay, Placement, Crossing, crossings, pack, unpack, most-crossings}
+use Rattle.paper.specs.Docket.{yardOf, badMarks}
+use Rattle.paper.specs.Answers.{check}
+use Rattle.paper.specs.OnePass.{Fits}
+use Rattle.paper.proofs.Tests.{or-left, or-neither}
+use Rattle.paper.proofs.Admitted.{clean-of, good-of}
+use Rattle.paper.proofs.Checking.{check-passed}
+use Rattle.paper.proofs.Handing.{check-fits}
+use Rattle.paper.proofs.Packing.{pack-unpack}
+use Rattle.docket.specs.Reading.{refusalOf}
+use Rattle.docket.specs.declared.Refusal.{Refusal}
+use Rattle.docket.specs.declared.Refusal.the-variants.{Room, Mismarked}
+use Rattle.trips.specs.Trips.{shorten}
+use Rattle.trips.specs.Names.{left}
+use Rattle.trips.specs.Shortening.{anyDone, intoRoom, leaves, shortening}
+use Rattle.trips.proofs.Leaving.{left-length}
+use Rattle.trips.proofs.Shortened.{cuts-left}
+use Rattle.trips.proofs.Naming.{left-map}
+use Rattle.shorten.specs.Going.{Lawful}
+use Rattle.shorten.specs.Statements.{RoomSays, ShortenSays}
+use Rattle.shorten.specs.declared.Shortened.{Shortened}
+use Rattle.shorten.specs.declared.Shortened.the-variants.{Written, Begun, Refused}
+
+packed-back : (plan : List ℕ) → map pack (crossings plan) ≡ plan
+packed-back [] = refl
+packed-back (w ∷ plan) = ap₂ (λ v vs. v ∷ vs) (pack-unpack w) (packed-back plan)
+
+-- what is left, as numbers and as crossings
+module _ (plan gone out : List ℕ) (done : left gone (crossings plan) ≡ shorten (crossings plan)) where
+  numbers : left gone plan ≡ map pack (shorten (crossings plan))
+  numbers = ap (left gone) (sym (packed-back plan)) ∙ left-map pack gone (crossings plan) ∙ ap (map pack) done
+
+  count : length (left gone plan) ≡ length (shorten (crossings plan))
+  count = ap length numbers ∙ length-map (shorten (crossings plan)) pack
+
+  pub room-refused : (n : ℕ) → n ≡ length (left gone plan) → length out < n → RoomSays plan out (Refused (Room n)) out
+  unfolding intoRoom leaves
+  room-refused n e h =
+      let is : n ≡ length (shorten (crossings plan)) = e ∙ count in
+      let over : (ltb (length out) (length (shorten (crossings plan))) or ltb most-crossings (length (shorten (crossings plan)))) ≡ true =
+      or-left _ _ (lt-ltb (length out) (length (shorten (crossings plan))) (rw is at h)) in
+      record { answers = rw (over, is); ends = rw over }
+
+  pub room-written : (n : ℕ) (out′ : List ℕ) → length plan ≤ most-crossings → n ≡ length (left gone plan) → n ≤ length out
+      → out′ ≡ left gone plan ++ drop (length (left gone plan)) out → RoomSays plan out (Written n) out′
+  unfolding intoRoom leaves
+  room-written n out′ small e h w =
+      let ys = shorten (crossings plan) in
+      let is : n ≡ length ys = e ∙ count in
+      let short : length ys ≤ most-crossings = omega (arith, left-length (cuts-left (length (crossings plan)) (crossings plan)), length-map plan unpack) in
+      let room : (ltb (length out) (length ys) or ltb most-crossings (length ys)) ≡ false =
+      or-neither _ _ (le-ltb (length out) (length ys) (rw is at h)) (le-ltb most-crossings (length ys) short) in
+      record { answers = rw (room, is); ends = rw room (w ∙ ap₂ (λ a k. a ++ drop k out) numbers count) }
+
+module _ (n : ℕ) (ends : List Bay) (starts goals : Placement) (plan marks out : List ℕ) where
+  pub says-refused : (r : Refusal) → some (refusalOf r) ≡ check n ends starts goals plan → ShortenSays n ends starts goals plan marks out (Refused r) out
+  unfolding shortening leaves
+  says-refused r h = record { answers = rw (← h); ends-as = rw (← h) }
+
+  module _ (passes : none ≡ check n ends starts goals plan) where
+    pub fits : Fits 256 256 plan
+    fits = check-fits n ends starts goals plan (sym passes)
+
+    pub short-plan : length plan ≤ most-crossings
+    short-plan = clean-of n ends starts goals (length plan) (check-passed n ends starts goals plan (sym passes) .sound) .sizes .short-plan
+
+    pub lawful : Lawful (crossings plan)
+    lawful =
+        let p = check-passed n ends starts goals plan (sym passes) in
+        let c = clean-of n ends starts goals (length plan) (p .sound) in
+        record { yard = yardOf n ends; start = starts; apart = good-of n ends starts (c .starts) .apart; lawful = p .lawful }
+
+    pub says-mismarked : badMarks (crossings plan) marks ≡ true → ShortenSays n ends starts goals plan marks out (Refused Mismarked) out
+    unfolding shortening leaves
+    says-mismarked b = record { answers = rw (← passes, b); ends-as = rw (← passes, b) }
+
+    module _ (b : badMarks (crossings plan) marks ≡ false) where
+      pub says-begun : anyDone marks ≡ true → ShortenSays n ends starts goals plan marks out Begun out
+      unfolding shortening leaves
+      says-begun d = record { answers = rw (← passes, b, d); ends-as = rw (← passes, b, d) }
+
+      pub says-room : anyDone marks ≡ false → (answer : Shortened) (out′ : List ℕ) → RoomSays plan out answer out′
+          → ShortenSays n ends starts goals plan marks out answer out′
+      unfolding shortening
+      says-room d answer out′ r = record { answers = rw (← passes, b, d) (r .answers); ends-as = rw (← passes, b, d) (r .ends) }

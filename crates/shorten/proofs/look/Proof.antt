@@ -1,0 +1,94 @@
+-- `shorten::look` meets its contract. Each way out is one law of proofs/Looking.
+-- Assumes nothing.
+use Rattle.shorten.proofs.Looking.{last-not-before, rank-next, look-past, look-none, look-cut, cut-rank}
+use Rattle.paper.specs.Yard.{crossings, named}
+use Rattle.docket.specs.Reading.{crossingOf}
+use lib.ListN.{length}
+use denote.Ref.{now}
+use native.Mathlib.Omega.{arith}
+use Prim.Native.Nat.{ℕ, suc, _≤_, _<_}
+use mathlib.Core.Path.{_≡_, refl, sym, _∙_, ap}
+use borrow.Author.Needs.{needs}
+use Rattle.shorten.proofs.look.Statement.{statement}
+use Rattle.shorten.proofs.look.Tie as tie
+
+slice-read-if1 : tie.Need-slice-read-if1
+slice-read-if1 c = search needs
+
+add-result : tie.Need-add-result
+add-result c = search needs
+
+returns : tie.Need-returns
+returns c = let s = c .before .before .before .before .before in (look-past (now (s .args .plan)) (now (s .args .gone)) (now (s .args .todo)) (s .args .name) (s .pre .0) (s .pre .1) (λ z. absurd (c .if1 .taken z)), rank-next (now (s .args .plan)) (now (s .args .gone)) (now (s .args .todo)) (s .args .name) (s .pre .0) (s .pre .1))
+
+slice-read-if2 : tie.Need-slice-read-if2
+slice-read-if2 c = search needs
+
+add-result-2 : tie.Need-add-result-2
+add-result-2 c = search needs
+
+returns-2 : tie.Need-returns-2
+returns-2 c = let s = c .before .before .before .before .before .before .before in (look-past (now (s .args .plan)) (now (s .args .gone)) (now (s .args .todo)) (s .args .name) (s .pre .0) (s .pre .1) (λ z. c .if2 .taken), rank-next (now (s .args .plan)) (now (s .args .gone)) (now (s .args .todo)) (s .args .name) (s .pre .0) (s .pre .1))
+
+last-return-requires : tie.Need-last-return-requires
+last-return-requires c κs = search needs
+
+slice-write-todo : tie.Need-slice-write-todo
+slice-write-todo c = search needs
+
+add-result-3 : tie.Need-add-result-3
+add-result-3 c = search needs
+
+same-length : tie.Need-same-length
+same-length c = search needs
+
+same-length-2 : tie.Need-same-length-2
+same-length-2 c = search needs
+
+returns-3 : tie.Need-returns-3
+returns-3 c = let s = c .before .before .before .before .before .before .before .before .before .before in (look-none (now (s .args .plan)) (now (s .args .gone)) (now (s .args .todo)) (s .args .name) (s .pre .0) (s .pre .1) (sym (c .if3 .taken) ∙ c .before .last-return .ensures .1), rank-next (now (s .args .plan)) (now (s .args .gone)) (now (s .args .todo)) (s .args .name) (s .pre .0) (s .pre .1))
+
+crossing-at-requires : tie.Need-crossing-at-requires
+crossing-at-requires c κs = search needs
+
+note-leavings-requires : tie.Need-note-leavings-requires
+note-leavings-requires c κs = let s = c .before .before .before .before .before .before .before .before .before .before .before .before .before in (last-not-before (named (crossings (now (s .args .plan))) (s .args .name)) (crossings (now (s .args .plan))) (now (s .args .gone)) (s .args .name) (c .before .before .before .before .last-return .result) (c .before .before .before .before .last-return .ensures .1), c .before .before .before .before .last-return .ensures .0, s .pre .1 .long-gone, s .pre .1 .long-todo)
+
+drop-trip-requires : tie.Need-drop-trip-requires
+drop-trip-requires c κs = let s = c .before .before .before .before .before .before .before .before .before .before .before .before .before .before .before .before .before in (last-not-before (named (crossings (now (s .args .plan))) (s .args .name)) (crossings (now (s .args .plan))) (now (s .args .gone)) (s .args .name) (c .before .before .before .before .before .before .before .before .last-return .result) (c .before .before .before .before .before .before .before .before .last-return .ensures .1), c .before .before .before .before .before .before .before .before .last-return .ensures .0, s .pre .1 .long-gone)
+
+same-length-3 : tie.Need-same-length-3
+same-length-3 c = search needs
+
+same-length-4 : tie.Need-same-length-4
+same-length-4 c = search needs
+
+returns-4 : tie.Need-returns-4
+returns-4 c =
+    let s = c .before .before .before .before .before .before .before .before .before .before .before .before .before .before .before .before .before .before .before .before in
+    let x = crossingOf (c .before .before .before .before .before .before .before .before .before .crossing-at .result) in
+    let n = c .before .before .before .before .before .before .note-leavings .ensures in
+    (rw (c .before .before .drop-trip .ensures) (look-cut (now (s .args .plan)) (now (s .args .gone)) (now (s .args .todo)) (s .args .name) (s .pre .0) (s .pre .1) (c .before .before .before .before .before .before .before .before .before .before .before .last-return .result) (c .before .before .before .before .before .before .note-leavings .result) _ x (c .before .before .before .before .before .before .before .before .before .crossing-at .ensures) (c .before .before .before .before .before .before .before .before .before .before .before .before .before .before .before .if1 .left) (c .before .before .before .before .before .before .before .before .before .before .if3 .left) (c .before .before .before .before .before .before .before .before .before .before .before .last-return .ensures .1) (n .0) (n .1)), rw (c .before .before .drop-trip .ensures) (cut-rank (now (s .args .plan)) (now (s .args .gone)) (now (s .args .todo)) (s .args .name) (s .pre .0) (s .pre .1) (c .before .before .before .before .before .before .before .before .before .before .before .last-return .result) (c .before .before .before .before .before .before .note-leavings .result) _ x (c .before .before .before .before .before .before .before .before .before .crossing-at .ensures) (c .before .before .before .before .before .before .before .before .before .before .before .before .before .before .before .if1 .left) (c .before .before .before .before .before .before .before .before .before .before .if3 .left) (c .before .before .before .before .before .before .before .before .before .before .before .last-return .ensures .1) (n .0) (n .1)))
+
+pub look-spec : {M : Type 1} → statement M
+look-spec =
+    tie.close
+    (tie.spec
+    slice-read-if1
+    add-result
+    returns
+    slice-read-if2
+    add-result-2
+    returns-2
+    last-return-requires
+    slice-write-todo
+    add-result-3
+    same-length
+    same-length-2
+    returns-3
+    crossing-at-requires
+    note-leavings-requires
+    drop-trip-requires
+    same-length-3
+    same-length-4
+    returns-4)

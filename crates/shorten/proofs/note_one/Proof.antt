@@ -1,0 +1,66 @@
+-- `shorten::note_one` meets its contract. What is noted is the last leaving of the bay that the crossing enters, or the crossing itself where there is none.
+-- Assumes nothing.
+use Rattle.shorten.proofs.Noting.{noted-not, noted-one}
+use Rattle.trips.proofs.Freeing.{LastLeaving}
+use Rattle.paper.specs.Yard.{crossings, named}
+use lib.ListN.{length}
+use denote.Ref.{now}
+use native.Mathlib.Omega.{arith}
+use Prim.Native.Nat.{ℕ, _≤_, _<_}
+use mathlib.Core.Path.{_≡_, refl, sym, _∙_, ap}
+use borrow.Author.Needs.{needs}
+use Rattle.shorten.proofs.note_one.Statement.{statement}
+use Rattle.shorten.proofs.note_one.Tie as tie
+
+shared-slice-read-if1 : tie.Need-shared-slice-read-if1
+shared-slice-read-if1 c = search needs
+
+returns : tie.Need-returns
+returns c = let s = c .before .before .before .before .before in (omega arith, noted-not (now (s .args .gone)) (crossings (now (s .args .plan))) (s .args .carrier .0) (s .args .name) (s .args .low) (now (s .args .todo)) (λ z own. c .if1 .taken z))
+
+crossing-at-requires : tie.Need-crossing-at-requires
+crossing-at-requires c κs = search needs
+
+returns-2 : tie.Need-returns-2
+returns-2 c = let s = c .before .before .before .before .before .before .before .before .before in (omega arith, noted-not (now (s .args .gone)) (crossings (now (s .args .plan))) (s .args .carrier .0) (s .args .name) (s .args .low) (now (s .args .todo)) (λ z own. c .if2 .taken (ap (λ y. y .carrier) (c .before .before .before .crossing-at .ensures) ∙ own)))
+
+last-leaving-requires : tie.Need-last-leaving-requires
+last-leaving-requires c κs = search needs
+
+slice-write-todo : tie.Need-slice-write-todo
+slice-write-todo c = search needs
+
+same-length : tie.Need-same-length
+same-length c = search needs
+
+returns-3 : tie.Need-returns-3
+returns-3 c =
+    let s = c .before .before .before .before .before .before .before .before .before .before .before in
+    let e = ap (λ y. y .to) (c .before .before .before .before .before .crossing-at .ensures) in
+    let f : (k : ℕ) → LastLeaving (now (s .args .gone)) (crossings (now (s .args .plan))) (named (crossings (now (s .args .plan))) (s .args .name) .to) (s .args .name) k → c .before .last-leaving .result ≡ k = λ k l. c .before .last-leaving .ensures .1 k (rw (sym e) at l) in
+    (omega (arith, c .if3 .taken), noted-one (now (s .args .gone)) (crossings (now (s .args .plan))) (s .args .carrier .0) (s .args .name) (c .before .last-leaving .result) (c .before .last-leaving .result) (now (s .args .todo)) (omega (arith, c .before .last-leaving .ensures .0)) (omega arith) f)
+
+same-length-2 : tie.Need-same-length-2
+same-length-2 c = search needs
+
+returns-4 : tie.Need-returns-4
+returns-4 c =
+    let s = c .before .before .before .before .before .before .before .before .before .before .before in
+    let e = ap (λ y. y .to) (c .before .before .before .before .before .crossing-at .ensures) in
+    let f : (k : ℕ) → LastLeaving (now (s .args .gone)) (crossings (now (s .args .plan))) (named (crossings (now (s .args .plan))) (s .args .name) .to) (s .args .name) k → c .before .last-leaving .result ≡ k = λ k l. c .before .last-leaving .ensures .1 k (rw (sym e) at l) in
+    (omega arith, noted-one (now (s .args .gone)) (crossings (now (s .args .plan))) (s .args .carrier .0) (s .args .name) (s .args .low) (c .before .last-leaving .result) (now (s .args .todo)) (omega (arith, c .before .last-leaving .ensures .0)) (c .if3 .left) f)
+
+pub note-one-spec : {M : Type 1} → statement M
+note-one-spec =
+    tie.close
+    (tie.spec
+    shared-slice-read-if1
+    returns
+    crossing-at-requires
+    returns-2
+    last-leaving-requires
+    slice-write-todo
+    same-length
+    returns-3
+    same-length-2
+    returns-4)

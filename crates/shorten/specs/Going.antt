@@ -1,0 +1,44 @@
+-- Where the work stands between two cuts: which crossings are dropped, which names are still to be looked at, and how far the look has come.
+-- Assumes nothing.
+use mathlib.Core.Path.{_≡_}
+use mathlib.Core.Bool.{true}
+use mathlib.Core.List.{List}
+use mathlib.Core.Option.{Option, none, some}
+use Prim.Native.Nat.{ℕ, suc, _≤_, _<_, _+_, _*_, _-_}
+use lib.ListN.{length, getD, drop}
+use Rattle.paper.specs.Yard.{Bay, Carrier, Yard, Placement, Crossing, crossings, named, legalPlan}
+use Rattle.paper.proofs.Playing.{Apart}
+use Rattle.trips.specs.Trips.{shorten}
+use Rattle.trips.specs.Names.{left, lastPlace}
+use Rattle.trips.proofs.Naming.{NoTrip}
+
+-- legal in some yard, from a placement with one carrier to a bay
+pub record Lawful (xs : List Crossing) : Type 0 where
+  pub yard : Yard
+  pub start : Placement
+  pub apart : Apart start
+  pub lawful : legalPlan yard start xs ≡ true
+
+-- the name of the last return, where it is looked for from the name m on and `last` is the last one before it
+abbrev pub nameAt : ℕ → ℕ → Option ℕ → ℕ
+nameAt last m none = last
+nameAt last m (some d) = m + d
+
+-- the same for a trip that begins with the crossing x
+abbrev pub lastFrom : Crossing → List Crossing → List ℕ → ℕ → ℕ → ℕ
+lastFrom x xs gone last m = nameAt last m (lastPlace (x .carrier) (x .from) (drop m gone) (drop m xs))
+
+pub record Going (plan gone todo : List ℕ) (i : ℕ) : Type 0 where
+  pub long-gone : length gone ≡ length plan
+  pub long-todo : length todo ≡ length plan
+  pub within : i ≤ length plan
+  pub lawful : Lawful (left gone (crossings plan))
+  -- nothing is lost: what is still in the plan has the same shortening
+  pub whole : shorten (left gone (crossings plan)) ≡ shorten (crossings plan)
+  -- a name that need not be looked at begins no trip, and below i no name need be
+  pub tested : (k : ℕ) → k < length plan → getD gone k 0 ≡ 0 → getD todo k 0 ≡ 0 → NoTrip gone (crossings plan) k
+  pub below : (k : ℕ) → k < i → getD gone k 0 ≡ 0 → getD todo k 0 ≡ 0
+
+-- each look drops a crossing or goes on to the next name
+unfoldable pub rank : List ℕ → List ℕ → ℕ → ℕ
+rank plan gone i = length (left gone (crossings plan)) * suc (length plan) + (length plan - i)

@@ -1,0 +1,302 @@
+// There-and-back trips dropped from a plan. Every crossing keeps its place; a byte beside each says whether it is dropped, and another whether
+// a trip may begin there. A cut drops one carrier's crossings, so only leavings whose next entering was dropped are looked at again.
+ghost use mathlib.Core.Path.{_≡_};
+ghost use mathlib.Core.Bool.{Bool};
+ghost use mathlib.Core.List.{_++_};
+ghost use Prim.Native.Nat.{ℕ, suc, _≤_, _<_, _+_, _-_, min};
+ghost use lib.Dec.{eqb};
+ghost use lib.ListN.{length, getD, drop, replicate};
+ghost use Rattle.paper.specs.Basics.{_and_, any, if_then_else_};
+ghost use Rattle.paper.specs.Yard.{crossings, named, most-crossings};
+ghost use Rattle.trips.specs.Trips.{enters, isOf, shorten as shortenOf};
+ghost use Rattle.trips.specs.Names.{left, dropTrip};
+ghost use Rattle.trips.specs.Shortening.{anyDone};
+ghost use Rattle.trips.proofs.Freeing.{LastLeaving, Noted};
+ghost use Rattle.shorten.specs.Going.{Lawful, Going, lastFrom, rank};
+ghost use Rattle.shorten.specs.Statements.{RoomSays, ShortenSays};
+use checker::Checked;
+use docket::Bay;
+use docket::Carrier;
+use docket::Refusal;
+use yard::Yard;
+
+// What shortening answers.
+pub enum Shortened {
+    Written(u64),
+    Begun,
+    Refused(Refusal),
+}
+
+// The crossing is still in the plan and leads to the bay.
+fn enters_bay(plan: &[u64], gone: &[u8], name: usize, bay: Bay) -> bool
+    requires { ⌜ (name < length (now plan)) × (length (now gone) ≡ length (now plan)) ⌝ }
+    ensures { λ r. ⌜ r ≡ eqb (getD (now (gone .entry)) name 0) 0 and enters (bay .0) (named (crossings (now (plan .entry))) name) ⌝ }
+{
+    if gone[name] != 0 {
+        return false;
+    }
+    let x = plans::crossing_at(plan, name);
+    x.to.0 == bay.0
+}
+
+// The crossing is still in the plan and leaves the bay.
+fn leaves_bay(plan: &[u64], gone: &[u8], name: usize, bay: Bay) -> bool
+    requires { ⌜ (name < length (now plan)) × (length (now gone) ≡ length (now plan)) ⌝ }
+    ensures { λ r. ⌜ r ≡ eqb (getD (now (gone .entry)) name 0) 0 and eqb (named (crossings (now (plan .entry))) name .from) (bay .0) ⌝ }
+{
+    if gone[name] != 0 {
+        return false;
+    }
+    let x = plans::crossing_at(plan, name);
+    x.from.0 == bay.0
+}
+
+// The crossing is the carrier's.
+fn is_of(plan: &[u64], name: usize, carrier: Carrier) -> bool
+    requires { ⌜ name < length (now plan) ⌝ }
+    ensures { λ r. ⌜ r ≡ isOf (carrier .0) (named (crossings (now (plan .entry))) name) ⌝ }
+{
+    let x = plans::crossing_at(plan, name);
+    x.carrier.0 == carrier.0
+}
+
+// The name of the last return of the carrier that crosses at `name`, or `name` itself where it does not return.
+fn last_return(plan: &[u64], gone: &[u8], name: usize) -> usize
+    requires { ⌜ (name < length (now plan)) × (length (now gone) ≡ length (now plan)) ⌝ }
+    ensures { λ r. ⌜ (r < length (now (plan .entry))) × (r ≡ lastFrom (named (crossings (now (plan .entry))) name) (crossings (now (plan .entry))) (now (gone .entry)) name (suc name)) ⌝ }
+{
+    let x = plans::crossing_at(plan, name);
+    let mut last = name;
+    let mut m = name + 1;
+    while m < plan.len() {
+        if enters_bay(plan, gone, m, x.from) {
+            if !is_of(plan, m, x.carrier) {
+                return last;
+            }
+            last = m;
+        }
+        m += 1;
+    }
+    last
+}
+
+// The last crossing before `name` that leaves the bay, or `name` itself where none does.
+fn last_leaving(plan: &[u64], gone: &[u8], name: usize, bay: Bay) -> usize
+    requires { ⌜ (name < length (now plan)) × (length (now gone) ≡ length (now plan)) ⌝ }
+    ensures { λ r. ⌜ (r ≤ name) × ((k : ℕ) → LastLeaving (now (gone .entry)) (crossings (now (plan .entry))) (bay .0) name k → r ≡ k) ⌝ }
+{
+    let mut m = name;
+    while m > 0 {
+        m -= 1;
+        if leaves_bay(plan, gone, m, bay) {
+            return m;
+        }
+    }
+    name
+}
+
+// Where the crossing is the carrier's, the last leaving of the bay that it enters is to be looked at again. The lower of `low` and that name.
+fn note_one(
+    plan: &[u64],
+    gone: &[u8],
+    todo: &mut [u8],
+    name: usize,
+    carrier: Carrier,
+    low: usize,
+) -> usize
+    requires { ⌜ (name < length (now plan)) × (length (now gone) ≡ length (now plan)) × (length (now todo) ≡ length (now plan)) ⌝ }
+    ensures { λ r. ⌜ (r ≤ low) × Noted (now (gone .entry)) (crossings (now (plan .entry))) (carrier .0) name 1 (now (todo .entry)) (now (todo .exit)) r ⌝ }
+{
+    if gone[name] != 0 {
+        return low;
+    }
+    let x = plans::crossing_at(plan, name);
+    if x.carrier.0 != carrier.0 {
+        return low;
+    }
+    let leaving = last_leaving(plan, gone, name, x.to);
+    todo[leaving] = 1;
+    if leaving < low { leaving } else { low }
+}
+
+// The same for each crossing from `name` to `last`; the lowest name to be looked at again, or `name`.
+fn note_leavings(
+    plan: &[u64],
+    gone: &[u8],
+    todo: &mut [u8],
+    name: usize,
+    last: usize,
+    carrier: Carrier,
+) -> usize
+    requires { ⌜ (name ≤ last) × (last < length (now plan)) × (length (now gone) ≡ length (now plan)) × (length (now todo) ≡ length (now plan)) ⌝ }
+    ensures { λ r. ⌜ (r ≤ name) × Noted (now (gone .entry)) (crossings (now (plan .entry))) (carrier .0) name (suc last - name) (now (todo .entry)) (now (todo .exit)) r ⌝ }
+{
+    let mut low = name;
+    let mut m = name;
+    while m <= last {
+        low = note_one(plan, gone, todo, m, carrier, low);
+        m += 1;
+    }
+    low
+}
+
+// The byte of a crossing after a cut: dropped where it is the carrier's.
+fn byte_after(byte: u8, own: bool) -> u8
+    ensures { λ r. ⌜ r ≡ if own then 1 else byte ⌝ }
+{
+    if own { 1 } else { byte }
+}
+
+// The carrier's crossings from `name` to `last` are dropped.
+fn drop_trip(plan: &[u64], gone: &mut [u8], name: usize, last: usize, carrier: Carrier)
+    requires { ⌜ (name ≤ last) × (last < length (now plan)) × (length (now gone) ≡ length (now plan)) ⌝ }
+    ensures { λ _. ⌜ now (gone .exit) ≡ dropTrip (carrier .0) name (suc last - name) (now (gone .entry)) (crossings (now (plan .entry))) ⌝ }
+{
+    let mut m = name;
+    while m <= last {
+        gone[m] = byte_after(gone[m], is_of(plan, m, carrier));
+        m += 1;
+    }
+}
+
+// One look: at a name where a trip begins it is cut, and the look goes back to the lowest name that this may have freed.
+fn look(plan: &[u64], gone: &mut [u8], todo: &mut [u8], name: usize) -> usize
+    requires { ⌜ (name < length (now plan)) × Going (now plan) (now gone) (now todo) name ⌝ }
+    ensures { λ r. ⌜ Going (now (plan .entry)) (now (gone .exit)) (now (todo .exit)) r × (rank (now (plan .entry)) (now (gone .exit)) r < rank (now (plan .entry)) (now (gone .entry)) name) ⌝ }
+{
+    if gone[name] != 0 {
+        return name + 1;
+    }
+    if todo[name] == 0 {
+        return name + 1;
+    }
+    let last = last_return(plan, gone, name);
+    if last == name {
+        todo[name] = 0;
+        return name + 1;
+    }
+    let x = plans::crossing_at(plan, name);
+    let low = note_leavings(plan, gone, todo, name, last, x.carrier);
+    drop_trip(plan, gone, name, last, x.carrier);
+    low
+}
+
+// Cut after cut, the lowest name first, until there is none.
+fn drop_trips(plan: &[u64], gone: &mut [u8], todo: &mut [u8])
+    requires { ⌜ Going (now plan) (now gone) (now todo) 0 ⌝ }
+    ensures { λ _. ⌜ (length (now (gone .exit)) ≡ length (now (plan .entry))) × (left (now (gone .exit)) (crossings (now (plan .entry))) ≡ shortenOf (crossings (now (plan .entry)))) ⌝ }
+{
+    let mut name = 0;
+    while name < plan.len() {
+        name = look(plan, gone, todo, name);
+    }
+}
+
+// 1 for a crossing that is still in the plan, else 0.
+fn one_left(byte: u8) -> usize
+    ensures { λ r. ⌜ r ≡ if eqb byte 0 then 1 else 0 ⌝ }
+{
+    if byte == 0 { 1 } else { 0 }
+}
+
+// How many crossings are still in the plan.
+fn count_left(plan: &[u64], gone: &[u8]) -> usize
+    requires { ⌜ length (now gone) ≡ length (now plan) ⌝ }
+    ensures { λ r. ⌜ r ≡ length (left (now (gone .entry)) (now (plan .entry))) ⌝ }
+{
+    let mut n = 0;
+    let mut m = 0;
+    while m < plan.len() {
+        n += one_left(gone[m]);
+        m += 1;
+    }
+    n
+}
+
+// What is still in the plan, into the first places of `out`; what stands beyond stays.
+fn write_left(plan: &[u64], gone: &[u8], out: &mut [u64])
+    requires { ⌜ (length (now gone) ≡ length (now plan)) × (length (left (now gone) (now plan)) ≤ length (now out)) ⌝ }
+    ensures { λ _. ⌜ now (out .exit) ≡ left (now (gone .entry)) (now (plan .entry)) ++ drop (length (left (now (gone .entry)) (now (plan .entry)))) (now (out .entry)) ⌝ }
+{
+    let mut n = 0;
+    let mut m = 0;
+    while m < plan.len() {
+        if gone[m] == 0 {
+            out[n] = plan[m];
+            n += 1;
+        }
+        m += 1;
+    }
+}
+
+// 8 where the shorter plan is longer than the lent list; else it is written.
+fn finish(plan: &[u64], gone: &[u8], out: &mut [u64]) -> Shortened
+    requires { ⌜ (length (now gone) ≡ length (now plan)) × (left (now gone) (crossings (now plan)) ≡ shortenOf (crossings (now plan))) × (length (now plan) ≤ most-crossings) ⌝ }
+    ensures { λ r. ⌜ RoomSays (now (plan .entry)) (now (out .entry)) r (now (out .exit)) ⌝ }
+{
+    let count = count_left(plan, gone);
+    if out.len() < count {
+        return Shortened::Refused(Refusal::Room(count as u64));
+    }
+    write_left(plan, gone, out);
+    Shortened::Written(count as u64)
+}
+
+// The whole work, in two lists of bytes that are lent: nothing is dropped yet, and every name is to be looked at.
+fn shorten_in(plan: &[u64], gone: &mut [u8], todo: &mut [u8], out: &mut [u64]) -> Shortened
+    requires { ⌜ Lawful (crossings (now plan)) × (length (now plan) ≤ most-crossings) × (now gone ≡ replicate (length (now plan)) 0) × (now todo ≡ replicate (length (now plan)) 1) ⌝ }
+    ensures { λ r. ⌜ RoomSays (now (plan .entry)) (now (out .entry)) r (now (out .exit)) ⌝ }
+{
+    drop_trips(plan, gone, todo);
+    finish(plan, gone, out)
+}
+
+// The same, with working room of its own.
+fn shorten_checked(plan: &[u64], out: &mut [u64]) -> Shortened
+    requires { ⌜ Lawful (crossings (now plan)) × (length (now plan) ≤ most-crossings) ⌝ }
+    ensures { λ r. ⌜ RoomSays (now (plan .entry)) (now (out .entry)) r (now (out .exit)) ⌝ }
+{
+    let count = plan.len();
+    let mut gone = [0u8; Yard::CROSSINGS];
+    let mut todo = [1u8; Yard::CROSSINGS];
+    shorten_in(plan, &mut gone[..count], &mut todo[..count], out)
+}
+
+// Whether any mark is 1.
+fn any_done(marks: &[u8]) -> bool
+    ensures { λ r. ⌜ r ≡ anyDone (now (marks .entry)) ⌝ }
+{
+    let mut i = 0;
+    while i < marks.len() {
+        if marks[i] == 1 {
+            return true;
+        }
+        i += 1;
+    }
+    false
+}
+
+// A plan that passes the check, shortened into the first places of `out`, as long as no crossing of it is done. A refusal changes nothing.
+pub fn shorten(
+    bays: u64,
+    rails: &[u16],
+    start: &[u16],
+    goal: &[u16],
+    plan: &[u64],
+    marks: &[u8],
+    out: &mut [u64],
+) -> Shortened
+    ensures { λ r. ⌜ ShortenSays bays (now (rails .entry)) (now (start .entry)) (now (goal .entry)) (now (plan .entry)) (now (marks .entry)) (now (out .entry)) r (now (out .exit)) ⌝ }
+{
+    let checked = checker::check(bays, rails, start, goal, plan);
+    if let Checked::Refused(r) = checked {
+        return Shortened::Refused(r);
+    }
+    if marks::bad_marks(plan, marks) {
+        return Shortened::Refused(Refusal::Mismarked);
+    }
+    if any_done(marks) {
+        return Shortened::Begun;
+    }
+    shorten_checked(plan, out)
+}

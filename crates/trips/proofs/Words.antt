@@ -1,0 +1,205 @@
+-- The request's own words, by names: a cut takes the lowest name at which a trip begins, and of its returns the last. So it says exactly what
+-- the request says, and there is no cut exactly if there is no trip.
+use mathlib.Core.Path.{_≡_, refl, sym, _∙_, ap}
+use mathlib.Core.Bool.{Bool, true, false}
+use mathlib.Core.List.{List, [], _∷_, _++_}
+use mathlib.Core.Option.{Option, none, some}
+use Prim.Native.Nat.{ℕ, zero, suc, _<_, _-_}
+use native.Mathlib.Omega.{arith}
+use lib.ListN.{length, take, drop}
+use borrow.Author.Tests.{eqb-true, eqb-false, eq-eqb}
+use Rattle.paper.specs.Basics.{if_then_else_, if-some_then_else_, _>>=_, orElse}
+use Rattle.paper.specs.Yard.{Bay, Carrier, Crossing, named}
+use Rattle.paper.proofs.Tests.{by-cases, by-option, never-some, none-from}
+use Rattle.trips.specs.Trips.{enters, isOf, lastReturn, kept, cut}
+use Rattle.trips.proofs.Dropping.{by-return, no-return}
+use Rattle.trips.proofs.Shortened.{by-cut, no-cut}
+
+-- "carrier c leaves a bay a", at the name i, "and later stands at a again", at the name j, "with no other carrier having entered a between"
+pub record Trip (xs : List Crossing) (i j : ℕ) : Type 0 where
+  pub later : i < j
+  pub there : j < length xs
+  pub same : named xs j .carrier ≡ named xs i .carrier
+  pub again : named xs j .to ≡ named xs i .from
+  pub unused : (m : ℕ) → i < m → m < j → named xs m .to ≡ named xs i .from → named xs m .carrier ≡ named xs i .carrier
+
+-- "the lowest name", "the last such return"
+pub record LowestTrip (xs : List Crossing) (i j : ℕ) : Type 0 where
+  pub trip : Trip xs i j
+  pub lowest : (i′ j′ : ℕ) → i′ < i → Trip xs i′ j′ → ⊥
+  pub last : (j′ : ℕ) → j < j′ → Trip xs i j′ → ⊥
+
+-- the same of the crossings after the leaving
+record Return (c : Carrier) (a : Bay) (xs : List Crossing) (j : ℕ) : Type 0 where
+  there : j < length xs
+  same : named xs j .carrier ≡ c
+  again : named xs j .to ≡ a
+  unused : (m : ℕ) → m < j → named xs m .to ≡ a → named xs m .carrier ≡ c
+
+back-never : {P : Type 0} (c : Carrier) (a : Bay) (x : Crossing) (xs : List Crossing) → enters a x ≡ true → isOf c x ≡ true
+    → lastReturn c a (x ∷ xs) ≡ none → P
+unfolding lastReturn
+back-never c a x xs e i h =
+    by-option (lastReturn c a xs) (λ l. never-some 1 (sym (rw (e, i, l) at h))) (λ n l. never-some (suc n) (sym (rw (e, i, l) at h)))
+
+past-none : (c : Carrier) (a : Bay) (x : Crossing) (xs : List Crossing) → enters a x ≡ false → lastReturn c a (x ∷ xs) ≡ none → lastReturn c a xs ≡ none
+unfolding lastReturn
+past-none c a x xs e h = none-from suc (lastReturn c a xs) (rw e at h)
+
+return-on : (c : Carrier) (a : Bay) (x : Crossing) (xs : List Crossing) (j : ℕ) → Return c a (x ∷ xs) (suc j) → Return c a xs j
+return-on c a x xs j r = record { there = let l = r .there in omega arith; same = r .same; again = r .again; unused = λ m l. r .unused (suc m) (omega arith) }
+
+no-return-none : (c : Carrier) (a : Bay) (xs : List Crossing) → lastReturn c a xs ≡ none → (j : ℕ) → Return c a xs j → ⊥
+no-return-none c a [] h j r = let l = r .there in omega arith
+no-return-none c a (x ∷ xs) h zero r = back-never c a x xs (eq-eqb _ _ (r .again)) (eq-eqb _ _ (r .same)) h
+no-return-none c a (x ∷ xs) h (suc j) r =
+    by-cases (enters a x)
+    (λ e. back-never c a x xs e (eq-eqb _ _ (r .unused 0 (omega arith) (eqb-true _ _ e))) h)
+    (λ e. no-return-none c a xs (past-none c a x xs e h) j (return-on c a x xs j r))
+
+-- the last of the returns is the crossing after n − 1 others
+abbrev LastReturn : Carrier → Bay → List Crossing → ℕ → Type 0
+LastReturn c a xs n = (j : ℕ) × (n ≡ suc j) × Return c a xs j × ((j′ : ℕ) → j < j′ → Return c a xs j′ → ⊥)
+
+last-return-is : (c : Carrier) (a : Bay) (xs : List Crossing) (n : ℕ) → lastReturn c a xs ≡ some n → LastReturn c a xs n
+last-return-is c a [] n h = no-return c a n h
+last-return-is c a (x ∷ xs) n h =
+    by-return c a x xs n h
+    (λ i e l z. (
+      0,
+      z,
+      record { there = omega arith; same = eqb-true _ _ i; again = eqb-true _ _ e; unused = λ m k. absurd (omega arith) },
+      beyond-first l,
+    ))
+    (λ i m l z. on m (last-return-is c a xs m l) z (λ t. eqb-true _ _ i))
+    (λ i e m l z. on m (last-return-is c a xs m l) z (λ t. absurd (eqb-false _ _ e t)))
+  where
+    beyond-first : lastReturn c a xs ≡ none → (j′ : ℕ) → 0 < j′ → Return c a (x ∷ xs) j′ → ⊥
+    beyond-first l zero k r = omega arith
+    beyond-first l (suc j′) k r = no-return-none c a xs l j′ (return-on c a x xs j′ r)
+
+    beyond : (j : ℕ) → ((j′ : ℕ) → j < j′ → Return c a xs j′ → ⊥) → (j′ : ℕ) → suc j < j′ → Return c a (x ∷ xs) j′ → ⊥
+    beyond j f zero k r = omega arith
+    beyond j f (suc j′) k r = f j′ (omega arith) (return-on c a x xs j′ r)
+
+    between : (j : ℕ) → (x .to ≡ a → x .carrier ≡ c) → Return c a xs j → (m : ℕ) → m < suc j → named (x ∷ xs) m .to ≡ a → named (x ∷ xs) m .carrier ≡ c
+    between j f r zero k t = f t
+    between j f r (suc m) k t = r .unused m (omega arith) t
+
+    on : (m : ℕ) → LastReturn c a xs m → n ≡ suc m → (x .to ≡ a → x .carrier ≡ c) → LastReturn c a (x ∷ xs) n
+    on m ih z f =
+        let r = ih .2 in (
+          suc (ih .0),
+          z ∙ ap suc (ih .1),
+          record { there = let k = r .there in omega arith; same = r .same; again = r .again; unused = between (ih .0) f r },
+          beyond (ih .0) (ih .3),
+        )
+
+-- a trip that begins with the first crossing is a return after it
+trip-return : (x : Crossing) (xs : List Crossing) (j : ℕ) → Trip (x ∷ xs) 0 (suc j) → Return (x .carrier) (x .from) xs j
+trip-return x xs j t = record {
+  there = let l = t .there in omega arith;
+  same = t .same;
+  again = t .again;
+  unused = λ m l. t .unused (suc m) (omega arith) (omega arith);
+}
+
+trip-on : (x : Crossing) (xs : List Crossing) (i j : ℕ) → Trip (x ∷ xs) (suc i) (suc j) → Trip xs i j
+trip-on x xs i j t = record {
+  later = let l = t .later in omega arith;
+  there = let l = t .there in omega arith;
+  same = t .same;
+  again = t .again;
+  unused = λ m k l. t .unused (suc m) (omega arith) (omega arith);
+}
+
+-- no trip begins with the first crossing
+first-not : (x : Crossing) (xs : List Crossing) → lastReturn (x .carrier) (x .from) xs ≡ none → (j : ℕ) → Trip (x ∷ xs) 0 j → ⊥
+first-not x xs h zero t = let l = t .later in omega arith
+first-not x xs h (suc j) t = no-return-none (x .carrier) (x .from) xs h j (trip-return x xs j t)
+
+none-first : (x : Crossing) (xs : List Crossing) → cut (x ∷ xs) ≡ none → (lastReturn (x .carrier) (x .from) xs ≡ none) × (cut xs ≡ none)
+unfolding cut
+none-first x xs h =
+    by-option (lastReturn (x .carrier) (x .from) xs)
+    (λ l. (l, none-from (λ ys. x ∷ ys) (cut xs) (rw l at h)))
+    (λ n l. never-some (kept (x .carrier) n xs) (sym (rw l at h)))
+
+-- "until there is none"
+pub no-trip : (xs : List Crossing) → cut xs ≡ none → (i j : ℕ) → Trip xs i j → ⊥
+no-trip [] h i j t = let l = t .there in omega arith
+no-trip (x ∷ xs) h zero j t = first-not x xs (none-first x xs h .0) j t
+no-trip (x ∷ xs) h (suc i) zero t = let l = t .later in omega arith
+no-trip (x ∷ xs) h (suc i) (suc j) t = no-trip xs (none-first x xs h .1) i j (trip-on x xs i j t)
+
+return-trip : (x : Crossing) (xs : List Crossing) (j : ℕ) → Return (x .carrier) (x .from) xs j → Trip (x ∷ xs) 0 (suc j)
+return-trip x xs j r = record { later = omega arith; there = let l = r .there in omega arith; same = r .same; again = r .again; unused = between }
+  where
+    between : (m : ℕ) → 0 < m → m < suc j → named (x ∷ xs) m .to ≡ x .from → named (x ∷ xs) m .carrier ≡ x .carrier
+    between zero k l t = absurd (omega arith)
+    between (suc m) k l t = r .unused m (omega arith) t
+
+trip-back : (x : Crossing) (xs : List Crossing) (i j : ℕ) → Trip xs i j → Trip (x ∷ xs) (suc i) (suc j)
+trip-back x xs i j t = record {
+  later = let l = t .later in omega arith;
+  there = let l = t .there in omega arith;
+  same = t .same;
+  again = t .again;
+  unused = between;
+}
+  where
+    between : (m : ℕ) → suc i < m → m < suc j → named (x ∷ xs) m .to ≡ named xs i .from → named (x ∷ xs) m .carrier ≡ named xs i .carrier
+    between zero k l e = absurd (omega arith)
+    between (suc m) k l e = t .unused m (omega arith) (omega arith) e
+
+-- What a cut leaves: all before the leaving, and after it what is kept up to the last return and everything that follows.
+pub record CutAt (xs ys : List Crossing) : Type 0 where
+  pub name : ℕ
+  pub return : ℕ
+  pub is-lowest : LowestTrip xs name return
+  pub leaves : ys ≡ take name xs ++ kept (named xs name .carrier) (return - name) (drop (suc name) xs)
+
+cut-first : (x : Crossing) (xs ys : List Crossing) (n : ℕ) → LastReturn (x .carrier) (x .from) xs n → kept (x .carrier) n xs ≡ ys → CutAt (x ∷ xs) ys
+cut-first x xs ys n r e = record {
+  name = 0;
+  return = suc (r .0);
+  is-lowest = record { trip = return-trip x xs (r .0) (r .2); lowest = λ i′ j′ l. absurd (omega arith); last = later };
+  leaves = sym e ∙ ap (λ k. kept (x .carrier) k xs) count;
+}
+  where
+    count : n ≡ suc (r .0) - 0
+    count = let z = r .1 in omega arith
+
+    later : (j′ : ℕ) → suc (r .0) < j′ → Trip (x ∷ xs) 0 j′ → ⊥
+    later zero l t = omega arith
+    later (suc j′) l t = r .3 j′ (omega arith) (trip-return x xs j′ t)
+
+cut-later : (x : Crossing) (xs ys zs : List Crossing) → lastReturn (x .carrier) (x .from) xs ≡ none → CutAt xs zs → x ∷ zs ≡ ys → CutAt (x ∷ xs) ys
+cut-later x xs ys zs r at e =
+    let i = at .name in
+    let j = at .return in
+    let low = at .is-lowest in
+    let count : j - i ≡ suc j - suc i = omega arith in
+    record {
+      name = suc i;
+      return = suc j;
+      is-lowest = record { trip = trip-back x xs i j (low .trip); lowest = lower; last = later };
+      leaves = sym e ∙ ap (λ l. x ∷ l) (at .leaves ∙ ap (λ k. take i xs ++ kept (named xs i .carrier) k (drop (suc i) xs)) count);
+    }
+  where
+    lower : (i′ j′ : ℕ) → i′ < suc (at .name) → Trip (x ∷ xs) i′ j′ → ⊥
+    lower zero j′ l t = first-not x xs r j′ t
+    lower (suc i′) zero l t = let k = t .later in omega arith
+    lower (suc i′) (suc j′) l t = at .is-lowest .lowest i′ j′ (omega arith) (trip-on x xs i′ j′ t)
+
+    later : (j′ : ℕ) → suc (at .return) < j′ → Trip (x ∷ xs) (suc (at .name)) j′ → ⊥
+    later zero l t = omega arith
+    later (suc j′) l t = at .is-lowest .last j′ (omega arith) (trip-on x xs (at .name) j′ t)
+
+-- a cut is the request's
+pub cut-is : (xs ys : List Crossing) → cut xs ≡ some ys → CutAt xs ys
+cut-is [] ys h = no-cut ys h
+cut-is (x ∷ xs) ys h =
+    by-cut x xs ys h
+    (λ n r e. cut-first x xs ys n (last-return-is (x .carrier) (x .from) xs n r) e)
+    (λ r zs z e. cut-later x xs ys zs r (cut-is xs zs z) e)

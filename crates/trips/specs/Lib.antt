@@ -1,0 +1,3 @@
+pub mod Trips
+pub mod Names
+pub mod Shortening

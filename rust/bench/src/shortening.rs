@@ -1,0 +1,59 @@
+//! Shortening: how it grows with the plan. The reference's plain way takes minutes for such plans, so it is not raced.
+
+use crate::library;
+use crate::timing::{least, written};
+use std::hint::black_box;
+use std::time::Duration;
+use yards::{grid, Dice, Order};
+
+const LENGTHS: [usize; 4] = [8_192, 16_384, 32_768, 65_536];
+const CARRIERS: [usize; 3] = [128, 200, 240];
+const BUDGET: Duration = Duration::from_millis(300);
+
+pub fn tables() {
+    println!("\n## Shortening by the plan's length: orders one after the other on a grid 16 × 16\n");
+    let columns = CARRIERS.map(|carriers| format!("{carriers} carriers: left | Library"));
+    println!("| Crossings | {} |", columns.join(" | "));
+    println!("|---{}|", "|---".repeat(2 * CARRIERS.len()));
+    for crossings in LENGTHS {
+        let cells = CARRIERS.map(|carriers| cell(carriers, crossings));
+        println!("| {crossings} | {} |", cells.join(" | "));
+    }
+}
+
+/// What is left passes the check, and shortening it again changes nothing.
+fn cell(carriers: usize, crossings: usize) -> String {
+    let (order, plan) = day(carriers, crossings);
+    let marks = vec![0; plan.len()];
+    let mut out = vec![0; plan.len()];
+    let (number, left) = library::shorten(&order, &plan, &marks, &mut out);
+    assert_eq!(number, 0);
+    let kept = out[..left as usize].to_vec();
+    assert_eq!(library::check(&order, &kept), (0, 0));
+    assert_eq!(library::shorten(&order, &kept, &marks[..kept.len()], &mut out), (0, left));
+    assert!(out[..kept.len()] == kept);
+    let time = least(BUDGET, || library::shorten(&order, black_box(&plan), &marks, &mut out));
+    format!("{left} | {}", written(time))
+}
+
+/// The planner's plans for orders at random, each from where the one before ended, cut off at so many crossings; as one order.
+fn day(carriers: usize, crossings: usize) -> (Order, Vec<u64>) {
+    let mut dice = Dice::new(10);
+    let first = Order::on(256, grid(16, 16)).with_carriers(carriers, &mut dice);
+    let mut next = first.clone();
+    let mut room = vec![0; 65_536];
+    let mut plan = Vec::new();
+    while plan.len() < crossings {
+        let (number, length) = library::plan(&next, &mut room);
+        assert_eq!(number, 0);
+        plan.extend(&room[..length as usize]);
+        next.start = next.goal;
+        next.goal = dice.shuffled(256);
+        next.goal.truncate(carriers);
+    }
+    plan.truncate(crossings);
+    let mut whole = first;
+    whole.goal = whole.start.clone();
+    plan.iter().for_each(|&number: &u64| whole.goal[(number >> 32) as usize] = number as u16);
+    (whole, plan)
+}
