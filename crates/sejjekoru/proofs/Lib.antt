@@ -1,3 +1,7 @@
 pub mod Determined
 mod Saying
 pub mod Telling
+pub mod Opened
+pub mod Billing
+pub mod Passing
+pub mod Shared

@@ -4,6 +4,7 @@ use mathlib.Core.Option.{Option, none, some, Option·getD}
 use Prim.Native.Nat.{ℕ}
 use Rattle.paper.specs.Docket.{Refusal, number, carried}
 use Rattle.paper.specs.Answers.{Report, accept, already, refuse}
+use Rattle.bills.specs.Answering.{Agreement, agrees, differs, refused, Billed, told, disagrees, disagrees-number}
 use Rattle.planner.specs.Statement.{Told, long, denied}
 use Rattle.shorten.specs.Statements.{Told as ToldShort, wrote, refuses, has-begun}
 
@@ -54,3 +55,23 @@ abbrev pub shortenValue : ToldShort → ℕ
 shortenValue (wrote written) = valueOf written none
 shortenValue (refuses r) = valueOf 0 (some r)
 shortenValue has-begun = valueOf 0 none
+
+-- the agreement test's yes is told by the value 1, its no by 0
+abbrev pub agreementNumber : Agreement → ℕ
+agreementNumber agrees = numberOf none
+agreementNumber differs = numberOf none
+agreementNumber (refused r) = numberOf (some r)
+
+abbrev pub agreementValue : Agreement → ℕ
+agreementValue agrees = valueOf 1 none
+agreementValue differs = valueOf 0 none
+agreementValue (refused r) = valueOf 0 (some r)
+
+-- "19, record disagrees", which carries nothing
+abbrev pub billedNumber : Billed → ℕ
+billedNumber (told r) = reportNumber r
+billedNumber disagrees = disagrees-number
+
+abbrev pub billedValue : Billed → ℕ
+billedValue (told r) = reportValue r
+billedValue disagrees = valueOf 0 none

@@ -2,10 +2,18 @@
 // that goes with it. include/sejjekoru.h declares them.
 ghost use mathlib.Core.Option.{none, some};
 ghost use Rattle.docket.specs.Reading.{refusalOf};
-ghost use Rattle.sejjekoru.specs.Numbers.{numberOf, valueOf};
+ghost use Rattle.checker.specs.Reading.{checkedOf};
+ghost use Rattle.ledger.specs.Statements.{billedOf};
+ghost use Rattle.sejjekoru.specs.Numbers.{numberOf, valueOf, billedNumber, billedValue};
 ghost use Rattle.sejjekoru.specs.Statements.{Tells, PlanTells, CheckTells, SlotsTell, ReportTells, ShortenTells};
+ghost use Rattle.sejjekoru.specs.Bills.{OpenOn, AgreesOn, ReportOn, OpenTells, AgreesTells, ReportBilledTells};
+use bills::Line;
+use bills::Record;
 use checker::Checked;
 use docket::Refusal;
+use ledger::Agreement;
+use ledger::Billed;
+use ledger::Held;
 use marks::Reported;
 use planner::Planned;
 use reports::Slotted;
@@ -16,6 +24,9 @@ const ALREADY: u64 = 100;
 
 // "some crossing is done already" is shortening's own refusal, so the table has no row for it.
 const BEGUN: u64 = 25;
+
+// "record disagrees" is the refusal of a report on a running record, which the table does not have either.
+const DISAGREES: u64 = 19;
 
 // Acceptance, with the length written.
 fn accepted(written: u64, value: &mut u64) -> u64
@@ -134,4 +145,203 @@ pub extern "C" fn sejjekoru_shorten(
         }
         Shortened::Refused(r) => refused(r, value),
     }
+}
+
+// What a check answers.
+fn told_checked(answer: Checked, value: &mut u64) -> u64
+    ensures { λ r. ⌜ Tells (numberOf (checkedOf answer)) (valueOf 0 (checkedOf answer)) r (now (value .exit)) ⌝ }
+{
+    match answer {
+        Checked::Passed => accepted(0, value),
+        Checked::Refused(r) => refused(r, value),
+    }
+}
+
+// What opening answers and leaves.
+struct Opening {
+    number: u64,
+    record: Record,
+    held: Held,
+}
+
+// Opening by value, for a list of so many lines.
+fn open_on(
+    bays: u64,
+    rails: &[u16],
+    start: &[u16],
+    goal: &[u16],
+    plan: &[u64],
+    marks: &[u8],
+    record: Record,
+    count: usize,
+    value: &mut u64,
+) -> Opening
+    ensures { λ r. ⌜ OpenOn bays (now (rails .entry)) (now (start .entry)) (now (goal .entry)) (now (plan .entry)) (now (marks .entry)) «record» count r (now (value .exit)) ⌝ }
+{
+    let opening = ledger::open(bays, rails, start, goal, plan, marks, record, count);
+    let answer = opening.answer;
+    let running = opening.running;
+    let held = opening.held;
+    Opening {
+        number: told_checked(answer, value),
+        record: running,
+        held: held,
+    }
+}
+
+#[no_mangle]
+pub extern "C" fn sejjekoru_open(
+    bays: u64,
+    rails: &[u16],
+    start: &[u16],
+    goal: &[u16],
+    plan: &[u64],
+    marks: &[u8],
+    record: &mut Record,
+    lines: &mut [Line],
+    value: &mut u64,
+) -> u64
+    ensures { λ r. ⌜ OpenTells bays (now (rails .entry)) (now (start .entry)) (now (goal .entry)) (now (plan .entry)) (now (marks .entry)) (now («record» .entry)) (now (lines .entry)) r (now (value .exit)) (now («record» .exit)) (now (lines .exit)) ⌝ }
+{
+    let opening = open_on(
+        bays,
+        rails,
+        start,
+        goal,
+        plan,
+        marks,
+        *record,
+        lines.len(),
+        value,
+    );
+    *record = opening.record;
+    sheets::fill(lines, opening.held);
+    opening.number
+}
+
+// The agreement test by value. Yes is told by the value 1, no by 0.
+fn agrees_on(
+    bays: u64,
+    rails: &[u16],
+    start: &[u16],
+    goal: &[u16],
+    plan: &[u64],
+    marks: &[u8],
+    record: Record,
+    held: Held,
+    value: &mut u64,
+) -> u64
+    ensures { λ r. ⌜ AgreesOn bays (now (rails .entry)) (now (start .entry)) (now (goal .entry)) (now (plan .entry)) (now (marks .entry)) «record» held r (now (value .exit)) ⌝ }
+{
+    let answer = ledger::compare(bays, rails, start, goal, plan, marks, record, held);
+    match answer {
+        Agreement::Agrees => accepted(1, value),
+        Agreement::Differs => accepted(0, value),
+        Agreement::Refused(r) => refused(r, value),
+    }
+}
+
+#[no_mangle]
+pub extern "C" fn sejjekoru_agrees(
+    bays: u64,
+    rails: &[u16],
+    start: &[u16],
+    goal: &[u16],
+    plan: &[u64],
+    marks: &[u8],
+    record: &Record,
+    lines: &[Line],
+    value: &mut u64,
+) -> u64
+    ensures { λ r. ⌜ AgreesTells bays (now (rails .entry)) (now (start .entry)) (now (goal .entry)) (now (plan .entry)) (now (marks .entry)) (now («record» .entry)) (now (lines .entry)) r (now (value .exit)) ⌝ }
+{
+    let held = sheets::gather(lines);
+    agrees_on(bays, rails, start, goal, plan, marks, *record, held, value)
+}
+
+// What a report on a running record answers.
+fn told_billed(answer: Billed, value: &mut u64) -> u64
+    ensures { λ r. ⌜ Tells (billedNumber (billedOf answer)) (billedValue (billedOf answer)) r (now (value .exit)) ⌝ }
+{
+    match answer {
+        Billed::Accepted => accepted(0, value),
+        Billed::Already => {
+            *value = 0;
+            ALREADY
+        }
+        Billed::Disagrees => {
+            *value = 0;
+            DISAGREES
+        }
+        Billed::Refused(r) => refused(r, value),
+    }
+}
+
+// What a report leaves and answers: the record, and one line with its place, which is past the last where none changes.
+struct Told {
+    number: u64,
+    record: Record,
+    at: usize,
+    line: Line,
+}
+
+// The report by value.
+fn report_on(
+    bays: u64,
+    rails: &[u16],
+    start: &[u16],
+    goal: &[u16],
+    plan: &[u64],
+    marks: &mut [u8],
+    name: u64,
+    record: Record,
+    held: Held,
+    value: &mut u64,
+) -> Told
+    ensures { λ r. ⌜ ReportOn bays (now (rails .entry)) (now (start .entry)) (now (goal .entry)) (now (plan .entry)) (now (marks .entry)) name «record» held r (now (value .exit)) (now (marks .exit)) ⌝ }
+{
+    let told = ledger::report(bays, rails, start, goal, plan, marks, name, record, held);
+    let answer = told.answer;
+    let running = told.running;
+    let at = told.at;
+    let line = told.line;
+    Told {
+        number: told_billed(answer, value),
+        record: running,
+        at: at,
+        line: line,
+    }
+}
+
+#[no_mangle]
+pub extern "C" fn sejjekoru_report_billed(
+    bays: u64,
+    rails: &[u16],
+    start: &[u16],
+    goal: &[u16],
+    plan: &[u64],
+    marks: &mut [u8],
+    name: u64,
+    record: &mut Record,
+    lines: &mut [Line],
+    value: &mut u64,
+) -> u64
+    ensures { λ r. ⌜ ReportBilledTells bays (now (rails .entry)) (now (start .entry)) (now (goal .entry)) (now (plan .entry)) (now (marks .entry)) name (now («record» .entry)) (now (lines .entry)) r (now (value .exit)) (now (marks .exit)) (now («record» .exit)) (now (lines .exit)) ⌝ }
+{
+    let held = sheets::gather(lines);
+    let told = report_on(
+        bays,
+        rails,
+        start,
+        goal,
+        plan,
+        marks,
+        name,
+        *record,
+        held,
+        value,
+    );
+    *record = told.record;
+    sheets::enter(lines, told.at, told.line);
+    told.number
 }

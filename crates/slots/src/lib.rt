@@ -2,16 +2,34 @@
 // It takes plans that have passed the check, whose carriers and bays are below 256, so both tables are small arrays.
 ghost use mathlib.Core.Path.{_≡_};
 ghost use mathlib.Core.List.{_++_};
-ghost use Prim.Native.Nat.{_≤_, max};
-ghost use lib.ListN.{length, drop};
+ghost use Prim.Native.Nat.{_≤_, _<_, max};
+ghost use lib.ListN.{length, getD, drop};
 ghost use Rattle.paper.specs.Yard.{crossings, most-crossings};
 ghost use Rattle.paper.specs.Dependence.{slots as slotsOf};
 ghost use Rattle.paper.specs.OnePass.{Fits};
+ghost use Rattle.docket.specs.Reading.{crossingOf};
+ghost use Rattle.slots.specs.Turn.{slotAfter, Turned};
+use docket::Crossing;
 
-fn higher(x: u32, y: u32) -> u32
+pub fn higher(x: u32, y: u32) -> u32
     ensures { λ r. ⌜ r ≡ max x y ⌝ }
 {
     if x < y { y } else { x }
+}
+
+// The slot of the crossing after those that the tables have met; it becomes the last of its carrier and of both its bays.
+pub fn next_slot(x: Crossing, carriers: &mut [u32; 256], bays: &mut [u32; 256]) -> u32
+    requires { ⌜ (crossingOf x .carrier < 256) × (crossingOf x .from < 256) × (crossingOf x .to < 256) × (slotAfter (now carriers) (now bays) (crossingOf x) < 4294967296) ⌝ }
+    ensures { λ r. ⌜ Turned (now (carriers .entry)) (now (bays .entry)) (crossingOf x) r (now (carriers .exit)) (now (bays .exit)) ⌝ }
+{
+    let carrier = x.carrier.0 as usize;
+    let from = x.from.0 as usize;
+    let to = x.to.0 as usize;
+    let slot = higher(carriers[carrier], higher(bays[from], bays[to])) + 1;
+    carriers[carrier] = slot;
+    bays[from] = slot;
+    bays[to] = slot;
+    slot
 }
 
 // Into the first places of `out`; what stands beyond the plan's length stays.
@@ -23,15 +41,22 @@ pub fn slot_pass(plan: &[u64], out: &mut [u32])
     let mut bays: [u32; 256] = [0; 256];
     let mut i = 0;
     while i < plan.len() {
-        let x = plans::crossing_at(plan, i);
-        let carrier = x.carrier.0 as usize;
-        let from = x.from.0 as usize;
-        let to = x.to.0 as usize;
-        let slot = higher(carriers[carrier], higher(bays[from], bays[to])) + 1;
-        carriers[carrier] = slot;
-        bays[from] = slot;
-        bays[to] = slot;
-        out[i] = slot;
+        out[i] = next_slot(plans::crossing_at(plan, i), &mut carriers, &mut bays);
         i += 1;
     }
+}
+
+// The slot of one name: a pass over the crossings before it.
+pub fn slot_of(plan: &[u64], name: usize) -> u32
+    requires { ⌜ (name < length (now plan)) × (length (now plan) ≤ most-crossings) × Fits 256 256 (now plan) ⌝ }
+    ensures { λ r. ⌜ r ≡ getD (slotsOf (crossings (now (plan .entry)))) name 0 ⌝ }
+{
+    let mut carriers: [u32; 256] = [0; 256];
+    let mut bays: [u32; 256] = [0; 256];
+    let mut i = 0;
+    while i < name {
+        next_slot(plans::crossing_at(plan, i), &mut carriers, &mut bays);
+        i += 1;
+    }
+    next_slot(plans::crossing_at(plan, name), &mut carriers, &mut bays)
 }

@@ -1,0 +1,211 @@
+-- Demand 3 over record, lines and marks together, for any sequence of reports on a plan that passes the check. A report that answers 19 changes nothing,
+-- and every other answer is the paper's, so the run is the paper's run of the reports that did not answer 19.
+use mathlib.Core.Path.{_≡_, refl, sym, _∙_, ap}
+use mathlib.Core.Bool.{Bool, true, false}
+use mathlib.Core.Logic.{_↔_}
+use mathlib.Core.List.{List, [], _∷_, map}
+use mathlib.Core.Option.{none}
+use Prim.Native.Nat.{ℕ, suc, _<_}
+use native.Mathlib.Omega.{arith}
+use lib.ListN.{length, getD, set, length-map}
+use Rattle.paper.specs.Basics.{if_then_else_, In, NoDup}
+use Rattle.paper.specs.Yard.{Bay, Carrier, Placement, Crossing, after, legalPlan, pack, unpack, crossings, named}
+use Rattle.paper.specs.Dependence.{isDone, doneOf, countOf, placementBy}
+use Rattle.paper.specs.Docket.{yardOf}
+use Rattle.paper.specs.Answers.{Report, accept, already, refuse, accepts, check, marksAfter, accepted, plan as planned}
+use Rattle.paper.specs.Log.{Request, answerTo, marksBy, marksFrom, namesFrom}
+use Rattle.paper.proofs.Tests.{not-both}
+use Rattle.paper.proofs.Commuting.{done-set}
+use Rattle.paper.proofs.Marking.{closed-of}
+use Rattle.paper.proofs.Checking.{check-passed}
+use Rattle.paper.proofs.Reporting.{tell-facts, done-already, facts-accept}
+use Rattle.paper.proofs.Logging.{Kept, fine, some-ready, all-done, plan-lawful, kept-from-fresh}
+use Rattle.paper.proofs.Handing.{handed-passes}
+use Rattle.bills.specs.Billing.{places, untouched, noLine}
+use Rattle.bills.specs.Answering.{Billed, told, disagrees, changes, marksThen}
+use Rattle.bills.specs.Keeping.{Books, answerOn, booksBy, freshBooks, booksFrom, billedFrom}
+use Rattle.bills.specs.declared.Record.{Record}
+use Rattle.bills.specs.declared.Line.{Line}
+use Rattle.bills.proofs.Stepping.{line-at, carrier-there}
+use Rattle.bills.proofs.Same.{Afresh}
+use Rattle.bills.proofs.Keeping.{nothing-changed, told-or-19, accepts-exactly, billing-told, kept-afresh}
+use Rattle.bills.proofs.Last.{lastOf, last-run, last-fresh}
+use Rattle.bills.proofs.Summing.{allBilled, billed-is-done}
+
+-- ## The paper's run
+
+-- an answer other than 19
+heeded : Billed → Bool
+heeded (told r) = true
+heeded disagrees = false
+
+books-parts : (a b : Books) → a .marks ≡ b .marks → a .running ≡ b .running → a .lines ≡ b .lines → a ≡ b
+books-parts a b e f g = go (a .marks) (b .marks) (a .running) (b .running) (a .lines) (b .lines) e f g
+  where
+    go : (m n : List ℕ) (r s : Record) (l k : List Line) → m ≡ n → r ≡ s → l ≡ k
+        → _≡_ {A = Books} (record { marks = m; running = r; lines = l }) (record { marks = n; running = s; lines = k })
+    go m n r s l k e f g = rw (e, f, g)
+
+marked-by : (ms : List ℕ) (i : ℕ) (r : Report) → (if accepts r then set ms i 1 else ms) ≡ marksAfter ms i r
+unfolding accepts marksAfter
+marked-by ms i accept = refl
+marked-by ms i already = refl
+marked-by ms i (refuse x) = refl
+
+module _ (plan : List ℕ) where
+  -- the requests that did not answer 19
+  heard : Books → List Request → List Request
+  heard b [] = []
+  heard b (q ∷ qs) = let rest = heard (booksBy plan b q) qs in if heeded (answerOn plan b q) then q ∷ rest else rest
+
+  by-answer : {P : Type 0} (b : Books) (q : Request) → (answerOn plan b q ≡ told (answerTo plan (b .marks) q) → P) → (answerOn plan b q ≡ disagrees → P) → P
+  by-answer b q f g = told-or-19 (q .bays) (q .ends) (q .starts) (q .goals) plan (b .marks) (b .running) (b .lines) (q .name) f g
+
+  -- Whatever is not accepted changes nothing, on any books.
+  pub unaccepted : (b : Books) (q : Request) → (answerOn plan b q ≡ told accept → ⊥) → booksBy plan b q ≡ b
+  unaccepted b q h =
+      let e = nothing-changed (q .bays) (q .ends) (q .starts) (q .goals) plan (b .marks) (b .running) (b .lines) (q .name) h in
+      books-parts (booksBy plan b q) b (e .0) (e .1) (e .2)
+
+  -- where it did not answer 19 the marks are the paper's
+  paper-marks : (b : Books) (q : Request) → answerOn plan b q ≡ told (answerTo plan (b .marks) q) → booksBy plan b q .marks ≡ marksBy plan (b .marks) q
+  unfolding marksThen changes
+  paper-marks b q e = rw e (marked-by (b .marks) (q .name) (answerTo plan (b .marks) q))
+
+  run-is : (b : Books) (qs : List Request)
+      → (booksFrom plan b qs .marks ≡ marksFrom plan (b .marks) (heard b qs)) × (billedFrom plan b qs ≡ namesFrom plan (b .marks) (heard b qs))
+  unfolding heard heeded booksFrom billedFrom marksFrom namesFrom changes
+  run-is b [] = (refl, refl)
+  run-is b (q ∷ qs) =
+      let ih = run-is (booksBy plan b q) qs in
+      by-answer b q
+      (λ e.
+      let s : booksBy plan b q .marks ≡ marksBy plan (b .marks) q = paper-marks b q e in (
+        rw e (ih .0 ∙ ap (λ ms. marksFrom plan ms (heard (booksBy plan b q) qs)) s),
+        rw e (ap (λ l. if accepts (answerTo plan (b .marks) q) then q .name ∷ l else l) (ih .1 ∙ ap (λ ms. namesFrom plan ms (heard (booksBy plan b q) qs)) s)),
+      ))
+      (λ e.
+      let s : booksBy plan b q .marks ≡ b .marks = ap (λ c. c .marks) (unaccepted b q (λ a. let z : _≡_ {A = ℕ} 0 1 = cc in absurd (omega arith))) in (
+        rw e (ih .0 ∙ ap (λ ms. marksFrom plan ms (heard (booksBy plan b q) qs)) s),
+        rw e (ih .1 ∙ ap (λ ms. namesFrom plan ms (heard (booksBy plan b q) qs)) s),
+      ))
+
+  ends-afresh : (n : ℕ) (ends : List Bay) (starts : Placement) → legalPlan (yardOf n ends) starts (crossings plan) ≡ true → (b : Books) (qs : List Request)
+      → Afresh starts plan (b .marks) (b .running) (b .lines)
+      → Afresh starts plan (booksFrom plan b qs .marks) (booksFrom plan b qs .running) (booksFrom plan b qs .lines)
+  unfolding booksFrom
+  ends-afresh n ends starts lawful b [] f = f
+  ends-afresh n ends starts lawful b (q ∷ qs) f =
+      ends-afresh n ends starts lawful (booksBy plan b q) qs (kept-afresh (yardOf n ends) starts plan lawful b q f)
+
+-- ## The demand
+
+-- reports on a plan one after the other, on books as opening on fresh marks leaves them: the books at the end, the names accepted, their crossings
+module _ (starts : Placement) (plan : List ℕ) (qs : List Request) where
+  abbrev pub booksEnd : Books
+  booksEnd = booksFrom plan (freshBooks plan starts) qs
+
+  abbrev pub namesBilled : List ℕ
+  namesBilled = billedFrom plan (freshBooks plan starts) qs
+
+  abbrev pub crossingsBilled : List Crossing
+  crossingsBilled = map (named (crossings plan)) namesBilled
+
+-- a report with the check's yard, start and goal
+abbrev pub asked : ℕ → List Bay → Placement → Placement → ℕ → Request
+asked n ends starts goals i = record { bays = n; ends = ends; starts = starts; goals = goals; name = i }
+
+-- books on which every crossing of the plan is done
+pub record AllBilled (starts goals : Placement) (plan : List ℕ) (b : Books) : Type 0 where
+  -- every carrier is home,
+  pub home : b .running .at ≡ places goals
+  -- each line has its carrier's count in the plan, and the plan is billed, no more and no less.
+  pub each : (c : Carrier) → c < length starts → getD (b .lines) c noLine .billed ≡ countOf c (crossings plan)
+  pub billed : allBilled (b .lines) ≡ length plan
+  pub done : b .running .done ≡ length plan
+
+pub record Demand3Billed (n : ℕ) (ends : List Bay) (starts goals : Placement) (plan : List ℕ) (qs : List Request) : Type 0 where
+  -- record and lines are what plan, start and marks give worked out afresh,
+  pub afresh : Afresh starts plan (booksEnd starts plan qs .marks) (booksEnd starts plan qs .running) (booksEnd starts plan qs .lines)
+  -- the accepted crossings, in the order accepted, are each legal,
+  pub lawful : legalPlan (yardOf n ends) starts (crossingsBilled starts plan qs) ≡ true
+  -- and leave the carriers where those same crossings in plan order would, and where the record says:
+  pub same : after starts (crossingsBilled starts plan qs) ≡ placementBy starts (crossings plan) (booksEnd starts plan qs .marks)
+  pub placed : booksEnd starts plan qs .running .at ≡ places (after starts (crossingsBilled starts plan qs))
+  -- (those marked done are the accepted ones, each accepted once; each is billed once).
+  pub marked : (i : ℕ) → (isDone (booksEnd starts plan qs .marks) i ≡ true) ↔ In i (namesBilled starts plan qs)
+  pub once : NoDup (namesBilled starts plan qs)
+  pub each-billed : (c : Carrier) → c < length starts → getD (booksEnd starts plan qs .lines) c noLine .billed ≡ countOf c (crossingsBilled starts plan qs)
+  pub all-billed : allBilled (booksEnd starts plan qs .lines) ≡ booksEnd starts plan qs .running .done
+  -- Each line has its carrier's last name accepted.
+  pub last-names : (c : Carrier) → c < length starts
+      → getD (booksEnd starts plan qs .lines) c noLine .last ≡ lastOf c (crossings plan) untouched (namesBilled starts plan qs)
+  -- A repeat changes nothing, whatever it comes with, and with that check's yard, start and goal it answers "already".
+  pub repeats : (q : Request) → In (q .name) (namesBilled starts plan qs) → booksBy plan (booksEnd starts plan qs) q ≡ booksEnd starts plan qs
+  pub answered : (i : ℕ) → In i (namesBilled starts plan qs) → answerOn plan (booksEnd starts plan qs) (asked n ends starts goals i) ≡ told already
+  -- Whatever is not accepted changes neither marks nor record nor lines.
+  pub unchanged : (q : Request) → (answerOn plan (booksEnd starts plan qs) q ≡ told accept → ⊥) → booksBy plan (booksEnd starts plan qs) q ≡ booksEnd starts plan qs
+  -- While one is undone, some name would be accepted in a report with that check's yard, start and goal.
+  pub goes-on : (i : ℕ) → i < length plan → isDone (booksEnd starts plan qs .marks) i ≡ false
+      → (j : ℕ) × (answerOn plan (booksEnd starts plan qs) (asked n ends starts goals j) ≡ told accept)
+  -- With all done, every carrier is home and has been billed its plan's count of crossings.
+  pub all-home : ((i : ℕ) → i < length plan → isDone (booksEnd starts plan qs .marks) i ≡ true) → AllBilled starts goals plan (booksEnd starts plan qs)
+
+module _ (n : ℕ) (ends : List Bay) (starts goals : Placement) (plan : List ℕ) (passes : check n ends starts goals plan ≡ none) where
+  kept-on-books : (qs : List Request) → Kept (yardOf n ends) starts (crossings plan) (booksEnd starts plan qs .marks) (namesBilled starts plan qs)
+  kept-on-books qs =
+      let e = run-is plan (freshBooks plan starts) qs in
+      rw (e .0, e .1) (kept-from-fresh n ends starts goals plan passes (heard plan (freshBooks plan starts) qs))
+
+  pub demand-3-billed : (qs : List Request) → Demand3Billed n ends starts goals plan qs
+  demand-3-billed qs =
+      let Y = yardOf n ends in
+      let xs = crossings plan in
+      let b = booksEnd starts plan qs in
+      let k = kept-on-books qs in
+      let legal = plan-lawful n ends starts goals plan passes in
+      let ok = fine Y starts xs legal (b .marks) (namesBilled starts plan qs) k in
+      let f = ends-afresh plan n ends starts legal (freshBooks plan starts) qs (refl, refl) in
+      let len : length xs ≡ length plan = length-map plan unpack in
+      let first = done-set Y starts xs (b .marks) (closed-of xs (b .marks) (k .order)) legal .first in
+      let each : (c : Carrier) → c < length starts → getD (b .lines) c noLine .billed ≡ countOf c (doneOf xs (b .marks)) =
+      λ c h. ap (λ l. getD l c noLine .billed) (f .1) ∙ ap (λ l. l .billed) (line-at (length starts) xs (b .marks) c noLine h) in
+      let sum : allBilled (b .lines) ≡ length (doneOf xs (b .marks)) =
+      ap allBilled (f .1) ∙ billed-is-done (length starts) xs (b .marks) (λ i h. carrier-there Y starts (doneOf xs (b .marks)) i first h) in
+      let same-answer : (i : ℕ) → answerOn plan b (asked n ends starts goals i) ≡ told (answerTo plan (b .marks) (asked n ends starts goals i)) =
+      λ i. billing-told n ends starts goals plan (b .marks) (b .running) (b .lines) i passes ok f in
+      record {
+        afresh = f;
+        lawful = k .lawful;
+        same = k .same;
+        placed = ap (λ r. r .at) (f .0) ∙ ap places (sym (k .same));
+        marked = λ i. (k .marked i, λ m. k .names i m .1);
+        once = k .once;
+        each-billed = λ c h. each c h ∙ sym (k .counts c);
+        all-billed = sum ∙ sym (ap (λ r. r .done) (f .0));
+        last-names = λ c h. ap (λ l. getD l c noLine .last) (f .1) ∙ ap (λ l. l .last) (line-at (length starts) xs (b .marks) c noLine h)
+            ∙ last-run plan c (freshBooks plan starts) qs ∙ ap (λ l. lastOf c xs l (namesBilled starts plan qs)) (last-fresh c untouched 0 xs (length plan));
+        repeats = λ q m. unaccepted plan b q
+            (λ a. not-both (k .names (q .name) m .1)
+            (tell-facts xs (b .marks) (q .name) (((accepts-exactly (q .bays) (q .ends) (q .starts) (q .goals) plan (b .marks) (b .running) (b .lines) (q .name)) .0 a) .2) .2));
+        answered = λ i m.
+            let d = k .names i m in same-answer i ∙ ap told (done-already n ends starts goals plan (b .marks) passes ok i (d .0) (d .1));
+        unchanged = λ q h. unaccepted plan b q h;
+        goes-on = λ i h d.
+            let r = some-ready Y starts xs legal (b .marks) (suc i) i (omega arith) (rw len h) d in
+            (r .0, same-answer (r .0) ∙ ap told (facts-accept n ends starts goals plan (b .marks) passes ok (r .0) (r .1) (r .2) (r .3)));
+        all-home = λ g.
+            let whole = all-done xs (b .marks) (k .long) (λ i h. g i (rw len at h)) in
+            record {
+              home = ap (λ r. r .at) (f .0) ∙ ap (λ ys. places (after starts ys)) whole ∙ ap places (check-passed n ends starts goals plan passes .home);
+              each = λ c h. each c h ∙ ap (countOf c) whole;
+              billed = sum ∙ ap length whole ∙ len;
+              done = ap (λ r. r .done) (f .0) ∙ ap length whole ∙ len;
+            };
+      }
+
+-- Every plan handed out passes the check, so this is of every such plan.
+pub handed-demand-3-billed : (n : ℕ) (ends : List Bay) (starts goals : Placement) (lent : ℕ) (xs : List Crossing) → planned n ends starts goals lent ≡ accepted xs
+    → (qs : List Request) → Demand3Billed n ends starts goals (map pack xs) qs
+handed-demand-3-billed n ends starts goals lent xs h qs =
+    demand-3-billed n ends starts goals (map pack xs) (handed-passes n ends starts goals lent xs h .0) qs

@@ -1,0 +1,238 @@
+-- What opening and a report on record and lines answer, each exactly when the request says, and that record and lines worked out afresh stay so: an
+-- accepted name is undone with marks in order, so changing them in place gives what working them out gives.
+use mathlib.Core.Path.{_≡_, refl, sym, _∙_, ap}
+use mathlib.Core.Bool.{true, false}
+use mathlib.Core.Logic.{_↔_}
+use mathlib.Core.List.{List}
+use mathlib.Core.Option.{none, some}
+use Prim.Native.Nat.{ℕ, _<_}
+use lib.ListN.{length, getD, set}
+use borrow.Author.Tests.{not-false, eqb-true, ne-eqb}
+use Rattle.paper.specs.Yard.{Bay, Placement, Yard, Crossing, legalPlan, crossings, named}
+use Rattle.paper.specs.Dependence.{isDone, slots}
+use Rattle.paper.specs.Docket.{Refusal, room, yardOf, badMarks, mismarked}
+use Rattle.paper.specs.Answers.{accept, already, refuse, accepts, tell, check, report}
+use Rattle.paper.specs.Log.{Request}
+use Rattle.paper.proofs.Tests.{by-cases, by-option, not-both, never, never-some, or-none, none-both, none-when}
+use Rattle.paper.proofs.Marking.{InOrder, in-order}
+use Rattle.paper.proofs.Checking.{check-passed}
+use Rattle.paper.proofs.Reporting.{Ready, marks-long, tell-facts, facts-accept}
+use Rattle.bills.specs.Billing.{posted, entered}
+use Rattle.bills.specs.Answering.{agrees, differs, Billed, told, disagrees, changes, upToEleven, opening, openedRecord, openedLines, agree, agreement, billing, marksThen, recordThen, linesThen}
+use Rattle.bills.specs.Keeping.{Books, answerOn, booksBy}
+use Rattle.bills.specs.declared.Record.{Record}
+use Rattle.bills.specs.declared.Line.{Line}
+use Rattle.bills.proofs.Stepping.{record-step, lines-step, lines-long, carrier-there}
+use Rattle.bills.proofs.Same.{Afresh, agree-exactly, differ-exactly}
+
+-- marks that 11 passes are in order
+pub order-of : (xs : List Crossing) (ms : List ℕ) → badMarks xs ms ≡ false → InOrder xs ms
+unfolding badMarks
+order-of xs ms h = in-order xs ms ((or-none _ _ h) .1)
+
+-- only acceptance changes anything
+pub changes-exactly : (b : Billed) → (changes b ≡ true) ↔ (b ≡ told accept)
+unfolding changes accepts
+changes-exactly b = (to b, λ e. ap changes e)
+  where
+    to : (b : Billed) → changes b ≡ true → b ≡ told accept
+    to (told accept) h = refl
+    to (told already) h = not-both h refl
+    to (told (refuse r)) h = not-both h refl
+    to disagrees h = not-both h refl
+
+pub unchanging : (b : Billed) → (b ≡ told accept → ⊥) → changes b ≡ false
+unchanging b h = by-cases (changes b) (λ e. absurd (h ((changes-exactly b) .0 e))) (λ e. e)
+
+module _ (n : ℕ) (ends : List Bay) (starts goals : Placement) (plan marks : List ℕ) where
+  -- "the refusals up to 11" pass exactly if the check does and the marks are in order
+  pub eleven-exactly : (upToEleven n ends starts goals plan marks ≡ none)
+      ↔ ((check n ends starts goals plan ≡ none) × (badMarks (crossings plan) marks ≡ false))
+  unfolding upToEleven
+  eleven-exactly = (
+    λ h. let b = none-both (check n ends starts goals plan) _ h in (b .0, none-when (badMarks (crossings plan) marks) mismarked (b .1)),
+    λ f. rw (f .0, f .1),
+  )
+
+  -- the paper's report does the same tests first
+  report-refused : (name : ℕ) (r : Refusal) → upToEleven n ends starts goals plan marks ≡ some r → report n ends starts goals plan marks name ≡ refuse r
+  unfolding upToEleven report tell
+  report-refused name r u =
+      by-option (check n ends starts goals plan)
+      (λ p. by-cases (badMarks (crossings plan) marks)
+      (λ m. let k = rw (p, m) at u in rw (p, m) (cc))
+      (λ m. let k = rw (p, m) at u in never-some r k))
+      (λ x p. let k = rw p at u in rw p (cc))
+
+  report-goes-on : (name : ℕ) → upToEleven n ends starts goals plan marks ≡ none
+      → report n ends starts goals plan marks name ≡ tell (crossings plan) marks name
+  unfolding report
+  report-goes-on name u = rw ((eleven-exactly .0 u) .0)
+
+  -- ## Opening
+
+  -- "otherwise opening answers 8 carrying k, after 11"
+  pub opening-room : (lent : ℕ) → upToEleven n ends starts goals plan marks ≡ none → (lent ≡ length starts → ⊥)
+      → opening n ends starts goals plan marks lent ≡ some (room (length starts))
+  unfolding opening
+  opening-room lent h k = rw (h, ne-eqb lent (length starts) k)
+
+  pub opening-eleven : (lent : ℕ) (r : Refusal) → upToEleven n ends starts goals plan marks ≡ some r → opening n ends starts goals plan marks lent ≡ some r
+  unfolding opening
+  opening-eleven lent r h = rw h
+
+  module _ (rec : Record) (lines : List Line) where
+    -- "opening builds both from plan and marks"; the lines are k
+    pub opened : opening n ends starts goals plan marks (length lines) ≡ none
+        → Afresh starts plan marks (openedRecord n ends starts goals plan marks rec (length lines)) (openedLines n ends starts goals plan marks lines)
+        × (length (openedLines n ends starts goals plan marks lines) ≡ length starts)
+        × (length lines ≡ length starts)
+    unfolding opening openedRecord openedLines
+    opened h = ((rw h refl, rw h refl), rw h (lines-long (length starts) (crossings plan) marks), long h)
+      where
+        long : opening n ends starts goals plan marks (length lines) ≡ none → length lines ≡ length starts
+        long h = eqb-true _ _ (not-false _ (none-when _ (room (length starts)) ((none-both (upToEleven n ends starts goals plan marks) _ h) .1)))
+
+    -- a refusal leaves both as they were
+    pub not-opened : (r : Refusal) → opening n ends starts goals plan marks (length lines) ≡ some r
+        → (openedRecord n ends starts goals plan marks rec (length lines) ≡ rec) × (openedLines n ends starts goals plan marks lines ≡ lines)
+    unfolding openedRecord openedLines
+    not-opened r h = (rw h, rw h)
+
+  -- ## The agreement test and a report
+
+  module _ (rec : Record) (lines : List Line) where
+    -- "a separate test, after the refusals up to 11, answers yes exactly if all agree"
+    pub agrees-exactly : (agreement n ends starts goals plan marks rec lines ≡ agrees)
+        ↔ ((upToEleven n ends starts goals plan marks ≡ none) × Afresh starts plan marks rec lines)
+    unfolding agreement
+    agrees-exactly = (
+      λ h. by-option (upToEleven n ends starts goals plan marks)
+          (λ u. by-cases (agree n ends starts goals plan marks rec lines)
+          (λ a. (u, (agree-exactly n ends starts goals plan marks rec lines) .0 a))
+          (λ a. let k = rw (u, a) at h in never (cc)))
+          (λ r u. let k = rw u at h in never (cc)),
+      λ f. rw (f .0, (agree-exactly n ends starts goals plan marks rec lines) .1 (f .1)),
+    )
+
+    pub differs-exactly : (agreement n ends starts goals plan marks rec lines ≡ differs)
+        ↔ ((upToEleven n ends starts goals plan marks ≡ none) × (Afresh starts plan marks rec lines → ⊥))
+    unfolding agreement
+    differs-exactly = (
+      λ h. by-option (upToEleven n ends starts goals plan marks)
+          (λ u. by-cases (agree n ends starts goals plan marks rec lines)
+          (λ a. let k = rw (u, a) at h in never (cc))
+          (λ a. (u, (differ-exactly n ends starts goals plan marks rec lines) .0 a)))
+          (λ r u. let k = rw u at h in never (cc)),
+      λ f. rw (f .0, (differ-exactly n ends starts goals plan marks rec lines) .1 (f .1)),
+    )
+
+    module _ (name : ℕ) where
+      -- every way in which a report's answer comes about
+      pub by-billing : {P : Type 0}
+          → ((r : Refusal) → upToEleven n ends starts goals plan marks ≡ some r → billing n ends starts goals plan marks rec lines name ≡ told (refuse r) → P)
+          → (upToEleven n ends starts goals plan marks ≡ none → agree n ends starts goals plan marks rec lines ≡ false
+          → billing n ends starts goals plan marks rec lines name ≡ disagrees → P)
+          → (upToEleven n ends starts goals plan marks ≡ none → agree n ends starts goals plan marks rec lines ≡ true
+          → billing n ends starts goals plan marks rec lines name ≡ told (tell (crossings plan) marks name) → P)
+          → P
+      unfolding billing
+      by-billing f g h =
+          by-option (upToEleven n ends starts goals plan marks)
+          (λ u. by-cases (agree n ends starts goals plan marks rec lines) (λ a. h u a (rw (u, a))) (λ a. g u a (rw (u, a))))
+          (λ r u. f r u (rw u))
+
+      -- "19, record disagrees, after 11 and before 12"
+      pub disagrees-exactly : (billing n ends starts goals plan marks rec lines name ≡ disagrees)
+          ↔ ((upToEleven n ends starts goals plan marks ≡ none) × (agree n ends starts goals plan marks rec lines ≡ false))
+      unfolding billing
+      disagrees-exactly = (λ h. by-billing (λ r u e. never (cc)) (λ u a e. (u, a)) (λ u a e. never (cc)), λ f. rw (f .0, f .1))
+
+      -- "Demand 2's rule for accepting a name then asks for a record and lines that agree, besides plan and marks in order."
+      pub accepts-exactly : (billing n ends starts goals plan marks rec lines name ≡ told accept)
+          ↔ ((upToEleven n ends starts goals plan marks ≡ none) × (agree n ends starts goals plan marks rec lines ≡ true)
+          × (tell (crossings plan) marks name ≡ accept))
+      unfolding billing
+      accepts-exactly = (
+        λ h. by-billing (λ r u e. never (cc)) (λ u a e. never (cc)) (λ u a e. (u, a, cc)),
+        λ f. rw (f .0, f .1, f .2),
+      )
+
+      -- where it is not 19 it is the paper's answer
+      pub told-or-19 : {P : Type 0} → (billing n ends starts goals plan marks rec lines name ≡ told (report n ends starts goals plan marks name) → P)
+          → (billing n ends starts goals plan marks rec lines name ≡ disagrees → P) → P
+      told-or-19 f g =
+          by-billing
+          (λ r u e. f (e ∙ ap told (sym (report-refused name r u))))
+          (λ u a e. g e)
+          (λ u a e. f (e ∙ ap told (sym (report-goes-on name u))))
+
+      -- with all in order it is the paper's answer
+      pub billing-told : check n ends starts goals plan ≡ none → badMarks (crossings plan) marks ≡ false → Afresh starts plan marks rec lines
+          → billing n ends starts goals plan marks rec lines name ≡ told (report n ends starts goals plan marks name)
+      billing-told passes fine f =
+          told-or-19 (λ e. e) (λ e. not-both ((agree-exactly n ends starts goals plan marks rec lines) .1 f) ((disagrees-exactly .0 e) .1))
+
+      -- "refusals and "already" change none of them", for any record and lines at all
+      pub nothing-changed : (billing n ends starts goals plan marks rec lines name ≡ told accept → ⊥)
+          → (marksThen n ends starts goals plan marks rec lines name ≡ marks)
+          × (recordThen n ends starts goals plan marks rec lines name ≡ rec)
+          × (linesThen n ends starts goals plan marks rec lines name ≡ lines)
+      unfolding marksThen recordThen linesThen
+      nothing-changed h = let e = unchanging (billing n ends starts goals plan marks rec lines name) h in (rw e, rw e, rw e)
+
+-- ## Kept afresh
+
+-- an accepted name, changed in place
+module _ (Y : Yard) (first : Placement) (plan : List ℕ) (lawful : legalPlan Y first (crossings plan) ≡ true) where
+  pub step-afresh : (marks : List ℕ) (rec : Record) (lines : List Line) (name : ℕ) → tell (crossings plan) marks name ≡ accept
+      → Afresh first plan marks rec lines
+      → Afresh first plan (set marks name 1)
+      (posted rec (named (crossings plan) name) (getD (slots (crossings plan)) name 0)) (entered lines (named (crossings plan) name) name)
+  step-afresh marks rec lines name h f =
+      let xs = crossings plan in
+      let t = tell-facts xs marks name h in
+      let len = marks-long xs marks (t .0) in
+      let order = order-of xs marks (t .0) in
+      let there = carrier-there Y first xs name lawful (t .1) in (
+        ap (λ r. posted r (named xs name) (getD (slots xs) name 0)) (f .0) ∙ sym (record-step first xs marks name len order (t .1) (t .2) there),
+        ap (λ l. entered l (named xs name) name) (f .1) ∙ sym (lines-step (length first) xs marks name len order (t .1) (t .2) there),
+      )
+
+  -- A report, whatever yard, start and goal it comes with, keeps what is worked out afresh from the start of a legal plan.
+  pub kept-afresh : (b : Books) (q : Request) → Afresh first plan (b .marks) (b .running) (b .lines)
+      → Afresh first plan (booksBy plan b q .marks) (booksBy plan b q .running) (booksBy plan b q .lines)
+  unfolding marksThen recordThen linesThen
+  kept-afresh b q f =
+      by-cases (changes (answerOn plan b q))
+      (λ e.
+      let a = (accepts-exactly (q .bays) (q .ends) (q .starts) (q .goals) plan (b .marks) (b .running) (b .lines) (q .name)) .0
+      ((changes-exactly (answerOn plan b q)) .0 e) in
+      rw e (step-afresh (b .marks) (b .running) (b .lines) (q .name) (a .2) f))
+      (λ e. rw e f)
+
+-- "after each report on a record that agreed, record and lines equal what plan, start and marks give worked out afresh"
+pub reported-afresh : (n : ℕ) (ends : List Bay) (starts goals : Placement) (plan marks : List ℕ) (rec : Record) (lines : List Line) (name : ℕ)
+    → Afresh starts plan marks rec lines
+    → Afresh starts plan (marksThen n ends starts goals plan marks rec lines name)
+    (recordThen n ends starts goals plan marks rec lines name) (linesThen n ends starts goals plan marks rec lines name)
+unfolding marksThen recordThen linesThen
+reported-afresh n ends starts goals plan marks rec lines name f =
+    by-cases (changes (billing n ends starts goals plan marks rec lines name))
+    (λ e.
+    let a = (accepts-exactly n ends starts goals plan marks rec lines name) .0 ((changes-exactly (billing n ends starts goals plan marks rec lines name)) .0 e) in
+    let passes = ((eleven-exactly n ends starts goals plan marks) .0 (a .0)) .0 in
+    rw e (step-afresh (yardOf n ends) starts plan (check-passed n ends starts goals plan passes .lawful) marks rec lines name (a .2) f))
+    (λ e. rw e f)
+
+-- With plan and marks in order and record and lines that agree, a name is accepted exactly if it is in the plan, not yet done, and every earlier
+-- crossing it depends on is done.
+pub accepts-ready : (n : ℕ) (ends : List Bay) (starts goals : Placement) (plan marks : List ℕ) (rec : Record) (lines : List Line) (name : ℕ)
+    → check n ends starts goals plan ≡ none → badMarks (crossings plan) marks ≡ false → Afresh starts plan marks rec lines
+    → (billing n ends starts goals plan marks rec lines name ≡ told accept)
+    ↔ ((name < length (crossings plan)) × (isDone marks name ≡ false) × Ready (crossings plan) marks name)
+accepts-ready n ends starts goals plan marks rec lines name passes fine f = (
+  λ h. let t = tell-facts (crossings plan) marks name (((accepts-exactly n ends starts goals plan marks rec lines name) .0 h) .2) in (t .1, t .2, t .3),
+  λ t. let e = billing-told n ends starts goals plan marks rec lines name passes fine f in
+      e ∙ ap told (facts-accept n ends starts goals plan marks passes fine name (t .0) (t .1) (t .2)),
+)

@@ -1,0 +1,158 @@
+-- A report once all agree, and the whole of it, way out by way out.
+use mathlib.Core.Path.{_≡_, refl, sym, _∙_, ap, ap₂}
+use mathlib.Core.Bool.{Bool, true, false}
+use mathlib.Core.List.{List, [], _∷_}
+use mathlib.Core.Option.{none, some}
+use Prim.Native.Nat.{ℕ, zero, suc, _<_, _≤_}
+use native.Mathlib.Omega.{arith}
+use lib.Dec.{leb}
+use lib.ListN.{length, getD, set, length-map}
+use borrow.Author.Tests.{leb-true, leb-false}
+use Rattle.paper.specs.Basics.{if_then_else_}
+use Rattle.paper.specs.Yard.{Bay, Placement, Crossing, crossings, named}
+use Rattle.paper.specs.Docket.{badMarks}
+use Rattle.paper.specs.Docket as paper
+use Rattle.paper.specs.Answers.{Report, accept, already, refuse, accepts, tell, marksAfter}
+use Rattle.paper.proofs.Tests.{by-cases, by-option, not-both}
+use Rattle.paper.proofs.Packing.{named-is}
+use Rattle.docket.specs.Reading.{refusalOf}
+use Rattle.docket.specs.declared.Refusal.{Refusal}
+use Rattle.marks.specs.Reading.{toldInOrder}
+use Rattle.marks.proofs.Telling.{told-on, told-unknown}
+use Rattle.bills.specs.Billing.{posted, charged, entered, noLine, linesOf}
+use Rattle.bills.specs.Answering.{Billed, told, disagrees, agrees, differs, refused, changes, upToEleven, agree, agreement, billing, marksThen, recordThen, linesThen}
+use Rattle.bills.specs.declared.Line.{Line}
+use Rattle.bills.specs.declared.Record.{Record}
+use Rattle.bills.proofs.Stepping.{lines-long}
+use Rattle.bills.proofs.Same.{agree-exactly, differ-exactly}
+use Rattle.bills.proofs.Keeping.{eleven-exactly, agrees-exactly, differs-exactly}
+use Rattle.ledger.specs.Lines.{gathered, lineAt}
+use Rattle.ledger.specs.Statements.{billedOf, PostSays, SettleSays, Settled}
+use Rattle.ledger.specs.declared.Held.{Held}
+use Rattle.ledger.specs.declared.Told.{Told}
+use Rattle.ledger.specs.declared.Billed.the-variants as bill
+use Rattle.ledger.proofs.Laid.{held-at}
+use Rattle.ledger.proofs.Refusing.{fit-of}
+
+-- an accepted name is in the plan
+pub told-inside : (xs : List Crossing) (marks : List ℕ) (name : ℕ) → accepts (toldInOrder xs marks name) ≡ true → name < length xs
+unfolding accepts
+told-inside xs marks name a =
+    by-cases (leb (length xs) name)
+    (λ e. not-both a (ap accepts (sym (told-unknown xs marks name (leb-true (length xs) name e)))))
+    (λ e. leb-false (length xs) name e)
+
+pub told-named : (xs : List Crossing) (marks : List ℕ) (name : ℕ) → toldInOrder xs marks name ≡ accept → name < length xs
+unfolding accepts
+told-named xs marks name e = told-inside xs marks name (ap accepts e)
+
+accepted-is : (a : Report) → accepts a ≡ true → accept ≡ a
+unfolding accepts
+accepted-is accept y = refl
+accepted-is already y = not-both y refl
+accepted-is (refuse r) y = not-both y refl
+
+set-past : (lines : List Line) (i : ℕ) (line : Line) → length lines ≤ i → set lines i line ≡ lines
+set-past [] i line h = refl
+set-past (l ∷ lines) zero line h = absurd (omega arith)
+set-past (l ∷ lines) (suc i) line h = ap {B = List Line} (λ r. l ∷ r) (set-past lines i line (omega arith))
+
+marks-by : (marks : List ℕ) (name : ℕ) (a : Report) → marksAfter marks name a ≡ (if accepts a then set marks name 1 else marks)
+unfolding marksAfter accepts
+marks-by marks name accept = refl
+marks-by marks name already = refl
+marks-by marks name (refuse r) = refl
+
+module _ (plan marks : List ℕ) (name : ℕ) (rec : Record) (held : Held) (r : Told) (marks′ : List ℕ) (m : marks′ ≡ marksAfter marks name (toldInOrder (crossings plan) marks name)) where
+  pub settle-posted : accepts (toldInOrder (crossings plan) marks name) ≡ true → PostSays plan name rec held r → SettleSays plan marks name rec held r marks′
+  settle-posted y p = record {
+    answers = ap billedOf (p .answers) ∙ ap told (accepted-is (toldInOrder (crossings plan) marks name) y);
+    marks-then = m;
+    changed = λ a. (p .leaves, p .place, p .line-then);
+    unchanged = λ a. not-both y a;
+  }
+
+  pub settle-left : (a : Report) → a ≡ toldInOrder (crossings plan) marks name → accepts a ≡ false → billedOf (r .answer) ≡ told a
+      → r .running ≡ rec → r .at ≡ held .count → SettleSays plan marks name rec held r marks′
+  settle-left a e not-so b k i = record {
+    answers = b ∙ ap told e;
+    marks-then = m;
+    changed = λ y. not-both y (ap accepts (sym e) ∙ not-so);
+    unchanged = λ y. (k, i);
+  }
+
+module _ (n : ℕ) (ends : List Bay) (starts goals : Placement) (plan marks : List ℕ) (rec : Record) (held : Held) (name : ℕ) (r : Told) (marks′ : List ℕ)
+    (lines : List Line) (e : held ≡ gathered lines) where
+  count-is : held .count ≡ length lines
+  count-is = ap (λ (h : Held). h .count) e
+
+  -- nothing changes
+  pub billing-left : (b : Billed) → b ≡ billing n ends starts goals plan marks rec lines name → changes b ≡ false → billedOf (r .answer) ≡ b
+      → r .running ≡ rec → r .at ≡ held .count → marks′ ≡ marks → Settled n ends starts goals plan marks rec lines name r marks′
+  unfolding marksThen recordThen linesThen
+  billing-left b is not-so a k i m =
+      let same : changes (billing n ends starts goals plan marks rec lines name) ≡ false = ap changes (sym is) ∙ not-so in
+      record {
+        answers = a ∙ is;
+        marks-then = m ∙ rw same;
+        leaves = k ∙ rw same;
+        lines-then = set-past lines (r .at) (r .line) (omega (arith, i, count-is)) ∙ rw same;
+      }
+
+  -- the record disagrees
+  pub billing-differs : differs ≡ agreement n ends starts goals plan marks rec lines → disagrees ≡ billing n ends starts goals plan marks rec lines name
+  unfolding billing
+  billing-differs h =
+      let d = differs-exactly n ends starts goals plan marks rec lines .0 (sym h) in
+      sym (rw (d .0, differ-exactly n ends starts goals plan marks rec lines .1 (d .1)))
+
+  pub billing-refused : (x : paper.Refusal) → refused x ≡ agreement n ends starts goals plan marks rec lines → told (refuse x) ≡ billing n ends starts goals plan marks rec lines name
+  unfolding billing agreement
+  billing-refused x h =
+      by-option (upToEleven n ends starts goals plan marks)
+      (λ u. by-cases (agree n ends starts goals plan marks rec lines)
+      (λ a. let k = rw (u, a) at h in absurd (not-both refl (ap isRefused (sym k))))
+      (λ a. let k = rw (u, a) at h in absurd (not-both refl (ap isRefused (sym k)))))
+      (λ y u. let k = rw u at h in rw u (ap (λ z. told (refuse z)) (refused-same k)))
+    where
+      isRefused : Rattle.bills.specs.Answering.Agreement → Bool
+      isRefused agrees = true
+      isRefused differs = true
+      isRefused (refused z) = false
+
+      inside : Rattle.bills.specs.Answering.Agreement → paper.Refusal
+      inside agrees = paper.size
+      inside differs = paper.size
+      inside (refused z) = z
+
+      refused-same : {y z : paper.Refusal} → refused y ≡ refused z → y ≡ z
+      refused-same k = ap inside k
+
+  -- all agree: the rest tells
+  pub billing-settled : agrees ≡ agreement n ends starts goals plan marks rec lines → SettleSays plan marks name rec held r marks′
+      → Settled n ends starts goals plan marks rec lines name r marks′
+  unfolding billing marksThen recordThen linesThen changes
+  billing-settled h s =
+      let f = agrees-exactly n ends starts goals plan marks rec lines .0 (sym h) in
+      let ok = eleven-exactly n ends starts goals plan marks .0 (f .0) in
+      let fit = fit-of n ends starts goals plan marks (sym (f .0)) in
+      let xs = crossings plan in
+      let x = named xs name in
+      let yes = agree-exactly n ends starts goals plan marks rec lines .1 (f .1) in
+      let is : billing n ends starts goals plan marks rec lines name ≡ told (toldInOrder xs marks name) = rw (f .0, yes) (ap told (told-on xs marks name (ok .1))) in
+      let many : length lines ≡ length starts = ap length (f .1 .1) ∙ lines-long (length starts) xs marks in
+      record {
+        answers = s .answers ∙ sym is;
+        marks-then = s .marks-then ∙ marks-by marks name (toldInOrder xs marks name) ∙ rw is;
+        leaves = by-cases (accepts (toldInOrder xs marks name))
+            (λ a. s .changed a .0 ∙ rw (is, a))
+            (λ a. s .unchanged a .0 ∙ rw (is, a));
+        lines-then = by-cases (accepts (toldInOrder xs marks name))
+            (λ a.
+            let in-plan : name < length plan = rw length-map at (told-inside xs marks name a) in
+            let there : x .carrier < length starts = rw (named-is plan name) (fit .fits name in-plan .0) in
+            let line : lineAt held (x .carrier) ≡ getD lines (x .carrier) noLine =
+            ap (λ (g : Held). lineAt g (x .carrier)) e ∙ held-at lines (x .carrier) (omega (arith, there, many)) (omega (arith, there, fit .few)) in
+            ap₂ (set lines) (s .changed a .1) (s .changed a .2 ∙ ap (λ l. charged l name) line) ∙ rw (is, a))
+            (λ a. set-past lines (r .at) (r .line) (omega (arith, s .unchanged a .1, count-is)) ∙ rw (is, a));
+      }

@@ -1,0 +1,68 @@
+-- `ledger::open` meets its contract. Each way out is one law of proofs/Opened.
+-- Assumes nothing.
+use borrow.Author.Needs.{needs}
+use mathlib.Core.Path.{sym, _∙_, ap}
+use denote.Ref.{now}
+use Rattle.checker.specs.Reading.{checkedOf}
+use Rattle.ledger.specs.Lines.{heldOf}
+use Rattle.ledger.proofs.Standing.{fits-all}
+use Rattle.ledger.proofs.Refusing.{fit-of}
+use Rattle.ledger.proofs.Opened.{open-refused, eleven-first, then-room, open-written}
+use Rattle.ledger.proofs.open.Statement.{statement}
+use Rattle.ledger.proofs.open.Tie as tie
+
+up-to-eleven-requires : tie.Need-up-to-eleven-requires
+up-to-eleven-requires c κs = search needs
+
+enum-known-checked : tie.Need-enum-known-checked
+enum-known-checked c = search needs
+
+no-lines-requires : tie.Need-no-lines-requires
+no-lines-requires c κs = search needs
+
+hold-requires : tie.Need-hold-requires
+hold-requires c κs = search needs
+
+returns : tie.Need-returns
+returns c = let s = c .before .before .before .before .before .before .before .before .before .before .before in open-refused (s .args .bays) (now (s .args .rails)) (now (s .args .start)) (now (s .args .goal)) (now (s .args .plan)) (now (s .args .marks)) (s .args .running) (s .args .count) (c .before .before .before .checked .given .0 .0) (c .hold .result) (c .hold .ensures ∙ ap (heldOf 0) (c .before .no-lines .ensures)) (eleven-first (s .args .bays) (now (s .args .rails)) (now (s .args .start)) (now (s .args .goal)) (now (s .args .plan)) (now (s .args .marks)) (s .args .running) (s .args .count) (c .before .before .before .checked .given .0 .0) (ap checkedOf (sym (c .before .before .before .checked .given .1)) ∙ c .before .before .before .before .before .up-to-eleven .ensures))
+
+enum-told : tie.Need-enum-told
+enum-told c = search needs
+
+no-lines-requires-2 : tie.Need-no-lines-requires-2
+no-lines-requires-2 c κs = search needs
+
+hold-requires-2 : tie.Need-hold-requires-2
+hold-requires-2 c κs = search needs
+
+returns-2 : tie.Need-returns-2
+returns-2 c = let s = c .before .before .before .before .before .before .before .before .before .before .before in open-refused (s .args .bays) (now (s .args .rails)) (now (s .args .start)) (now (s .args .goal)) (now (s .args .plan)) (now (s .args .marks)) (s .args .running) (s .args .count) _ (c .hold2 .result) (c .hold2 .ensures ∙ ap (heldOf 0) (c .before .no-lines2 .ensures)) (then-room (s .args .bays) (now (s .args .rails)) (now (s .args .start)) (now (s .args .goal)) (now (s .args .plan)) (now (s .args .marks)) (s .args .running) (s .args .count) (ap checkedOf (sym (c .before .before .before .enum-told .given .1)) ∙ c .before .before .before .before .before .up-to-eleven .ensures) (c .before .before .if1 .taken))
+
+fresh-record-requires : tie.Need-fresh-record-requires
+fresh-record-requires c κs = let s = c .before .before .before .before .before .before .before .before .before in fit-of (s .args .bays) (now (s .args .rails)) (now (s .args .start)) (now (s .args .goal)) (now (s .args .plan)) (now (s .args .marks)) (ap checkedOf (sym (c .before .enum-told .given .1)) ∙ c .before .before .before .up-to-eleven .ensures)
+
+fresh-lines-requires : tie.Need-fresh-lines-requires
+fresh-lines-requires c κs =
+    let s = c .before .before .before .before .before .before .before .before .before .before in
+    let f = fit-of (s .args .bays) (now (s .args .rails)) (now (s .args .start)) (now (s .args .goal)) (now (s .args .plan)) (now (s .args .marks)) (ap checkedOf (sym (c .before .before .enum-told .given .1)) ∙ c .before .before .before .before .up-to-eleven .ensures) in
+    (rw (c .before .if1 .left) (f .few), f .even, f .short, fits-all _ _ _ f)
+
+returns-3 : tie.Need-returns-3
+returns-3 c = let s = c .before .before .before .before .before .before .before .before .before .before .before in open-written (s .args .bays) (now (s .args .rails)) (now (s .args .start)) (now (s .args .goal)) (now (s .args .plan)) (now (s .args .marks)) (s .args .running) (s .args .count) (ap checkedOf (sym (c .before .before .before .enum-told .given .1)) ∙ c .before .before .before .before .before .up-to-eleven .ensures) (c .before .before .if1 .left) (c .before .fresh-record .result) (c .before .fresh-record .ensures) (c .fresh-lines .result) (c .fresh-lines .ensures)
+
+pub open-spec : {M : Type 1} → statement M
+open-spec =
+    tie.close
+    (tie.spec
+    up-to-eleven-requires
+    enum-known-checked
+    no-lines-requires
+    hold-requires
+    returns
+    enum-told
+    no-lines-requires-2
+    hold-requires-2
+    returns-2
+    fresh-record-requires
+    fresh-lines-requires
+    returns-3)

@@ -1,0 +1,87 @@
+-- `ledger::report` meets its contract. Each way out is one law of proofs/Settling.
+-- Assumes nothing.
+use borrow.Author.Needs.{needs}
+use mathlib.Core.Path.{_≡_, refl, sym, _∙_, ap}
+use mathlib.Core.Bool.{false}
+use denote.Ref.{now}
+use Rattle.paper.specs.Docket as paper
+use Rattle.paper.specs.Answers.{refuse, accepts}
+use Rattle.docket.specs.Reading.{refusalOf}
+use Rattle.bills.specs.Answering.{told, disagrees, changes}
+use Rattle.ledger.specs.Statements.{agreementOf, billedOf}
+use Rattle.ledger.proofs.Settling.{billing-left, billing-differs, billing-refused, billing-settled}
+use Rattle.ledger.proofs.report.Statement.{statement}
+use Rattle.ledger.proofs.report.Tie as tie
+
+no-19 : changes disagrees ≡ false
+unfolding changes
+no-19 = refl
+
+no-refusal : (r : paper.Refusal) → changes (told (refuse r)) ≡ false
+unfolding changes accepts
+no-refusal r = refl
+
+compare-requires : tie.Need-compare-requires
+compare-requires c κs = search needs
+
+enum-told : tie.Need-enum-told
+enum-told c = search needs
+
+settle-requires : tie.Need-settle-requires
+settle-requires c κs = c .before .before .before .compare .ensures .may-settle (c .before .enum-told .given .1)
+
+enum-told-2 : tie.Need-enum-told-2
+enum-told-2 c = search needs
+
+unchanged-requires : tie.Need-unchanged-requires
+unchanged-requires c κs = search needs
+
+enum-known-agreed : tie.Need-enum-known-agreed
+enum-known-agreed c = search needs
+
+unchanged-requires-2 : tie.Need-unchanged-requires-2
+unchanged-requires-2 c κs = search needs
+
+same-length : tie.Need-same-length
+same-length c = search needs
+
+returns : tie.Need-returns
+returns c lines e =
+    let s = c .before .before .before .before .before .before .before .before .before .before .before .before .before in
+    billing-settled (s .args .bays) (now (s .args .rails)) (now (s .args .start)) (now (s .args .goal)) (now (s .args .plan)) (now (s .args .marks)) (s .args .running) (s .args .held) (s .args .name) (c .before .before .settle .result) _ lines e (ap agreementOf (sym (c .before .before .before .before .enum-told .given .1)) ∙ c .before .before .before .before .before .before .compare .ensures .says lines e) (c .before .before .settle .ensures)
+
+same-length-2 : tie.Need-same-length-2
+same-length-2 c = search needs
+
+returns-2 : tie.Need-returns-2
+returns-2 c lines e =
+    let s = c .before .before .before .before .before .before .before .before .before .before in
+    let u = c .unchanged .ensures in
+    billing-left (s .args .bays) (now (s .args .rails)) (now (s .args .start)) (now (s .args .goal)) (now (s .args .plan)) (now (s .args .marks)) (s .args .running) (s .args .held) (s .args .name) (c .unchanged .result) (now (s .args .marks)) lines e disagrees (billing-differs (s .args .bays) (now (s .args .rails)) (now (s .args .start)) (now (s .args .goal)) (now (s .args .plan)) (now (s .args .marks)) (s .args .running) (s .args .held) (s .args .name) (c .unchanged .result) (now (s .args .marks)) lines e (ap agreementOf (sym (c .before .enum-told2 .given .1)) ∙ c .before .before .before .compare .ensures .says lines e)) no-19 (ap billedOf (u .0)) (u .1) (u .2) refl
+
+same-length-3 : tie.Need-same-length-3
+same-length-3 c = search needs
+
+returns-3 : tie.Need-returns-3
+returns-3 c lines e =
+    let s = c .before .before .before .before .before .before .before .before .before .before .before in
+    let u = c .unchanged2 .ensures in
+    billing-left (s .args .bays) (now (s .args .rails)) (now (s .args .start)) (now (s .args .goal)) (now (s .args .plan)) (now (s .args .marks)) (s .args .running) (s .args .held) (s .args .name) (c .unchanged2 .result) (now (s .args .marks)) lines e (told (refuse (refusalOf (c .before .before .agreed .given .0 .0)))) (billing-refused (s .args .bays) (now (s .args .rails)) (now (s .args .start)) (now (s .args .goal)) (now (s .args .plan)) (now (s .args .marks)) (s .args .running) (s .args .held) (s .args .name) (c .unchanged2 .result) (now (s .args .marks)) lines e _ (ap agreementOf (sym (c .before .before .agreed .given .1)) ∙ c .before .before .before .before .compare .ensures .says lines e)) (no-refusal _) (ap billedOf (u .0)) (u .1) (u .2) refl
+
+pub report-spec : {M : Type 1} → statement M
+report-spec =
+    tie.close
+    (tie.spec
+    compare-requires
+    enum-told
+    settle-requires
+    enum-told-2
+    unchanged-requires
+    enum-known-agreed
+    unchanged-requires-2
+    same-length
+    returns
+    same-length-2
+    returns-2
+    same-length-3
+    returns-3)

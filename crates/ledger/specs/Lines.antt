@@ -1,0 +1,37 @@
+-- Lent lines by value: a list of them, laid over the first places of as many as a yard may have carriers.
+-- Assumes nothing.
+use mathlib.Core.List.{List, [], _∷_, map}
+use Prim.Native.Nat.{ℕ, min}
+use lib.ListN.{length, getD, replicate}
+use Rattle.paper.specs.Basics.{upTo}
+use Rattle.paper.specs.Yard.{Carrier}
+use Rattle.bills.specs.Billing.{noLine}
+use Rattle.bills.specs.declared.Line.{Line}
+use Rattle.ledger.specs.declared.Held.{Held}
+
+-- as many lines as are held, none of them read
+abbrev pub noLines : List Line
+noLines = replicate 256 noLine
+
+abbrev pub heldOf : ℕ → List Line → Held
+heldOf n ls = record { count = n; lines = ls }
+
+abbrev pub topOf : ℕ → ℕ
+topOf n = min n 256
+
+abbrev pub lineAt : Held → ℕ → Line
+lineAt held i = getD (held .lines) i noLine
+
+-- the lines over the first places of others
+unfoldable pub laid : List Line → List Line → List Line
+laid [] others = others
+laid (l ∷ ls) [] = []
+laid (l ∷ ls) (o ∷ others) = l ∷ laid ls others
+
+-- all that is held of lent lines
+abbrev pub gathered : List Line → Held
+gathered ls = heldOf (length ls) (laid ls noLines)
+
+-- the lines of so many carriers, from their counts and last names
+abbrev pub listed : ℕ → List ℕ → List ℕ → List Line
+listed k billed last = map (λ (c : Carrier). record { carrier = c; billed = getD billed c 0; last = getD last c 0 }) (upTo k)

@@ -1,0 +1,421 @@
+// Record and account lines by value: worked out afresh, compared, and changed by an accepted report. The functions that are lent a record and lines are
+// thin ones above this crate.
+ghost use mathlib.Core.Path.{_≡_};
+ghost use mathlib.Core.Option.{none, some};
+ghost use mathlib.Core.List.{List};
+ghost use Prim.Native.Nat.{ℕ, suc, _≤_, _<_};
+ghost use lib.ListN.{length, getD, replicate};
+ghost use Rattle.paper.specs.Basics.{_and_};
+ghost use Rattle.paper.specs.Yard.{Placement, crossings, named, most-crossings};
+ghost use Rattle.paper.specs.Dependence.{slots as slotsOf, placementBy};
+ghost use Rattle.paper.specs.OnePass.{Fits};
+ghost use Rattle.paper.specs.Answers.{accepts};
+ghost use Rattle.docket.specs.Reading.{crossingOf};
+ghost use Rattle.marks.specs.Reading.{reportOf};
+ghost use Rattle.checker.specs.Reading.{checkedOf};
+ghost use Rattle.bills.specs.Billing.{places, recordOf, linesOf, posted as postedOf, charged as chargedOf};
+ghost use Rattle.bills.specs.Answering.{sameNumbers, sameRecord, sameLine, sameLines, upToEleven, told};
+ghost use Rattle.ledger.specs.Lines.{noLines, heldOf, topOf, lineAt, gathered, listed};
+ghost use Rattle.ledger.specs.Statements.{billedOf, Fit, SameHeld, AgreeSays, AgreementSays, OpenSays, PostAsks, PostSays, SettleAsks, SettleSays, BillingSays};
+use bills::Line;
+use bills::Record;
+use bills::UNTOUCHED;
+use checker::Checked;
+use docket::Crossing;
+use docket::Refusal;
+use marks::Reported;
+use yard::Yard;
+
+// Lent lines by value: how many there are, and the first of them, as many as a yard may have carriers.
+pub struct Held {
+    pub count: usize,
+    pub lines: [Line; Yard::BAYS],
+}
+
+// As many lines as are held, of which none is read yet.
+pub fn no_lines() -> [Line; Yard::BAYS]
+    ensures { λ r. ⌜ r ≡ noLines ⌝ }
+{
+    let line = Line {
+        carrier: 0,
+        billed: 0,
+        last: 0,
+    };
+    [line; Yard::BAYS]
+}
+
+// So many lines, of which these are held.
+pub fn hold(count: usize, lines: [Line; Yard::BAYS]) -> Held
+    ensures { λ r. ⌜ r ≡ heldOf count lines ⌝ }
+{
+    Held {
+        count: count,
+        lines: lines,
+    }
+}
+
+// How many of so many lines are held.
+pub fn top(count: usize) -> usize
+    ensures { λ r. ⌜ r ≡ topOf count ⌝ }
+{
+    if count < Yard::BAYS {
+        count
+    } else {
+        Yard::BAYS
+    }
+}
+
+// The line at place i.
+pub fn line_at(held: Held, i: usize) -> Line
+    requires { ⌜ i < 256 ⌝ }
+    ensures { λ r. ⌜ r ≡ lineAt held i ⌝ }
+{
+    held.lines[i]
+}
+
+// The carriers where the done crossings leave them.
+fn stand(start: &[u16], plan: &[u64], marks: &[u8], at: &mut [u16; Yard::BAYS])
+    requires { ⌜ Fit (now start) (now plan) (now marks) × (now at ≡ replicate 256 0) ⌝ }
+    ensures { λ _. ⌜ now (at .exit) ≡ places (placementBy (now (start .entry)) (crossings (now (plan .entry))) (now (marks .entry))) ⌝ }
+{
+    copies::shorts(at, start);
+    afresh::move_done(plan, marks, at);
+}
+
+// The record worked out afresh.
+fn fresh_record(start: &[u16], plan: &[u64], marks: &[u8]) -> Record
+    requires { ⌜ Fit (now start) (now plan) (now marks) ⌝ }
+    ensures { λ r. ⌜ r ≡ recordOf (now (start .entry)) (crossings (now (plan .entry))) (now (marks .entry)) ⌝ }
+{
+    let mut at = [0u16; Yard::BAYS];
+    stand(start, plan, marks, &mut at);
+    let done = afresh::count_done(plan, marks);
+    let highest = afresh::highest_done(plan, marks);
+    Record {
+        at: at,
+        done: done,
+        highest: highest,
+    }
+}
+
+// So many lines with these counts and last names.
+fn list_lines(count: usize, billed: &[u32; Yard::BAYS], last: &[u32; Yard::BAYS]) -> Held
+    requires { ⌜ count ≤ 256 ⌝ }
+    ensures { λ r. ⌜ r ≡ gathered (listed count (now (billed .entry)) (now (last .entry))) ⌝ }
+{
+    let mut lines = no_lines();
+    let mut c = 0;
+    while c < count {
+        lines[c] = Line {
+            carrier: c as u32,
+            billed: billed[c],
+            last: last[c],
+        };
+        c += 1;
+    }
+    hold(count, lines)
+}
+
+// The lines of so many carriers worked out afresh.
+fn fresh_lines(count: usize, plan: &[u64], marks: &[u8]) -> Held
+    requires { ⌜ (count ≤ 256) × (length (now marks) ≡ length (now plan)) × (length (now plan) ≤ most-crossings) × Fits 256 256 (now plan) ⌝ }
+    ensures { λ r. ⌜ r ≡ gathered (linesOf count (crossings (now (plan .entry))) (now (marks .entry))) ⌝ }
+{
+    let mut billed = [0u32; Yard::BAYS];
+    let mut last = [UNTOUCHED; Yard::BAYS];
+    afresh::bill_done(plan, marks, &mut billed, &mut last);
+    list_lines(count, &billed, &last)
+}
+
+// Whether two placements are the same.
+fn same_places(a: [u16; Yard::BAYS], b: [u16; Yard::BAYS]) -> bool
+    ensures { λ r. ⌜ r ≡ sameNumbers a b ⌝ }
+{
+    let mut c = 0;
+    while c < Yard::BAYS {
+        if a[c] != b[c] {
+            return false;
+        }
+        c += 1;
+    }
+    true
+}
+
+// Whether two records are the same.
+fn same_record(a: Record, b: Record) -> bool
+    ensures { λ r. ⌜ r ≡ sameRecord a b ⌝ }
+{
+    let here = a.at;
+    let there = b.at;
+    if !same_places(here, there) {
+        return false;
+    }
+    if a.done != b.done {
+        return false;
+    }
+    a.highest == b.highest
+}
+
+// Whether two lines are the same.
+fn same_line(a: Line, b: Line) -> bool
+    ensures { λ r. ⌜ r ≡ sameLine a b ⌝ }
+{
+    if a.carrier != b.carrier {
+        return false;
+    }
+    if a.billed != b.billed {
+        return false;
+    }
+    a.last == b.last
+}
+
+// Whether the lines are as many as those worked out afresh, and each is the same.
+fn same_held(lent: Held, fresh: Held) -> bool
+    requires { ⌜ fresh .count ≤ 256 ⌝ }
+    ensures { λ r. ⌜ SameHeld lent fresh r ⌝ }
+{
+    if lent.count != fresh.count {
+        return false;
+    }
+    let count = fresh.count;
+    let mut c = 0;
+    while c < count {
+        if !same_line(lent.lines[c], fresh.lines[c]) {
+            return false;
+        }
+        c += 1;
+    }
+    true
+}
+
+// Whether record and lines are those worked out afresh.
+fn agree(start: &[u16], plan: &[u64], marks: &[u8], running: Record, held: Held) -> bool
+    requires { ⌜ Fit (now start) (now plan) (now marks) ⌝ }
+    ensures { λ r. ⌜ AgreeSays (now (start .entry)) (now (plan .entry)) (now (marks .entry)) running held r ⌝ }
+{
+    if !same_record(running, fresh_record(start, plan, marks)) {
+        return false;
+    }
+    same_held(held, fresh_lines(start.len(), plan, marks))
+}
+
+// The refusals up to 11: the check, then the marks.
+fn up_to_eleven(
+    bays: u64,
+    rails: &[u16],
+    start: &[u16],
+    goal: &[u16],
+    plan: &[u64],
+    marks: &[u8],
+) -> Checked
+    ensures { λ r. ⌜ checkedOf r ≡ upToEleven bays (now (rails .entry)) (now (start .entry)) (now (goal .entry)) (now (plan .entry)) (now (marks .entry)) ⌝ }
+{
+    let checked = checker::check(bays, rails, start, goal, plan);
+    if let Checked::Refused(r) = checked {
+        return Checked::Refused(r);
+    }
+    if marks::bad_marks(plan, marks) {
+        return Checked::Refused(Refusal::Mismarked);
+    }
+    Checked::Passed
+}
+
+// What the agreement test answers.
+pub enum Agreement {
+    Agrees,
+    Differs,
+    Refused(Refusal),
+}
+
+// The agreement test: the refusals up to 11, then whether all agree.
+pub fn compare(
+    bays: u64,
+    rails: &[u16],
+    start: &[u16],
+    goal: &[u16],
+    plan: &[u64],
+    marks: &[u8],
+    running: Record,
+    held: Held,
+) -> Agreement
+    ensures { λ r. ⌜ AgreementSays bays (now (rails .entry)) (now (start .entry)) (now (goal .entry)) (now (plan .entry)) (now (marks .entry)) running held r ⌝ }
+{
+    let checked = up_to_eleven(bays, rails, start, goal, plan, marks);
+    if let Checked::Refused(r) = checked {
+        return Agreement::Refused(r);
+    }
+    if agree(start, plan, marks, running, held) {
+        return Agreement::Agrees;
+    }
+    Agreement::Differs
+}
+
+// What opening answers, and the record and the lines to be kept: where it is refused, the record as it was and no line.
+pub struct Opening {
+    pub answer: Checked,
+    pub running: Record,
+    pub held: Held,
+}
+
+// Opening builds record and lines from plan, start and marks, for a list of so many lines.
+pub fn open(
+    bays: u64,
+    rails: &[u16],
+    start: &[u16],
+    goal: &[u16],
+    plan: &[u64],
+    marks: &[u8],
+    running: Record,
+    count: usize,
+) -> Opening
+    ensures { λ r. ⌜ OpenSays bays (now (rails .entry)) (now (start .entry)) (now (goal .entry)) (now (plan .entry)) (now (marks .entry)) running count r ⌝ }
+{
+    let checked = up_to_eleven(bays, rails, start, goal, plan, marks);
+    if let Checked::Refused(r) = checked {
+        return Opening {
+            answer: Checked::Refused(r),
+            running: running,
+            held: hold(0, no_lines()),
+        };
+    }
+    if count != start.len() {
+        return Opening {
+            answer: Checked::Refused(Refusal::Room(start.len() as u64)),
+            running: running,
+            held: hold(0, no_lines()),
+        };
+    }
+    Opening {
+        answer: Checked::Passed,
+        running: fresh_record(start, plan, marks),
+        held: fresh_lines(count, plan, marks),
+    }
+}
+
+// What a report answers.
+pub enum Billed {
+    Accepted,
+    Already,
+    Disagrees,
+    Refused(Refusal),
+}
+
+// What a report answers and leaves: the record, and one line with its place, which is past the last line where none changes.
+pub struct Told {
+    pub answer: Billed,
+    pub running: Record,
+    pub at: usize,
+    pub line: Line,
+}
+
+// Nothing changes.
+fn unchanged(answer: Billed, running: Record, held: Held) -> Told
+    ensures { λ r. ⌜ (r .answer ≡ answer) × (r .running ≡ running) × (r .at ≡ held .count) ⌝ }
+{
+    Told {
+        answer: answer,
+        running: running,
+        at: held.count,
+        line: line_at(held, 0),
+    }
+}
+
+// The record after an accepted crossing.
+fn posted(running: Record, x: Crossing, slot: u32) -> Record
+    requires { ⌜ (x .carrier .0 < 256) × (running .done < 4294967295) ⌝ }
+    ensures { λ r. ⌜ r ≡ postedOf running (crossingOf x) slot ⌝ }
+{
+    let carrier = x.carrier.0 as usize;
+    let mut at = running.at;
+    at[carrier] = x.to.0;
+    Record {
+        at: at,
+        done: running.done + 1,
+        highest: slots::higher(running.highest, slot),
+    }
+}
+
+// The line after an accepted name.
+fn charged(line: Line, name: u32) -> Line
+    requires { ⌜ line .billed < 4294967295 ⌝ }
+    ensures { λ r. ⌜ r ≡ chargedOf line name ⌝ }
+{
+    Line {
+        carrier: line.carrier,
+        billed: line.billed + 1,
+        last: name,
+    }
+}
+
+// The step: record and line after the accepted name.
+fn post(plan: &[u64], name: usize, running: Record, held: Held) -> Told
+    requires { ⌜ PostAsks (now plan) name running held ⌝ }
+    ensures { λ r. ⌜ PostSays (now (plan .entry)) name running held r ⌝ }
+{
+    let x = plans::crossing_at(plan, name);
+    let carrier = x.carrier.0 as usize;
+    let slot = slots::slot_of(plan, name);
+    Told {
+        answer: Billed::Accepted,
+        running: posted(running, x, slot),
+        at: carrier,
+        line: charged(line_at(held, carrier), name as u32),
+    }
+}
+
+// Whether a report is billed: only where it is accepted.
+fn is_billed(answer: Reported) -> bool
+    ensures { λ r. ⌜ r ≡ accepts (reportOf answer) ⌝ }
+{
+    match answer {
+        Reported::Accepted => true,
+        Reported::Already => false,
+        Reported::Refused(_) => false,
+    }
+}
+
+// A report's answer among those that may also be 19.
+fn told_as(answer: Reported) -> Billed
+    ensures { λ r. ⌜ billedOf r ≡ told (reportOf answer) ⌝ }
+{
+    match answer {
+        Reported::Accepted => Billed::Accepted,
+        Reported::Already => Billed::Already,
+        Reported::Refused(r) => Billed::Refused(r),
+    }
+}
+
+// Once all agree: 12, "already", 13 or the step.
+fn settle(plan: &[u64], marks: &mut [u8], name: u64, running: Record, held: Held) -> Told
+    requires { ⌜ SettleAsks (now plan) (now marks) running held ⌝ }
+    ensures { λ r. ⌜ SettleSays (now (plan .entry)) (now (marks .entry)) name running held r (now (marks .exit)) ⌝ }
+{
+    let answer = marks::tell_in_order(plan, marks, name);
+    marks::mark_accepted(marks, name, answer);
+    if is_billed(answer) {
+        return post(plan, name as usize, running, held);
+    }
+    unchanged(told_as(answer), running, held)
+}
+
+// A report of a name on record and lines: the refusals up to 11, then 19, then 12, "already", 13 or acceptance.
+pub fn report(
+    bays: u64,
+    rails: &[u16],
+    start: &[u16],
+    goal: &[u16],
+    plan: &[u64],
+    marks: &mut [u8],
+    name: u64,
+    running: Record,
+    held: Held,
+) -> Told
+    ensures { λ r. ⌜ BillingSays bays (now (rails .entry)) (now (start .entry)) (now (goal .entry)) (now (plan .entry)) (now (marks .entry)) name running held r (now (marks .exit)) ⌝ }
+{
+    let agreed = compare(bays, rails, start, goal, plan, marks, running, held);
+    match agreed {
+        Agreement::Agrees => settle(plan, marks, name, running, held),
+        Agreement::Differs => unchanged(Billed::Disagrees, running, held),
+        Agreement::Refused(r) => unchanged(Billed::Refused(r), running, held),
+    }
+}

@@ -1,0 +1,28 @@
+-- `sejjekoru::open_on` meets its contract: what `ledger::open` says, told by numbers.
+-- Assumes nothing.
+use borrow.Author.Needs.{needs}
+use Rattle.sejjekoru.specs.Numbers.{numberOf, valueOf}
+use Rattle.sejjekoru.proofs.Saying.{told-as}
+use Rattle.sejjekoru.proofs.open_on.Statement.{statement}
+use Rattle.sejjekoru.proofs.open_on.Tie as tie
+
+open-requires : tie.Need-open-requires
+open-requires c κs = search needs
+
+told-checked-requires : tie.Need-told-checked-requires
+told-checked-requires c κs = search needs
+
+returns : tie.Need-returns
+returns c =
+    let o = c .before .before .before .before .«open» .ensures in
+    record {
+      tells = told-as numberOf (valueOf 0) (o .answers) (c .told-checked .ensures);
+      record-then = o .leaves;
+      few = o .few;
+      room = o .room;
+      whole = o .whole;
+      lines-then = o .lines-then;
+    }
+
+pub open-on-spec : {M : Type 1} → statement M
+open-on-spec = tie.close (tie.spec open-requires told-checked-requires returns)

@@ -1,0 +1,29 @@
+-- `sejjekoru::report_on` meets its contract: what `ledger::report` says, told by numbers.
+-- Assumes nothing.
+use borrow.Author.Needs.{needs}
+use Rattle.sejjekoru.specs.Numbers.{billedNumber, billedValue}
+use Rattle.sejjekoru.proofs.Saying.{told-as}
+use Rattle.sejjekoru.proofs.report_on.Statement.{statement}
+use Rattle.sejjekoru.proofs.report_on.Tie as tie
+
+report-requires : tie.Need-report-requires
+report-requires c κs = search needs
+
+told-billed-requires : tie.Need-told-billed-requires
+told-billed-requires c κs = search needs
+
+same-length : tie.Need-same-length
+same-length c = search needs
+
+returns : tie.Need-returns
+returns c lines e =
+    let s = c .before .before .before .before .before .before .report .ensures lines e in
+    record {
+      tells = told-as billedNumber billedValue (s .answers) (c .told-billed .ensures);
+      marks-then = s .marks-then;
+      record-then = s .leaves;
+      lines-then = s .lines-then;
+    }
+
+pub report-on-spec : {M : Type 1} → statement M
+report-on-spec = tie.close (tie.spec report-requires told-billed-requires same-length returns)
