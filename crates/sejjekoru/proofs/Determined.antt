@@ -5,6 +5,9 @@ use mathlib.Core.List.{List}
 use Prim.Native.Nat.{ℕ}
 use Rattle.paper.specs.Yard.{Bay, Placement}
 use Rattle.paper.proofs.Determined.{Determined}
+use Rattle.bills.specs.declared.Line.{Line}
+use Rattle.bills.specs.declared.Record.{Record}
+use Rattle.sejjekoru.specs.Bills.{OpenTells, AgreesTells, ReportBilledTells}
 use Rattle.sejjekoru.specs.Statements.{Tells, TellsAndLeaves, PlanTells, CheckTells, SlotsTell, ReportTells, ShortenTells}
 
 tells-determined : {due due-value : ℕ} → Determined (Tells due due-value)
@@ -34,3 +37,24 @@ module _ (n : ℕ) (ends : List Bay) (starts goals : Placement) where
 
   pub shorten-determined : (crossed marks out : List ℕ) → Determined (Paired (ShortenTells n ends starts goals crossed marks out))
   shorten-determined crossed marks out = left-determined
+
+  -- record and lines, and for a report the marks, are what is left
+  pub open-determined : (crossed marks : List ℕ) (rec : Record) (lines : List Line)
+      → Determined (λ (a : ℕ × ℕ) (l : Record × List Line). OpenTells n ends starts goals crossed marks rec lines (a .0) (a .1) (l .0) (l .1))
+  open-determined crossed marks rec lines a a′ l l′ s t =
+      let same = tells-determined (a .0) (a′ .0) (a .1) (a′ .1) (s .tells) (t .tells) in
+      let recs = s .record-then ∙ sym (t .record-then) in
+      let lists = s .lines-then ∙ sym (t .lines-then) in
+      (λ i. (same .0 i, same .1 i), λ i. (recs i, lists i))
+
+  pub agrees-determined : (crossed marks : List ℕ) (rec : Record) (lines : List Line) → Determined (AgreesTells n ends starts goals crossed marks rec lines)
+  agrees-determined crossed marks rec lines = tells-determined
+
+  pub billed-determined : (crossed marks : List ℕ) (name : ℕ) (rec : Record) (lines : List Line)
+      → Determined (λ (a : ℕ × ℕ) (l : List ℕ × (Record × List Line)). ReportBilledTells n ends starts goals crossed marks name rec lines (a .0) (a .1) (l .0) (l .1 .0) (l .1 .1))
+  billed-determined crossed marks name rec lines a a′ l l′ s t =
+      let same = tells-determined (a .0) (a′ .0) (a .1) (a′ .1) (s .tells) (t .tells) in
+      let marked = s .marks-then ∙ sym (t .marks-then) in
+      let recs = s .record-then ∙ sym (t .record-then) in
+      let lists = s .lines-then ∙ sym (t .lines-then) in
+      (λ i. (same .0 i, same .1 i), λ i. (marked i, (recs i, lists i)))

@@ -3,7 +3,7 @@
 -- Assumes nothing.
 use mathlib.Core.Path.{_≡_, refl, sym, _∙_, ap, ap₂}
 use mathlib.Core.Option.{Option, none, some, Option·getD}
-use Prim.Native.Nat.{ℕ}
+use Prim.Native.Nat.{ℕ, _≤_}
 use native.Mathlib.Omega.{arith}
 use lib.Dec.{eqb}
 use Rattle.paper.specs.Basics.{if_then_else_, _or_}
@@ -11,10 +11,11 @@ use Rattle.paper.specs.Docket.{Refusal, size, rail, apart, crowd, start, goal, 
 use Rattle.paper.specs.Answers.{Report, accept, already, refuse}
 use Rattle.paper.proofs.Determined.{docket-tells}
 use Rattle.paper.proofs.Tests.{never}
+use Rattle.bills.specs.Answering.{Agreement, agrees, differs, refused as unagreed, Billed, told, disagrees, disagrees-number}
 use Rattle.planner.specs.Statement.{Told, long, denied}
 use Rattle.trips.specs.Shortening.{Shortening, shortened, denied as deniedShort, begun, refusalNumber}
 use Rattle.shorten.specs.Statements.{Told as ToldShort, wrote, refuses, has-begun, tells as toldShort}
-use Rattle.sejjekoru.specs.Numbers.{numberOf, valueOf, planNumber, planValue, already-number, reportNumber, reportValue, begun-number, shortenNumber, shortenValue}
+use Rattle.sejjekoru.specs.Numbers.{numberOf, valueOf, planNumber, planValue, already-number, reportNumber, reportValue, agreementNumber, agreementValue, billedNumber, billedValue, begun-number, shortenNumber, shortenValue}
 
 -- what a number and its value are read as
 data Read : Type 0 where
@@ -86,23 +87,50 @@ reports-told-apart (refuse r) accept e f = not-accepted r (sym e) (sym f)
 reports-told-apart (refuse r) already e f = not-done r (sym e) (sym f)
 reports-told-apart (refuse r) (refuse q) e f = ap refuse (refusals-told-apart r q e f)
 
--- Shortening: 25 is no number of the table,
+-- The agreement test: yes and no have values of their own.
+pub agreements-told-apart : (a b : Agreement) → agreementNumber a ≡ agreementNumber b → agreementValue a ≡ agreementValue b → a ≡ b
+agreements-told-apart agrees agrees e f = refl
+agreements-told-apart agrees differs e f = absurd (omega arith)
+agreements-told-apart agrees (unagreed q) e f = not-accepted q e f
+agreements-told-apart differs agrees e f = absurd (omega arith)
+agreements-told-apart differs differs e f = refl
+agreements-told-apart differs (unagreed q) e f = not-accepted q e f
+agreements-told-apart (unagreed r) agrees e f = not-accepted r (sym e) (sym f)
+agreements-told-apart (unagreed r) differs e f = not-accepted r (sym e) (sym f)
+agreements-told-apart (unagreed r) (unagreed q) e f = ap unagreed (refusals-told-apart r q e f)
+
+-- A report on a running record: 19 is no number of the table, and none that a report has,
+table-low : (r : Refusal) → number r ≤ 15
+table-low size = omega arith
+table-low (rail i) = omega arith
+table-low (apart b) = omega arith
+table-low crowd = omega arith
+table-low (start c) = omega arith
+table-low (goal c) = omega arith
+table-low (stopped c) = omega arith
+table-low (room l) = omega arith
+table-low (illegal i) = omega arith
+table-low (missed c) = omega arith
+table-low mismarked = omega arith
+table-low unknown = omega arith
+table-low (early d) = omega arith
+table-low (badMap l) = omega arith
+table-low (badScenario l) = omega arith
+
+not-nineteen : {P : Type 0} (r : Report) → reportNumber r ≡ disagrees-number → P
+not-nineteen accept e = absurd (omega arith)
+not-nineteen already e = absurd (omega arith)
+not-nineteen (refuse r) e = let l = table-low r in absurd (omega arith)
+
+pub bills-told-apart : (a b : Billed) → billedNumber a ≡ billedNumber b → billedValue a ≡ billedValue b → a ≡ b
+bills-told-apart (told r) (told q) e f = ap told (reports-told-apart r q e f)
+bills-told-apart (told r) disagrees e f = not-nineteen r e
+bills-told-apart disagrees (told q) e f = not-nineteen q (sym e)
+bills-told-apart disagrees disagrees e f = refl
+
+-- Shortening: nor is 25,
 not-begun : {P : Type 0} (r : Refusal) → begun-number ≡ number r → P
-not-begun size e = absurd (omega arith)
-not-begun (rail i) e = absurd (omega arith)
-not-begun (apart b) e = absurd (omega arith)
-not-begun crowd e = absurd (omega arith)
-not-begun (start c) e = absurd (omega arith)
-not-begun (goal c) e = absurd (omega arith)
-not-begun (stopped c) e = absurd (omega arith)
-not-begun (room l) e = absurd (omega arith)
-not-begun (illegal i) e = absurd (omega arith)
-not-begun (missed c) e = absurd (omega arith)
-not-begun mismarked e = absurd (omega arith)
-not-begun unknown e = absurd (omega arith)
-not-begun (early d) e = absurd (omega arith)
-not-begun (badMap l) e = absurd (omega arith)
-not-begun (badScenario l) e = absurd (omega arith)
+not-begun r e = let l = table-low r in absurd (omega arith)
 
 pub shortenings-told-apart : (a b : ToldShort) → shortenNumber a ≡ shortenNumber b → shortenValue a ≡ shortenValue b → a ≡ b
 shortenings-told-apart (wrote m) (wrote k) e f = ap wrote f

@@ -44,6 +44,16 @@ fn refused(refusal: Refusal, value: &mut u64) -> u64
     docket::number(refusal)
 }
 
+// What a check answers.
+fn told_checked(answer: Checked, value: &mut u64) -> u64
+    ensures { λ r. ⌜ Tells (numberOf (checkedOf answer)) (valueOf 0 (checkedOf answer)) r (now (value .exit)) ⌝ }
+{
+    match answer {
+        Checked::Passed => accepted(0, value),
+        Checked::Refused(r) => refused(r, value),
+    }
+}
+
 #[no_mangle]
 pub extern "C" fn sejjekoru_plan(
     bays: u64,
@@ -73,11 +83,7 @@ pub extern "C" fn sejjekoru_check(
 ) -> u64
     ensures { λ r. ⌜ CheckTells bays (now (rails .entry)) (now (start .entry)) (now (goal .entry)) (now (plan .entry)) r (now (value .exit)) ⌝ }
 {
-    let answer = checker::check(bays, rails, start, goal, plan);
-    match answer {
-        Checked::Passed => accepted(0, value),
-        Checked::Refused(r) => refused(r, value),
-    }
+    told_checked(checker::check(bays, rails, start, goal, plan), value)
 }
 
 #[no_mangle]
@@ -144,16 +150,6 @@ pub extern "C" fn sejjekoru_shorten(
             BEGUN
         }
         Shortened::Refused(r) => refused(r, value),
-    }
-}
-
-// What a check answers.
-fn told_checked(answer: Checked, value: &mut u64) -> u64
-    ensures { λ r. ⌜ Tells (numberOf (checkedOf answer)) (valueOf 0 (checkedOf answer)) r (now (value .exit)) ⌝ }
-{
-    match answer {
-        Checked::Passed => accepted(0, value),
-        Checked::Refused(r) => refused(r, value),
     }
 }
 
