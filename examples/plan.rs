@@ -1,11 +1,13 @@
 //! A depot's day in Rust: plan, slots, reports. The yard is Y1 of document 01: rails 0-1, 1-2, 1-3, two carriers that trade places.
 
-use sejjekoru::{Crossing, Refusal, Reported};
+use sejjekoru::{Crossing, Refusal, Reported, Yard};
 
-const BAYS: u64 = 4;
-const RAILS: [u16; 6] = [0, 1, 1, 2, 1, 3];
-const START: [u16; 2] = [1, 0];
-const GOAL: [u16; 2] = [0, 1];
+const YARD: Yard = Yard {
+    bays: 4,
+    rails: &[0, 1, 1, 2, 1, 3],
+    start: &[1, 0],
+    goal: &[0, 1],
+};
 
 fn print_plan(plan: &[u64]) {
     for &number in plan {
@@ -17,7 +19,7 @@ fn print_plan(plan: &[u64]) {
 
 fn print_slots(plan: &[u64]) -> Result<(), Refusal> {
     let mut slots = vec![0; plan.len()];
-    sejjekoru::slots(BAYS, &RAILS, &START, &GOAL, plan, &mut slots)?;
+    sejjekoru::slots(YARD, plan, &mut slots)?;
     let slots: Vec<String> = slots.iter().map(u32::to_string).collect();
     println!("slots {}", slots.join(" "));
     Ok(())
@@ -25,7 +27,7 @@ fn print_slots(plan: &[u64]) -> Result<(), Refusal> {
 
 fn report(plan: &[u64], marks: &mut [u8], name: u64) {
     print!("report {name}: ");
-    match sejjekoru::report(BAYS, &RAILS, &START, &GOAL, plan, marks, name) {
+    match sejjekoru::report(YARD, plan, marks, name) {
         Ok(Reported::Accepted) => println!("accepted"),
         Ok(Reported::Already) => println!("already"),
         Err(Refusal::Early(first)) => println!("early, {first} is undone"),
@@ -36,11 +38,10 @@ fn report(plan: &[u64], marks: &mut [u8], name: u64) {
 
 fn main() -> Result<(), Refusal> {
     let mut room = [0; 64];
-    if let Err(Refusal::Room(needed)) = sejjekoru::plan(BAYS, &RAILS, &START, &GOAL, &mut room[..5])
-    {
+    if let Err(Refusal::Room(needed)) = sejjekoru::plan(YARD, &mut room[..5]) {
         println!("room for 5: {needed} needed");
     }
-    let length = sejjekoru::plan(BAYS, &RAILS, &START, &GOAL, &mut room)?;
+    let length = sejjekoru::plan(YARD, &mut room)?;
     let plan = &room[..length];
     print_plan(plan);
     print_slots(plan)?;

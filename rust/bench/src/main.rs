@@ -1,11 +1,13 @@
 //! How long the proved library takes and how long the Rust reference takes, in one run on the same inputs, as tables for the README.
 //! A time is that of the thread on its core, the least of several repeats; of several yards the middle one is shown. Nothing here passes or fails by the clock.
 
-mod library;
 mod plans;
 mod reports;
 mod shortening;
 mod timing;
+
+use sejjekoru::Yard;
+use yards::Order;
 
 /// With the argument `shortening` that table alone.
 fn main() {
@@ -15,4 +17,9 @@ fn main() {
     plans::tables();
     reports::tables();
     shortening::tables();
+}
+
+fn yard(order: &Order) -> Yard<'_> {
+    let Order { bays, rails, start, goal } = order;
+    Yard { bays: *bays, rails, start, goal }
 }

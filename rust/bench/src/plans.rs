@@ -1,7 +1,8 @@
 //! The planner on crowded grids, lines with sidings, random yards and the slowest yard known.
 
-use crate::library;
 use crate::timing::{middle, race, ratio, written};
+use crate::yard;
+use sejjekoru::numbers;
 use std::hint::black_box;
 use std::time::Duration;
 use yards::{connected, grid, line_with_sidings, Dice, Order};
@@ -73,12 +74,12 @@ fn row(name: &str, orders: Vec<Order>) {
 fn time(order: &Order) -> Timed {
     let Order { bays, rails, start, goal } = order;
     let (mut out, mut other) = (vec![0; ROOM], vec![0; ROOM]);
-    let answer = library::plan(order, &mut out);
+    let answer = numbers::plan(yard(order), &mut out);
     assert_eq!(answer, reference::plan(*bays, rails, start, goal, &mut other));
     assert!(out == other);
     let (library, reference) = race(
         Duration::from_millis(100),
-        || library::plan(black_box(order), &mut out),
+        || numbers::plan(yard(black_box(order)), &mut out),
         || reference::plan(*bays, black_box(rails), start, goal, &mut other),
     );
     let crossings = if matches!(answer.0, 0 | 8) { answer.1 } else { 0 };

@@ -1,12 +1,13 @@
 //! Check, slots and report: how they grow with the plan and with the yard.
 
-use crate::library;
 use crate::timing::{race, ratio, written};
+use crate::yard;
+use sejjekoru::numbers;
 use std::hint::black_box;
 use std::time::Duration;
 use yards::{grid, wander, Dice, Order};
 
-const LENGTHS: [usize; 4] = [8_192, 16_384, 32_768, 65_536];
+pub const LENGTHS: [usize; 4] = [8_192, 16_384, 32_768, 65_536];
 
 pub fn tables() {
     println!("\n## Check, slots and report by the plan's length: grid 16 × 16, 128 carriers\n");
@@ -42,24 +43,24 @@ fn row(first: &str, order: &Order, plan: &[u64]) {
     println!("| {first} | {} |", cells.join(" | "));
 }
 
-const BUDGET: Duration = Duration::from_millis(300);
+pub const BUDGET: Duration = Duration::from_millis(300);
 
 fn check(order: &Order, plan: &[u64]) -> (Duration, Duration) {
     let Order { bays, rails, start, goal } = order;
-    assert_eq!(library::check(order, plan), (0, 0));
+    assert_eq!(numbers::check(yard(order), plan), (0, 0));
     assert_eq!(reference::check(*bays, rails, start, goal, plan), (0, 0));
-    race(BUDGET, || library::check(order, black_box(plan)), || reference::check(*bays, rails, start, goal, black_box(plan)))
+    race(BUDGET, || numbers::check(yard(order), black_box(plan)), || reference::check(*bays, rails, start, goal, black_box(plan)))
 }
 
 fn slots(order: &Order, plan: &[u64]) -> (Duration, Duration) {
     let Order { bays, rails, start, goal } = order;
     let (mut one, mut other) = (vec![0; plan.len()], vec![0; plan.len()]);
-    let answer = library::slots(order, plan, &mut one);
+    let answer = numbers::slots(yard(order), plan, &mut one);
     assert_eq!(answer, reference::slots(*bays, rails, start, goal, plan, &mut other));
     assert!(answer == (0, plan.len() as u64) && one == other);
     race(
         BUDGET,
-        || library::slots(order, black_box(plan), &mut one),
+        || numbers::slots(yard(order), black_box(plan), &mut one),
         || reference::slots(*bays, rails, start, goal, black_box(plan), &mut other),
     )
 }
@@ -74,7 +75,7 @@ fn report(order: &Order, plan: &[u64]) -> (Duration, Duration) {
     let expected = if plan.is_empty() { (12, 0) } else { (0, 0) };
     let mut of_library = || {
         fresh(&mut one);
-        library::report(order, black_box(plan), &mut one, name as u64)
+        numbers::report(yard(order), black_box(plan), &mut one, name as u64)
     };
     let mut of_reference = || {
         fresh(&mut other);

@@ -1,14 +1,13 @@
 //! Shortening: how it grows with the plan. The reference's plain way takes minutes for such plans, so it is not raced.
 
-use crate::library;
+use crate::reports::{BUDGET, LENGTHS};
 use crate::timing::{least, written};
+use crate::yard;
+use sejjekoru::numbers;
 use std::hint::black_box;
-use std::time::Duration;
 use yards::{grid, Dice, Order};
 
-const LENGTHS: [usize; 4] = [8_192, 16_384, 32_768, 65_536];
 const CARRIERS: [usize; 3] = [128, 200, 240];
-const BUDGET: Duration = Duration::from_millis(300);
 
 pub fn tables() {
     println!("\n## Shortening by the plan's length: orders one after the other on a grid 16 × 16\n");
@@ -26,13 +25,13 @@ fn cell(carriers: usize, crossings: usize) -> String {
     let (order, plan) = day(carriers, crossings);
     let marks = vec![0; plan.len()];
     let mut out = vec![0; plan.len()];
-    let (number, left) = library::shorten(&order, &plan, &marks, &mut out);
+    let (number, left) = numbers::shorten(yard(&order), &plan, &marks, &mut out);
     assert_eq!(number, 0);
     let kept = out[..left as usize].to_vec();
-    assert_eq!(library::check(&order, &kept), (0, 0));
-    assert_eq!(library::shorten(&order, &kept, &marks[..kept.len()], &mut out), (0, left));
+    assert_eq!(numbers::check(yard(&order), &kept), (0, 0));
+    assert_eq!(numbers::shorten(yard(&order), &kept, &marks[..kept.len()], &mut out), (0, left));
     assert!(out[..kept.len()] == kept);
-    let time = least(BUDGET, || library::shorten(&order, black_box(&plan), &marks, &mut out));
+    let time = least(BUDGET, || numbers::shorten(yard(&order), black_box(&plan), &marks, &mut out));
     format!("{left} | {}", written(time))
 }
 
@@ -44,7 +43,7 @@ fn day(carriers: usize, crossings: usize) -> (Order, Vec<u64>) {
     let mut room = vec![0; 65_536];
     let mut plan = Vec::new();
     while plan.len() < crossings {
-        let (number, length) = library::plan(&next, &mut room);
+        let (number, length) = numbers::plan(yard(&next), &mut room);
         assert_eq!(number, 0);
         plan.extend(&room[..length as usize]);
         next.start = next.goal;

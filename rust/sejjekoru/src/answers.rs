@@ -1,4 +1,4 @@
-//! Document 01's answers, read from the two numbers by which the library tells them.
+//! The documents' answers, read from the two numbers by which the library tells them.
 
 use crate::{Bay, Carrier};
 use std::{error, fmt};
@@ -46,10 +46,18 @@ pub enum Reported {
 }
 
 /// The number of "already", which is no refusal.
-pub(crate) const ALREADY: u64 = 100;
+const ALREADY: u64 = 100;
+
+/// What a report answers.
+pub(crate) fn reported((number, value): (u64, u64)) -> Result<Reported, Refusal> {
+    match number {
+        ALREADY => Ok(Reported::Already),
+        _ => told((number, value)).map(|_| Reported::Accepted),
+    }
+}
 
 /// The value that goes with acceptance, or the refusal.
-pub(crate) fn told(number: u64, value: u64) -> Result<u64, Refusal> {
+pub(crate) fn told((number, value): (u64, u64)) -> Result<u64, Refusal> {
     Err(match number {
         0 => return Ok(value),
         1 => Refusal::Size,
@@ -94,18 +102,10 @@ impl Refusal {
     /// What it carries, if anything.
     pub fn carried(self) -> Option<u64> {
         match self {
-            Refusal::Size
-            | Refusal::Crowd
-            | Refusal::Mismarked
-            | Refusal::Unknown
-            | Refusal::Begun => None,
+            Refusal::Size | Refusal::Crowd | Refusal::Mismarked | Refusal::Unknown | Refusal::Begun => None,
             Refusal::Apart(bay) => Some(u64::from(bay.0)),
-            Refusal::Start(c) | Refusal::Goal(c) | Refusal::Stopped(c) | Refusal::Missed(c) => {
-                Some(u64::from(c.0))
-            }
-            Refusal::Rail(v) | Refusal::Room(v) | Refusal::Illegal(v) | Refusal::Early(v) => {
-                Some(v)
-            }
+            Refusal::Start(c) | Refusal::Goal(c) | Refusal::Stopped(c) | Refusal::Missed(c) => Some(u64::from(c.0)),
+            Refusal::Rail(v) | Refusal::Room(v) | Refusal::Illegal(v) | Refusal::Early(v) => Some(v),
         }
     }
 }

@@ -18,11 +18,7 @@ pub struct Crossing {
 
 impl From<u64> for Crossing {
     fn from(number: u64) -> Self {
-        Crossing {
-            carrier: Carrier((number >> 32) as u32),
-            from: Bay((number >> 16) as u16),
-            to: Bay(number as u16),
-        }
+        Crossing { carrier: Carrier((number >> 32) as u32), from: Bay((number >> 16) as u16), to: Bay(number as u16) }
     }
 }
 

@@ -1,77 +1,63 @@
 //! The functions of the library as `include/sejjekoru.h` declares them. What a caller sees to is said there.
 
-extern "C" {
-    pub fn sejjekoru_plan(
-        bays: u64,
-        rails: *const u16,
-        rails_len: usize,
-        start: *const u16,
-        start_len: usize,
-        goal: *const u16,
-        goal_len: usize,
-        plan: *mut u64,
-        plan_len: usize,
-        value: *mut u64,
-    ) -> u64;
+/// Every function is handed the yard first and `value` last; what is its own stands between them.
+macro_rules! declare {
+    ($($function:ident($($own:ident: $kind:ty),*);)*) => {
+        extern "C" {
+            $(pub fn $function(
+                bays: u64,
+                rails: *const u16,
+                rails_len: usize,
+                start: *const u16,
+                start_len: usize,
+                goal: *const u16,
+                goal_len: usize,
+                $($own: $kind,)*
+                value: *mut u64,
+            ) -> u64;)*
+        }
+    };
+}
 
-    pub fn sejjekoru_check(
-        bays: u64,
-        rails: *const u16,
-        rails_len: usize,
-        start: *const u16,
-        start_len: usize,
-        goal: *const u16,
-        goal_len: usize,
-        plan: *const u64,
-        plan_len: usize,
-        value: *mut u64,
-    ) -> u64;
+declare! {
+    sejjekoru_plan(plan: *mut u64, plan_len: usize);
+    sejjekoru_check(plan: *const u64, plan_len: usize);
+    sejjekoru_slots(plan: *const u64, plan_len: usize, slots: *mut u32, slots_len: usize);
+    sejjekoru_report(plan: *const u64, plan_len: usize, marks: *mut u8, marks_len: usize, name: u64);
+    sejjekoru_shorten(plan: *const u64, plan_len: usize, marks: *const u8, marks_len: usize, out: *mut u64, out_len: usize);
+}
 
-    pub fn sejjekoru_slots(
-        bays: u64,
-        rails: *const u16,
-        rails_len: usize,
-        start: *const u16,
-        start_len: usize,
-        goal: *const u16,
-        goal_len: usize,
-        plan: *const u64,
-        plan_len: usize,
-        slots: *mut u32,
-        slots_len: usize,
-        value: *mut u64,
-    ) -> u64;
-
-    pub fn sejjekoru_report(
-        bays: u64,
-        rails: *const u16,
-        rails_len: usize,
-        start: *const u16,
-        start_len: usize,
-        goal: *const u16,
-        goal_len: usize,
-        plan: *const u64,
-        plan_len: usize,
-        marks: *mut u8,
-        marks_len: usize,
-        name: u64,
-        value: *mut u64,
-    ) -> u64;
-
-    pub fn sejjekoru_shorten(
-        bays: u64,
-        rails: *const u16,
-        rails_len: usize,
-        start: *const u16,
-        start_len: usize,
-        goal: *const u16,
-        goal_len: usize,
-        plan: *const u64,
-        plan_len: usize,
-        marks: *const u8,
-        marks_len: usize,
-        out: *mut u64,
-        out_len: usize,
-        value: *mut u64,
-    ) -> u64;
+/// Calls one of the functions with a yard, then what is the function's own; number and value are answered. A list in brackets, `[list]` or
+/// `[mut list]`, goes as its pointer and its length. The yard has the fields of [`crate::Yard`]. `value` begins as a number that no answer has,
+/// so that it shows if none is stored.
+#[macro_export]
+macro_rules! ask {
+    (@$function:ident $yard:ident ($($own:expr,)*) [mut $list:expr], $($rest:tt)*) => {
+        $crate::ask!(@$function $yard ($($own,)* $list.as_mut_ptr(), $list.len(),) $($rest)*)
+    };
+    (@$function:ident $yard:ident ($($own:expr,)*) [$list:expr], $($rest:tt)*) => {
+        $crate::ask!(@$function $yard ($($own,)* $list.as_ptr(), $list.len(),) $($rest)*)
+    };
+    (@$function:ident $yard:ident ($($own:expr,)*) $one:expr, $($rest:tt)*) => {
+        $crate::ask!(@$function $yard ($($own,)* $one,) $($rest)*)
+    };
+    (@$function:ident $yard:ident ($($own:expr,)*)) => {{
+        let mut value = u64::MAX;
+        let number = $crate::raw::$function(
+            $yard.bays,
+            $yard.rails.as_ptr(),
+            $yard.rails.len(),
+            $yard.start.as_ptr(),
+            $yard.start.len(),
+            $yard.goal.as_ptr(),
+            $yard.goal.len(),
+            $($own,)*
+            &mut value,
+        );
+        (number, value)
+    }};
+    ($function:ident, $yard:expr, $($own:tt)*) => {{
+        let yard = &$yard;
+        $crate::ask!(@$function yard () $($own)*,)
+    }};
 }

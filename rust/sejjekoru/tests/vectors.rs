@@ -1,26 +1,10 @@
 //! The vectors of planning, the large ones too, through the library.
 
-use sejjekoru::raw;
+use sejjekoru::{numbers, Yard};
 use yards::vectors::plans;
 
 fn plan(bays: u64, rails: &[u16], start: &[u16], goal: &[u16], room: &mut [u64]) -> (u64, u64) {
-    let mut value = 0;
-    // SAFETY: each pointer comes with its own slice's length, and what is written is borrowed alone.
-    let number = unsafe {
-        raw::sejjekoru_plan(
-            bays,
-            rails.as_ptr(),
-            rails.len(),
-            start.as_ptr(),
-            start.len(),
-            goal.as_ptr(),
-            goal.len(),
-            room.as_mut_ptr(),
-            room.len(),
-            &mut value,
-        )
-    };
-    (number, value)
+    numbers::plan(Yard { bays, rails, start, goal }, room)
 }
 
 #[test]

@@ -1,20 +1,20 @@
-//! The yards that document 01 works by hand, through the library.
+//! The yards that document 01 works by hand, through the library, and a trip there and back.
 
-use sejjekoru::{check, plan, report, shorten, slots, Bay, Carrier, Crossing, Refusal, Reported};
+use sejjekoru::{check, plan, report, shorten, slots, Bay, Carrier, Crossing, Refusal, Reported, Yard};
 
 /// Bays, rails, start, goal.
-struct Yard(u64, Vec<u16>, Vec<u16>, Vec<u16>);
+struct Owned(u64, Vec<u16>, Vec<u16>, Vec<u16>);
 
-fn t(start: [u16; 2], goal: [u16; 2]) -> Yard {
-    Yard(4, vec![0, 1, 1, 2, 1, 3], start.into(), goal.into())
+fn t(start: [u16; 2], goal: [u16; 2]) -> Owned {
+    Owned(4, vec![0, 1, 1, 2, 1, 3], start.into(), goal.into())
 }
 
-fn line(bays: u16, start: [u16; 2], goal: [u16; 2]) -> Yard {
+fn line(bays: u16, start: [u16; 2], goal: [u16; 2]) -> Owned {
     let rails = (1..bays).flat_map(|b| [b - 1, b]).collect();
-    Yard(bays.into(), rails, start.into(), goal.into())
+    Owned(bays.into(), rails, start.into(), goal.into())
 }
 
-fn ring_of_four(start: [u16; 2], goal: [u16; 2]) -> Yard {
+fn ring_of_four(start: [u16; 2], goal: [u16; 2]) -> Owned {
     let mut ring = line(4, start, goal);
     ring.1.extend([3, 0]);
     ring
@@ -31,10 +31,14 @@ fn crossed(crossings: &[(u32, u16, u16)]) -> Vec<u64> {
 /// A number that no plan holds, to see what was not written.
 const GUARD: u64 = u64::MAX;
 
-impl Yard {
+impl Owned {
+    fn yard(&self) -> Yard<'_> {
+        Yard { bays: self.0, rails: &self.1, start: &self.2, goal: &self.3 }
+    }
+
     fn plan(&self, room: usize) -> Result<Vec<u64>, Refusal> {
         let mut lent = vec![GUARD; room];
-        let answer = plan(self.0, &self.1, &self.2, &self.3, &mut lent);
+        let answer = plan(self.yard(), &mut lent);
         let written = answer.unwrap_or(0);
         assert!(lent[written..].iter().all(|&number| number == GUARD));
         lent.truncate(written);
@@ -43,7 +47,7 @@ impl Yard {
 
     fn slots(&self, plan: &[u64]) -> Result<Vec<u32>, Refusal> {
         let mut lent = vec![0; plan.len() + 3];
-        let written = slots(self.0, &self.1, &self.2, &self.3, plan, &mut lent)?;
+        let written = slots(self.yard(), plan, &mut lent)?;
         assert!(lent[written..].iter().all(|&slot| slot == 0));
         lent.truncate(written);
         Ok(lent)
@@ -51,7 +55,7 @@ impl Yard {
 
     fn reports(&self, plan: &[u64], names: &[u64]) -> Vec<Result<Reported, Refusal>> {
         let mut marks = vec![0; plan.len()];
-        let one = |&name| report(self.0, &self.1, &self.2, &self.3, plan, &mut marks, name);
+        let one = |&name| report(self.yard(), plan, &mut marks, name);
         names.iter().map(one).collect()
     }
 
@@ -59,19 +63,12 @@ impl Yard {
     fn gives(&self, crossings: &[(u32, u16, u16)], slots: &[u32]) {
         let plan = self.plan(64).unwrap();
         assert_eq!(plan, crossed(crossings));
-        assert_eq!(check(self.0, &self.1, &self.2, &self.3, &plan), Ok(()));
+        assert_eq!(check(self.yard(), &plan), Ok(()));
         assert_eq!(self.slots(&plan).unwrap(), slots);
     }
 }
 
-const SWAP: [(u32, u16, u16); 6] = [
-    (0, 1, 2),
-    (1, 0, 1),
-    (1, 1, 3),
-    (0, 2, 1),
-    (0, 1, 0),
-    (1, 3, 1),
-];
+const SWAP: [(u32, u16, u16); 6] = [(0, 1, 2), (1, 0, 1), (1, 1, 3), (0, 2, 1), (0, 1, 0), (1, 3, 1)];
 
 #[test]
 fn y1_two_trade_places() {
@@ -102,36 +99,21 @@ fn y6_apart_on_a_line() {
     let yard = line(6, [0, 5], [1, 4]);
     let crossings = [(0, 0, 1), (1, 5, 4)];
     yard.gives(&crossings, &[1, 1]);
-    assert_eq!(
-        yard.reports(&crossed(&crossings), &[1, 0, 1]),
-        [
-            Ok(Reported::Accepted),
-            Ok(Reported::Accepted),
-            Ok(Reported::Already)
-        ]
-    );
+    assert_eq!(yard.reports(&crossed(&crossings), &[1, 0, 1]), [Ok(Reported::Accepted), Ok(Reported::Accepted), Ok(Reported::Already)]);
 }
 
 #[test]
 fn y7_reports() {
     assert_eq!(
         t([1, 0], [0, 1]).reports(&crossed(&SWAP), &[1, 6, 0, 0]),
-        [
-            Err(Refusal::Early(0)),
-            Err(Refusal::Unknown),
-            Ok(Reported::Accepted),
-            Ok(Reported::Already)
-        ]
+        [Err(Refusal::Early(0)), Err(Refusal::Unknown), Ok(Reported::Accepted), Ok(Reported::Already)]
     );
 }
 
 #[test]
 fn y8_y9_two_bays() {
-    Yard(2, vec![0, 1], vec![], vec![]).gives(&[], &[]);
-    assert_eq!(
-        Yard(2, vec![0, 1], vec![0], vec![1]).plan(64),
-        Err(Refusal::Crowd)
-    );
+    Owned(2, vec![0, 1], vec![], vec![]).gives(&[], &[]);
+    assert_eq!(Owned(2, vec![0, 1], vec![0], vec![1]).plan(64), Err(Refusal::Crowd));
 }
 
 #[test]
@@ -157,9 +139,7 @@ fn there_and_back_trips() {
     let there = crossed(&[(0, 0, 1), (1, 5, 4), (0, 1, 2), (1, 4, 5), (0, 2, 1)]);
     let shortened = |marks: &[u8], room: usize| {
         let mut lent = vec![GUARD; room];
-        let answer = shorten(
-            yard.0, &yard.1, &yard.2, &yard.3, &there, marks, &mut lent,
-        );
+        let answer = shorten(yard.yard(), &there, marks, &mut lent);
         (answer, lent)
     };
     let left = crossed(&[(0, 0, 1)]);

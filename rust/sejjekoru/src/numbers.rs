@@ -1,0 +1,28 @@
+//! The functions over slices, with the answer as the library tells it: the documents' number and the value that goes with it.
+
+use crate::{ask, Yard};
+
+pub fn plan(yard: Yard, room: &mut [u64]) -> (u64, u64) {
+    // SAFETY: each pointer comes with its own slice's length, and what is written is borrowed alone.
+    unsafe { ask!(sejjekoru_plan, yard, [mut room]) }
+}
+
+pub fn check(yard: Yard, plan: &[u64]) -> (u64, u64) {
+    // SAFETY: as in `plan`.
+    unsafe { ask!(sejjekoru_check, yard, [plan]) }
+}
+
+pub fn slots(yard: Yard, plan: &[u64], slots: &mut [u32]) -> (u64, u64) {
+    // SAFETY: as in `plan`.
+    unsafe { ask!(sejjekoru_slots, yard, [plan], [mut slots]) }
+}
+
+pub fn report(yard: Yard, plan: &[u64], marks: &mut [u8], name: u64) -> (u64, u64) {
+    // SAFETY: as in `plan`.
+    unsafe { ask!(sejjekoru_report, yard, [plan], [mut marks], name) }
+}
+
+pub fn shorten(yard: Yard, plan: &[u64], marks: &[u8], room: &mut [u64]) -> (u64, u64) {
+    // SAFETY: as in `plan`.
+    unsafe { ask!(sejjekoru_shorten, yard, [plan], [marks], [mut room]) }
+}
