@@ -2,6 +2,7 @@
 
 pub const ACCEPTED: u64 = 0;
 pub const ALREADY: u64 = 100;
+pub const DISAGREES: u64 = 19;
 pub const BEGUN: u64 = 25;
 
 #[derive(Clone, Copy, Debug, PartialEq, Eq)]

@@ -1,10 +1,11 @@
-//! The rules of the vault in plain Rust, written from document 01 and, for shortening, document 02 alone: what the proved library is
-//! compared with and raced against.
+//! The rules of the vault in plain Rust, written from document 01 and, for shortening and bills, document 02 alone: what the proved library
+//! is compared with and raced against.
 //!
-//! Every function answers the number of document 01's table (0 accepted, 100 "already", 25 for a plan begun already) and the value that goes with it, 0 where there is
-//! none. A refusal changes no lent list.
+//! Every function answers the number of document 01's table (0 accepted, 100 "already", 19 for a record that disagrees, 25 for a plan begun
+//! already) and the value that goes with it, 0 where there is none. A refusal changes no lent list.
 
 mod bays;
+mod bills;
 mod crossing;
 mod distances;
 mod docket;
@@ -15,9 +16,12 @@ mod search;
 mod shorten;
 mod yard;
 
+pub use bills::{Job, Line, Record, UNTOUCHED};
 pub use files::{program, program_short};
 
-use docket::{docket, ACCEPTED, ALREADY, BEGUN};
+use bills::Billed;
+use docket::{docket, ACCEPTED, ALREADY, BEGUN, DISAGREES};
+use log::Told;
 
 /// Plans from start to goal into `out`; the value of an acceptance is the plan's length.
 pub fn plan(bays: u64, rails: &[u16], start: &[u16], goal: &[u16], out: &mut [u64]) -> (u64, u64) {
@@ -36,11 +40,14 @@ pub fn slots(bays: u64, rails: &[u16], start: &[u16], goal: &[u16], plan: &[u64]
 
 /// Reports the crossing that bears `name` as done.
 pub fn report(bays: u64, rails: &[u16], start: &[u16], goal: &[u16], plan: &[u64], marks: &mut [u8], name: u64) -> (u64, u64) {
-    let answer = log::report(bays, rails, start, goal, plan, marks, name);
-    docket(answer.map(|told| match told {
-        log::Told::Accepted => (ACCEPTED, 0),
-        log::Told::Already => (ALREADY, 0),
-    }))
+    docket(log::report(bays, rails, start, goal, plan, marks, name).map(told))
+}
+
+fn told(told: Told) -> (u64, u64) {
+    match told {
+        Told::Accepted => (ACCEPTED, 0),
+        Told::Already => (ALREADY, 0),
+    }
 }
 
 /// Drops the plan's there-and-back trips; the value of an acceptance is the length written.
@@ -49,5 +56,23 @@ pub fn shorten(bays: u64, rails: &[u16], start: &[u16], goal: &[u16], plan: &[u6
     docket(answer.map(|told| match told {
         shorten::Answer::Written(length) => (ACCEPTED, length),
         shorten::Answer::Begun => (BEGUN, 0),
+    }))
+}
+
+/// Builds record and lines from plan, start and marks.
+pub fn open(job: Job, marks: &[u8], record: &mut Record, lines: &mut [Line]) -> (u64, u64) {
+    docket(job.open(marks, record, lines).map(|()| (ACCEPTED, 0)))
+}
+
+/// Whether record and lines are what plan, start and marks give; the value of an acceptance is 1 for yes, 0 for no.
+pub fn agrees(job: Job, marks: &[u8], record: &Record, lines: &[Line]) -> (u64, u64) {
+    docket(job.agrees(marks, record, lines).map(|yes| (ACCEPTED, yes as u64)))
+}
+
+/// Reports the crossing that bears `name` as done, with record and lines kept beside the marks.
+pub fn report_billed(job: Job, marks: &mut [u8], name: u64, record: &mut Record, lines: &mut [Line]) -> (u64, u64) {
+    docket(job.report(marks, name, record, lines).map(|billed| match billed {
+        Billed::Told(answer) => told(answer),
+        Billed::Disagrees => (DISAGREES, 0),
     }))
 }

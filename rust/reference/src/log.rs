@@ -68,9 +68,7 @@ pub fn slots(bays: u64, rails: &[u16], start: &[u16], goal: &[u16], plan: &[u64]
 /// The check, then 11, 12, "already", 13, and the one mark that an acceptance changes.
 pub fn report(bays: u64, rails: &[u16], start: &[u16], goal: &[u16], plan: &[u64], marks: &mut [u8], name: u64) -> Result<Told, Refusal> {
     check(bays, rails, start, goal, plan)?;
-    if marks.len() != plan.len() || !marks_in_order(plan, marks) {
-        return Err(Refusal::Marks);
-    }
+    marks_fit(plan, marks)?;
     if name >= plan.len() as u64 {
         return Err(Refusal::Unknown);
     }
@@ -85,9 +83,17 @@ pub fn report(bays: u64, rails: &[u16], start: &[u16], goal: &[u16], plan: &[u64
     Ok(Told::Accepted)
 }
 
+/// Test 11.
+pub fn marks_fit(plan: &[u64], marks: &[u8]) -> Result<(), Refusal> {
+    if marks.len() != plan.len() || !marks_in_order(plan, marks) {
+        return Err(Refusal::Marks);
+    }
+    Ok(())
+}
+
 /// Every mark is 0 or 1, and no crossing is done before an earlier one that it depends on: none meets a carrier or a bay that an
 /// undone crossing has touched.
-pub fn marks_in_order(plan: &[u64], marks: &[u8]) -> bool {
+fn marks_in_order(plan: &[u64], marks: &[u8]) -> bool {
     let mut waiting_carrier = [false; 256];
     let mut waiting_bay = [false; 256];
     for (&number, &mark) in plan.iter().zip(marks) {

@@ -22,9 +22,7 @@ pub fn shorten(
     out: &mut [u64],
 ) -> Result<Answer, Refusal> {
     log::check(bays, rails, start, goal, plan)?;
-    if marks.len() != plan.len() || !log::marks_in_order(plan, marks) {
-        return Err(Refusal::Marks);
-    }
+    log::marks_fit(plan, marks)?;
     if marks.contains(&1) {
         return Ok(Answer::Begun);
     }

@@ -1,6 +1,6 @@
-//! The yards that document 01 works by hand, and trips there and back by request E10 of document 02.
+//! The yards that document 01 works by hand, trips there and back by request E10 of document 02, and bills by request E7.
 
-use reference::{check, plan, report, shorten, slots};
+use reference::{agrees, check, open, plan, report, report_billed, shorten, slots, Job, Line, Record, UNTOUCHED};
 
 const T: [u16; 6] = [0, 1, 1, 2, 1, 3];
 const LINE_OF_FOUR: [u16; 6] = [0, 1, 1, 2, 2, 3];
@@ -129,4 +129,66 @@ fn eleven_then_begun_then_room() {
     assert_eq!(ask(&[1, 0, 0, 0, 0, 0]), (25, 0));
     assert_eq!(ask(&[0; 6]), (8, 6));
     assert_eq!(out, [7; 5]);
+}
+
+const NOTHING: Record = Record { at: [7; 256], done: 7, highest: 7 };
+const NO_LINE: Line = Line { carrier: 7, billed: 7, last: 7 };
+
+fn line(carrier: u32, billed: u32, last: u32) -> Line {
+    Line { carrier, billed, last }
+}
+
+fn record(bays: &[u16], done: u32, highest: u32) -> Record {
+    let mut at = [0; 256];
+    at[..bays.len()].copy_from_slice(bays);
+    Record { at, done, highest }
+}
+
+/// Y1 from opening to all done: an early name, a repeat and an unknown one change nothing.
+#[test]
+fn y1_billed() {
+    let plan = y1();
+    let job = Job { bays: 4, rails: &T, start: &[1, 0], goal: &[0, 1], plan: &plan };
+    let (mut running, mut lines, mut marks) = (NOTHING, [NO_LINE; 2], [0; 6]);
+    let opened = (record(&[1, 0], 0, 0), [line(0, 0, UNTOUCHED), line(1, 0, UNTOUCHED)]);
+    assert_eq!((open(job, &marks, &mut running, &mut lines), (running, lines)), ((0, 0), opened));
+    let mut tell = |name| (report_billed(job, &mut marks, name, &mut running, &mut lines), (running, lines));
+    assert_eq!(tell(1), ((13, 0), opened));
+    let first = (record(&[2, 0], 1, 1), [line(0, 1, 0), line(1, 0, UNTOUCHED)]);
+    assert_eq!(tell(0), ((0, 0), first));
+    assert_eq!(tell(0), ((100, 0), first));
+    assert_eq!(tell(6), ((12, 0), first));
+    (1..6).for_each(|name| assert_eq!(tell(name).0, (0, 0)));
+    assert_eq!((running, lines), (record(&[0, 1], 6, 6), [line(0, 3, 4), line(1, 3, 5)]));
+    assert_eq!(agrees(job, &marks, &running, &lines), (0, 1));
+}
+
+/// Carrier 1 is two slots ahead when carrier 0 is billed in slot 1: the highest slot stays.
+#[test]
+fn billed_in_a_lower_slot() {
+    let plan = crossings(&[(0, 0, 1), (1, 5, 4), (1, 4, 3)]);
+    let job = Job { bays: 6, rails: &LINE_OF_SIX, start: &[0, 5], goal: &[1, 3], plan: &plan };
+    let (mut running, mut lines, mut marks) = (NOTHING, [NO_LINE; 2], [0, 1, 1]);
+    assert_eq!(open(job, &marks, &mut running, &mut lines), (0, 0));
+    assert_eq!((running, lines), (record(&[0, 3], 2, 2), [line(0, 0, UNTOUCHED), line(1, 2, 2)]));
+    assert_eq!(report_billed(job, &mut marks, 0, &mut running, &mut lines), (0, 0));
+    assert_eq!((running, lines), (record(&[1, 3], 3, 2), [line(0, 1, 0), line(1, 2, 2)]));
+}
+
+/// "otherwise opening answers 8 carrying k, after 11, and a report answers 19", before 12.
+#[test]
+fn eleven_then_lines_then_unknown() {
+    let plan = y1();
+    let job = Job { bays: 4, rails: &T, start: &[1, 0], goal: &[0, 1], plan: &plan };
+    let (mut running, mut lines) = (NOTHING, [NO_LINE; 3]);
+    assert_eq!(open(job, &[0; 5], &mut running, &mut lines), (11, 0));
+    assert_eq!(open(job, &[0; 6], &mut running, &mut lines), (8, 2));
+    assert_eq!((running, lines), (NOTHING, [NO_LINE; 3]));
+    assert_eq!(open(job, &[0; 6], &mut running, &mut lines[..2]), (0, 0));
+    assert_eq!(agrees(job, &[0; 6], &running, &lines), (0, 0));
+    assert_eq!(report_billed(job, &mut [0; 6], 6, &mut running, &mut lines), (19, 0));
+    assert_eq!(report_billed(job, &mut [0; 6], 6, &mut running, &mut lines[..2]), (12, 0));
+    assert_eq!(report_billed(job, &mut [2; 6], 6, &mut running, &mut lines), (11, 0));
+    running.highest = 1;
+    assert_eq!(report_billed(job, &mut [0; 6], 0, &mut running, &mut lines[..2]), (19, 0));
 }
