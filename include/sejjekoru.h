@@ -1,17 +1,19 @@
 /*
- * Planning, plan check, slots, report log and shortening of a pallet vault, by document 01 and request E10 of document 02.
+ * Planning, plan check, slots, report log, shortening and running bills of a pallet vault, by document 01 and requests E7 and E10 of document 02.
  *
  * Every function takes any numbers and lists at all, and answers the documents' number: 0 where it accepts, else the refusal's. Through `value` it
- * stores what the refusal carries, or the length written, and 0 where there is neither. Each function is proved to do so for every input.
+ * stores what the refusal carries, or the length written, or the answer of sejjekoru_agrees, and 0 where there is none of these. Each function is
+ * proved to do so for every input.
  *
  * What the caller sees to:
  * - each list has at least as many elements as the length after it says; a list of length 0 may be NULL;
- * - `value` is not NULL;
- * - a list that may be written (`plan` of sejjekoru_plan, `slots`, `marks` of sejjekoru_report, `out`) and `*value` overlap no other argument.
+ * - `value` and `record` are not NULL;
+ * - what may be written (`plan` of sejjekoru_plan, `slots`, `out`, `marks` of sejjekoru_report and sejjekoru_report_billed, `*record` and `lines` of
+ *   sejjekoru_open and sejjekoru_report_billed, `*value`) overlaps no other argument.
  *
- * Nothing is kept between calls and nothing is allocated: threads may call at the same time, each with written lists of its own. Of the calling
- * thread's stack sejjekoru_plan takes some 600 KiB (measured, for any yard), sejjekoru_shorten some 140 KiB (measured, on 65,536 crossings), the
- * others less than 20 KiB.
+ * Nothing is kept between calls and nothing is allocated: threads may call at the same time, each with its own of what may be written. Of the calling
+ * thread's stack sejjekoru_plan takes some 600 KiB (measured, for any yard), sejjekoru_shorten some 140 KiB (measured, on 65,536 crossings),
+ * sejjekoru_agrees and sejjekoru_report_billed some 35 KiB (measured), the others less than 20 KiB.
  */
 #ifndef SEJJEKORU_H
 #define SEJJEKORU_H
@@ -25,7 +27,7 @@ extern "C" {
 
 /* The answers, each with what `value` then holds. */
 enum {
-    SEJJEKORU_ACCEPTED = 0,   /* plan, slots, shorten: the length written; else 0 */
+    SEJJEKORU_ACCEPTED = 0,   /* plan, slots, shorten: the length written; agrees: 1 for yes, 0 for no; else 0 */
     SEJJEKORU_SIZE = 1,       /* 0 */
     SEJJEKORU_RAIL = 2,       /* the first bad rail */
     SEJJEKORU_APART = 3,      /* the lowest bay that cannot be reached from bay 0 */
@@ -39,6 +41,7 @@ enum {
     SEJJEKORU_MARKS = 11,     /* 0 */
     SEJJEKORU_UNKNOWN = 12,   /* 0 */
     SEJJEKORU_EARLY = 13,     /* the lowest undone name that it depends on */
+    SEJJEKORU_DISAGREES = 19, /* 0; record and lines are not what plan, start and marks give */
     SEJJEKORU_BEGUN = 25,     /* 0; some crossing of the plan to be shortened is done */
     SEJJEKORU_ALREADY = 100   /* 0; a report of a crossing that is done */
 };
@@ -49,6 +52,26 @@ enum {
  *
  * A plan has one number for each crossing: carrier * 2^32 + from * 2^16 + to. A crossing's name is its place in the plan, from 0.
  */
+
+/* The last name in a line of a carrier to which nothing is billed: no crossing has it. */
+enum { SEJJEKORU_UNTOUCHED = 65536 };
+
+/*
+ * The running record: where the carriers stand, how many crossings are done, and the highest slot in which anything is done, or 0. `at` begins at
+ * byte 0, `done` at 512, `highest` at 516; the whole has 520 bytes.
+ */
+typedef struct {
+    uint16_t at[256];   /* the bay of each carrier; 0 beyond the carriers */
+    uint32_t done;
+    uint32_t highest;
+} sejjekoru_record;
+
+/* An account line. `carrier` begins at byte 0, `billed` at 4, `last` at 8; the whole has 12 bytes. */
+typedef struct {
+    uint32_t carrier;   /* line c is carrier c's */
+    uint32_t billed;    /* its crossings that are done */
+    uint32_t last;      /* the last of their names, or SEJJEKORU_UNTOUCHED */
+} sejjekoru_line;
 
 /* Plans, and writes the plan to the first places of `plan`. Answers 0 to 8. */
 uint64_t sejjekoru_plan(uint64_t bays,
@@ -100,6 +123,49 @@ uint64_t sejjekoru_shorten(uint64_t bays,
                            const uint8_t *marks, size_t marks_len,
                            uint64_t *out, size_t out_len,
                            uint64_t *value);
+
+/*
+ * Opens the books of a plan, at any of its marks: builds record and lines from plan, start and marks. There is one line for each carrier, no more and
+ * no fewer: else it answers 8 with the number of carriers. A refusal changes neither record nor lines. Answers 0 to 6, 8 to 11.
+ */
+uint64_t sejjekoru_open(uint64_t bays,
+                        const uint16_t *rails, size_t rails_len,
+                        const uint16_t *start, size_t start_len,
+                        const uint16_t *goal, size_t goal_len,
+                        const uint64_t *plan, size_t plan_len,
+                        const uint8_t *marks, size_t marks_len,
+                        sejjekoru_record *record,
+                        sejjekoru_line *lines, size_t lines_len,
+                        uint64_t *value);
+
+/*
+ * Whether record and lines are what plan, start and marks give: 0 with value 1 for yes, 0 with value 0 for no. Lines more or fewer than the carriers
+ * are a no. Answers 0 to 6, 9 to 11.
+ */
+uint64_t sejjekoru_agrees(uint64_t bays,
+                          const uint16_t *rails, size_t rails_len,
+                          const uint16_t *start, size_t start_len,
+                          const uint16_t *goal, size_t goal_len,
+                          const uint64_t *plan, size_t plan_len,
+                          const uint8_t *marks, size_t marks_len,
+                          const sejjekoru_record *record,
+                          const sejjekoru_line *lines, size_t lines_len,
+                          uint64_t *value);
+
+/*
+ * As sejjekoru_report, on a record and lines that agree; else it answers 19. An accepted report changes the mark of `name`, the record and the line
+ * of the crossing's carrier, so that all agree again; any other answer changes nothing. Answers 0 to 6, 9 to 13, 19, 100.
+ */
+uint64_t sejjekoru_report_billed(uint64_t bays,
+                                 const uint16_t *rails, size_t rails_len,
+                                 const uint16_t *start, size_t start_len,
+                                 const uint16_t *goal, size_t goal_len,
+                                 const uint64_t *plan, size_t plan_len,
+                                 uint8_t *marks, size_t marks_len,
+                                 uint64_t name,
+                                 sejjekoru_record *record,
+                                 sejjekoru_line *lines, size_t lines_len,
+                                 uint64_t *value);
 
 #ifdef __cplusplus
 }

@@ -1,7 +1,9 @@
 //! One question put to both. Lists are lent to the library with guard places on both sides; afterwards every list, guards and all, is
 //! held against what the reference left.
 
-use sejjekoru::ask;
+use crate::books::Books;
+use reference::Job;
+use sejjekoru::{ask, Line, Record};
 use std::cell::Cell;
 use std::fmt::Debug;
 use yards::Order;
@@ -27,6 +29,14 @@ impl Guard for u32 {
 
 impl Guard for u64 {
     const GUARD: u64 = 0xA5A5_A5A5_A5A5_A5A5;
+}
+
+impl Guard for Record {
+    const GUARD: Record = Record { at: [u16::GUARD; 256], done: u32::GUARD, highest: u32::GUARD };
+}
+
+impl Guard for Line {
+    const GUARD: Line = Line { carrier: u32::GUARD, billed: u32::GUARD, last: u32::GUARD };
 }
 
 /// A list between guard places, all of them cells, so that a store through its pointer, wanted or not, is seen.
@@ -70,6 +80,32 @@ struct Lists {
     goal: Lent<u16>,
 }
 
+/// Marks, record and lines, lent.
+struct LentBooks {
+    marks: Lent<u8>,
+    record: Lent<Record>,
+    lines: Lent<Line>,
+}
+
+impl LentBooks {
+    fn new(books: &Books) -> LentBooks {
+        LentBooks { marks: Lent::new(&books.marks), record: Lent::new(&[laid_out(&books.record)]), lines: Lent::new(&listed(&books.lines)) }
+    }
+
+    fn are(&self, books: &Books) -> bool {
+        self.marks.is(&books.marks) && self.record.is(&[laid_out(&books.record)]) && self.lines.is(&listed(&books.lines))
+    }
+}
+
+fn laid_out(record: &reference::Record) -> Record {
+    let reference::Record { at, done, highest } = *record;
+    Record { at, done, highest }
+}
+
+fn listed(lines: &[reference::Line]) -> Vec<Line> {
+    lines.iter().map(|&reference::Line { carrier, billed, last }| Line { carrier, billed, last }).collect()
+}
+
 pub struct Asked<'a> {
     order: &'a Order,
 }
@@ -87,6 +123,11 @@ impl<'a> Asked<'a> {
     fn kept(&self, lists: &Lists) -> bool {
         let Order { rails, start, goal, .. } = self.order;
         lists.rails.is(rails) && lists.start.is(start) && lists.goal.is(goal)
+    }
+
+    fn job<'b>(&'b self, plan: &'b [u64]) -> Job<'b> {
+        let Order { bays, rails, start, goal } = self.order;
+        Job { bays: *bays, rails, start, goal, plan }
     }
 
     pub fn plan(&self, room: usize) -> u64 {
@@ -141,6 +182,38 @@ impl<'a> Asked<'a> {
         let told = unsafe { ask!(sejjekoru_shorten, lists, [lent], [lent_marks], [out]) };
         let kept = self.kept(&lists) && lent.is(plan) && lent_marks.is(marks) && out.is(&expected);
         self.agreed("shorten", told, answer, kept, &(plan, marks, room))
+    }
+
+    /// The number, and the books as they are then.
+    pub fn open(&self, plan: &[u64], books: &Books) -> (u64, Books) {
+        let mut then = books.clone();
+        let answer = reference::open(self.job(plan), &books.marks, &mut then.record, &mut then.lines);
+        let (lists, lent, LentBooks { marks, record, lines }) = (self.lists(), Lent::new(plan), LentBooks::new(books));
+        // SAFETY: as in `plan`.
+        let told = unsafe { ask!(sejjekoru_open, lists, [lent], [marks], record.as_ptr(), [lines]) };
+        let kept = self.kept(&lists) && lent.is(plan) && LentBooks { marks, record, lines }.are(&then);
+        (self.agreed("open", told, answer, kept, &(plan, books)), then)
+    }
+
+    /// The number, and whether it was a yes.
+    pub fn agrees(&self, plan: &[u64], books: &Books) -> (u64, bool) {
+        let answer = reference::agrees(self.job(plan), &books.marks, &books.record, &books.lines);
+        let (lists, lent, LentBooks { marks, record, lines }) = (self.lists(), Lent::new(plan), LentBooks::new(books));
+        // SAFETY: as in `plan`.
+        let told = unsafe { ask!(sejjekoru_agrees, lists, [lent], [marks], record.as_ptr(), [lines]) };
+        let kept = self.kept(&lists) && lent.is(plan) && LentBooks { marks, record, lines }.are(books);
+        (self.agreed("agrees", told, answer, kept, &(plan, books)), told == (0, 1))
+    }
+
+    /// The number, and the books as they are then.
+    pub fn report_billed(&self, plan: &[u64], books: &Books, name: u64) -> (u64, Books) {
+        let mut then = books.clone();
+        let answer = reference::report_billed(self.job(plan), &mut then.marks, name, &mut then.record, &mut then.lines);
+        let (lists, lent, LentBooks { marks, record, lines }) = (self.lists(), Lent::new(plan), LentBooks::new(books));
+        // SAFETY: as in `plan`.
+        let told = unsafe { ask!(sejjekoru_report_billed, lists, [lent], [marks], name, record.as_ptr(), [lines]) };
+        let kept = self.kept(&lists) && lent.is(plan) && LentBooks { marks, record, lines }.are(&then);
+        (self.agreed("report billed", told, answer, kept, &(plan, books, name)), then)
     }
 
     /// The number that both answered; at a disagreement all of the question is printed, and the run ends.

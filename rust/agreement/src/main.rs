@@ -2,6 +2,8 @@
 //! every lent list with the places around it. Given the file program's path, that program too.
 //! It ends with 1 at the first disagreement, and where some answer's number never came up.
 
+mod bills;
+mod books;
 mod files;
 mod lent;
 mod orders;
@@ -20,6 +22,8 @@ fn main() {
     tallies.push(planning());
     tallies.extend(plan_by_plan());
     tallies.push(shortening());
+    tallies.extend(bills::one_by_one());
+    tallies.push(bills::runs());
     if let Some(program) = std::env::args().nth(1) {
         tallies.push(files::run(&program));
     }

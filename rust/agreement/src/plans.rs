@@ -27,6 +27,16 @@ pub fn any(dice: &mut Dice) -> (Order, Vec<u64>) {
     (order, plan)
 }
 
+/// A legal plan that a run of reports can go through, every crossing of it.
+pub fn short(dice: &mut Dice) -> (Order, Vec<u64>) {
+    loop {
+        let (order, plan) = legal(dice);
+        if plan.len() <= 200 {
+            return (order, plan);
+        }
+    }
+}
+
 /// The reference's plan where it has one that is not too long, else, and for half of the orders, one that wanders.
 fn legal(dice: &mut Dice) -> (Order, Vec<u64>) {
     let most = dice.pick(&[6, 12, 30, 60, 256]);

@@ -1,6 +1,7 @@
 //! How long the proved library takes and how long the Rust reference takes, in one run on the same inputs, as tables for the README.
 //! A time is that of the thread on its core, the least of several repeats; of several yards the middle one is shown. Nothing here passes or fails by the clock.
 
+mod bills;
 mod plans;
 mod reports;
 mod shortening;
@@ -9,14 +10,17 @@ mod timing;
 use sejjekoru::Yard;
 use yards::Order;
 
-/// With the argument `shortening` that table alone.
+/// With the argument `shortening` or `bills` that table alone.
 fn main() {
-    if std::env::args().nth(1).as_deref() == Some("shortening") {
-        return shortening::tables();
+    match std::env::args().nth(1).as_deref() {
+        Some("shortening") => return shortening::tables(),
+        Some("bills") => return bills::tables(),
+        _ => {}
     }
     plans::tables();
     reports::tables();
     shortening::tables();
+    bills::tables();
 }
 
 fn yard(order: &Order) -> Yard<'_> {

@@ -26,7 +26,7 @@ pub fn tables() {
     }
 }
 
-fn wandered(width: usize, height: usize, carriers: usize, crossings: usize) -> (Order, Vec<u64>) {
+pub fn wandered(width: usize, height: usize, carriers: usize, crossings: usize) -> (Order, Vec<u64>) {
     let mut dice = Dice::new(7);
     let order = Order::on(width * height, grid(width, height)).with_carriers(carriers, &mut dice);
     wander(order, crossings, &mut dice)

@@ -32,6 +32,8 @@ pub enum Refusal {
     Unknown,
     /// 13: the lowest undone name that the reported crossing depends on.
     Early(u64),
+    /// 19: record and lines are not those of this plan, start and marks.
+    Disagrees,
     /// 25: a crossing of the plan to be shortened is done.
     Begun,
 }
@@ -48,7 +50,7 @@ pub enum Reported {
 /// The number of "already", which is no refusal.
 const ALREADY: u64 = 100;
 
-/// What a report answers.
+/// What a report answers, billed or not.
 pub(crate) fn reported((number, value): (u64, u64)) -> Result<Reported, Refusal> {
     match number {
         ALREADY => Ok(Reported::Already),
@@ -73,13 +75,14 @@ pub(crate) fn told((number, value): (u64, u64)) -> Result<u64, Refusal> {
         11 => Refusal::Mismarked,
         12 => Refusal::Unknown,
         13 => Refusal::Early(value),
+        19 => Refusal::Disagrees,
         25 => Refusal::Begun,
         _ => unreachable!("the library is proved to answer no other number"),
     })
 }
 
 impl Refusal {
-    /// The number in document 01's table; 25 is document 02's.
+    /// The number in document 01's table; 19 and 25 are document 02's.
     pub fn number(self) -> u64 {
         match self {
             Refusal::Size => 1,
@@ -95,6 +98,7 @@ impl Refusal {
             Refusal::Mismarked => 11,
             Refusal::Unknown => 12,
             Refusal::Early(_) => 13,
+            Refusal::Disagrees => 19,
             Refusal::Begun => 25,
         }
     }
@@ -102,7 +106,7 @@ impl Refusal {
     /// What it carries, if anything.
     pub fn carried(self) -> Option<u64> {
         match self {
-            Refusal::Size | Refusal::Crowd | Refusal::Mismarked | Refusal::Unknown | Refusal::Begun => None,
+            Refusal::Size | Refusal::Crowd | Refusal::Mismarked | Refusal::Unknown | Refusal::Disagrees | Refusal::Begun => None,
             Refusal::Apart(bay) => Some(u64::from(bay.0)),
             Refusal::Start(c) | Refusal::Goal(c) | Refusal::Stopped(c) | Refusal::Missed(c) => Some(u64::from(c.0)),
             Refusal::Rail(v) | Refusal::Room(v) | Refusal::Illegal(v) | Refusal::Early(v) => Some(v),

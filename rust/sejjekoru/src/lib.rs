@@ -1,13 +1,15 @@
-//! The proved planner, plan check, slots, report log and shortening of a pallet vault, with the documents' answers as enums.
+//! The proved planner, plan check, slots, report log, shortening and running bills of a pallet vault, with the documents' answers as enums.
 //!
 //! Any numbers and lists may be handed in; what does not hold together is refused.
 
 mod answers;
+mod bills;
 mod crossing;
 pub mod numbers;
 pub mod raw;
 
 pub use answers::{Refusal, Reported};
+pub use bills::{Line, Record, UNTOUCHED};
 pub use crossing::{Bay, Carrier, Crossing};
 
 use answers::{reported, told};
@@ -46,4 +48,26 @@ pub fn report(yard: Yard, plan: &[u64], marks: &mut [u8], name: u64) -> Result<R
 /// `room`. The answer is its length.
 pub fn shorten(yard: Yard, plan: &[u64], marks: &[u8], room: &mut [u64]) -> Result<usize, Refusal> {
     told(numbers::shorten(yard, plan, marks, room)).map(|written| written as usize)
+}
+
+/// Builds record and lines from plan, start and marks. There is one line for each carrier, no more and no fewer.
+pub fn open(yard: Yard, plan: &[u64], marks: &[u8], record: &mut Record, lines: &mut [Line]) -> Result<(), Refusal> {
+    told(numbers::open(yard, plan, marks, record, lines)).map(|_| ())
+}
+
+/// Whether record and lines are what plan, start and marks give.
+pub fn agrees(yard: Yard, plan: &[u64], marks: &[u8], record: &Record, lines: &[Line]) -> Result<bool, Refusal> {
+    told(numbers::agrees(yard, plan, marks, record, lines)).map(|yes| yes == 1)
+}
+
+/// As `report`, and where it is accepted the record and the carrier's line are changed in place. Record and lines have to agree.
+pub fn report_billed(
+    yard: Yard,
+    plan: &[u64],
+    marks: &mut [u8],
+    name: u64,
+    record: &mut Record,
+    lines: &mut [Line],
+) -> Result<Reported, Refusal> {
+    reported(numbers::report_billed(yard, plan, marks, name, record, lines))
 }

@@ -1,6 +1,6 @@
 //! The functions over slices, with the answer as the library tells it: the documents' number and the value that goes with it.
 
-use crate::{ask, Yard};
+use crate::{ask, Line, Record, Yard};
 
 pub fn plan(yard: Yard, room: &mut [u64]) -> (u64, u64) {
     // SAFETY: each pointer comes with its own slice's length, and what is written is borrowed alone.
@@ -25,4 +25,19 @@ pub fn report(yard: Yard, plan: &[u64], marks: &mut [u8], name: u64) -> (u64, u6
 pub fn shorten(yard: Yard, plan: &[u64], marks: &[u8], room: &mut [u64]) -> (u64, u64) {
     // SAFETY: as in `plan`.
     unsafe { ask!(sejjekoru_shorten, yard, [plan], [marks], [mut room]) }
+}
+
+pub fn open(yard: Yard, plan: &[u64], marks: &[u8], record: &mut Record, lines: &mut [Line]) -> (u64, u64) {
+    // SAFETY: as in `plan`.
+    unsafe { ask!(sejjekoru_open, yard, [plan], [marks], record, [mut lines]) }
+}
+
+pub fn agrees(yard: Yard, plan: &[u64], marks: &[u8], record: &Record, lines: &[Line]) -> (u64, u64) {
+    // SAFETY: as in `plan`.
+    unsafe { ask!(sejjekoru_agrees, yard, [plan], [marks], record, [lines]) }
+}
+
+pub fn report_billed(yard: Yard, plan: &[u64], marks: &mut [u8], name: u64, record: &mut Record, lines: &mut [Line]) -> (u64, u64) {
+    // SAFETY: as in `plan`.
+    unsafe { ask!(sejjekoru_report_billed, yard, [plan], [mut marks], name, record, [mut lines]) }
 }

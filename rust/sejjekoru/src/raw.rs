@@ -1,5 +1,7 @@
 //! The functions of the library as `include/sejjekoru.h` declares them. What a caller sees to is said there.
 
+use crate::{Line, Record};
+
 /// Every function is handed the yard first and `value` last; what is its own stands between them.
 macro_rules! declare {
     ($($function:ident($($own:ident: $kind:ty),*);)*) => {
@@ -25,6 +27,15 @@ declare! {
     sejjekoru_slots(plan: *const u64, plan_len: usize, slots: *mut u32, slots_len: usize);
     sejjekoru_report(plan: *const u64, plan_len: usize, marks: *mut u8, marks_len: usize, name: u64);
     sejjekoru_shorten(plan: *const u64, plan_len: usize, marks: *const u8, marks_len: usize, out: *mut u64, out_len: usize);
+    sejjekoru_open(
+        plan: *const u64, plan_len: usize, marks: *const u8, marks_len: usize, record: *mut Record, lines: *mut Line, lines_len: usize
+    );
+    sejjekoru_agrees(
+        plan: *const u64, plan_len: usize, marks: *const u8, marks_len: usize, record: *const Record, lines: *const Line, lines_len: usize
+    );
+    sejjekoru_report_billed(
+        plan: *const u64, plan_len: usize, marks: *mut u8, marks_len: usize, name: u64, record: *mut Record, lines: *mut Line, lines_len: usize
+    );
 }
 
 /// Calls one of the functions with a yard, then what is the function's own; number and value are answered. A list in brackets, `[list]` or

@@ -1,6 +1,7 @@
-//! The yards that document 01 works by hand, through the library, and a trip there and back.
+//! The yards that document 01 works by hand, through the library; a trip there and back, and bills.
 
-use sejjekoru::{check, plan, report, shorten, slots, Bay, Carrier, Crossing, Refusal, Reported, Yard};
+use sejjekoru::{agrees, check, open, plan, report, report_billed, shorten, slots};
+use sejjekoru::{Bay, Carrier, Crossing, Line, Record, Refusal, Reported, Yard, UNTOUCHED};
 
 /// Bays, rails, start, goal.
 struct Owned(u64, Vec<u16>, Vec<u16>, Vec<u16>);
@@ -149,4 +150,57 @@ fn there_and_back_trips() {
     assert_eq!(shortened(&[1, 0, 0, 0, 0], 0), begun);
     let mismarked = (Err(Refusal::Mismarked), vec![GUARD]);
     assert_eq!(shortened(&[0; 4], 1), mismarked);
+}
+
+/// On Y1, with a last place for a line that there should not be.
+struct Books {
+    record: Record,
+    lines: [Line; 3],
+    marks: [u8; 6],
+}
+
+impl Books {
+    fn opened() -> Books {
+        let mut books = Books { record: Record::default(), lines: [Line::default(); 3], marks: [0; 6] };
+        let Books { record, lines, marks } = &mut books;
+        assert_eq!(open(t([1, 0], [0, 1]).yard(), &crossed(&SWAP), marks, record, &mut lines[..2]), Ok(()));
+        books
+    }
+
+    fn report(&mut self, name: u64) -> Result<Reported, Refusal> {
+        let Books { record, lines, marks } = self;
+        report_billed(t([1, 0], [0, 1]).yard(), &crossed(&SWAP), marks, name, record, &mut lines[..2])
+    }
+
+    fn agree(&self) -> Result<bool, Refusal> {
+        agrees(t([1, 0], [0, 1]).yard(), &crossed(&SWAP), &self.marks, &self.record, &self.lines[..2])
+    }
+}
+
+#[test]
+fn bills_of_y1() {
+    let mut books = Books::opened();
+    assert_eq!(books.lines[0], Line { carrier: 0, billed: 0, last: UNTOUCHED });
+    assert_eq!((&books.record.at[..3], books.record.done, books.record.highest), (&[1, 0, 0][..], 0, 0));
+    let told = [1, 6, 0, 0, 1].map(|name| books.report(name));
+    let (accepted, already) = (Ok(Reported::Accepted), Ok(Reported::Already));
+    assert_eq!(told, [Err(Refusal::Early(0)), Err(Refusal::Unknown), accepted, already, accepted]);
+    assert_eq!(books.lines, [Line { carrier: 0, billed: 1, last: 0 }, Line { carrier: 1, billed: 1, last: 1 }, Line::default()]);
+    assert_eq!((&books.record.at[..3], books.record.done, books.record.highest), (&[2, 1, 0][..], 2, 2));
+    assert_eq!(books.agree(), Ok(true));
+    books.record.highest = 1;
+    assert_eq!((books.agree(), books.report(2)), (Ok(false), Err(Refusal::Disagrees)));
+    books.marks[2] = 2;
+    assert_eq!((books.agree(), books.report(2)), (Err(Refusal::Mismarked), Err(Refusal::Mismarked)));
+}
+
+#[test]
+fn a_line_for_each_carrier() {
+    let (yard, plan, mut books) = (t([1, 0], [0, 1]), crossed(&SWAP), Books::opened());
+    let Books { record, lines, marks } = &mut books;
+    assert_eq!(open(yard.yard(), &plan, marks, record, lines), Err(Refusal::Room(2)));
+    assert_eq!(agrees(yard.yard(), &plan, marks, record, lines), Ok(false));
+    assert_eq!(report_billed(yard.yard(), &plan, marks, 0, record, lines), Err(Refusal::Disagrees));
+    assert_eq!(report_billed(yard.yard(), &plan, marks, 0, record, &mut lines[..1]), Err(Refusal::Disagrees));
+    assert_eq!(books.report(0), Ok(Reported::Accepted));
 }
