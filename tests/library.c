@@ -253,11 +253,13 @@ static void bills(void)
         tamper(&b, name);
         refused("a line too many", &b, name, CARRIERS + 1, SEJJEKORU_DISAGREES, 0);
         refused("a line too few", &b, name, CARRIERS - 1, SEJJEKORU_DISAGREES, 0);
+        refused("19 before 12", &b, CROSSINGS, CARRIERS + 1, SEJJEKORU_DISAGREES, 0);
         refused("unknown", &b, CROSSINGS, CARRIERS, SEJJEKORU_UNKNOWN, 0);
         if (name + 1 < CROSSINGS) {
             refused("early", &b, name + 1, CARRIERS, SEJJEKORU_EARLY, name);
         }
         told("report", report_y1(&b, name, CARRIERS), 0, 0);
+        refused("19 before already", &b, name, CARRIERS + 1, SEJJEKORU_DISAGREES, 0);
         refused("again", &b, name, CARRIERS, SEJJEKORU_ALREADY, 0);
         holds("mark", b.marks[name] == 1);
         holds("record", b.record.at[c] == (y1_plan[name] & 0xffff) && b.record.done == name + 1 && b.record.highest == name + 1);
@@ -266,7 +268,7 @@ static void bills(void)
     }
     holds("all done", b.record.at[0] == 0 && b.record.at[1] == 1 && b.lines[0].billed == 3 && b.lines[1].billed == 3);
     b.marks[0] = 2;
-    refused("marks", &b, 0, CARRIERS + 1, SEJJEKORU_MARKS, 0);
+    refused("11 before 19", &b, 0, CARRIERS + 1, SEJJEKORU_MARKS, 0);
 }
 
 /* On a line of six carrier 1 is done in slots 1 and 2 before carrier 0 is done in slot 1: the highest slot stays. */
