@@ -7,11 +7,11 @@ use mathlib.Core.Option.{Option, none, some}
 use Prim.Native.Nat.{ℕ, suc, _≤_, _<_, _+_}
 use native.Mathlib.Omega.{arith}
 use native.Mathlib.Numerals.{add-one}
-use lib.Dec.{eqb}
+use lib.Dec.{eqb, ltb}
 use lib.ListN.{length, getD, drop, drop-of-length-le}
 use lib.Seq.{drop-cons}
-use borrow.Author.Tests.{eqb-true}
-use Rattle.paper.specs.Basics.{_and_, _>>=_, orElse}
+use borrow.Author.Tests.{eqb-true, lt-ltb}
+use Rattle.paper.specs.Basics.{if_then_else_, _and_, _>>=_, orElse}
 use Rattle.paper.specs.Yard.{Crossing, crossings, named}
 use Rattle.paper.proofs.Tests.{and-left, and-right}
 use Rattle.plans.proofs.Rest.{rest-next, rest-none}
@@ -32,6 +32,10 @@ name-back last m (some d) = omega arith
 none-left : (x : Crossing) (ys : List Crossing) → lastPlace (x .carrier) (x .from) [] ys ≡ none
 unfolding lastPlace
 none-left x ys = refl
+
+-- of two returns the later is the last
+pub later-one : (last m r : ℕ) → last < m → r ≡ (if ltb last m then m else last) → r ≡ m
+later-one last m r l e = e ∙ ap (λ t. if t then m else last) (lt-ltb last m l)
 
 module _ (plan gone : List ℕ) (same : length gone ≡ length plan) (x : Crossing) (last m : ℕ) where
   abbrev g : ℕ

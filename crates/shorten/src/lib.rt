@@ -1,7 +1,7 @@
 // There-and-back trips dropped from a plan. Every crossing keeps its place; a byte beside each says whether it is dropped, and another whether
 // a trip may begin there. A cut drops one carrier's crossings, so only leavings whose next entering was dropped are looked at again.
 ghost use mathlib.Core.Path.{_≡_};
-ghost use mathlib.Core.Bool.{Bool};
+ghost use mathlib.Core.Bool.{Bool, true};
 ghost use mathlib.Core.List.{_++_};
 ghost use Prim.Native.Nat.{ℕ, suc, _≤_, _<_, _+_, _-_, min};
 ghost use lib.Dec.{eqb};
@@ -60,6 +60,13 @@ fn is_of(plan: &[u64], name: usize, carrier: Carrier) -> bool
     x.carrier.0 == carrier.0
 }
 
+// One of two names.
+fn chosen(test: bool, name: usize, other: usize) -> usize
+    ensures { λ r. ⌜ r ≡ if test then name else other ⌝ }
+{
+    if test { name } else { other }
+}
+
 // The name of the last return of the carrier that crosses at `name`, or `name` itself where it does not return.
 fn last_return(plan: &[u64], gone: &[u8], name: usize) -> usize
     requires { ⌜ (name < length (now plan)) × (length (now gone) ≡ length (now plan)) ⌝ }
@@ -73,7 +80,7 @@ fn last_return(plan: &[u64], gone: &[u8], name: usize) -> usize
             if !is_of(plan, m, x.carrier) {
                 return last;
             }
-            last = m;
+            last = chosen(last < m, m, last);
         }
         m += 1;
     }
@@ -147,12 +154,13 @@ fn byte_after(byte: u8, own: bool) -> u8
     if own { 1 } else { byte }
 }
 
-// The carrier's crossings from `name` to `last` are dropped.
+// The carrier's crossings from `name` to `last` are dropped: the leaving, which is at `name`, and those after it.
 fn drop_trip(plan: &[u64], gone: &mut [u8], name: usize, last: usize, carrier: Carrier)
-    requires { ⌜ (name ≤ last) × (last < length (now plan)) × (length (now gone) ≡ length (now plan)) ⌝ }
+    requires { ⌜ (isOf (carrier .0) (named (crossings (now plan)) name) ≡ true) × (name ≤ last) × (last < length (now plan)) × (length (now gone) ≡ length (now plan)) ⌝ }
     ensures { λ _. ⌜ now (gone .exit) ≡ dropTrip (carrier .0) name (suc last - name) (now (gone .entry)) (crossings (now (plan .entry))) ⌝ }
 {
-    let mut m = name;
+    gone[name] = 1;
+    let mut m = name + 1;
     while m <= last {
         gone[m] = byte_after(gone[m], is_of(plan, m, carrier));
         m += 1;

@@ -1,7 +1,7 @@
 -- `shorten::last_return` meets its contract. At each turn the answer is what is found from here on, or the last return so far.
 -- Assumes nothing.
 use borrow.Author.Tests.{not-true, not-false}
-use Rattle.shorten.proofs.Returning.{returning-past, returning-back, returning-barred, returning-end}
+use Rattle.shorten.proofs.Returning.{later-one, returning-past, returning-back, returning-barred, returning-end}
 use Rattle.shorten.specs.Going.{lastFrom}
 use Rattle.docket.specs.Reading.{crossingOf}
 use Rattle.paper.specs.Yard.{crossings}
@@ -17,7 +17,7 @@ use Rattle.shorten.proofs.last_return.Statement.{statement}
 use Rattle.shorten.proofs.last_return.Tie as tie
 
 abbrev Inv-loop : tie.InvT-loop
-Inv-loop plan gone name x last₀ m₀ last m = (name < m) × (m ≤ length plan) × (last < length plan) × (lastFrom (crossingOf x) (crossings plan) gone last m ≡ lastFrom (crossingOf x) (crossings plan) gone name (suc name))
+Inv-loop plan gone name x last₀ m₀ last m = (name < m) × (m ≤ length plan) × (last < m) × (lastFrom (crossingOf x) (crossings plan) gone last m ≡ lastFrom (crossingOf x) (crossings plan) gone name (suc name))
 
 abbrev μ-loop : tie.MeasureT-loop
 μ-loop plan gone name x last₀ m₀ last m = length plan - m
@@ -37,12 +37,15 @@ enters-bay-requires c κs = search needs
 is-of-requires : tie.Need-is-of-requires Inv-loop μ-loop
 is-of-requires c κs = search needs
 
+chosen-requires : tie.Need-chosen-requires Inv-loop μ-loop
+chosen-requires c κs = search needs
+
 returns : tie.Need-returns Inv-loop μ-loop
 returns c =
     let s = c .before .before .before .before .before .before .before .before .before in
     let t = c .before .before .before .before .before .loop in
     let x = crossingOf (c .before .before .before .before .before .before .crossing-at .result) in
-    (t .inv .2, returning-barred (now (s .args .plan)) (now (s .args .gone)) (s .pre .1) x (t .last) (t .m) (c .before .before .before .before .loop-test .taken) (sym (c .before .before .before .enters-bay .ensures) ∙ c .before .before .if1 .taken) (sym (c .before .is-of .ensures) ∙ not-true _ (c .if2 .taken)) ∙ t .inv .3 ∙ ap (λ y. lastFrom y (crossings (now (s .args .plan))) (now (s .args .gone)) (s .args .name) (suc (s .args .name))) (c .before .before .before .before .before .before .crossing-at .ensures))
+    (omega (arith, c .before .before .before .before .loop-test .taken, t .inv .2), returning-barred (now (s .args .plan)) (now (s .args .gone)) (s .pre .1) x (t .last) (t .m) (c .before .before .before .before .loop-test .taken) (sym (c .before .before .before .enters-bay .ensures) ∙ c .before .before .if1 .taken) (sym (c .before .is-of .ensures) ∙ not-true _ (c .if2 .taken)) ∙ t .inv .3 ∙ ap (λ y. lastFrom y (crossings (now (s .args .plan))) (now (s .args .gone)) (s .args .name) (suc (s .args .name))) (c .before .before .before .before .before .before .crossing-at .ensures))
 
 add-m-2 : tie.Need-add-m-2 Inv-loop μ-loop
 add-m-2 c = search needs
@@ -56,8 +59,8 @@ loop-again c =
     let t = c .before .before .before .loop in
     let x = crossingOf (c .before .before .before .before .crossing-at .result) in
     ⊎-elim
-    (λ w. rw (w .3) (omega arith, omega arith, c .before .before .loop-test .taken, returning-back (now (s .args .plan)) (now (s .args .gone)) (s .pre .1) x (t .last) (t .m) (c .before .before .loop-test .taken) (sym (c .before .enters-bay .ensures) ∙ w .0 .taken) (sym (w .1 .ensures) ∙ not-false _ (w .2 .left)) ∙ t .inv .3))
-    (λ w. rw (w .1) (omega arith, omega arith, t .inv .2, returning-past (now (s .args .plan)) (now (s .args .gone)) (s .pre .1) x (t .last) (t .m) (c .before .before .loop-test .taken) (sym (c .before .enters-bay .ensures) ∙ w .0 .left) ∙ t .inv .3))
+    (λ w. rw (w .4 ∙ later-one (t .last) (t .m) (w .3 .result) (t .inv .2) (w .3 .ensures)) (omega arith, omega arith, omega arith, returning-back (now (s .args .plan)) (now (s .args .gone)) (s .pre .1) x (t .last) (t .m) (c .before .before .loop-test .taken) (sym (c .before .enters-bay .ensures) ∙ w .0 .taken) (sym (w .1 .ensures) ∙ not-false _ (w .2 .left)) ∙ t .inv .3))
+    (λ w. rw (w .1) (omega arith, omega arith, omega arith, returning-past (now (s .args .plan)) (now (s .args .gone)) (s .pre .1) x (t .last) (t .m) (c .before .before .loop-test .taken) (sym (c .before .enters-bay .ensures) ∙ w .0 .left) ∙ t .inv .3))
     (c .if1 .came)
 
 returns-2 : tie.Need-returns-2 Inv-loop μ-loop
@@ -65,7 +68,7 @@ returns-2 c =
     let s = c .before .before .before .before .before in
     let t = c .before .loop in
     let x = crossingOf (c .before .before .crossing-at .result) in
-    (t .inv .2, returning-end (now (s .args .plan)) (now (s .args .gone)) (s .pre .1) x (t .last) (t .m) (c .loop-test .left) ∙ t .inv .3 ∙ ap (λ y. lastFrom y (crossings (now (s .args .plan))) (now (s .args .gone)) (s .args .name) (suc (s .args .name))) (c .before .before .crossing-at .ensures))
+    (omega (arith, t .inv .1, t .inv .2), returning-end (now (s .args .plan)) (now (s .args .gone)) (s .pre .1) x (t .last) (t .m) (c .loop-test .left) ∙ t .inv .3 ∙ ap (λ y. lastFrom y (crossings (now (s .args .plan))) (now (s .args .gone)) (s .args .name) (suc (s .args .name))) (c .before .before .crossing-at .ensures))
 
 pub last-return-spec : {M : Type 1} → statement M
 last-return-spec =
@@ -79,6 +82,7 @@ last-return-spec =
     enters-bay-requires
     is-of-requires
     returns
+    chosen-requires
     add-m-2
     loop-less
     loop-again

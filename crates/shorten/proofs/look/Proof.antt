@@ -4,6 +4,7 @@ use Rattle.shorten.proofs.Looking.{last-not-before, rank-next, look-pas
 use Rattle.paper.specs.Yard.{crossings, named}
 use Rattle.docket.specs.Reading.{crossingOf}
 use lib.ListN.{length}
+use borrow.Author.Tests.{eq-eqb}
 use denote.Ref.{now}
 use native.Mathlib.Omega.{arith}
 use Prim.Native.Nat.{ℕ, suc, _≤_, _<_}
@@ -55,7 +56,7 @@ note-leavings-requires : tie.Need-note-leavings-requires
 note-leavings-requires c κs = let s = c .before .before .before .before .before .before .before .before .before .before .before .before .before in (last-not-before (named (crossings (now (s .args .plan))) (s .args .name)) (crossings (now (s .args .plan))) (now (s .args .gone)) (s .args .name) (c .before .before .before .before .last-return .result) (c .before .before .before .before .last-return .ensures .1), c .before .before .before .before .last-return .ensures .0, s .pre .1 .long-gone, s .pre .1 .long-todo)
 
 drop-trip-requires : tie.Need-drop-trip-requires
-drop-trip-requires c κs = let s = c .before .before .before .before .before .before .before .before .before .before .before .before .before .before .before .before .before in (last-not-before (named (crossings (now (s .args .plan))) (s .args .name)) (crossings (now (s .args .plan))) (now (s .args .gone)) (s .args .name) (c .before .before .before .before .before .before .before .before .last-return .result) (c .before .before .before .before .before .before .before .before .last-return .ensures .1), c .before .before .before .before .before .before .before .before .last-return .ensures .0, s .pre .1 .long-gone)
+drop-trip-requires c κs = let s = c .before .before .before .before .before .before .before .before .before .before .before .before .before .before .before .before .before in (eq-eqb _ _ (ap (λ y. y .carrier) (sym (c .before .before .before .before .before .before .crossing-at .ensures))), last-not-before (named (crossings (now (s .args .plan))) (s .args .name)) (crossings (now (s .args .plan))) (now (s .args .gone)) (s .args .name) (c .before .before .before .before .before .before .before .before .last-return .result) (c .before .before .before .before .before .before .before .before .last-return .ensures .1), c .before .before .before .before .before .before .before .before .last-return .ensures .0, s .pre .1 .long-gone)
 
 same-length-3 : tie.Need-same-length-3
 same-length-3 c = search needs
