@@ -9,10 +9,12 @@ use lib.ListN.{length, getD, set, length-set}
 use lib.Seq.{getD-set-same, getD-set-other}
 use borrow.Author.Tests.{eqb-true, eqb-false, eq-eqb, ltb-true, ltb-false}
 use Rattle.paper.specs.Basics.{_and_}
-use Rattle.paper.specs.Yard.{Bay, Carrier, Crossing, named}
+use Rattle.paper.specs.Yard.{Bay, Carrier, Crossing, crossings, named}
 use Rattle.paper.proofs.Tests.{by-cases, not-both, and-left, and-right}
 use Rattle.trips.proofs.Freeing.{LastLeaving, Noted}
+use Rattle.shorten.specs.Going.{Passed}
 use Rattle.shorten.proofs.Asking.{in-fails}
+use Rattle.shorten.proofs.Remembering.{passed-fails}
 
 -- ## The last leaving, looked for downwards
 
@@ -27,6 +29,15 @@ module _ (gs : List ℕ) (xs : List Crossing) (b : Bay) (e : ℕ) where
   pub none-more : (m : ℕ) → NoneLeaves gs xs b e (suc m) → eqb (getD gs m 0) 0 and eqb (named xs m .from) b ≡ false → NoneLeaves gs xs b e m
   none-more m n h j l k =
       by-cases (eqb j m) (λ z. rw (eqb-true j m z) h) (λ z. n j (omega (arith, eqb-false j m z)) k)
+
+  -- and names that are passed do not
+  pub none-over : (plan : List ℕ) (key m r : ℕ) → xs ≡ crossings plan → key ≡ b → Passed plan gs 2 key r m → NoneLeaves gs xs b e m → NoneLeaves gs xs b e r
+  none-over plan key m r is at p n j l k =
+      by-cases (ltb j m)
+      (λ z.
+      passed-fails _ _ _
+      (λ w. p j l (ltb-true j m z) (ap (λ ys. named ys j .from) (sym is) ∙ w ∙ sym at)))
+      (λ z. n j (ltb-false j m z) k)
 
   -- the last leaving is not above m
   not-above : (m : ℕ) → NoneLeaves gs xs b e m → (k : ℕ) → LastLeaving gs xs b e k → k < m
@@ -95,4 +106,20 @@ module _ (gs : List ℕ) (xs : List Crossing) (c : Carrier) where
         by-cases (ltb e (i + n))
         (λ s. a .noted e k u (ltb-true e (i + n) s) w z own f (b .fewer k t))
         (λ s. let up = ltb-false e (i + n) s in b .noted e k (omega arith) (omega arith) w z own f t);
+  }
+
+  -- names that are passed have nothing to note
+  pub noted-over : (plan : List ℕ) (key i n k j r : ℕ) (todo todo₁ : List ℕ) (low : ℕ) → xs ≡ crossings plan → key ≡ c → j ≡ i + n → r ≡ i + k
+      → Passed plan gs 1 key j r → Noted gs xs c i n todo todo₁ low → Noted gs xs c i k todo todo₁ low
+  noted-over plan key i n k j r todo todo₁ low is at from to p a = record {
+    long = a .long;
+    fewer = a .fewer;
+    below = a .below;
+    noted = λ e f u v w z own l t.
+        by-cases (ltb e (i + n))
+        (λ s. a .noted e f u (ltb-true e (i + n) s) w z own l t)
+        (λ s.
+        let up = ltb-false e (i + n) s in
+        let one = p e (omega arith) (omega arith) (ap (λ ys. named ys e .carrier) (sym is) ∙ own ∙ sym at) in
+        omega (arith, one, z));
   }

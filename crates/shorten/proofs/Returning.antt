@@ -4,7 +4,7 @@ use mathlib.Core.Path.{_≡_, refl, sym, _∙_, ap}
 use mathlib.Core.Bool.{Bool, true, false}
 use mathlib.Core.List.{List, [], _∷_}
 use mathlib.Core.Option.{Option, none, some}
-use Prim.Native.Nat.{ℕ, suc, _≤_, _<_, _+_}
+use Prim.Native.Nat.{ℕ, zero, suc, _≤_, _<_, _+_}
 use native.Mathlib.Omega.{arith}
 use native.Mathlib.Numerals.{add-one}
 use lib.Dec.{eqb, ltb}
@@ -18,7 +18,8 @@ use Rattle.plans.proofs.Rest.{rest-next, rest-none}
 use Rattle.trips.specs.Trips.{enters, isOf}
 use Rattle.trips.specs.Names.{lastPlace}
 use Rattle.trips.proofs.Naming.{place-past, place-back, place-barred}
-use Rattle.shorten.specs.Going.{nameAt, lastFrom}
+use Rattle.shorten.specs.Going.{nameAt, lastFrom, Passed}
+use Rattle.shorten.proofs.Remembering.{passed-fails}
 use Rattle.shorten.proofs.Asking.{in-fails}
 
 name-past : (last m : ℕ) (o : Option ℕ) → nameAt last m (o >>= λ n. some (suc n)) ≡ nameAt last (suc m) o
@@ -73,3 +74,11 @@ module _ (plan gone : List ℕ) (same : length gone ≡ length plan) (x : Crossi
   returning-end h =
       sym (ap (nameAt last m)
       (ap (λ gs. lastPlace (x .carrier) (x .from) gs (drop m (crossings plan))) (drop-of-length-le gone {i = m} (omega arith)) ∙ none-left x _))
+
+-- names that are passed are no return
+pub returning-over : (plan gone : List ℕ) → length gone ≡ length plan → (x : Crossing) (last key d m r : ℕ) → r ≡ m + d → r ≤ length plan → key ≡ x .from
+    → Passed plan gone 0 key m r → lastFrom x (crossings plan) gone last r ≡ lastFrom x (crossings plan) gone last m
+returning-over plan gone same x last key zero m r at h is p = let z : r ≡ m = omega arith in ap (lastFrom x (crossings plan) gone last) z
+returning-over plan gone same x last key (suc d) m r at h is p =
+    returning-over plan gone same x last key d (m + 1) r (omega arith) h is (λ k l. p k (omega arith))
+    ∙ returning-past plan gone same x last m (omega arith) (passed-fails _ _ _ (λ e. p m (omega arith) (omega arith) (e ∙ sym is)))

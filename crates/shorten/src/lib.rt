@@ -1,7 +1,8 @@
 // There-and-back trips dropped from a plan. Every crossing keeps its place; a byte beside each says whether it is dropped, and another whether
 // a trip may begin there. A cut drops one carrier's crossings, so only leavings whose next entering was dropped are looked at again.
+// A search by bay or carrier remembers the blocks of 256 names in which it found nothing: nothing comes back, so it need not look there again.
 ghost use mathlib.Core.Path.{_≡_};
-ghost use mathlib.Core.Bool.{Bool, true};
+ghost use mathlib.Core.Bool.{Bool, true, false};
 ghost use mathlib.Core.List.{_++_};
 ghost use Prim.Native.Nat.{ℕ, suc, _≤_, _<_, _+_, _-_, min};
 ghost use lib.Dec.{eqb};
@@ -12,13 +13,16 @@ ghost use Rattle.trips.specs.Trips.{enters, isOf, shorten as shortenOf};
 ghost use Rattle.trips.specs.Names.{left, dropTrip};
 ghost use Rattle.trips.specs.Shortening.{anyDone};
 ghost use Rattle.trips.proofs.Freeing.{LastLeaving, Noted};
-ghost use Rattle.shorten.specs.Going.{Lawful, Going, lastFrom, rank};
+ghost use Rattle.shorten.specs.Going.{Lawful, Going, lastFrom, rank, keyOf, Passed, Settled, SlotAt};
 ghost use Rattle.shorten.specs.Statements.{RoomSays, ShortenSays};
 use checker::Checked;
 use docket::Bay;
 use docket::Carrier;
 use docket::Refusal;
 use yard::Yard;
+
+// Room to remember: for each block of 256 names, three kinds of 256 keys.
+const KNOWN: usize = 196608;
 
 // What shortening answers.
 pub enum Shortened {
@@ -60,6 +64,162 @@ fn is_of(plan: &[u64], name: usize, carrier: Carrier) -> bool
     x.carrier.0 == carrier.0
 }
 
+// A bay and a carrier as keys.
+fn bay_key(bay: Bay) -> usize
+    ensures { λ r. ⌜ r ≡ bay .0 ⌝ }
+{
+    bay.0 as usize
+}
+
+fn carrier_key(carrier: Carrier) -> usize
+    ensures { λ r. ⌜ r ≡ carrier .0 ⌝ }
+{
+    carrier.0 as usize
+}
+
+// What a crossing is looked for by: 0 the bay that it enters, 1 the carrier, 2 the bay that it leaves.
+fn key_at(plan: &[u64], name: usize, kind: usize) -> usize
+    requires { ⌜ name < length (now plan) ⌝ }
+    ensures { λ r. ⌜ r ≡ keyOf kind (named (crossings (now (plan .entry))) name) ⌝ }
+{
+    let x = plans::crossing_at(plan, name);
+    if kind == 0 {
+        return bay_key(x.to);
+    }
+    if kind == 1 {
+        return carrier_key(x.carrier);
+    }
+    bay_key(x.from)
+}
+
+// The crossing is still in the plan and has the key.
+fn like(plan: &[u64], gone: &[u8], name: usize, kind: usize, key: usize) -> bool
+    requires { ⌜ (name < length (now plan)) × (length (now gone) ≡ length (now plan)) ⌝ }
+    ensures { λ r. ⌜ (r ≡ false → keyOf kind (named (crossings (now (plan .entry))) name) ≡ key → getD (now (gone .entry)) name 0 ≡ 1) ⌝ }
+{
+    if gone[name] == 1 {
+        return false;
+    }
+    key_at(plan, name, kind) == key
+}
+
+// The first such name from `from` on and below `to`, or `to`.
+fn find(plan: &[u64], gone: &[u8], from: usize, to: usize, kind: usize, key: usize) -> usize
+    requires { ⌜ (from ≤ to) × (to ≤ length (now plan)) × (length (now gone) ≡ length (now plan)) ⌝ }
+    ensures { λ r. ⌜ (from ≤ r) × (r ≤ to) × Passed (now (plan .entry)) (now (gone .entry)) kind key from r ⌝ }
+{
+    let mut m = from;
+    while m < to {
+        if like(plan, gone, m, kind, key) {
+            return m;
+        }
+        m += 1;
+    }
+    m
+}
+
+// Where it is remembered that a block has no such crossing, or `len` where the names from `m` to below `end` are no block.
+fn slot_of(m: usize, end: usize, kind: usize, key: usize, len: usize) -> usize
+    requires { ⌜ (m ≤ end) × (kind < 3) ⌝ }
+    ensures { λ r. ⌜ (r < len → SlotAt m end kind key r) ⌝ }
+{
+    if m >= 65536 {
+        return len;
+    }
+    if m % 256 != 0 {
+        return len;
+    }
+    if end - m != 256 {
+        return len;
+    }
+    if key >= 256 {
+        return len;
+    }
+    m * 3 + kind * 256 + key
+}
+
+// The same as `find`, with what is remembered.
+fn in_block(
+    plan: &[u64],
+    gone: &[u8],
+    known: &mut [u8],
+    m: usize,
+    end: usize,
+    kind: usize,
+    key: usize,
+) -> usize
+    requires { ⌜ (m ≤ end) × (end ≤ length (now plan)) × (length (now gone) ≡ length (now plan)) × (kind < 3) × Settled (now plan) (now gone) (now known) ⌝ }
+    ensures { λ r. ⌜ (m ≤ r) × (r ≤ end) × Passed (now (plan .entry)) (now (gone .entry)) kind key m r × Settled (now (plan .entry)) (now (gone .entry)) (now (known .exit)) ⌝ }
+{
+    let slot = slot_of(m, end, kind, key, known.len());
+    if slot >= known.len() {
+        return find(plan, gone, m, end, kind, key);
+    }
+    if known[slot] != 0 {
+        return end;
+    }
+    let r = find(plan, gone, m, end, kind, key);
+    if r < end {
+        return r;
+    }
+    known[slot] = 1;
+    end
+}
+
+// The end of the block of the name m, or `to` if that comes first.
+fn block_end(m: usize, to: usize) -> usize
+    requires { ⌜ m < to ⌝ }
+    ensures { λ r. ⌜ (m < r) × (r ≤ to) ⌝ }
+{
+    let rest = 256 - m % 256;
+    if rest < to - m { m + rest } else { to }
+}
+
+// The first such name from `from` on and below `to`, or `to`, block by block.
+fn next_like(
+    plan: &[u64],
+    gone: &[u8],
+    known: &mut [u8],
+    from: usize,
+    to: usize,
+    kind: usize,
+    key: usize,
+) -> usize
+    requires { ⌜ (from ≤ to) × (to ≤ length (now plan)) × (length (now gone) ≡ length (now plan)) × (kind < 3) × Settled (now plan) (now gone) (now known) ⌝ }
+    ensures { λ r. ⌜ (from ≤ r) × (r ≤ to) × Passed (now (plan .entry)) (now (gone .entry)) kind key from r × Settled (now (plan .entry)) (now (gone .entry)) (now (known .exit)) ⌝ }
+{
+    let mut m = from;
+    while m < to {
+        let end = block_end(m, to);
+        let r = in_block(plan, gone, known, m, end, kind, key);
+        if r < end {
+            return r;
+        }
+        m = end;
+    }
+    m
+}
+
+// The name down to which whole blocks below `name` have no such crossing.
+fn below(plan: &[u64], gone: &[u8], known: &mut [u8], name: usize, kind: usize, key: usize) -> usize
+    requires { ⌜ (name ≤ length (now plan)) × (length (now gone) ≡ length (now plan)) × (kind < 3) × Settled (now plan) (now gone) (now known) ⌝ }
+    ensures { λ r. ⌜ (r ≤ name) × Passed (now (plan .entry)) (now (gone .entry)) kind key r name × Settled (now (plan .entry)) (now (gone .entry)) (now (known .exit)) ⌝ }
+{
+    let mut m = name;
+    while m >= 256 {
+        if m % 256 != 0 {
+            return m;
+        }
+        let start = m - 256;
+        let r = in_block(plan, gone, known, start, m, kind, key);
+        if r < m {
+            return m;
+        }
+        m = start;
+    }
+    m
+}
+
 // One of two names.
 fn chosen(test: bool, name: usize, other: usize) -> usize
     ensures { λ r. ⌜ r ≡ if test then name else other ⌝ }
@@ -68,13 +228,14 @@ fn chosen(test: bool, name: usize, other: usize) -> usize
 }
 
 // The name of the last return of the carrier that crosses at `name`, or `name` itself where it does not return.
-fn last_return(plan: &[u64], gone: &[u8], name: usize) -> usize
-    requires { ⌜ (name < length (now plan)) × (length (now gone) ≡ length (now plan)) ⌝ }
-    ensures { λ r. ⌜ (r < length (now (plan .entry))) × (r ≡ lastFrom (named (crossings (now (plan .entry))) name) (crossings (now (plan .entry))) (now (gone .entry)) name (suc name)) ⌝ }
+fn last_return(plan: &[u64], gone: &[u8], known: &mut [u8], name: usize) -> usize
+    requires { ⌜ (name < length (now plan)) × (length (now gone) ≡ length (now plan)) × Settled (now plan) (now gone) (now known) ⌝ }
+    ensures { λ r. ⌜ (r < length (now (plan .entry))) × (r ≡ lastFrom (named (crossings (now (plan .entry))) name) (crossings (now (plan .entry))) (now (gone .entry)) name (suc name)) × Settled (now (plan .entry)) (now (gone .entry)) (now (known .exit)) ⌝ }
 {
     let x = plans::crossing_at(plan, name);
+    let key = bay_key(x.from);
     let mut last = name;
-    let mut m = name + 1;
+    let mut m = next_like(plan, gone, known, name + 1, plan.len(), 0, key);
     while m < plan.len() {
         if enters_bay(plan, gone, m, x.from) {
             if !is_of(plan, m, x.carrier) {
@@ -82,22 +243,24 @@ fn last_return(plan: &[u64], gone: &[u8], name: usize) -> usize
             }
             last = chosen(last < m, m, last);
         }
-        m += 1;
+        m = next_like(plan, gone, known, m + 1, plan.len(), 0, key);
     }
     last
 }
 
 // The last crossing before `name` that leaves the bay, or `name` itself where none does.
-fn last_leaving(plan: &[u64], gone: &[u8], name: usize, bay: Bay) -> usize
-    requires { ⌜ (name < length (now plan)) × (length (now gone) ≡ length (now plan)) ⌝ }
-    ensures { λ r. ⌜ (r ≤ name) × ((k : ℕ) → LastLeaving (now (gone .entry)) (crossings (now (plan .entry))) (bay .0) name k → r ≡ k) ⌝ }
+fn last_leaving(plan: &[u64], gone: &[u8], known: &mut [u8], name: usize, bay: Bay) -> usize
+    requires { ⌜ (name < length (now plan)) × (length (now gone) ≡ length (now plan)) × Settled (now plan) (now gone) (now known) ⌝ }
+    ensures { λ r. ⌜ (r ≤ name) × ((k : ℕ) → LastLeaving (now (gone .entry)) (crossings (now (plan .entry))) (bay .0) name k → r ≡ k) × Settled (now (plan .entry)) (now (gone .entry)) (now (known .exit)) ⌝ }
 {
-    let mut m = name;
+    let key = bay_key(bay);
+    let mut m = below(plan, gone, known, name, 2, key);
     while m > 0 {
-        m -= 1;
-        if leaves_bay(plan, gone, m, bay) {
-            return m;
+        let next = m - 1;
+        if leaves_bay(plan, gone, next, bay) {
+            return next;
         }
+        m = below(plan, gone, known, next, 2, key);
     }
     name
 }
@@ -107,12 +270,13 @@ fn note_one(
     plan: &[u64],
     gone: &[u8],
     todo: &mut [u8],
+    known: &mut [u8],
     name: usize,
     carrier: Carrier,
     low: usize,
 ) -> usize
-    requires { ⌜ (name < length (now plan)) × (length (now gone) ≡ length (now plan)) × (length (now todo) ≡ length (now plan)) ⌝ }
-    ensures { λ r. ⌜ (r ≤ low) × Noted (now (gone .entry)) (crossings (now (plan .entry))) (carrier .0) name 1 (now (todo .entry)) (now (todo .exit)) r ⌝ }
+    requires { ⌜ (name < length (now plan)) × (length (now gone) ≡ length (now plan)) × (length (now todo) ≡ length (now plan)) × Settled (now plan) (now gone) (now known) ⌝ }
+    ensures { λ r. ⌜ (r ≤ low) × Noted (now (gone .entry)) (crossings (now (plan .entry))) (carrier .0) name 1 (now (todo .entry)) (now (todo .exit)) r × Settled (now (plan .entry)) (now (gone .entry)) (now (known .exit)) ⌝ }
 {
     if gone[name] != 0 {
         return low;
@@ -121,7 +285,7 @@ fn note_one(
     if x.carrier.0 != carrier.0 {
         return low;
     }
-    let leaving = last_leaving(plan, gone, name, x.to);
+    let leaving = last_leaving(plan, gone, known, name, x.to);
     todo[leaving] = 1;
     if leaving < low { leaving } else { low }
 }
@@ -131,18 +295,20 @@ fn note_leavings(
     plan: &[u64],
     gone: &[u8],
     todo: &mut [u8],
+    known: &mut [u8],
     name: usize,
     last: usize,
     carrier: Carrier,
 ) -> usize
-    requires { ⌜ (name ≤ last) × (last < length (now plan)) × (length (now gone) ≡ length (now plan)) × (length (now todo) ≡ length (now plan)) ⌝ }
-    ensures { λ r. ⌜ (r ≤ name) × Noted (now (gone .entry)) (crossings (now (plan .entry))) (carrier .0) name (suc last - name) (now (todo .entry)) (now (todo .exit)) r ⌝ }
+    requires { ⌜ (name ≤ last) × (last < length (now plan)) × (length (now gone) ≡ length (now plan)) × (length (now todo) ≡ length (now plan)) × Settled (now plan) (now gone) (now known) ⌝ }
+    ensures { λ r. ⌜ (r ≤ name) × Noted (now (gone .entry)) (crossings (now (plan .entry))) (carrier .0) name (suc last - name) (now (todo .entry)) (now (todo .exit)) r × Settled (now (plan .entry)) (now (gone .entry)) (now (known .exit)) ⌝ }
 {
+    let key = carrier_key(carrier);
     let mut low = name;
     let mut m = name;
     while m <= last {
-        low = note_one(plan, gone, todo, m, carrier, low);
-        m += 1;
+        low = note_one(plan, gone, todo, known, m, carrier, low);
+        m = next_like(plan, gone, known, m + 1, last + 1, 1, key);
     }
     low
 }
@@ -155,22 +321,30 @@ fn byte_after(byte: u8, own: bool) -> u8
 }
 
 // The carrier's crossings from `name` to `last` are dropped: the leaving, which is at `name`, and those after it.
-fn drop_trip(plan: &[u64], gone: &mut [u8], name: usize, last: usize, carrier: Carrier)
-    requires { ⌜ (isOf (carrier .0) (named (crossings (now plan)) name) ≡ true) × (name ≤ last) × (last < length (now plan)) × (length (now gone) ≡ length (now plan)) ⌝ }
-    ensures { λ _. ⌜ now (gone .exit) ≡ dropTrip (carrier .0) name (suc last - name) (now (gone .entry)) (crossings (now (plan .entry))) ⌝ }
+fn drop_trip(
+    plan: &[u64],
+    gone: &mut [u8],
+    known: &mut [u8],
+    name: usize,
+    last: usize,
+    carrier: Carrier,
+)
+    requires { ⌜ (isOf (carrier .0) (named (crossings (now plan)) name) ≡ true) × (name ≤ last) × (last < length (now plan)) × (length (now gone) ≡ length (now plan)) × Settled (now plan) (now gone) (now known) ⌝ }
+    ensures { λ _. ⌜ (now (gone .exit) ≡ dropTrip (carrier .0) name (suc last - name) (now (gone .entry)) (crossings (now (plan .entry)))) × Settled (now (plan .entry)) (now (gone .exit)) (now (known .exit)) ⌝ }
 {
+    let key = carrier_key(carrier);
+    let mut m = next_like(plan, gone, known, name + 1, last + 1, 1, key);
     gone[name] = 1;
-    let mut m = name + 1;
     while m <= last {
         gone[m] = byte_after(gone[m], is_of(plan, m, carrier));
-        m += 1;
+        m = next_like(plan, gone, known, m + 1, last + 1, 1, key);
     }
 }
 
 // One look: at a name where a trip begins it is cut, and the look goes back to the lowest name that this may have freed.
-fn look(plan: &[u64], gone: &mut [u8], todo: &mut [u8], name: usize) -> usize
-    requires { ⌜ (name < length (now plan)) × Going (now plan) (now gone) (now todo) name ⌝ }
-    ensures { λ r. ⌜ Going (now (plan .entry)) (now (gone .exit)) (now (todo .exit)) r × (rank (now (plan .entry)) (now (gone .exit)) r < rank (now (plan .entry)) (now (gone .entry)) name) ⌝ }
+fn look(plan: &[u64], gone: &mut [u8], todo: &mut [u8], known: &mut [u8], name: usize) -> usize
+    requires { ⌜ (name < length (now plan)) × Going (now plan) (now gone) (now todo) name × Settled (now plan) (now gone) (now known) ⌝ }
+    ensures { λ r. ⌜ Going (now (plan .entry)) (now (gone .exit)) (now (todo .exit)) r × (rank (now (plan .entry)) (now (gone .exit)) r < rank (now (plan .entry)) (now (gone .entry)) name) × Settled (now (plan .entry)) (now (gone .exit)) (now (known .exit)) ⌝ }
 {
     if gone[name] != 0 {
         return name + 1;
@@ -178,25 +352,25 @@ fn look(plan: &[u64], gone: &mut [u8], todo: &mut [u8], name: usize) -> usize
     if todo[name] == 0 {
         return name + 1;
     }
-    let last = last_return(plan, gone, name);
+    let last = last_return(plan, gone, known, name);
     if last == name {
         todo[name] = 0;
         return name + 1;
     }
     let x = plans::crossing_at(plan, name);
-    let low = note_leavings(plan, gone, todo, name, last, x.carrier);
-    drop_trip(plan, gone, name, last, x.carrier);
+    let low = note_leavings(plan, gone, todo, known, name, last, x.carrier);
+    drop_trip(plan, gone, known, name, last, x.carrier);
     low
 }
 
 // Cut after cut, the lowest name first, until there is none.
-fn drop_trips(plan: &[u64], gone: &mut [u8], todo: &mut [u8])
-    requires { ⌜ Going (now plan) (now gone) (now todo) 0 ⌝ }
+fn drop_trips(plan: &[u64], gone: &mut [u8], todo: &mut [u8], known: &mut [u8])
+    requires { ⌜ Going (now plan) (now gone) (now todo) 0 × Settled (now plan) (now gone) (now known) ⌝ }
     ensures { λ _. ⌜ (length (now (gone .exit)) ≡ length (now (plan .entry))) × (left (now (gone .exit)) (crossings (now (plan .entry))) ≡ shortenOf (crossings (now (plan .entry)))) ⌝ }
 {
     let mut name = 0;
     while name < plan.len() {
-        name = look(plan, gone, todo, name);
+        name = look(plan, gone, todo, known, name);
     }
 }
 
@@ -250,12 +424,18 @@ fn finish(plan: &[u64], gone: &[u8], out: &mut [u64]) -> Shortened
     Shortened::Written(count as u64)
 }
 
-// The whole work, in two lists of bytes that are lent: nothing is dropped yet, and every name is to be looked at.
-fn shorten_in(plan: &[u64], gone: &mut [u8], todo: &mut [u8], out: &mut [u64]) -> Shortened
-    requires { ⌜ Lawful (crossings (now plan)) × (length (now plan) ≤ most-crossings) × (now gone ≡ replicate (length (now plan)) 0) × (now todo ≡ replicate (length (now plan)) 1) ⌝ }
+// The whole work, in three lists of bytes that are lent: nothing is dropped yet, every name is to be looked at, and nothing is remembered.
+fn shorten_in(
+    plan: &[u64],
+    gone: &mut [u8],
+    todo: &mut [u8],
+    known: &mut [u8],
+    out: &mut [u64],
+) -> Shortened
+    requires { ⌜ Lawful (crossings (now plan)) × (length (now plan) ≤ most-crossings) × (now gone ≡ replicate (length (now plan)) 0) × (now todo ≡ replicate (length (now plan)) 1) × Settled (now plan) (now gone) (now known) ⌝ }
     ensures { λ r. ⌜ RoomSays (now (plan .entry)) (now (out .entry)) r (now (out .exit)) ⌝ }
 {
-    drop_trips(plan, gone, todo);
+    drop_trips(plan, gone, todo, known);
     finish(plan, gone, out)
 }
 
@@ -267,7 +447,14 @@ fn shorten_checked(plan: &[u64], out: &mut [u64]) -> Shortened
     let count = plan.len();
     let mut gone = [0u8; Yard::CROSSINGS];
     let mut todo = [1u8; Yard::CROSSINGS];
-    shorten_in(plan, &mut gone[..count], &mut todo[..count], out)
+    let mut known = [0u8; KNOWN];
+    shorten_in(
+        plan,
+        &mut gone[..count],
+        &mut todo[..count],
+        &mut known[..KNOWN],
+        out,
+    )
 }
 
 // Whether any mark is 1.

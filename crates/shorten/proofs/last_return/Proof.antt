@@ -1,35 +1,46 @@
--- `shorten::last_return` meets its contract. At each turn the answer is what is found from here on, or the last return so far.
+-- `shorten::last_return` meets its contract. At each turn the answer is what is found from here on, or the last return so far; names that are passed are no return.
 -- Assumes nothing.
+use borrow.Author.Needs.{needs}
 use borrow.Author.Tests.{not-true, not-false}
-use Rattle.shorten.proofs.Returning.{later-one, returning-past, returning-back, returning-barred, returning-end}
-use Rattle.shorten.specs.Going.{lastFrom}
+use Rattle.shorten.proofs.Returning.{later-one, returning-past, returning-back, returning-barred, returning-end, returning-over}
+use Rattle.shorten.specs.Going.{lastFrom, Settled}
 use Rattle.docket.specs.Reading.{crossingOf}
 use Rattle.paper.specs.Yard.{crossings}
 use lib.ListN.{length}
-use denote.Ref.{now}
 use native.Mathlib.Numerals.{add-one}
-use native.Mathlib.Omega.{arith}
-use Prim.Native.Nat.{suc, _≤_, _<_, _-_}
+use Prim.Native.Nat.{suc, _≤_, _<_, _+_, _-_}
 use mathlib.Core.Logic.{⊎-elim}
 use mathlib.Core.Path.{_≡_, refl, sym, _∙_, ap}
-use borrow.Author.Needs.{needs}
+use denote.Ref.{now}
+use native.Mathlib.Omega.{arith}
 use Rattle.shorten.proofs.last_return.Statement.{statement}
 use Rattle.shorten.proofs.last_return.Tie as tie
 
 abbrev Inv-loop : tie.InvT-loop
-Inv-loop plan gone name x last₀ m₀ last m = (name < m) × (m ≤ length plan) × (last < m) × (lastFrom (crossingOf x) (crossings plan) gone last m ≡ lastFrom (crossingOf x) (crossings plan) gone name (suc name))
+Inv-loop plan gone known₀ name x key last₀ m₀ known last m = (name < m) × (m ≤ length plan) × (last < m) × (length known ≡ length known₀) × Settled plan gone known × (lastFrom (crossingOf x) (crossings plan) gone last m ≡ lastFrom (crossingOf x) (crossings plan) gone name (suc name))
 
 abbrev μ-loop : tie.MeasureT-loop
-μ-loop plan gone name x last₀ m₀ last m = length plan - m
+μ-loop plan gone known₀ name x key last₀ m₀ known last m = length plan - m
 
 crossing-at-requires : tie.Need-crossing-at-requires Inv-loop μ-loop
 crossing-at-requires c κs = search needs
 
-add-m : tie.Need-add-m Inv-loop μ-loop
-add-m c = search needs
+bay-key-requires : tie.Need-bay-key-requires Inv-loop μ-loop
+bay-key-requires c κs = search needs
+
+add-next-like : tie.Need-add-next-like Inv-loop μ-loop
+add-next-like c = search needs
+
+next-like-requires : tie.Need-next-like-requires Inv-loop μ-loop
+next-like-requires c κs = let s = c .before .before .before .before .before .before in (omega arith, omega arith, s .pre .1, omega arith, s .pre .2)
 
 loop-holds : tie.Need-loop-holds Inv-loop μ-loop
-loop-holds c = (omega arith, omega arith, omega arith, ap (lastFrom (crossingOf (c .crossing-at .result)) (crossings (now (c .before .before .before .args .plan))) (now (c .before .before .before .args .gone)) (c .before .before .before .args .name)) (add-one (c .before .before .before .args .name)))
+loop-holds c =
+    let s = c .before .before .before .before .before .before .before .before .before in
+    let x = crossingOf (c .before .before .before .before .before .crossing-at .result) in
+    let n = c .before .before .next-like .ensures in
+    let r = c .before .before .next-like .result in
+    (omega (arith, n .0), n .1, omega (arith, n .0), refl, n .3, returning-over (now (s .args .plan)) (now (s .args .gone)) (s .pre .1) x (s .args .name) (c .before .before .before .before .bay-key .result) (r - (s .args .name + 1)) (s .args .name + 1) r (omega (arith, n .0)) (n .1) (c .before .before .before .before .bay-key .ensures) (n .2) ∙ ap (lastFrom x (crossings (now (s .args .plan))) (now (s .args .gone)) (s .args .name)) (add-one (s .args .name)))
 
 enters-bay-requires : tie.Need-enters-bay-requires Inv-loop μ-loop
 enters-bay-requires c κs = search needs
@@ -37,38 +48,53 @@ enters-bay-requires c κs = search needs
 is-of-requires : tie.Need-is-of-requires Inv-loop μ-loop
 is-of-requires c κs = search needs
 
-chosen-requires : tie.Need-chosen-requires Inv-loop μ-loop
-chosen-requires c κs = search needs
+same-length : tie.Need-same-length Inv-loop μ-loop
+same-length c = search needs
 
 returns : tie.Need-returns Inv-loop μ-loop
 returns c =
-    let s = c .before .before .before .before .before .before .before .before .before in
+    let s = c .before .before .before .before .before .before .before .before .before .before .before .before .before .before .before in
     let t = c .before .before .before .before .before .loop in
-    let x = crossingOf (c .before .before .before .before .before .before .crossing-at .result) in
-    (omega (arith, c .before .before .before .before .loop-test .taken, t .inv .2), returning-barred (now (s .args .plan)) (now (s .args .gone)) (s .pre .1) x (t .last) (t .m) (c .before .before .before .before .loop-test .taken) (sym (c .before .before .before .enters-bay .ensures) ∙ c .before .before .if1 .taken) (sym (c .before .is-of .ensures) ∙ not-true _ (c .if2 .taken)) ∙ t .inv .3 ∙ ap (λ y. lastFrom y (crossings (now (s .args .plan))) (now (s .args .gone)) (s .args .name) (suc (s .args .name))) (c .before .before .before .before .before .before .crossing-at .ensures))
+    let x = crossingOf (c .before .before .before .before .before .before .before .before .before .before .before .crossing-at .result) in
+    (omega (arith, c .before .before .before .before .loop-test .taken, t .inv .2), returning-barred (now (s .args .plan)) (now (s .args .gone)) (s .pre .1) x (t .last) (t .m) (c .before .before .before .before .loop-test .taken) (sym (c .before .before .before .enters-bay .ensures) ∙ c .before .before .if1 .taken) (sym (c .before .is-of .ensures) ∙ not-true _ (c .if2 .taken)) ∙ t .inv .5 ∙ ap (λ y. lastFrom y (crossings (now (s .args .plan))) (now (s .args .gone)) (s .args .name) (suc (s .args .name))) (c .before .before .before .before .before .before .before .before .before .before .before .crossing-at .ensures), t .inv .4)
 
-add-m-2 : tie.Need-add-m-2 Inv-loop μ-loop
-add-m-2 c = search needs
+chosen-requires : tie.Need-chosen-requires Inv-loop μ-loop
+chosen-requires c κs = search needs
+
+add-next-like-2 : tie.Need-add-next-like-2 Inv-loop μ-loop
+add-next-like-2 c = search needs
+
+next-like-requires-2 : tie.Need-next-like-requires-2 Inv-loop μ-loop
+next-like-requires-2 c κs = let s = c .before .before .before .before .before .before .before .before .before .before .before .before .before .before in (omega (arith, c .before .before .before .loop-test .taken), omega arith, s .pre .1, omega arith, c .before .before .before .before .loop .inv .4)
 
 loop-less : tie.Need-loop-less Inv-loop μ-loop
-loop-less c = search needs
+loop-less c = let n = c .before .before .next-like2 .ensures in omega (arith, n .0, n .1, c .before .before .before .before .before .before .loop-test .taken)
 
 loop-again : tie.Need-loop-again Inv-loop μ-loop
 loop-again c =
-    let s = c .before .before .before .before .before .before .before in
-    let t = c .before .before .before .loop in
-    let x = crossingOf (c .before .before .before .before .crossing-at .result) in
+    let s = c .before .before .before .before .before .before .before .before .before .before .before .before .before .before .before .before .before in
+    let t = c .before .before .before .before .before .before .before .loop in
+    let x = crossingOf (c .before .before .before .before .before .before .before .before .before .before .before .before .before .crossing-at .result) in
+    let n = c .before .before .next-like2 .ensures in
+    let r = c .before .before .next-like2 .result in
+    let l = c .before .before .before .before .if1 .last in
+    let inside = c .before .before .before .before .before .before .loop-test .taken in
+    let step : (l ≤ t .m) × (lastFrom x (crossings (now (s .args .plan))) (now (s .args .gone)) l (t .m + 1) ≡ lastFrom x (crossings (now (s .args .plan))) (now (s .args .gone)) (s .args .name) (suc (s .args .name))) =
     ⊎-elim
-    (λ w. rw (w .4 ∙ later-one (t .last) (t .m) (w .3 .result) (t .inv .2) (w .3 .ensures)) (omega arith, omega arith, omega arith, returning-back (now (s .args .plan)) (now (s .args .gone)) (s .pre .1) x (t .last) (t .m) (c .before .before .loop-test .taken) (sym (c .before .enters-bay .ensures) ∙ w .0 .taken) (sym (w .1 .ensures) ∙ not-false _ (w .2 .left)) ∙ t .inv .3))
-    (λ w. rw (w .1) (omega arith, omega arith, omega arith, returning-past (now (s .args .plan)) (now (s .args .gone)) (s .pre .1) x (t .last) (t .m) (c .before .before .loop-test .taken) (sym (c .before .enters-bay .ensures) ∙ w .0 .left) ∙ t .inv .3))
-    (c .if1 .came)
+    (λ w. rw (w .4 ∙ later-one (t .last) (t .m) (w .3 .result) (t .inv .2) (w .3 .ensures)) (omega arith, returning-back (now (s .args .plan)) (now (s .args .gone)) (s .pre .1) x (t .last) (t .m) inside (sym (c .before .before .before .before .before .enters-bay .ensures) ∙ w .0 .taken) (sym (w .1 .ensures) ∙ not-false _ (w .2 .left)) ∙ t .inv .5))
+    (λ w. rw (w .1) (omega (arith, t .inv .2), returning-past (now (s .args .plan)) (now (s .args .gone)) (s .pre .1) x (t .last) (t .m) inside (sym (c .before .before .before .before .before .enters-bay .ensures) ∙ w .0 .left) ∙ t .inv .5))
+    (c .before .before .before .before .if1 .came) in
+    (omega (arith, t .inv .0, n .0), n .1, omega (arith, step .0, n .0), search needs, n .3, returning-over (now (s .args .plan)) (now (s .args .gone)) (s .pre .1) x l (c .before .before .before .before .before .before .before .before .before .before .before .before .bay-key .result) (r - (t .m + 1)) (t .m + 1) r (omega (arith, n .0)) (n .1) (c .before .before .before .before .before .before .before .before .before .before .before .before .bay-key .ensures) (n .2) ∙ step .1)
+
+same-length-2 : tie.Need-same-length-2 Inv-loop μ-loop
+same-length-2 c = search needs
 
 returns-2 : tie.Need-returns-2 Inv-loop μ-loop
 returns-2 c =
-    let s = c .before .before .before .before .before in
+    let s = c .before .before .before .before .before .before .before .before .before .before .before in
     let t = c .before .loop in
-    let x = crossingOf (c .before .before .crossing-at .result) in
-    (omega (arith, t .inv .1, t .inv .2), returning-end (now (s .args .plan)) (now (s .args .gone)) (s .pre .1) x (t .last) (t .m) (c .loop-test .left) ∙ t .inv .3 ∙ ap (λ y. lastFrom y (crossings (now (s .args .plan))) (now (s .args .gone)) (s .args .name) (suc (s .args .name))) (c .before .before .crossing-at .ensures))
+    let x = crossingOf (c .before .before .before .before .before .before .before .crossing-at .result) in
+    (omega (arith, t .inv .1, t .inv .2), returning-end (now (s .args .plan)) (now (s .args .gone)) (s .pre .1) x (t .last) (t .m) (c .loop-test .left) ∙ t .inv .5 ∙ ap (λ y. lastFrom y (crossings (now (s .args .plan))) (now (s .args .gone)) (s .args .name) (suc (s .args .name))) (c .before .before .before .before .before .before .before .crossing-at .ensures), t .inv .4)
 
 pub last-return-spec : {M : Type 1} → statement M
 last-return-spec =
@@ -77,13 +103,18 @@ last-return-spec =
     Inv-loop
     μ-loop
     crossing-at-requires
-    add-m
+    bay-key-requires
+    add-next-like
+    next-like-requires
     loop-holds
     enters-bay-requires
     is-of-requires
+    same-length
     returns
     chosen-requires
-    add-m-2
+    add-next-like-2
+    next-like-requires-2
     loop-less
     loop-again
+    same-length-2
     returns-2)

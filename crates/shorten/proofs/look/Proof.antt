@@ -20,7 +20,7 @@ add-result : tie.Need-add-result
 add-result c = search needs
 
 returns : tie.Need-returns
-returns c = let s = c .before .before .before .before .before in (look-past (now (s .args .plan)) (now (s .args .gone)) (now (s .args .todo)) (s .args .name) (s .pre .0) (s .pre .1) (λ z. absurd (c .if1 .taken z)), rank-next (now (s .args .plan)) (now (s .args .gone)) (now (s .args .todo)) (s .args .name) (s .pre .0) (s .pre .1))
+returns c = let s = c .before .before .before .before .before .before in (look-past (now (s .args .plan)) (now (s .args .gone)) (now (s .args .todo)) (s .args .name) (s .pre .0) (s .pre .1) (λ z. absurd (c .if1 .taken z)), rank-next (now (s .args .plan)) (now (s .args .gone)) (now (s .args .todo)) (s .args .name) (s .pre .0) (s .pre .1), s .pre .2)
 
 slice-read-if2 : tie.Need-slice-read-if2
 slice-read-if2 c = search needs
@@ -29,7 +29,7 @@ add-result-2 : tie.Need-add-result-2
 add-result-2 c = search needs
 
 returns-2 : tie.Need-returns-2
-returns-2 c = let s = c .before .before .before .before .before .before .before in (look-past (now (s .args .plan)) (now (s .args .gone)) (now (s .args .todo)) (s .args .name) (s .pre .0) (s .pre .1) (λ z. c .if2 .taken), rank-next (now (s .args .plan)) (now (s .args .gone)) (now (s .args .todo)) (s .args .name) (s .pre .0) (s .pre .1))
+returns-2 c = let s = c .before .before .before .before .before .before .before .before in (look-past (now (s .args .plan)) (now (s .args .gone)) (now (s .args .todo)) (s .args .name) (s .pre .0) (s .pre .1) (λ z. c .if2 .taken), rank-next (now (s .args .plan)) (now (s .args .gone)) (now (s .args .todo)) (s .args .name) (s .pre .0) (s .pre .1), s .pre .2)
 
 last-return-requires : tie.Need-last-return-requires
 last-return-requires c κs = search needs
@@ -46,30 +46,37 @@ same-length c = search needs
 same-length-2 : tie.Need-same-length-2
 same-length-2 c = search needs
 
+same-length-3 : tie.Need-same-length-3
+same-length-3 c = search needs
+
 returns-3 : tie.Need-returns-3
-returns-3 c = let s = c .before .before .before .before .before .before .before .before .before .before in (look-none (now (s .args .plan)) (now (s .args .gone)) (now (s .args .todo)) (s .args .name) (s .pre .0) (s .pre .1) (sym (c .if3 .taken) ∙ c .before .last-return .ensures .1), rank-next (now (s .args .plan)) (now (s .args .gone)) (now (s .args .todo)) (s .args .name) (s .pre .0) (s .pre .1))
+returns-3 c = let s = c .before .before .before .before .before .before .before .before .before .before .before .before .before .before in (look-none (now (s .args .plan)) (now (s .args .gone)) (now (s .args .todo)) (s .args .name) (s .pre .0) (s .pre .1) (sym (c .if3 .taken) ∙ c .before .before .before .last-return .ensures .1), rank-next (now (s .args .plan)) (now (s .args .gone)) (now (s .args .todo)) (s .args .name) (s .pre .0) (s .pre .1), c .before .before .before .last-return .ensures .2)
 
 crossing-at-requires : tie.Need-crossing-at-requires
 crossing-at-requires c κs = search needs
 
 note-leavings-requires : tie.Need-note-leavings-requires
-note-leavings-requires c κs = let s = c .before .before .before .before .before .before .before .before .before .before .before .before .before in (last-not-before (named (crossings (now (s .args .plan))) (s .args .name)) (crossings (now (s .args .plan))) (now (s .args .gone)) (s .args .name) (c .before .before .before .before .last-return .result) (c .before .before .before .before .last-return .ensures .1), c .before .before .before .before .last-return .ensures .0, s .pre .1 .long-gone, s .pre .1 .long-todo)
+note-leavings-requires c κs = let s = c .before .before .before .before .before .before .before .before .before .before .before .before .before .before .before .before .before .before in (last-not-before (named (crossings (now (s .args .plan))) (s .args .name)) (crossings (now (s .args .plan))) (now (s .args .gone)) (s .args .name) (c .before .before .before .before .before .before .before .last-return .result) (c .before .before .before .before .before .before .before .last-return .ensures .1), c .before .before .before .before .before .before .before .last-return .ensures .0, s .pre .1 .long-gone, s .pre .1 .long-todo, c .before .before .before .before .before .before .before .last-return .ensures .2)
 
 drop-trip-requires : tie.Need-drop-trip-requires
-drop-trip-requires c κs = let s = c .before .before .before .before .before .before .before .before .before .before .before .before .before .before .before .before .before in (eq-eqb _ _ (ap (λ y. y .carrier) (sym (c .before .before .before .before .before .before .crossing-at .ensures))), last-not-before (named (crossings (now (s .args .plan))) (s .args .name)) (crossings (now (s .args .plan))) (now (s .args .gone)) (s .args .name) (c .before .before .before .before .before .before .before .before .last-return .result) (c .before .before .before .before .before .before .before .before .last-return .ensures .1), c .before .before .before .before .before .before .before .before .last-return .ensures .0, s .pre .1 .long-gone)
-
-same-length-3 : tie.Need-same-length-3
-same-length-3 c = search needs
+drop-trip-requires c κs = let s = c .before .before .before .before .before .before .before .before .before .before .before .before .before .before .before .before .before .before .before .before .before .before .before .before .before in (eq-eqb _ _ (ap (λ y. y .carrier) (sym (c .before .before .before .before .before .before .before .before .before .before .crossing-at .ensures))), last-not-before (named (crossings (now (s .args .plan))) (s .args .name)) (crossings (now (s .args .plan))) (now (s .args .gone)) (s .args .name) (c .before .before .before .before .before .before .before .before .before .before .before .before .before .before .last-return .result) (c .before .before .before .before .before .before .before .before .before .before .before .before .before .before .last-return .ensures .1), c .before .before .before .before .before .before .before .before .before .before .before .before .before .before .last-return .ensures .0, s .pre .1 .long-gone, c .before .before .before .before .before .before .note-leavings .ensures .2)
 
 same-length-4 : tie.Need-same-length-4
 same-length-4 c = search needs
 
+same-length-5 : tie.Need-same-length-5
+same-length-5 c = search needs
+
+same-length-6 : tie.Need-same-length-6
+same-length-6 c = search needs
+
 returns-4 : tie.Need-returns-4
 returns-4 c =
-    let s = c .before .before .before .before .before .before .before .before .before .before .before .before .before .before .before .before .before .before .before .before in
-    let x = crossingOf (c .before .before .before .before .before .before .before .before .before .crossing-at .result) in
-    let n = c .before .before .before .before .before .before .note-leavings .ensures in
-    (rw (c .before .before .drop-trip .ensures) (look-cut (now (s .args .plan)) (now (s .args .gone)) (now (s .args .todo)) (s .args .name) (s .pre .0) (s .pre .1) (c .before .before .before .before .before .before .before .before .before .before .before .last-return .result) (c .before .before .before .before .before .before .note-leavings .result) _ x (c .before .before .before .before .before .before .before .before .before .crossing-at .ensures) (c .before .before .before .before .before .before .before .before .before .before .before .before .before .before .before .if1 .left) (c .before .before .before .before .before .before .before .before .before .before .if3 .left) (c .before .before .before .before .before .before .before .before .before .before .before .last-return .ensures .1) (n .0) (n .1)), rw (c .before .before .drop-trip .ensures) (cut-rank (now (s .args .plan)) (now (s .args .gone)) (now (s .args .todo)) (s .args .name) (s .pre .0) (s .pre .1) (c .before .before .before .before .before .before .before .before .before .before .before .last-return .result) (c .before .before .before .before .before .before .note-leavings .result) _ x (c .before .before .before .before .before .before .before .before .before .crossing-at .ensures) (c .before .before .before .before .before .before .before .before .before .before .before .before .before .before .before .if1 .left) (c .before .before .before .before .before .before .before .before .before .before .if3 .left) (c .before .before .before .before .before .before .before .before .before .before .before .last-return .ensures .1) (n .0) (n .1)))
+    let s = c .before .before .before .before .before .before .before .before .before .before .before .before .before .before .before .before .before .before .before .before .before .before .before .before .before .before .before .before .before .before in
+    let x = crossingOf (c .before .before .before .before .before .before .before .before .before .before .before .before .before .before .before .crossing-at .result) in
+    let n = c .before .before .before .before .before .before .before .before .before .before .before .note-leavings .ensures in
+    let d = c .before .before .before .before .drop-trip .ensures in
+    (rw (d .0) (look-cut (now (s .args .plan)) (now (s .args .gone)) (now (s .args .todo)) (s .args .name) (s .pre .0) (s .pre .1) (c .before .before .before .before .before .before .before .before .before .before .before .before .before .before .before .before .before .before .before .last-return .result) (c .before .before .before .before .before .before .before .before .before .before .before .note-leavings .result) _ x (c .before .before .before .before .before .before .before .before .before .before .before .before .before .before .before .crossing-at .ensures) (c .before .before .before .before .before .before .before .before .before .before .before .before .before .before .before .before .before .before .before .before .before .before .before .before .if1 .left) (c .before .before .before .before .before .before .before .before .before .before .before .before .before .before .before .before .if3 .left) (c .before .before .before .before .before .before .before .before .before .before .before .before .before .before .before .before .before .before .before .last-return .ensures .1) (n .0) (n .1)), rw (d .0) (cut-rank (now (s .args .plan)) (now (s .args .gone)) (now (s .args .todo)) (s .args .name) (s .pre .0) (s .pre .1) (c .before .before .before .before .before .before .before .before .before .before .before .before .before .before .before .before .before .before .before .last-return .result) (c .before .before .before .before .before .before .before .before .before .before .before .note-leavings .result) _ x (c .before .before .before .before .before .before .before .before .before .before .before .before .before .before .before .crossing-at .ensures) (c .before .before .before .before .before .before .before .before .before .before .before .before .before .before .before .before .before .before .before .before .before .before .before .before .if1 .left) (c .before .before .before .before .before .before .before .before .before .before .before .before .before .before .before .before .if3 .left) (c .before .before .before .before .before .before .before .before .before .before .before .before .before .before .before .before .before .before .before .last-return .ensures .1) (n .0) (n .1)), d .1)
 
 pub look-spec : {M : Type 1} → statement M
 look-spec =
@@ -86,10 +93,12 @@ look-spec =
     add-result-3
     same-length
     same-length-2
+    same-length-3
     returns-3
     crossing-at-requires
     note-leavings-requires
     drop-trip-requires
-    same-length-3
     same-length-4
+    same-length-5
+    same-length-6
     returns-4)

@@ -16,13 +16,13 @@ shared-slice-read-if1 : tie.Need-shared-slice-read-if1
 shared-slice-read-if1 c = search needs
 
 returns : tie.Need-returns
-returns c = let s = c .before .before .before .before .before in (omega arith, noted-not (now (s .args .gone)) (crossings (now (s .args .plan))) (s .args .carrier .0) (s .args .name) (s .args .low) (now (s .args .todo)) (λ z own. c .if1 .taken z))
+returns c = let s = c .before .before .before .before .before .before in (omega arith, noted-not (now (s .args .gone)) (crossings (now (s .args .plan))) (s .args .carrier .0) (s .args .name) (s .args .low) (now (s .args .todo)) (λ z own. c .if1 .taken z), s .pre .3)
 
 crossing-at-requires : tie.Need-crossing-at-requires
 crossing-at-requires c κs = search needs
 
 returns-2 : tie.Need-returns-2
-returns-2 c = let s = c .before .before .before .before .before .before .before .before .before in (omega arith, noted-not (now (s .args .gone)) (crossings (now (s .args .plan))) (s .args .carrier .0) (s .args .name) (s .args .low) (now (s .args .todo)) (λ z own. c .if2 .taken (ap (λ y. y .carrier) (c .before .before .before .crossing-at .ensures) ∙ own)))
+returns-2 c = let s = c .before .before .before .before .before .before .before .before .before .before in (omega arith, noted-not (now (s .args .gone)) (crossings (now (s .args .plan))) (s .args .carrier .0) (s .args .name) (s .args .low) (now (s .args .todo)) (λ z own. c .if2 .taken (ap (λ y. y .carrier) (c .before .before .before .crossing-at .ensures) ∙ own)), s .pre .3)
 
 last-leaving-requires : tie.Need-last-leaving-requires
 last-leaving-requires c κs = search needs
@@ -33,22 +33,28 @@ slice-write-todo c = search needs
 same-length : tie.Need-same-length
 same-length c = search needs
 
-returns-3 : tie.Need-returns-3
-returns-3 c =
-    let s = c .before .before .before .before .before .before .before .before .before .before .before in
-    let e = ap (λ y. y .to) (c .before .before .before .before .before .crossing-at .ensures) in
-    let f : (k : ℕ) → LastLeaving (now (s .args .gone)) (crossings (now (s .args .plan))) (named (crossings (now (s .args .plan))) (s .args .name) .to) (s .args .name) k → c .before .last-leaving .result ≡ k = λ k l. c .before .last-leaving .ensures .1 k (rw (sym e) at l) in
-    (omega (arith, c .if3 .taken), noted-one (now (s .args .gone)) (crossings (now (s .args .plan))) (s .args .carrier .0) (s .args .name) (c .before .last-leaving .result) (c .before .last-leaving .result) (now (s .args .todo)) (omega (arith, c .before .last-leaving .ensures .0)) (omega arith) f)
-
 same-length-2 : tie.Need-same-length-2
 same-length-2 c = search needs
 
+returns-3 : tie.Need-returns-3
+returns-3 c =
+    let s = c .before .before .before .before .before .before .before .before .before .before .before .before .before .before .before in
+    let e = ap (λ y. y .to) (c .before .before .before .before .before .before .before .before .crossing-at .ensures) in
+    let f : (k : ℕ) → LastLeaving (now (s .args .gone)) (crossings (now (s .args .plan))) (named (crossings (now (s .args .plan))) (s .args .name) .to) (s .args .name) k → c .before .before .before .last-leaving .result ≡ k = λ k l. c .before .before .before .last-leaving .ensures .1 k (rw (sym e) at l) in
+    (omega (arith, c .if3 .taken), noted-one (now (s .args .gone)) (crossings (now (s .args .plan))) (s .args .carrier .0) (s .args .name) (c .before .before .before .last-leaving .result) (c .before .before .before .last-leaving .result) (now (s .args .todo)) (omega (arith, c .before .before .before .last-leaving .ensures .0)) (omega arith) f, c .before .before .before .last-leaving .ensures .2)
+
+same-length-3 : tie.Need-same-length-3
+same-length-3 c = search needs
+
+same-length-4 : tie.Need-same-length-4
+same-length-4 c = search needs
+
 returns-4 : tie.Need-returns-4
 returns-4 c =
-    let s = c .before .before .before .before .before .before .before .before .before .before .before in
-    let e = ap (λ y. y .to) (c .before .before .before .before .before .crossing-at .ensures) in
-    let f : (k : ℕ) → LastLeaving (now (s .args .gone)) (crossings (now (s .args .plan))) (named (crossings (now (s .args .plan))) (s .args .name) .to) (s .args .name) k → c .before .last-leaving .result ≡ k = λ k l. c .before .last-leaving .ensures .1 k (rw (sym e) at l) in
-    (omega arith, noted-one (now (s .args .gone)) (crossings (now (s .args .plan))) (s .args .carrier .0) (s .args .name) (s .args .low) (c .before .last-leaving .result) (now (s .args .todo)) (omega (arith, c .before .last-leaving .ensures .0)) (c .if3 .left) f)
+    let s = c .before .before .before .before .before .before .before .before .before .before .before .before .before .before .before in
+    let e = ap (λ y. y .to) (c .before .before .before .before .before .before .before .before .crossing-at .ensures) in
+    let f : (k : ℕ) → LastLeaving (now (s .args .gone)) (crossings (now (s .args .plan))) (named (crossings (now (s .args .plan))) (s .args .name) .to) (s .args .name) k → c .before .before .before .last-leaving .result ≡ k = λ k l. c .before .before .before .last-leaving .ensures .1 k (rw (sym e) at l) in
+    (omega arith, noted-one (now (s .args .gone)) (crossings (now (s .args .plan))) (s .args .carrier .0) (s .args .name) (s .args .low) (c .before .before .before .last-leaving .result) (now (s .args .todo)) (omega (arith, c .before .before .before .last-leaving .ensures .0)) (c .if3 .left) f, c .before .before .before .last-leaving .ensures .2)
 
 pub note-one-spec : {M : Type 1} → statement M
 note-one-spec =
@@ -61,6 +67,8 @@ note-one-spec =
     last-leaving-requires
     slice-write-todo
     same-length
-    returns-3
     same-length-2
+    returns-3
+    same-length-3
+    same-length-4
     returns-4)

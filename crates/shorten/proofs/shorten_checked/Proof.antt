@@ -1,6 +1,7 @@
 -- `shorten::shorten_checked` meets its contract. A plan that passes the check is no longer than the working room.
 -- Assumes nothing.
 use Rattle.shorten.proofs.Looking.{take-fresh}
+use Rattle.shorten.proofs.Remembering.{settled-fresh}
 use lib.ListN.{length, take, replicate, length-replicate}
 use denote.Ref.{now}
 use native.Mathlib.Omega.{arith}
@@ -11,23 +12,26 @@ use Rattle.shorten.proofs.shorten_checked.Statement.{statement}
 use Rattle.shorten.proofs.shorten_checked.Tie as tie
 
 -- as many places as are taken of it
-enough : (v k : ℕ) → k ≤ 65536 → length (take k (replicate 65536 v)) ≡ k
-enough v k h = ap length (take-fresh v k 65536 h) ∙ length-replicate {A = ℕ} k v
+enough : (v k n : ℕ) → k ≤ n → length (take k (replicate n v)) ≡ k
+enough v k n h = ap length (take-fresh v k n h) ∙ length-replicate {A = ℕ} k v
 
 array-borrow-prefix-gone : tie.Need-array-borrow-prefix-gone
 array-borrow-prefix-gone c = search needs
 
 slice-aggregate-shorten-in : tie.Need-slice-aggregate-shorten-in
-slice-aggregate-shorten-in c = let s = c .before .before .before in sym (enough 0 (length (now (s .args .plan))) (s .pre .1))
+slice-aggregate-shorten-in c = let s = c .before .before .before in sym (enough 0 (length (now (s .args .plan))) 65536 (s .pre .1))
 
 array-borrow-prefix-todo : tie.Need-array-borrow-prefix-todo
 array-borrow-prefix-todo c = search needs
 
 slice-aggregate-shorten-in-2 : tie.Need-slice-aggregate-shorten-in-2
-slice-aggregate-shorten-in-2 c = let s = c .before .before .before .before in sym (enough 1 (length (now (s .args .plan))) (s .pre .1))
+slice-aggregate-shorten-in-2 c = let s = c .before .before .before .before in sym (enough 1 (length (now (s .args .plan))) 65536 (s .pre .1))
+
+slice-aggregate-shorten-in-3 : tie.Need-slice-aggregate-shorten-in-3
+slice-aggregate-shorten-in-3 c = sym (enough 0 196608 196608 (omega arith))
 
 shorten-in-requires : tie.Need-shorten-in-requires
-shorten-in-requires c κs = let s = c .before .before .before .before .before in (s .pre .0, s .pre .1, take-fresh 0 (length (now (s .args .plan))) 65536 (s .pre .1), take-fresh 1 (length (now (s .args .plan))) 65536 (s .pre .1))
+shorten-in-requires c κs = let s = c .before .before .before .before .before .before in (s .pre .0, s .pre .1, take-fresh 0 (length (now (s .args .plan))) 65536 (s .pre .1), take-fresh 1 (length (now (s .args .plan))) 65536 (s .pre .1), settled-fresh (now (s .args .plan)) (take (length (now (s .args .plan))) (replicate 65536 0)) (take 196608 (replicate 196608 0)) 196608 (take-fresh 0 196608 196608 (omega arith)))
 
 same-length : tie.Need-same-length
 same-length c = search needs
@@ -43,6 +47,7 @@ shorten-checked-spec =
     slice-aggregate-shorten-in
     array-borrow-prefix-todo
     slice-aggregate-shorten-in-2
+    slice-aggregate-shorten-in-3
     shorten-in-requires
     same-length
     returns)

@@ -7,7 +7,7 @@ use Rattle.shorten.proofs.shorten_in.Statement.{statement}
 use Rattle.shorten.proofs.shorten_in.Tie as tie
 
 drop-trips-requires : tie.Need-drop-trips-requires
-drop-trips-requires c κs = let s = c .before .before .before .before .before .before in look-fresh (now (s .args .plan)) (now (s .args .gone)) (now (s .args .todo)) (s .pre .0) (s .pre .2) (s .pre .3)
+drop-trips-requires c κs = let s = c .before .before .before .before .before .before .before .before in (look-fresh (now (s .args .plan)) (now (s .args .gone)) (now (s .args .todo)) (s .pre .0) (s .pre .2) (s .pre .3), s .pre .4)
 
 finish-requires : tie.Need-finish-requires
 finish-requires c κs = search needs
@@ -21,10 +21,13 @@ same-length-2 c = search needs
 same-length-3 : tie.Need-same-length-3
 same-length-3 c = search needs
 
+same-length-4 : tie.Need-same-length-4
+same-length-4 c = search needs
+
 returns : tie.Need-returns
 returns c = search needs
 
 pub shorten-in-spec : {M : Type 1} → statement M
 shorten-in-spec =
     tie.close
-    (tie.spec drop-trips-requires finish-requires same-length same-length-2 same-length-3 returns)
+    (tie.spec drop-trips-requires finish-requires same-length same-length-2 same-length-3 same-length-4 returns)
