@@ -329,7 +329,7 @@ fn drop_trip(
     last: usize,
     carrier: Carrier,
 )
-    requires { ⌜ (isOf (carrier .0) (named (crossings (now plan)) name) ≡ true) × (name ≤ last) × (last < length (now plan)) × (length (now gone) ≡ length (now plan)) × Settled (now plan) (now gone) (now known) ⌝ }
+    requires { ⌜ (isOf (carrier .0) (named (crossings (now plan)) name) ≡ true) × (name ≤ last) × (last < length (now plan)) × (length (now gone) ≡ length (now plan)) × Settled (now plan) (now gone) (now known) × (getD (now gone) name 0 ≡ 0) ⌝ }
     ensures { λ _. ⌜ (now (gone .exit) ≡ dropTrip (carrier .0) name (suc last - name) (now (gone .entry)) (crossings (now (plan .entry)))) × Settled (now (plan .entry)) (now (gone .exit)) (now (known .exit)) ⌝ }
 {
     let key = carrier_key(carrier);

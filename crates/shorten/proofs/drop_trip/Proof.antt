@@ -42,7 +42,7 @@ loop-holds c =
     let n = c .before .before .next-like .ensures in
     let r = c .before .before .next-like .result in
     let long = length-set (now (s .args .gone)) (s .args .name) _ ∙ s .pre .3 in
-    let more = keeps-1 (now (s .args .gone)) (s .args .name) _ (omega (arith, s .pre .1, s .pre .2, s .pre .3)) (λ e. refl) in
+    let more = keeps-1 (now (s .args .gone)) (s .args .name) _ (omega (arith, s .pre .1, s .pre .2, s .pre .3)) (λ e. absurd (omega (arith, e, s .pre .5))) in
     (omega (arith, n .0), omega (arith, n .1), long, refl, λ b kind key u v f k l h e. more k (n .3 b kind key u v f k l h e), trim-over (now (s .args .plan)) _ (s .args .carrier .0) long (c .before .before .before .before .before .carrier-key .result) (r - (s .args .name + 1)) (s .args .name + 1) r (suc (s .args .last) - r) (suc (s .args .last) - (s .args .name + 1)) (omega (arith, n .0)) (omega (arith, n .0, n .1)) (omega (arith, n .1, s .pre .2)) (c .before .before .before .before .before .carrier-key .ensures) (λ k l h e. more k (n .2 k l h e)))
 
 slice-read-byte-after : tie.Need-slice-read-byte-after Inv-loop μ-loop
