@@ -1,13 +1,20 @@
 // A plan reported over a line that loses, repeats and reorders, from a fixed seed: every accepted crossing is replayed, tested by scans
-// that share no code with the check, and billed. It prints what must come out whatever the line does: each crossing accepted once and
-// legal, every carrier home, every bill the plan's count.
+// that share no code with the check, and billed. Record and account lines are kept beside the marks, and compared after every report with
+// those worked out afresh. It prints what must come out whatever the line does: each crossing accepted once and legal, every carrier home,
+// every bill the plan's count.
+use bills::Record;
 use cases::first8;
 use cases::first16;
 use cases::first64;
 use docket::Crossing;
+use ledger::Agreement;
+use ledger::Billed;
+use ledger::Held;
+use ledger::Told;
 use libc::STDOUT_FILENO;
-use marks::Reported;
 use plans::Named;
+use std::num::wrapping_add_u64;
+use yard::Yard;
 
 // The numbers of the line's dice: Marsaglia's xorshift.
 fn roll(x: u64) -> u64 {
@@ -24,6 +31,19 @@ struct Line {
     lost: u64,
     early: u64,
     repeated: u64,
+}
+
+// Record and account lines, and how often they were not those worked out afresh.
+struct Books {
+    running: Record,
+    held: Held,
+    differed: u64,
+}
+
+// The line and the books after a report.
+struct Day {
+    line: Line,
+    books: Books,
 }
 
 fn more(n: u64) -> u64 {
@@ -43,7 +63,7 @@ fn lowest_open(known: &[u8; 1024], at: usize) -> usize {
 }
 
 // The answer of a done name comes back, or is lost: then the name is reported again.
-fn told(known: &mut [u8; 1024], name: usize, answer: Reported, dice: u64) {
+fn hear(known: &mut [u8; 1024], name: usize, answer: Billed, dice: u64) {
     if !is_done(answer) {
         return;
     }
@@ -66,9 +86,9 @@ fn keep(got: &mut [u64], at: usize, name: usize) -> usize {
 }
 
 // What an answer does to the line.
-fn after(line: Line, answer: Reported, name: usize, got: &mut [u64]) -> Line {
+fn after(line: Line, answer: Billed, name: usize, got: &mut [u64]) -> Line {
     match answer {
-        Reported::Accepted => Line {
+        Billed::Accepted => Line {
             dice: line.dice,
             lowest: line.lowest,
             accepted: keep(got, line.accepted, name),
@@ -76,7 +96,7 @@ fn after(line: Line, answer: Reported, name: usize, got: &mut [u64]) -> Line {
             early: line.early,
             repeated: line.repeated,
         },
-        Reported::Already => Line {
+        Billed::Already => Line {
             dice: line.dice,
             lowest: line.lowest,
             accepted: line.accepted,
@@ -84,7 +104,8 @@ fn after(line: Line, answer: Reported, name: usize, got: &mut [u64]) -> Line {
             early: line.early,
             repeated: more(line.repeated),
         },
-        Reported::Refused(_) => Line {
+        Billed::Disagrees => line,
+        Billed::Refused(_) => Line {
             dice: line.dice,
             lowest: line.lowest,
             accepted: line.accepted,
@@ -95,11 +116,12 @@ fn after(line: Line, answer: Reported, name: usize, got: &mut [u64]) -> Line {
     }
 }
 
-fn is_done(answer: Reported) -> bool {
+fn is_done(answer: Billed) -> bool {
     match answer {
-        Reported::Accepted => true,
-        Reported::Already => true,
-        Reported::Refused(_) => false,
+        Billed::Accepted => true,
+        Billed::Already => true,
+        Billed::Disagrees => false,
+        Billed::Refused(_) => false,
     }
 }
 
@@ -135,6 +157,59 @@ fn pick(line: Line) -> usize {
     }
 }
 
+fn is_agreed(answer: Agreement) -> bool {
+    match answer {
+        Agreement::Agrees => true,
+        Agreement::Differs => false,
+        Agreement::Refused(_) => false,
+    }
+}
+
+// The lines with the one that a report changed; none, where its place is past the last.
+fn entered(held: Held, told: Told) -> Held {
+    let at = told.at;
+    if held.count <= at {
+        return held;
+    }
+    if Yard::BAYS <= at {
+        return held;
+    }
+    let line = told.line;
+    let mut lines = held.lines;
+    lines[at] = line;
+    ledger::hold(held.count, lines)
+}
+
+fn counted(differed: u64, answer: Agreement) -> u64 {
+    if is_agreed(answer) {
+        differed
+    } else {
+        more(differed)
+    }
+}
+
+// The books after a report, compared.
+fn keep_books(
+    bays: u64,
+    rails: &[u16],
+    start: &[u16],
+    goal: &[u16],
+    plan: &[u64],
+    marks: &[u8],
+    books: Books,
+    told: Told,
+) -> Books {
+    let running = told.running;
+    let before = books.held;
+    let held = entered(before, told);
+    let agreed = ledger::compare(bays, rails, start, goal, plan, marks, running, held);
+    Books {
+        running,
+        held,
+        differed: counted(books.differed, agreed),
+    }
+}
+
 // One report is sent: it is lost, or it is answered.
 fn send(
     bays: u64,
@@ -146,14 +221,112 @@ fn send(
     got: &mut [u64],
     known: &mut [u8; 1024],
     line: Line,
-) -> Line {
+    books: Books,
+) -> Day {
     if line.dice / 8 % 4 == 0 {
-        return lost(line);
+        return Day {
+            line: lost(line),
+            books,
+        };
     }
     let name = pick(line);
-    let answer = reports::report(bays, rails, start, goal, plan, marks, name as u64);
-    told(known, name, answer, line.dice);
-    after(line, answer, name, got)
+    let running = books.running;
+    let held = books.held;
+    let told = ledger::report(
+        bays,
+        rails,
+        start,
+        goal,
+        plan,
+        marks,
+        name as u64,
+        running,
+        held,
+    );
+    let answer = told.answer;
+    hear(known, name, answer, line.dice);
+    Day {
+        line: after(line, answer, name, got),
+        books: keep_books(bays, rails, start, goal, plan, marks, books, told),
+    }
+}
+
+// The books on fresh marks.
+fn open_books(
+    bays: u64,
+    rails: &[u16],
+    start: &[u16],
+    goal: &[u16],
+    plan: &[u64],
+    marks: &[u8],
+) -> Books {
+    let at = [0u16; Yard::BAYS];
+    let blank = Record {
+        at,
+        done: 0,
+        highest: 0,
+    };
+    let opening = ledger::open(bays, rails, start, goal, plan, marks, blank, start.len());
+    let running = opening.running;
+    let held = opening.held;
+    Books {
+        running,
+        held,
+        differed: 0,
+    }
+}
+
+// The same record, with so many done.
+fn tampered(running: Record, done: u32) -> Record {
+    let at = running.at;
+    Record {
+        at,
+        done,
+        highest: running.highest,
+    }
+}
+
+fn show_tampered(answer: Billed, done: u32, agreed: Agreement) {
+    let Billed::Disagrees = answer else {
+        return;
+    };
+    if done == 1 && is_agreed(agreed) {
+        io::write_all(
+            STDOUT_FILENO,
+            b"tampered record refused 19, nothing changed\n",
+        );
+    }
+}
+
+// A first report, on a record that counts a crossing as done, is answered with 19. It changes nothing: with that count taken back all agrees.
+fn tamper(
+    bays: u64,
+    rails: &[u16],
+    start: &[u16],
+    goal: &[u16],
+    plan: &[u64],
+    marks: &mut [u8],
+    books: Books,
+) {
+    let running = books.running;
+    let held = books.held;
+    let told = ledger::report(
+        bays,
+        rails,
+        start,
+        goal,
+        plan,
+        marks,
+        0,
+        tampered(running, 1),
+        held,
+    );
+    let answer = told.answer;
+    let then = told.running;
+    let left = entered(held, told);
+    let mended = tampered(then, 0);
+    let agreed = ledger::compare(bays, rails, start, goal, plan, marks, mended, left);
+    show_tampered(answer, then.done, agreed);
 }
 
 // A day on the line.
@@ -165,8 +338,10 @@ fn run(
     plan: &[u64],
     marks: &mut [u8],
     got: &mut [u64],
-) -> Line {
+    opened: Books,
+) -> Day {
     let mut known = [0u8; 1024];
+    let mut books = opened;
     let mut line = Line {
         dice: 88172645463325252,
         lowest: 0,
@@ -178,10 +353,23 @@ fn run(
     let mut turn: u64 = 0;
     while turn < 20000 {
         let next = rolled(line, lowest_open(&known, line.lowest));
-        line = send(bays, rails, start, goal, plan, marks, got, &mut known, next);
+        let day = send(
+            bays,
+            rails,
+            start,
+            goal,
+            plan,
+            marks,
+            got,
+            &mut known,
+            next,
+            books,
+        );
+        line = day.line;
+        books = day.books;
         turn += 1;
     }
-    line
+    Day { line, books }
 }
 
 // Whether a rail joins a and b.
@@ -308,8 +496,7 @@ fn copy(from: &[u16], to: &mut [u16]) {
 }
 
 fn show(line: Line, plan: &[u64], illegal: u64, away: u64, wrong: u64) {
-    io::write_all(STDOUT_FILENO, b"accepted ");
-    io::print_decimal(STDOUT_FILENO, line.accepted as u64);
+    put(b"accepted ", line.accepted as u64);
     say(b" of ", plan.len() as u64);
     say(b"illegal ", illegal);
     say(b"not home ", away);
@@ -334,6 +521,21 @@ fn settle(line: Line, rails: &[u16], start: &[u16], goal: &[u16], plan: &[u64], 
     show(line, plan, illegal, away(&at, goal), wrong(plan, &bills));
 }
 
+// The books are opened, tampered with, and kept for a day.
+fn keep_day(
+    bays: u64,
+    rails: &[u16],
+    start: &[u16],
+    goal: &[u16],
+    plan: &[u64],
+    marks: &mut [u8],
+    got: &mut [u64],
+) -> Day {
+    let books = open_books(bays, rails, start, goal, plan, marks);
+    tamper(bays, rails, start, goal, plan, marks, books);
+    run(bays, rails, start, goal, plan, marks, got, books)
+}
+
 // The marks of a plan are as many as its crossings.
 fn run_marked(
     bays: u64,
@@ -342,21 +544,57 @@ fn run_marked(
     goal: &[u16],
     plan: &[u64],
     got: &mut [u64],
-) -> Line {
+) -> Day {
     let mut marks = [0u8; 1024];
     let n = plan.len();
     if n <= 1024 {
-        run(bays, rails, start, goal, plan, &mut marks[..n], got)
+        keep_day(bays, rails, start, goal, plan, &mut marks[..n], got)
     } else {
-        run(bays, rails, start, goal, plan, &mut marks, got)
+        keep_day(bays, rails, start, goal, plan, &mut marks, got)
     }
+}
+
+// A carrier's line, and how many crossings are billed to it.
+fn show_line(held: Held, c: usize) -> u64 {
+    if Yard::BAYS <= c {
+        return 0;
+    }
+    let line = ledger::line_at(held, c);
+    put(b"carrier ", line.carrier as u64);
+    put(b" billed ", line.billed as u64);
+    say(b" last name ", line.last as u64);
+    line.billed as u64
+}
+
+// Each carrier's line, and how many crossings are billed in all.
+fn show_lines(held: Held) -> u64 {
+    let mut sum = 0;
+    let mut c = 0;
+    while c < held.count {
+        sum = wrapping_add_u64(sum, show_line(held, c));
+        c += 1;
+    }
+    sum
+}
+
+fn show_books(books: Books, plan: &[u64]) {
+    let running = books.running;
+    let held = books.held;
+    say(b"disagreed ", books.differed);
+    say(b"done ", running.done as u64);
+    say(b"highest slot ", running.highest as u64);
+    put(b"billed ", show_lines(held));
+    say(b" of ", plan.len() as u64);
 }
 
 // The day, and what came of it.
 fn simulate(bays: u64, rails: &[u16], start: &[u16], goal: &[u16], plan: &[u64]) {
     let mut got = [0u64; 1024];
-    let line = run_marked(bays, rails, start, goal, plan, &mut got);
+    let day = run_marked(bays, rails, start, goal, plan, &mut got);
+    let line = day.line;
+    let books = day.books;
     settle(line, rails, start, goal, plan, first64(&got, line.accepted));
+    show_books(books, plan);
 }
 
 fn read(text: &[u8]) {
@@ -378,9 +616,13 @@ fn read(text: &[u8]) {
     );
 }
 
-fn say(words: &[u8], n: u64) {
+fn put(words: &[u8], n: u64) {
     io::write_all(STDOUT_FILENO, words);
     io::print_decimal(STDOUT_FILENO, n);
+}
+
+fn say(words: &[u8], n: u64) {
+    put(words, n);
     io::write_all(STDOUT_FILENO, b"\n");
 }
 

@@ -15,17 +15,17 @@ enough k h = length-take-le k (replicate 1024 0) (rw (length-replicate {A = ℕ}
 array-borrow-prefix-marks : tie.Need-array-borrow-prefix-marks
 array-borrow-prefix-marks c = search needs
 
-slice-aggregate-run : tie.Need-slice-aggregate-run
-slice-aggregate-run c = sym (enough _ (omega arith))
+slice-aggregate-keep-day : tie.Need-slice-aggregate-keep-day
+slice-aggregate-keep-day c = sym (enough _ (omega arith))
 
-run-requires : tie.Need-run-requires
-run-requires c κs = search needs
+keep-day-requires : tie.Need-keep-day-requires
+keep-day-requires c κs = search needs
 
-slice-aggregate-run-2 : tie.Need-slice-aggregate-run-2
-slice-aggregate-run-2 c = search needs
+slice-aggregate-keep-day-2 : tie.Need-slice-aggregate-keep-day-2
+slice-aggregate-keep-day-2 c = search needs
 
-run-requires-2 : tie.Need-run-requires-2
-run-requires-2 c κs = search needs
+keep-day-requires-2 : tie.Need-keep-day-requires-2
+keep-day-requires-2 c κs = search needs
 
 same-length : tie.Need-same-length
 same-length c = search needs
@@ -44,10 +44,10 @@ run-marked-spec =
     tie.close
     (tie.spec
     array-borrow-prefix-marks
-    slice-aggregate-run
-    run-requires
-    slice-aggregate-run-2
-    run-requires-2
+    slice-aggregate-keep-day
+    keep-day-requires
+    slice-aggregate-keep-day-2
+    keep-day-requires-2
     same-length
     returns
     same-length-2
