@@ -13,13 +13,14 @@ ghost use Rattle.paper.specs.Path.{shortestPath};
 ghost use Rattle.paper.proofs.Playing.{Apart};
 ghost use Rattle.bring.specs.Acting.{Tabled, Ready};
 ghost use Rattle.step.specs.Asking.{Loopless};
-ghost use Rattle.home.specs.Homing.{AtMost, Stages};
+ghost use Rattle.home.specs.Homing.{Owners, AtMost, Stages};
 ghost use Rattle.carry.specs.Carrying.{Goals, OnPath, Reaching, HomeBelow, carries, procedures};
 
 // Carrier r goes the path, whose first bay is its own, then those that it displaced go home.
 fn carry_along(
     table: &[u64],
     goals: &[u16],
+    owner: &[u16],
     r: Carrier,
     path: &[u16],
     placement: &mut [u16],
@@ -29,7 +30,7 @@ fn carry_along(
     at: usize,
 ) -> Staged
     requires { ⌜ Ready (now table) (now placement) (now standing) (now empty) ⌝ }
-    requires { ⌜ (r .0 < length (now placement)) × Goals (length (now standing)) (now goals) (now placement) × Loopless (length (now standing)) (now table) × HomeBelow (r .0) (now goals) (now placement) × (length (now path) ≤ 256) × OnPath (length (now standing)) (now table) (getD (now placement) (r .0) 0) (getD (now goals) (r .0) 0) (now path) × (at < 2 ^ 59) ⌝ }
+    requires { ⌜ (r .0 < length (now placement)) × Goals (length (now standing)) (now goals) (now placement) × Loopless (length (now standing)) (now table) × HomeBelow (r .0) (now goals) (now placement) × (length (now path) ≤ 256) × OnPath (length (now standing)) (now table) (getD (now placement) (r .0) 0) (getD (now goals) (r .0) 0) (now path) × (at < 2 ^ 59) × Owners (length (now standing)) (now goals) (now owner) ⌝ }
     ensures { λ z. ⌜ (AtMost at 80000000 z) × ((t : Tabled (length (now (standing .entry))) (now (table .entry))) → now (path .entry) ≡ shortestPath (t .yard) [] (bayOf (now (placement .entry)) (r .0)) (bayOf (now (goals .entry)) (r .0)) → Stages (carries (t .yard) (now (goals .entry)) (r .0) (now (placement .entry))) (length (now (standing .entry))) (now (placement .entry)) (now (out .entry)) at (now (placement .exit)) (now (standing .exit)) (now (empty .exit)) (now (out .exit)) z) ⌝ }
 {
     if path.len() < 1 {
@@ -47,6 +48,7 @@ fn carry_along(
     home::way_home(
         table,
         goals,
+        owner,
         finished,
         &path[1..last],
         placement,
@@ -61,6 +63,7 @@ fn carry_along(
 fn carry(
     table: &[u64],
     goals: &[u16],
+    owner: &[u16],
     r: Carrier,
     placement: &mut [u16],
     standing: &mut [u16],
@@ -69,7 +72,7 @@ fn carry(
     at: usize,
 ) -> Staged
     requires { ⌜ Ready (now table) (now placement) (now standing) (now empty) ⌝ }
-    requires { ⌜ (r .0 < length (now placement)) × Goals (length (now standing)) (now goals) (now placement) × Loopless (length (now standing)) (now table) × HomeBelow (r .0) (now goals) (now placement) × Reaching (length (now standing)) (now table) × (at < 2 ^ 59) ⌝ }
+    requires { ⌜ (r .0 < length (now placement)) × Goals (length (now standing)) (now goals) (now placement) × Loopless (length (now standing)) (now table) × HomeBelow (r .0) (now goals) (now placement) × Reaching (length (now standing)) (now table) × (at < 2 ^ 59) × Owners (length (now standing)) (now goals) (now owner) ⌝ }
     ensures { λ z. ⌜ (AtMost at 80000000 z) × ((t : Tabled (length (now (standing .entry))) (now (table .entry))) → Stages (carries (t .yard) (now (goals .entry)) (r .0) (now (placement .entry))) (length (now (standing .entry))) (now (placement .entry)) (now (out .entry)) at (now (placement .exit)) (now (standing .exit)) (now (empty .exit)) (now (out .exit)) z) ⌝ }
 {
     let own = r.0 as usize;
@@ -85,6 +88,7 @@ fn carry(
     carry_along(
         table,
         goals,
+        owner,
         r,
         &path[..k],
         placement,
@@ -99,13 +103,14 @@ fn carry(
 pub fn carry_all(
     table: &[u64],
     goals: &[u16],
+    owner: &[u16],
     placement: &mut [u16],
     standing: &mut [u16],
     empty: &mut [u64],
     out: &mut [u64],
 ) -> Staged
     requires { ⌜ Ready (now table) (now placement) (now standing) (now empty) ⌝ }
-    requires { ⌜ Goals (length (now standing)) (now goals) (now placement) × Loopless (length (now standing)) (now table) × Reaching (length (now standing)) (now table) ⌝ }
+    requires { ⌜ Goals (length (now standing)) (now goals) (now placement) × Loopless (length (now standing)) (now table) × Reaching (length (now standing)) (now table) × Owners (length (now standing)) (now goals) (now owner) ⌝ }
     ensures { λ z. ⌜ ((t : Tabled (length (now (standing .entry))) (now (table .entry))) → Stages (procedures (t .yard) (now (goals .entry)) (now (placement .entry))) (length (now (standing .entry))) (now (placement .entry)) (now (out .entry)) 0 (now (placement .exit)) (now (standing .exit)) (now (empty .exit)) (now (out .exit)) z) ⌝ }
 {
     let mut count = 0;
@@ -115,6 +120,7 @@ pub fn carry_all(
         let carried = carry(
             table,
             goals,
+            owner,
             carrier,
             placement,
             standing,

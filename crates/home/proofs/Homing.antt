@@ -1,7 +1,5 @@
 -- The bays looked after are those from i on; each turn adds the bay before them, as the paper's way home does.
 -- Assumes nothing.
-use Rattle.paper.specs.Basics.{_or_}
-use mathlib.Core.Bool.{Bool, true, false}
 use mathlib.Core.Path.{_≡_, sym, _∙_, ap, refl}
 use mathlib.Core.List.{List, [], _∷_, _++_}
 use Prim.Native.Nat.{ℕ, suc, _≤_, _<_, _+_, zero}
@@ -9,13 +7,14 @@ use native.Mathlib.Omega.{arith}
 use native.Mathlib.Numerals.{add-one}
 use lib.ListN.{length, getD, drop, drop-of-length-le, take}
 use lib.Seq.{drop-cons}
+use lib.Dec.{eqb}
 use borrow.Author.Tests.{eq-eqb, ne-eqb, lt-ltb, le-ltb}
 use Rattle.paper.specs.Basics.{_and_, placeOf}
 use Rattle.home.specs.Homing.{Due, Settled, AtMost, Stages, Homeward}
 use Rattle.paper.specs.Procedure.{step, Outcome, planned, stuck, orStuck, onward, _next_, homeAt, wayHome}
 use Rattle.paper.specs.Yard.{Bay, Carrier, Yard, Placement, bayOf, carrierAt, Crossing, after}
 use Rattle.paper.proofs.Playing.{Apart}
-use Rattle.paper.proofs.Tests.{never}
+use Rattle.paper.proofs.Tests.{never, by-cases}
 use Rattle.words.specs.Sets.{span}
 use Rattle.vacate.specs.Placed.{Placed, Played}
 use Rattle.vacate.proofs.Playing.{played-none, played-then}
@@ -30,44 +29,23 @@ use Rattle.home.specs.declared.Staged.the-variants.{Planned}
 use Rattle.home.specs.declared.Staged.the-variants.{Stuck}
 use Rattle.docket.specs.declared.Carrier.{Carrier as Named}
 
--- what was found stays found where the next is another
-pub or-unless : (a b : Bool) → (b ≡ true → ⊥) → a ≡ a or b
-unfolding _or_
-or-unless true b h = refl
-or-unless false true h = absurd (h refl)
-or-unless false false h = refl
-
 -- ## Whose goal a bay is
 
--- none of the carriers below c has the goal v
-pub record Passed (goals : List ℕ) (v : Bay) (c : ℕ) : Type 0 where
-  pub place : carrierAt goals v ≡ c + carrierAt (drop c goals) v
-
-pub passed-none : (goals : List ℕ) (v : Bay) → Passed goals v 0
-passed-none goals v = record { place = omega arith }
-
-place-cons : (v x : ℕ) (l : List ℕ) → (v ≡ x → ⊥) → carrierAt (x ∷ l) v ≡ suc (carrierAt l v)
+-- the first of the finished carriers whose goal is v is the first of all, if that one is finished
+pub place-low : (f : ℕ) (l : List ℕ) (v : Bay) → carrierAt l v < f → carrierAt (take f l) v ≡ carrierAt l v
 unfolding placeOf
-place-cons v x l ne = rw (ne-eqb v x ne)
+place-low zero l v h = absurd (omega arith)
+place-low (suc f) [] v h = refl
+place-low (suc f) (x ∷ l) v h = by-cases (eqb v x) (λ e. rw e) (λ e. rw e (ap suc (place-low f l v (let k = rw e at h in omega arith))))
 
-place-head : (v x : ℕ) (l : List ℕ) → v ≡ x → carrierAt (x ∷ l) v ≡ 0
+pub place-high : (f : ℕ) (l : List ℕ) (v : Bay) → f ≤ length l → f ≤ carrierAt l v → carrierAt (take f l) v ≡ f
 unfolding placeOf
-place-head v x l e = rw (eq-eqb v x e)
-
-pub passed-more : (goals : List ℕ) (v : Bay) (c : ℕ) → c < length goals → (getD goals c 0 ≡ v → ⊥) → Passed goals v c → Passed goals v (c + 1)
-passed-more goals v c h ne k =
-    let e : carrierAt (drop c goals) v ≡ suc (carrierAt (drop (c + 1) goals) v) = rw (drop-cons goals c 0, add-one) (place-cons v (getD goals c 0) (drop (suc c) goals) (λ d. ne (sym d))) in
-    record { place = k .place ∙ rw e (omega arith) }
-
-pub passed-here : (goals : List ℕ) (v : Bay) (c : ℕ) → c < length goals → getD goals c 0 ≡ v → Passed goals v c → carrierAt goals v ≡ c
-passed-here goals v c h e k =
-    let z : carrierAt (drop c goals) v ≡ 0 = rw (drop-cons goals c 0) (place-head v (getD goals c 0) (drop (suc c) goals) (sym e)) in
-    k .place ∙ rw z (omega arith)
-
-pub passed-all : (goals : List ℕ) (v : Bay) (c : ℕ) → length goals ≤ c → Passed goals v c → carrierAt goals v ≡ c
-passed-all goals v c h k =
-    let z : carrierAt (drop c goals) v ≡ 0 = rw (drop-of-length-le goals h) (unfold placeOf in refl) in
-    k .place ∙ rw z (omega arith)
+place-high zero l v m h = refl
+place-high (suc f) [] v m h = absurd (omega arith)
+place-high (suc f) (x ∷ l) v m h =
+    by-cases (eqb v x)
+    (λ e. let k = rw e at h in absurd (omega arith))
+    (λ e. rw e (ap suc (place-high f l v (omega arith) (let k = rw e at h in omega arith))))
 
 -- ## One bay
 

@@ -4,7 +4,7 @@ use mathlib.Core.Path.{_≡_}
 use mathlib.Core.Bool.{true}
 use mathlib.Core.List.{List, [], _∷_, _++_}
 use Prim.Native.Nat.{ℕ, _≤_, _<_, _+_}
-use lib.ListN.{take}
+use lib.ListN.{length, getD, take}
 use mathlib.Core.Logic.{_⊎_}
 use Rattle.paper.specs.Basics.{Out, NoDup}
 use Rattle.paper.specs.Procedure.{Outcome, planned, stuck, homeAt, wayHome}
@@ -24,6 +24,11 @@ homes Y goals finished v p = homeAt Y goals finished v p
 
 abbrev pub waysHome : Yard → Placement → ℕ → List Bay → Placement → Outcome
 waysHome Y goals finished vs p = wayHome Y goals finished vs p
+
+-- whose goal each of the n bays is; at a bay that is nobody's stands the carrier `length goals`, which there is not
+pub record Owners (n : ℕ) (goals owner : List ℕ) : Type 0 where
+  pub many : n ≤ length owner
+  pub whose : (b : ℕ) → b < n → getD owner b 0 ≡ carrierAt goals b
 
 -- at most k crossings were counted
 pub record AtMost (at k : ℕ) (z : Staged) : Type 0 where

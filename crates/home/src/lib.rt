@@ -7,14 +7,12 @@ ghost use mathlib.Core.Bool.{true};
 ghost use mathlib.Core.List.{List};
 ghost use Prim.Native.Nat.{ℕ, _+_, _*_, _^_, _≤_, _<_};
 ghost use lib.ListN.{length, getD, take};
-ghost use lib.Dec.{eqb};
-ghost use Rattle.paper.specs.Basics.{_or_, elem};
-ghost use Rattle.paper.specs.Yard.{bayOf, carrierAt};
+ghost use Rattle.paper.specs.Yard.{carrierAt};
 ghost use Rattle.paper.proofs.Playing.{Apart};
 ghost use Rattle.words.specs.Sets.{memRow};
 ghost use Rattle.bring.specs.Acting.{Tabled, Ready};
 ghost use Rattle.step.specs.Asking.{Loopless};
-ghost use Rattle.home.specs.Homing.{AtMost, Stages, Due, Homeward, homes, waysHome};
+ghost use Rattle.home.specs.Homing.{Owners, AtMost, Stages, Due, Homeward, homes, waysHome};
 
 // The count of crossings afterwards, or the carrier that could not step.
 pub enum Staged {
@@ -22,51 +20,14 @@ pub enum Staged {
     Stuck(Carrier),
 }
 
-fn or_same(found: bool, goal: u16, v: u16) -> bool
-    ensures { λ r. ⌜ r ≡ found or eqb v goal ⌝ }
-{
-    if goal == v {
-        return true;
-    }
-    found
-}
-
-// Whether v is a finished carrier's goal. All of them are compared, since the compiler then compares several at once.
-fn is_goal(goals: &[u16], finished: usize, v: Bay) -> bool
-    requires { ⌜ finished ≤ length (now goals) ⌝ }
-    ensures { λ r. ⌜ r ≡ elem (v .0) (take finished (now (goals .entry))) ⌝ }
-{
-    let mut found = false;
-    let mut c = 0;
-    while c < finished {
-        found = or_same(found, goals[c], v.0);
-        c += 1;
-    }
-    found
-}
-
-// The first finished carrier whose goal is v; `finished` where there is none.
-fn first_for(goals: &[u16], finished: usize, v: Bay) -> usize
-    requires { ⌜ finished ≤ length (now goals) ⌝ }
+// The finished carrier whose goal is v, by the table of whose goal each bay is; `finished` where there is none.
+fn bound_for(goals: &[u16], owner: &[u16], finished: usize, v: Bay) -> usize
+    requires { ⌜ (finished ≤ length (now goals)) × (v .0 < length (now owner)) × (getD (now owner) (v .0) 0 ≡ carrierAt (now goals) (v .0)) ⌝ }
     ensures { λ r. ⌜ r ≡ carrierAt (take finished (now (goals .entry))) (v .0) ⌝ }
 {
-    let mut c = 0;
-    while c < finished {
-        if goals[c] == v.0 {
-            return c;
-        }
-        c += 1;
-    }
-    finished
-}
-
-// The same; at most bays there is none, and that is soon known.
-fn bound_for(goals: &[u16], finished: usize, v: Bay) -> usize
-    requires { ⌜ finished ≤ length (now goals) ⌝ }
-    ensures { λ r. ⌜ r ≡ carrierAt (take finished (now (goals .entry))) (v .0) ⌝ }
-{
-    if is_goal(goals, finished, v) {
-        return first_for(goals, finished, v);
+    let c = owner[v.0 as usize] as usize;
+    if c < finished {
+        return c;
     }
     finished
 }
@@ -75,6 +36,7 @@ fn bound_for(goals: &[u16], finished: usize, v: Bay) -> usize
 fn home_at(
     table: &[u64],
     goals: &[u16],
+    owner: &[u16],
     finished: usize,
     v: Bay,
     placement: &mut [u16],
@@ -84,10 +46,10 @@ fn home_at(
     at: usize,
 ) -> Staged
     requires { ⌜ Ready (now table) (now placement) (now standing) (now empty) ⌝ }
-    requires { ⌜ (finished ≤ length (now goals)) × (length (now goals) ≡ length (now placement)) × (v .0 < length (now standing)) × Loopless (length (now standing)) (now table) × (at < 2 ^ 60) × Due (now table) (now goals) finished (v .0) (now placement) ⌝ }
+    requires { ⌜ (finished ≤ length (now goals)) × (length (now goals) ≡ length (now placement)) × (v .0 < length (now standing)) × Loopless (length (now standing)) (now table) × (at < 2 ^ 60) × Due (now table) (now goals) finished (v .0) (now placement) × Owners (length (now standing)) (now goals) (now owner) ⌝ }
     ensures { λ z. ⌜ (AtMost at 150000 z) × ((t : Tabled (length (now (standing .entry))) (now (table .entry))) → Stages (homes (t .yard) (now (goals .entry)) finished (v .0) (now (placement .entry))) (length (now (standing .entry))) (now (placement .entry)) (now (out .entry)) at (now (placement .exit)) (now (standing .exit)) (now (empty .exit)) (now (out .exit)) z) ⌝ }
 {
-    let c = bound_for(goals, finished, v);
+    let c = bound_for(goals, owner, finished, v);
     if finished <= c {
         return Staged::Planned(at);
     }
@@ -106,6 +68,7 @@ fn home_at(
 pub fn way_home(
     table: &[u64],
     goals: &[u16],
+    owner: &[u16],
     finished: usize,
     bays: &[u16],
     placement: &mut [u16],
@@ -115,7 +78,7 @@ pub fn way_home(
     at: usize,
 ) -> Staged
     requires { ⌜ Ready (now table) (now placement) (now standing) (now empty) ⌝ }
-    requires { ⌜ (finished ≤ length (now goals)) × (length (now goals) ≡ length (now placement)) × Apart (now goals) × Loopless (length (now standing)) (now table) × (at + 150000 * length (now bays) < 2 ^ 60) × Homeward (length (now standing)) (now table) (now goals) finished (now bays) (now placement) ⌝ }
+    requires { ⌜ (finished ≤ length (now goals)) × (length (now goals) ≡ length (now placement)) × Apart (now goals) × Loopless (length (now standing)) (now table) × (at + 150000 * length (now bays) < 2 ^ 60) × Homeward (length (now standing)) (now table) (now goals) finished (now bays) (now placement) × Owners (length (now standing)) (now goals) (now owner) ⌝ }
     ensures { λ z. ⌜ (AtMost at (150000 * length (now (bays .entry))) z) × ((t : Tabled (length (now (standing .entry))) (now (table .entry))) → Stages (waysHome (t .yard) (now (goals .entry)) finished (now (bays .entry)) (now (placement .entry))) (length (now (standing .entry))) (now (placement .entry)) (now (out .entry)) at (now (placement .exit)) (now (standing .exit)) (now (empty .exit)) (now (out .exit)) z) ⌝ }
 {
     let mut count = at;
@@ -126,6 +89,7 @@ pub fn way_home(
         let homed = home_at(
             table,
             goals,
+            owner,
             finished,
             v,
             placement,

@@ -20,8 +20,11 @@ pub enum Planned {
     Refused(Refusal),
 }
 
-// So few carriers that their plan is short.
+// Below so many carriers 8,192 crossings were enough on grids of 16 × 16. On lines with sidings they are not always; a longer plan is played twice.
 const FEW: usize = 128;
+
+// Below so many carriers 16,384 were enough there; and for any number of them where there are three rails to a bay.
+const SOME: usize = 160;
 
 // The plan of m crossings goes to the list: copied where it was kept, else played once more.
 fn write(
@@ -86,6 +89,21 @@ fn hand_out_few(
     hand_out_in(table, n, start, goal, &mut kept, out)
 }
 
+// With room for the plans of some more.
+fn hand_out_some(
+    table: &[u64; Yard::TABLE],
+    n: usize,
+    start: &[u16],
+    goal: &[u16],
+    out: &mut [u64],
+) -> Planned
+    requires { ⌜ Admitted n (now table) (now start) (now goal) ⌝ }
+    ensures { λ r. ⌜ ((t : Tabled n (now (table .entry))) → Hands (procedures (t .yard) (now (goal .entry)) (now (start .entry))) (now (out .entry)) r (now (out .exit))) ⌝ }
+{
+    let mut kept = [0u64; 16384];
+    hand_out_in(table, n, start, goal, &mut kept, out)
+}
+
 // With room for every plan that is not too long, so that none is played twice.
 fn hand_out_many(
     table: &[u64; Yard::TABLE],
@@ -101,10 +119,11 @@ fn hand_out_many(
     hand_out_in(table, n, start, goal, &mut kept, out)
 }
 
-// Clearing room takes time, so there is no more of it than the carriers are likely to need.
+// Clearing room takes time, so there is no more of it than the carriers are likely to need; the rails have so many ends.
 fn hand_out(
     table: &[u64; Yard::TABLE],
     n: usize,
+    ends: usize,
     start: &[u16],
     goal: &[u16],
     out: &mut [u64],
@@ -114,6 +133,12 @@ fn hand_out(
 {
     if start.len() < FEW {
         return hand_out_few(table, n, start, goal, out);
+    }
+    if start.len() < SOME {
+        return hand_out_some(table, n, start, goal, out);
+    }
+    if n <= ends / 6 {
+        return hand_out_some(table, n, start, goal, out);
     }
     hand_out_many(table, n, start, goal, out)
 }
@@ -126,6 +151,6 @@ pub fn plan(bays: u64, rails: &[u16], start: &[u16], goal: &[u16], out: &mut [u6
     let opened = Yard::open(bays, rails, start, goal, 0, &mut table);
     match opened {
         Opened::Refused(r) => Planned::Refused(r),
-        Opened::Open(yard) => { hand_out(&table, yard.bays, start, goal, out) }
+        Opened::Open(yard) => { hand_out(&table, yard.bays, rails.len(), start, goal, out) }
     }
 }

@@ -10,7 +10,7 @@ use Rattle.paper.specs.Procedure.{Outcome}
 use Rattle.words.specs.Sets.{words, span}
 use Rattle.vacate.specs.Placed.{Placed}
 use Rattle.bring.specs.Acting.{Ready}
-use Rattle.home.specs.Homing.{Stages}
+use Rattle.home.specs.Homing.{Owners, Stages}
 use Rattle.carry.specs.Carrying.{Goals}
 use Rattle.home.specs.declared.Staged.{Staged}
 use Rattle.play.specs.Playing.{Admitted, Plays}
@@ -31,6 +31,10 @@ ready-of s g p standing empty a l e m placed = rw e (record {
   placed = placed;
   tabled = a .reaching .tabled;
 })
+
+-- whose goal a bay is, is who would stand there
+pub owners-of : {n m : ℕ} {goals owner spare : List ℕ} → m ≡ n → length owner ≡ m → Placed m goals owner spare → Owners n goals owner
+owners-of e k placed = record { many = omega arith; whose = λ b h. placed .stands b (omega arith) }
 
 pub plays-of : {o : Outcome} {n : ℕ} {p out p′ standing′ empty′ out′ : List ℕ} {z : Staged} → Stages o n p out 0 p′ standing′ empty′ out′ z → Plays o out out′ z
 plays-of st = record {

@@ -3,12 +3,12 @@ use bring::Tried;
 use docket::Bay;
 use docket::Carrier;
 ghost use mathlib.Core.Path.{_≡_};
-ghost use mathlib.Core.Bool.{true};
+ghost use mathlib.Core.Bool.{true, false};
 ghost use Prim.Native.Nat.{ℕ, _+_, _*_, _^_, _≤_, _<_};
 ghost use lib.ListN.{length, getD};
-ghost use Rattle.paper.specs.Basics.{elem};
+ghost use Rattle.paper.specs.Basics.{_and_, elem};
 ghost use Rattle.paper.specs.Procedure.{holding};
-ghost use Rattle.words.specs.Sets.{mem, memRow, words, span};
+ghost use Rattle.words.specs.Sets.{mem, memRow, words, span, Lowest};
 ghost use Rattle.bring.specs.Acting.{Tabled, Ready, Within, Acts};
 ghost use Rattle.step.specs.Asking.{Loopless, steps};
 
@@ -67,8 +67,31 @@ fn make_way(
     Tried::Done(vacate::cross(placement, standing, empty, u, w, out, a))
 }
 
+// The step where the bay e beside w is empty: the carrier at w crosses to it, then r crosses. An empty bay is not held, so nobody asks what is.
+fn step_aside(
+    table: &[u64],
+    finished: usize,
+    r: Carrier,
+    w: Bay,
+    e: Bay,
+    placement: &mut [u16],
+    standing: &mut [u16],
+    empty: &mut [u64],
+    out: &mut [u64],
+    at: usize,
+) -> Tried
+    requires { ⌜ Ready (now table) (now placement) (now standing) (now empty) ⌝ }
+    requires { ⌜ (r .0 < length (now placement)) × (finished ≤ length (now placement)) × (w .0 < length (now standing)) × (memRow (now table) (getD (now placement) (r .0) 0) (w .0) ≡ true) × Loopless (length (now standing)) (now table) × (at < 2 ^ 60) × (finished ≤ getD (now standing) (w .0) 0) × (mem (now empty) (w .0) ≡ false) × Lowest (λ b. memRow (now table) (w .0) b and memRow (now empty) 0 b) 0 span (e .0) × (e .0 < span) ⌝ }
+    ensures { λ z. ⌜ (Within at 150000 z) × ((t : Tabled (length (now (standing .entry))) (now (table .entry))) → Acts (steps (t .yard) finished (r .0) (w .0) (now (placement .entry))) (length (now (standing .entry))) (now (placement .entry)) (now (standing .entry)) (now (empty .entry)) (now (out .entry)) at (now (placement .exit)) (now (standing .exit)) (now (empty .exit)) (now (out .exit)) z) ⌝ }
+{
+    let a = vacate::cross(placement, standing, empty, w, e, out, at);
+    let own = r.0 as usize;
+    let u = Bay(placement[own]);
+    Tried::Done(vacate::cross(placement, standing, empty, u, w, out, a))
+}
+
 // One step of r to w: it is vacated, then r crosses; or else r is swapped with the carrier there. Vacating an empty bay moves
-// nothing, and a finished carrier's bay is held: both want no search.
+// nothing, and a finished carrier's bay is held: both want no search. Nor does a bay that an empty one is beside.
 pub fn step(
     table: &[u64],
     finished: usize,
@@ -96,6 +119,22 @@ pub fn step(
             table,
             r,
             Carrier(s as u32),
+            placement,
+            standing,
+            empty,
+            out,
+            at,
+        );
+    }
+    let beside = words::lowest_common(table, bay, empty, 0);
+    if beside < words::SPAN {
+        let e = Bay(beside as u16);
+        return step_aside(
+            table,
+            finished,
+            r,
+            w,
+            e,
             placement,
             standing,
             empty,

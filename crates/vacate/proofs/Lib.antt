@@ -1,4 +1,5 @@
 pub mod Playing
 pub mod Shifting
+pub mod Beside
 pub mod Vacating
 pub mod Answers

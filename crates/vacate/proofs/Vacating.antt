@@ -2,21 +2,23 @@
 -- carriers can be shifted since every bay before the nearest empty one is occupied.
 -- Assumes nothing.
 use mathlib.Core.Path.{_≡_, sym, ap, _∙_}
-use mathlib.Core.Bool.{true, false}
-use mathlib.Core.List.{List, []}
+use mathlib.Core.Bool.{true, false, not}
+use mathlib.Core.List.{List, [], _∷_}
 use mathlib.Core.Option.{Option, none, some}
 use Prim.Native.Nat.{ℕ, _+_, _≤_, _<_}
 use native.Mathlib.Nat.{zero-add}
 use native.Mathlib.Omega.{arith}
 use lib.ListN.{length}
-use Rattle.paper.specs.Basics.{elem}
-use Rattle.paper.specs.Yard.{Bay, Crossing, isEmpty}
+use lib.Dec.{ltb}
+use borrow.Author.Tests.{not-true, not-false, ltb-true, ltb-false}
+use Rattle.paper.specs.Basics.{_and_, elem}
+use Rattle.paper.specs.Yard.{Bay, Crossing, crossing, carrierAt, isEmpty, joined}
 use Rattle.paper.specs.Path.{Free, shortestPath}
 use Rattle.paper.specs.Procedure.{nearestEmpty, shift, vacate}
-use Rattle.paper.proofs.Tests.{never-some}
+use Rattle.paper.proofs.Tests.{never-some, by-cases, not-both, and-left, and-right, and-both}
 use Rattle.paper.proofs.Members.{count-high, in-count}
 use Rattle.paper.proofs.Vacating.{path-shiftable, path-free}
-use Rattle.words.specs.Sets.{mem, span}
+use Rattle.words.specs.Sets.{mem, memRow, span, Lowest}
 use Rattle.rings.specs.Search.{Shown}
 use Rattle.vacate.specs.Placed.{Placed, Played, Acted, CanShift}
 use Rattle.vacate.specs.Answer.{Vacates, vacating, bayFilled, countAfter, filled}
@@ -24,6 +26,7 @@ use Rattle.vacate.specs.declared.Vacated.{Vacated}
 use Rattle.vacate.specs.declared.Vacated.the-variants.{Empty, Failed}
 use Rattle.vacate.proofs.Playing.{played-none, unchanged}
 use Rattle.vacate.proofs.Shifting.{shift-length}
+use Rattle.vacate.proofs.Beside.{beside-nearest, beside-path}
 
 acted-none : {o : Option (List Crossing)} {n : ℕ} {p standing empty out : List ℕ} {at : ℕ} → o ≡ none → Acted o n p standing empty out at p standing empty out
 acted-none {p = p} {standing = standing} {empty = empty} {out = out} e = record {
@@ -81,6 +84,43 @@ module _ {n : ℕ} {table held : List ℕ} (s : Shown n table held) (most : n �
       out-x : elem x (s .bays) ≡ false
       out-x = sym (s .holds x (omega arith)) ∙ sym unheld
 
+      -- The lowest empty bay beside x that is not held is the nearest, and one rail leads there.
+      module _ (e : Bay) (low : Lowest (λ b. memRow table x b and (mem empty b and not (mem held b))) 0 span e) (there : e < span) where
+        taken : memRow table x e and (mem empty e and not (mem held e)) ≡ true
+        taken = low .hit there
+
+        pub rail-e : joined (s .yard) x e ≡ true
+        rail-e = sym (s .joins .same x e hx there) ∙ and-left _ _ taken
+
+        pub inside-e : e < n
+        inside-e = s .joins .inside x e rail-e .1
+
+        pub empty-e : elem e p ≡ false
+        empty-e = not-true (elem e p) (sym (k .empties e inside-e) ∙ and-left _ _ (and-right _ _ taken))
+
+        pub full-in : elem x p ≡ true
+        full-in = not-false (elem x p) full-x
+
+        free-of : (b : Bay) → b < n → elem b (s .bays) ≡ false → Free (s .yard) (s .bays) b
+        free-of b h o = (in-count 0 (s .yard .bays) b (omega arith) (rw (s .joins .bays) (omega arith)), o)
+
+        free-e : Free (s .yard) (s .bays) e
+        free-e = free-of e inside-e (sym (s .holds e there) ∙ not-true (mem held e) (and-right _ _ (and-right _ _ taken)))
+
+        lowest-e : (b : Bay) → joined (s .yard) x b ≡ true → Free (s .yard) (s .bays) b → elem b p ≡ false → e ≤ b
+        lowest-e b j f o =
+            let h : b < n = s .joins .inside x b j .1 in
+            let railed : memRow table x b ≡ true = s .joins .same x b hx (omega arith) ∙ j in
+            let unheld-b : not (mem held b) ≡ true = ap not (s .holds b (omega arith) ∙ f .1) in
+            let passes = and-both (memRow table x b) (mem empty b and not (mem held b)) railed (and-both (mem empty b) (not (mem held b)) (k .empties b h ∙ ap not o) unheld-b) in
+            by-cases (ltb b e) (λ l. not-both passes (low .before b (omega arith) (ltb-true b e l))) (λ l. ltb-false b e l)
+
+        pub nearest-beside : some e ≡ nearestEmpty (s .yard) (s .bays) p x
+        nearest-beside = sym (beside-nearest (s .yard) (s .bays) x p e (free-of x hx out-x) full-in rail-e free-e empty-e lowest-e)
+
+        pub path-beside : x ∷ e ∷ [] ≡ shortestPath (s .yard) (s .bays) x e
+        path-beside = beside-path (s .yard) (s .bays) x p e (free-of x hx out-x) full-in rail-e free-e empty-e
+
       -- no empty bay is reached
       pub vacates-none : none ≡ nearestEmpty (s .yard) (s .bays) p x → Vacates s x p standing empty out at p standing empty out Failed
       unfolding vacate
@@ -115,3 +155,13 @@ module _ {n : ℕ} {table held : List ℕ} (s : Shown n table held) (most : n �
                   let same : shift p path ≡ xs = let z = sym o ∙ d in cc in
                   rw (← same) (omega (arith, shift-length p path));
             }
+
+      -- the carrier at x crossed to the bay beside it
+      pub vacates-beside : (e : Bay) (low : Lowest (λ b. memRow table x b and (mem empty b and not (mem held b))) 0 span e) (there : e < span)
+          (p′ standing′ empty′ out′ : List ℕ) (r : Vacated) (m : ℕ) → countAfter at r ≡ some m → filled r ≡ some e
+          → Played (crossing (carrierAt p x) x e ∷ []) n p p′ standing′ empty′ out at out′ m → Vacates s x p standing empty out at p′ standing′ empty′ out′ r
+      unfolding shift
+      vacates-beside e low there p′ standing′ empty′ out′ r m c f w =
+          let ex = inside-e e low there in
+          let other : x ≡ e → ⊥ = λ q. not-both (rw q at (full-in e low there)) (empty-e e low there) in
+          vacates-filled e (nearest-beside e low there) (x ∷ e ∷ []) (path-beside e low there) p′ standing′ empty′ out′ r m c f (omega (arith, ex, hx, other)) w

@@ -14,17 +14,17 @@ use Rattle.carry.proofs.carry.Tie as tie
 cast-own : tie.Need-cast-own
 cast-own c = search needs
 
-mul-t17 : tie.Need-mul-t17
-mul-t17 c = search needs
+mul-t18 : tie.Need-mul-t18
+mul-t18 c = search needs
 
-slice-read-t19 : tie.Need-slice-read-t19
-slice-read-t19 c = search needs
+slice-read-t20 : tie.Need-slice-read-t20
+slice-read-t20 c = search needs
 
-mul-t17-2 : tie.Need-mul-t17-2
-mul-t17-2 c = search needs
+mul-t18-2 : tie.Need-mul-t18-2
+mul-t18-2 c = search needs
 
-shared-slice-read-t19 : tie.Need-shared-slice-read-t19
-shared-slice-read-t19 c = search needs
+shared-slice-read-t20 : tie.Need-shared-slice-read-t20
+shared-slice-read-t20 c = search needs
 
 slice-aggregate-path-between : tie.Need-slice-aggregate-path-between
 slice-aggregate-path-between c = search needs
@@ -37,9 +37,9 @@ slice-aggregate-path-between-3 c = search needs
 
 path-between-requires : tie.Need-path-between-requires
 path-between-requires c κs =
-    let p = c .before .before .before .before .before .before .before .before .before .before .before .before .pre .0 in
-    let z = c .before .before .before .before .before .before .before .before .before .before .before .before .pre .1 in
-    (p .most, p .placed .inside (c .before .before .before .before .before .before .before .before .before .before .before .before .args .r .0) (z .0), z .1 .inside (c .before .before .before .before .before .before .before .before .before .before .before .before .args .r .0) (omega (arith, z .0, z .1 .many)), omega (arith, p .table-size), refl, omega (arith, p .most), omega (arith, p .most), freeShown (p .tabled))
+    let p = c .before .before .before .before .before .before .before .before .before .before .before .before .before .pre .0 in
+    let z = c .before .before .before .before .before .before .before .before .before .before .before .before .before .pre .1 in
+    (p .most, p .placed .inside (c .before .before .before .before .before .before .before .before .before .before .before .before .before .args .r .0) (z .0), z .1 .inside (c .before .before .before .before .before .before .before .before .before .before .before .before .before .args .r .0) (omega (arith, z .0, z .1 .many)), omega (arith, p .table-size), refl, omega (arith, p .most), omega (arith, p .most), freeShown (p .tabled))
 
 enum-known-k : tie.Need-enum-known-k
 enum-known-k c = search needs
@@ -49,33 +49,33 @@ enum-told c = search needs
 
 returns : tie.Need-returns
 returns c =
-    let p = c .before .before .before .before .before .before .before .before .before .before .before .before .before .before .before .before .before .pre .0 in
-    let z = c .before .before .before .before .before .before .before .before .before .before .before .before .before .before .before .before .before .pre .1 in
+    let p = c .before .before .before .before .before .before .before .before .before .before .before .before .before .before .before .before .before .before .pre .0 in
+    let z = c .before .before .before .before .before .before .before .before .before .before .before .before .before .before .before .before .before .before .pre .1 in
     let w = z .4 in
-    never-apart w _ _ (p .placed .inside (c .before .before .before .before .before .before .before .before .before .before .before .before .before .before .before .before .before .args .r .0) (z .0)) (z .1 .inside (c .before .before .before .before .before .before .before .before .before .before .before .before .before .before .before .before .before .args .r .0) (omega (arith, z .0, z .1 .many))) ((rw (c .enum-told .given .1) at (c .before .before .before .before .path-between .ensures (freeShown (w .tabled)))) .same)
+    never-apart w _ _ (p .placed .inside (c .before .before .before .before .before .before .before .before .before .before .before .before .before .before .before .before .before .before .args .r .0) (z .0)) (z .1 .inside (c .before .before .before .before .before .before .before .before .before .before .before .before .before .before .before .before .before .before .args .r .0) (omega (arith, z .0, z .1 .many))) ((rw (c .enum-told .given .1) at (c .before .before .before .before .path-between .ensures (freeShown (w .tabled)))) .same)
 
 array-share-prefix-path : tie.Need-array-share-prefix-path
 array-share-prefix-path c =
-    let p = c .before .before .before .before .before .before .before .before .before .before .before .before .before .before .before .before .before .before .pre .0 in
+    let p = c .before .before .before .before .before .before .before .before .before .before .before .before .before .before .before .before .before .before .before .pre .0 in
     let f = rw (c .before .k .given .1) at (c .before .before .before .before .before .path-between .ensures (freeShown (p .tabled))) in
     let kept : length (c .before .before .before .before .before .path-between .last .1 .1 .1 .1 .1 .1 .0) ≡ span = c .before .before .before .before .before .path-between .kept .1 .1 .1 .1 .1 .1 .0 in
     omega (arith, f .fits, p .most, kept)
 
 slice-aggregate-carry-along : tie.Need-slice-aggregate-carry-along
 slice-aggregate-carry-along c =
-    let p = c .before .before .before .before .before .before .before .before .before .before .before .before .before .before .before .before .before .before .before .pre .0 in
+    let p = c .before .before .before .before .before .before .before .before .before .before .before .before .before .before .before .before .before .before .before .before .pre .0 in
     let f = rw (c .before .before .k .given .1) at (c .before .before .before .before .before .before .path-between .ensures (freeShown (p .tabled))) in
     let kept : length (c .before .before .before .before .before .before .path-between .last .1 .1 .1 .1 .1 .1 .0) ≡ span = c .before .before .before .before .before .before .path-between .kept .1 .1 .1 .1 .1 .1 .0 in
     sym (length-take-le _ _ (omega (arith, f .fits, p .most, kept)))
 
 carry-along-requires : tie.Need-carry-along-requires
 carry-along-requires c κs =
-    let p = c .before .before .before .before .before .before .before .before .before .before .before .before .before .before .before .before .before .before .before .before .before .before .before .pre .0 in
-    let z = c .before .before .before .before .before .before .before .before .before .before .before .before .before .before .before .before .before .before .before .before .before .before .before .pre .1 in
+    let p = c .before .before .before .before .before .before .before .before .before .before .before .before .before .before .before .before .before .before .before .before .before .before .before .before .pre .0 in
+    let z = c .before .before .before .before .before .before .before .before .before .before .before .before .before .before .before .before .before .before .before .before .before .before .before .before .pre .1 in
     let f = rw (c .before .before .before .before .before .before .k .given .1) at (c .before .before .before .before .before .before .before .before .before .before .path-between .ensures (freeShown (p .tabled))) in
     let kept : length (c .before .before .before .before .before .before .before .before .before .before .path-between .last .1 .1 .1 .1 .1 .1 .0) ≡ span = c .before .before .before .before .before .before .before .before .before .before .path-between .kept .1 .1 .1 .1 .1 .1 .0 in
     let len : length (take (c .before .before .before .before .before .before .k .given .0 .0) (c .before .before .before .before .before .before .before .before .before .before .path-between .last .1 .1 .1 .1 .1 .1 .0)) ≡ c .before .before .before .before .before .before .k .given .0 .0 = length-take-le _ _ (omega (arith, f .fits, p .most, kept)) in
-    (p, (z .0, z .1, z .2, z .3, omega (arith, len, f .fits, p .most), on-path (p .tabled) (p .most) _ _ _ (p .placed .inside (c .before .before .before .before .before .before .before .before .before .before .before .before .before .before .before .before .before .before .before .before .before .before .before .args .r .0) (z .0)) (z .1 .inside (c .before .before .before .before .before .before .before .before .before .before .before .before .before .before .before .before .before .before .before .before .before .before .before .args .r .0) (omega (arith, z .0, z .1 .many))) (f .same), z .5))
+    (p, (z .0, z .1, z .2, z .3, omega (arith, len, f .fits, p .most), on-path (p .tabled) (p .most) _ _ _ (p .placed .inside (c .before .before .before .before .before .before .before .before .before .before .before .before .before .before .before .before .before .before .before .before .before .before .before .before .args .r .0) (z .0)) (z .1 .inside (c .before .before .before .before .before .before .before .before .before .before .before .before .before .before .before .before .before .before .before .before .before .before .before .before .args .r .0) (omega (arith, z .0, z .1 .many))) (f .same), z .5, z .6))
 
 same-length : tie.Need-same-length
 same-length c = search needs
@@ -91,10 +91,10 @@ same-length-4 c = search needs
 
 returns-2 : tie.Need-returns-2
 returns-2 c =
-    let p = c .before .before .before .before .before .before .before .before .before .before .before .before .before .before .before .before .before .before .before .before .before .before .before .before .before .before .before .before .before .before .before .before .pre .0 in
-    let z = c .before .before .before .before .before .before .before .before .before .before .before .before .before .before .before .before .before .before .before .before .before .before .before .before .before .before .before .before .before .before .before .before .pre .1 in (
+    let p = c .before .before .before .before .before .before .before .before .before .before .before .before .before .before .before .before .before .before .before .before .before .before .before .before .before .before .before .before .before .before .before .before .before .pre .0 in
+    let z = c .before .before .before .before .before .before .before .before .before .before .before .before .before .before .before .before .before .before .before .before .before .before .before .before .before .before .before .before .before .before .before .before .before .pre .1 in (
       c .before .before .before .before .before .before .before .before .carry-along .ensures .0,
-      λ t. c .before .before .before .before .before .before .before .before .carry-along .ensures .1 t (path-found t _ _ _ (p .placed .inside (c .before .before .before .before .before .before .before .before .before .before .before .before .before .before .before .before .before .before .before .before .before .before .before .before .before .before .before .before .before .before .before .before .args .r .0) (z .0)) (z .1 .inside (c .before .before .before .before .before .before .before .before .before .before .before .before .before .before .before .before .before .before .before .before .before .before .before .before .before .before .before .before .before .before .before .before .args .r .0) (omega (arith, z .0, z .1 .many))) ((rw (c .before .before .before .before .before .before .before .before .before .before .before .before .before .before .before .k .given .1) at (c .before .before .before .before .before .before .before .before .before .before .before .before .before .before .before .before .before .before .before .path-between .ensures (freeShown t))) .same) .0),
+      λ t. c .before .before .before .before .before .before .before .before .carry-along .ensures .1 t (path-found t _ _ _ (p .placed .inside (c .before .before .before .before .before .before .before .before .before .before .before .before .before .before .before .before .before .before .before .before .before .before .before .before .before .before .before .before .before .before .before .before .before .args .r .0) (z .0)) (z .1 .inside (c .before .before .before .before .before .before .before .before .before .before .before .before .before .before .before .before .before .before .before .before .before .before .before .before .before .before .before .before .before .before .before .before .before .args .r .0) (omega (arith, z .0, z .1 .many))) ((rw (c .before .before .before .before .before .before .before .before .before .before .before .before .before .before .before .k .given .1) at (c .before .before .before .before .before .before .before .before .before .before .before .before .before .before .before .before .before .before .before .path-between .ensures (freeShown t))) .same) .0),
     )
 
 pub carry-spec : {M : Type 1} → statement M
@@ -102,10 +102,10 @@ carry-spec =
     tie.close
     (tie.spec
     cast-own
-    mul-t17
-    slice-read-t19
-    mul-t17-2
-    shared-slice-read-t19
+    mul-t18
+    slice-read-t20
+    mul-t18-2
+    shared-slice-read-t20
     slice-aggregate-path-between
     slice-aggregate-path-between-2
     slice-aggregate-path-between-3

@@ -16,7 +16,7 @@ use Rattle.carry.proofs.carry_along.Tie as tie
 
 returns : tie.Need-returns
 returns c =
-    let z = c .before .before .before .before .before .before .before .before .pre .1 in
+    let z = c .before .before .before .before .before .before .before .before .before .pre .1 in
     let l = ap length (z .5 .starts) in
     let never-so : ⊥ = omega (arith, l, c .if1 .taken) in
     absurd never-so
@@ -32,10 +32,10 @@ part-go-end c = search needs
 
 go-requires : tie.Need-go-requires
 go-requires c κs =
-    let p = c .before .before .before .before .before .before .before .before .before .before .before .before .before .pre .0 in
-    let z = c .before .before .before .before .before .before .before .before .before .before .before .before .before .pre .1 in
-    let s = part-ahead (c .before .before .before .before .before .before .before .before .before .before .before .before .before .args .path .now) _ (z .5 .ahead) (z .5 .starts) in
-    (p, (z .0, rw s (z .5 .linked), z .2, omega (arith, z .4, z .6, part-long (c .before .before .before .before .before .before .before .before .before .before .before .before .before .args .path .now) 1)))
+    let p = c .before .before .before .before .before .before .before .before .before .before .before .before .before .before .pre .0 in
+    let z = c .before .before .before .before .before .before .before .before .before .before .before .before .before .before .pre .1 in
+    let s = part-ahead (c .before .before .before .before .before .before .before .before .before .before .before .before .before .before .args .path .now) _ (z .5 .ahead) (z .5 .starts) in
+    (p, (z .0, rw s (z .5 .linked), z .2, omega (arith, z .4, z .6, part-long (c .before .before .before .before .before .before .before .before .before .before .before .before .before .before .args .path .now) 1)))
 
 enum-known-gone : tie.Need-enum-known-gone
 enum-known-gone c = search needs
@@ -57,12 +57,12 @@ same-length-4 c = search needs
 
 returns-2 : tie.Need-returns-2
 returns-2 c =
-    let p = c .before .before .before .before .before .before .before .before .before .before .before .before .before .before .before .before .before .before .before .before .before .before .before .before .pre .0 in
-    let z = c .before .before .before .before .before .before .before .before .before .before .before .before .before .before .before .before .before .before .before .before .before .before .before .before .pre .1 in
-    let s = part-ahead (c .before .before .before .before .before .before .before .before .before .before .before .before .before .before .before .before .before .before .before .before .before .before .before .before .args .path .now) _ (z .5 .ahead) (z .5 .starts) in
+    let p = c .before .before .before .before .before .before .before .before .before .before .before .before .before .before .before .before .before .before .before .before .before .before .before .before .before .pre .0 in
+    let z = c .before .before .before .before .before .before .before .before .before .before .before .before .before .before .before .before .before .before .before .before .before .before .before .before .before .pre .1 in
+    let s = part-ahead (c .before .before .before .before .before .before .before .before .before .before .before .before .before .before .before .before .before .before .before .before .before .before .before .before .before .args .path .now) _ (z .5 .ahead) (z .5 .starts) in
     let e : c .before .before .before .before .before .before .before .before .before .before .go .result ≡ Failed = c .enum-told .given .1 in
     let f = rw s at (c .before .before .before .before .before .before .before .before .before .before .go .ensures .1) in
-    (at-most-stuck, λ t short. carried-stuck t (p .most) (z .2) (c .before .before .before .before .before .before .before .before .before .before .before .before .before .before .before .before .before .before .before .before .before .before .before .before .args .goals .now) (c .before .before .before .before .before .before .before .before .before .before .before .before .before .before .before .before .before .before .before .before .before .before .before .before .args .r .0) (c .before .before .before .before .before .before .before .before .before .before .before .before .before .before .before .before .before .before .before .before .before .before .before .before .args .placement .now) (p .placed) (z .1) (z .0) (z .3) (c .before .before .before .before .before .before .before .before .before .before .before .before .before .before .before .before .before .before .before .before .before .before .before .before .args .path .now) (z .5) short refl (tried-failed (rw e at (f t (c .before .before .before .before .before .before .before .before .before .before .before .before .before .before .before .before .before .before .before .before .before .before .before .before .args .goals .now)))))
+    (at-most-stuck, λ t short. carried-stuck t (p .most) (z .2) (c .before .before .before .before .before .before .before .before .before .before .before .before .before .before .before .before .before .before .before .before .before .before .before .before .before .args .goals .now) (c .before .before .before .before .before .before .before .before .before .before .before .before .before .before .before .before .before .before .before .before .before .before .before .before .before .args .r .0) (c .before .before .before .before .before .before .before .before .before .before .before .before .before .before .before .before .before .before .before .before .before .before .before .before .before .args .placement .now) (p .placed) (z .1) (z .0) (z .3) (c .before .before .before .before .before .before .before .before .before .before .before .before .before .before .before .before .before .before .before .before .before .before .before .before .before .args .path .now) (z .5) short refl (tried-failed (rw e at (f t (c .before .before .before .before .before .before .before .before .before .before .before .before .before .before .before .before .before .before .before .before .before .before .before .before .before .args .goals .now)))))
 
 same-length-5 : tie.Need-same-length-5
 same-length-5 c = search needs
@@ -78,17 +78,17 @@ same-length-8 c = search needs
 
 returns-3 : tie.Need-returns-3
 returns-3 c =
-    let p = c .before .before .before .before .before .before .before .before .before .before .before .before .before .before .before .before .before .before .before .before .before .before .before .before .before .before .pre .0 in
-    let z = c .before .before .before .before .before .before .before .before .before .before .before .before .before .before .before .before .before .before .before .before .before .before .before .before .before .before .pre .1 in
-    let s = part-ahead (c .before .before .before .before .before .before .before .before .before .before .before .before .before .before .before .before .before .before .before .before .before .before .before .before .before .before .args .path .now) _ (z .5 .ahead) (z .5 .starts) in
+    let p = c .before .before .before .before .before .before .before .before .before .before .before .before .before .before .before .before .before .before .before .before .before .before .before .before .before .before .before .pre .0 in
+    let z = c .before .before .before .before .before .before .before .before .before .before .before .before .before .before .before .before .before .before .before .before .before .before .before .before .before .before .before .pre .1 in
+    let s = part-ahead (c .before .before .before .before .before .before .before .before .before .before .before .before .before .before .before .before .before .before .before .before .before .before .before .before .before .before .before .args .path .now) _ (z .5 .ahead) (z .5 .starts) in
     let e : c .before .before .before .before .before .before .before .before .before .before .before .before .go .result ≡ Done (c .before .before .gone .given .0 .0) = c .before .before .gone .given .1 in
     let few = rw e at (c .before .before .before .before .before .before .before .before .before .before .before .before .go .ensures .0) in
     let f = rw s at (c .before .before .before .before .before .before .before .before .before .before .before .before .go .ensures .1) in
     let l = ap length (z .5 .starts) in (
-      at-most (omega (arith, few, z .4, part-long (c .before .before .before .before .before .before .before .before .before .before .before .before .before .before .before .before .before .before .before .before .before .before .before .before .before .before .args .path .now) 1)),
+      at-most (omega (arith, few, z .4, part-long (c .before .before .before .before .before .before .before .before .before .before .before .before .before .before .before .before .before .before .before .before .before .before .before .before .before .before .before .args .path .now) 1)),
       λ t short.
-          let d = tried-done (rw e at (f t (c .before .before .before .before .before .before .before .before .before .before .before .before .before .before .before .before .before .before .before .before .before .before .before .before .before .before .args .goals .now))) in
-          carried-short t (p .most) (z .2) (c .before .before .before .before .before .before .before .before .before .before .before .before .before .before .before .before .before .before .before .before .before .before .before .before .before .before .args .goals .now) (c .before .before .before .before .before .before .before .before .before .before .before .before .before .before .before .before .before .before .before .before .before .before .before .before .before .before .args .r .0) (c .before .before .before .before .before .before .before .before .before .before .before .before .before .before .before .before .before .before .before .before .before .before .before .before .before .before .args .placement .now) (p .placed) (z .1) (z .0) (z .3) (c .before .before .before .before .before .before .before .before .before .before .before .before .before .before .before .before .before .before .before .before .before .before .before .before .before .before .args .path .now) (z .5) short (d .0) (d .1) (omega (arith, l, c .if2 .taken)) (d .2),
+          let d = tried-done (rw e at (f t (c .before .before .before .before .before .before .before .before .before .before .before .before .before .before .before .before .before .before .before .before .before .before .before .before .before .before .before .args .goals .now))) in
+          carried-short t (p .most) (z .2) (c .before .before .before .before .before .before .before .before .before .before .before .before .before .before .before .before .before .before .before .before .before .before .before .before .before .before .before .args .goals .now) (c .before .before .before .before .before .before .before .before .before .before .before .before .before .before .before .before .before .before .before .before .before .before .before .before .before .before .before .args .r .0) (c .before .before .before .before .before .before .before .before .before .before .before .before .before .before .before .before .before .before .before .before .before .before .before .before .before .before .before .args .placement .now) (p .placed) (z .1) (z .0) (z .3) (c .before .before .before .before .before .before .before .before .before .before .before .before .before .before .before .before .before .before .before .before .before .before .before .before .before .before .before .args .path .now) (z .5) short (d .0) (d .1) (omega (arith, l, c .if2 .taken)) (d .2),
     )
 
 cast-finished : tie.Need-cast-finished
@@ -111,21 +111,21 @@ part-way-home-end c = search needs
 
 way-home-requires : tie.Need-way-home-requires
 way-home-requires c κs =
-    let p = c .before .before .before .before .before .before .before .before .before .before .before .before .before .before .before .before .before .before .before .before .before .before .before .before .before .before .before .before .before .before .before .before .pre .0 in
-    let z = c .before .before .before .before .before .before .before .before .before .before .before .before .before .before .before .before .before .before .before .before .before .before .before .before .before .before .before .before .before .before .before .before .pre .1 in
+    let p = c .before .before .before .before .before .before .before .before .before .before .before .before .before .before .before .before .before .before .before .before .before .before .before .before .before .before .before .before .before .before .before .before .before .pre .0 in
+    let z = c .before .before .before .before .before .before .before .before .before .before .before .before .before .before .before .before .before .before .before .before .before .before .before .before .before .before .before .before .before .before .before .before .before .pre .1 in
     let g = z .1 in
-    let s = part-ahead (c .before .before .before .before .before .before .before .before .before .before .before .before .before .before .before .before .before .before .before .before .before .before .before .before .before .before .before .before .before .before .before .before .args .path .now) _ (z .5 .ahead) (z .5 .starts) in
-    let s2 = part-home (c .before .before .before .before .before .before .before .before .before .before .before .before .before .before .before .before .before .before .before .before .before .before .before .before .before .before .before .before .before .before .before .before .args .path .now) _ (z .5 .ahead) (z .5 .starts) in
+    let s = part-ahead (c .before .before .before .before .before .before .before .before .before .before .before .before .before .before .before .before .before .before .before .before .before .before .before .before .before .before .before .before .before .before .before .before .before .args .path .now) _ (z .5 .ahead) (z .5 .starts) in
+    let s2 = part-home (c .before .before .before .before .before .before .before .before .before .before .before .before .before .before .before .before .before .before .before .before .before .before .before .before .before .before .before .before .before .before .before .before .before .args .path .now) _ (z .5 .ahead) (z .5 .starts) in
     let e : c .before .before .before .before .before .before .before .before .before .before .before .before .before .before .before .before .before .before .go .result ≡ Done (c .before .before .before .before .before .before .before .before .gone .given .0 .0) = c .before .before .before .before .before .before .before .before .gone .given .1 in
     let few = rw e at (c .before .before .before .before .before .before .before .before .before .before .before .before .before .before .before .before .before .before .go .ensures .0) in
     let f = rw s at (c .before .before .before .before .before .before .before .before .before .before .before .before .before .before .before .before .before .before .go .ensures .1) in
-    let d = tried-done (rw e at (f (p .tabled) (c .before .before .before .before .before .before .before .before .before .before .before .before .before .before .before .before .before .before .before .before .before .before .before .before .before .before .before .before .before .before .before .before .args .goals .now))) in
+    let d = tried-done (rw e at (f (p .tabled) (c .before .before .before .before .before .before .before .before .before .before .before .before .before .before .before .before .before .before .before .before .before .before .before .before .before .before .before .before .before .before .before .before .before .args .goals .now))) in
     let l = ap length (z .5 .starts) in
-    let kp : length (c .before .before .before .before .before .before .before .before .before .before .before .before .before .before .before .before .before .before .go .last .1 .1 .1 .0) ≡ length (c .before .before .before .before .before .before .before .before .before .before .before .before .before .before .before .before .before .before .before .before .before .before .before .before .before .before .before .before .before .before .before .before .args .placement .now) = c .before .before .before .before .before .before .before .before .before .before .before .before .before .before .before .before .before .before .go .kept .1 .1 .1 .0 in
-    let kw : length (c .before .before .before .before .before .before .before .before .before .before .before .before .before .before .before .before .before .before .go .last .1 .1 .1 .1 .0) ≡ length (c .before .before .before .before .before .before .before .before .before .before .before .before .before .before .before .before .before .before .before .before .before .before .before .before .before .before .before .before .before .before .before .before .args .standing .now) = c .before .before .before .before .before .before .before .before .before .before .before .before .before .before .before .before .before .before .go .kept .1 .1 .1 .1 .0 in
-    let kf : length (c .before .before .before .before .before .before .before .before .before .before .before .before .before .before .before .before .before .before .go .last .1 .1 .1 .1 .1 .0) ≡ length (c .before .before .before .before .before .before .before .before .before .before .before .before .before .before .before .before .before .before .before .before .before .before .before .before .before .before .before .before .before .before .before .before .args .empty .now) = c .before .before .before .before .before .before .before .before .before .before .before .before .before .before .before .before .before .before .go .kept .1 .1 .1 .1 .1 .0 in
-    let h = homeward (p .tabled) (p .most) (z .2) (c .before .before .before .before .before .before .before .before .before .before .before .before .before .before .before .before .before .before .before .before .before .before .before .before .before .before .before .before .before .before .before .before .args .goals .now) (c .before .before .before .before .before .before .before .before .before .before .before .before .before .before .before .before .before .before .before .before .before .before .before .before .before .before .before .before .before .before .before .before .args .r .0) (c .before .before .before .before .before .before .before .before .before .before .before .before .before .before .before .before .before .before .before .before .before .before .before .before .before .before .before .before .before .before .before .before .args .placement .now) (p .placed) (z .1) (z .0) (z .3) (c .before .before .before .before .before .before .before .before .before .before .before .before .before .before .before .before .before .before .before .before .before .before .before .before .before .before .before .before .before .before .before .before .args .path .now) (z .5) (d .0) (d .1) _ (d .2 .moved) (omega (arith, l, c .before .before .before .before .before .before .if2 .left)) in
-    (ready-again p _ _ _ kw kf (d .2 .placed), (omega (arith, z .0, g .many), omega (arith, kp, g .many), g .apart, rw kw (z .2), omega (arith, few, z .4, z .6, part-long (c .before .before .before .before .before .before .before .before .before .before .before .before .before .before .before .before .before .before .before .before .before .before .before .before .before .before .before .before .before .before .before .before .args .path .now) 1, ap length s2, ap length s, drop-last-long (z .5 .ahead)), rw (kw, s2) h))
+    let kp : length (c .before .before .before .before .before .before .before .before .before .before .before .before .before .before .before .before .before .before .go .last .1 .1 .1 .0) ≡ length (c .before .before .before .before .before .before .before .before .before .before .before .before .before .before .before .before .before .before .before .before .before .before .before .before .before .before .before .before .before .before .before .before .before .args .placement .now) = c .before .before .before .before .before .before .before .before .before .before .before .before .before .before .before .before .before .before .go .kept .1 .1 .1 .0 in
+    let kw : length (c .before .before .before .before .before .before .before .before .before .before .before .before .before .before .before .before .before .before .go .last .1 .1 .1 .1 .0) ≡ length (c .before .before .before .before .before .before .before .before .before .before .before .before .before .before .before .before .before .before .before .before .before .before .before .before .before .before .before .before .before .before .before .before .before .args .standing .now) = c .before .before .before .before .before .before .before .before .before .before .before .before .before .before .before .before .before .before .go .kept .1 .1 .1 .1 .0 in
+    let kf : length (c .before .before .before .before .before .before .before .before .before .before .before .before .before .before .before .before .before .before .go .last .1 .1 .1 .1 .1 .0) ≡ length (c .before .before .before .before .before .before .before .before .before .before .before .before .before .before .before .before .before .before .before .before .before .before .before .before .before .before .before .before .before .before .before .before .before .args .empty .now) = c .before .before .before .before .before .before .before .before .before .before .before .before .before .before .before .before .before .before .go .kept .1 .1 .1 .1 .1 .0 in
+    let h = homeward (p .tabled) (p .most) (z .2) (c .before .before .before .before .before .before .before .before .before .before .before .before .before .before .before .before .before .before .before .before .before .before .before .before .before .before .before .before .before .before .before .before .before .args .goals .now) (c .before .before .before .before .before .before .before .before .before .before .before .before .before .before .before .before .before .before .before .before .before .before .before .before .before .before .before .before .before .before .before .before .before .args .r .0) (c .before .before .before .before .before .before .before .before .before .before .before .before .before .before .before .before .before .before .before .before .before .before .before .before .before .before .before .before .before .before .before .before .before .args .placement .now) (p .placed) (z .1) (z .0) (z .3) (c .before .before .before .before .before .before .before .before .before .before .before .before .before .before .before .before .before .before .before .before .before .before .before .before .before .before .before .before .before .before .before .before .before .args .path .now) (z .5) (d .0) (d .1) _ (d .2 .moved) (omega (arith, l, c .before .before .before .before .before .before .if2 .left)) in
+    (ready-again p _ _ _ kw kf (d .2 .placed), (omega (arith, z .0, g .many), omega (arith, kp, g .many), g .apart, rw kw (z .2), omega (arith, few, z .4, z .6, part-long (c .before .before .before .before .before .before .before .before .before .before .before .before .before .before .before .before .before .before .before .before .before .before .before .before .before .before .before .before .before .before .before .before .before .args .path .now) 1, ap length s2, ap length s, drop-last-long (z .5 .ahead)), rw (kw, s2) h, rw kw (z .7)))
 
 same-length-9 : tie.Need-same-length-9
 same-length-9 c = search needs
@@ -141,20 +141,20 @@ same-length-12 c = search needs
 
 returns-4 : tie.Need-returns-4
 returns-4 c =
-    let p = c .before .before .before .before .before .before .before .before .before .before .before .before .before .before .before .before .before .before .before .before .before .before .before .before .before .before .before .before .before .before .before .before .before .before .before .before .before .before .before .before .before .pre .0 in
-    let z = c .before .before .before .before .before .before .before .before .before .before .before .before .before .before .before .before .before .before .before .before .before .before .before .before .before .before .before .before .before .before .before .before .before .before .before .before .before .before .before .before .before .pre .1 in
-    let s = part-ahead (c .before .before .before .before .before .before .before .before .before .before .before .before .before .before .before .before .before .before .before .before .before .before .before .before .before .before .before .before .before .before .before .before .before .before .before .before .before .before .before .before .before .args .path .now) _ (z .5 .ahead) (z .5 .starts) in
-    let s2 = part-home (c .before .before .before .before .before .before .before .before .before .before .before .before .before .before .before .before .before .before .before .before .before .before .before .before .before .before .before .before .before .before .before .before .before .before .before .before .before .before .before .before .before .args .path .now) _ (z .5 .ahead) (z .5 .starts) in
+    let p = c .before .before .before .before .before .before .before .before .before .before .before .before .before .before .before .before .before .before .before .before .before .before .before .before .before .before .before .before .before .before .before .before .before .before .before .before .before .before .before .before .before .before .pre .0 in
+    let z = c .before .before .before .before .before .before .before .before .before .before .before .before .before .before .before .before .before .before .before .before .before .before .before .before .before .before .before .before .before .before .before .before .before .before .before .before .before .before .before .before .before .before .pre .1 in
+    let s = part-ahead (c .before .before .before .before .before .before .before .before .before .before .before .before .before .before .before .before .before .before .before .before .before .before .before .before .before .before .before .before .before .before .before .before .before .before .before .before .before .before .before .before .before .before .args .path .now) _ (z .5 .ahead) (z .5 .starts) in
+    let s2 = part-home (c .before .before .before .before .before .before .before .before .before .before .before .before .before .before .before .before .before .before .before .before .before .before .before .before .before .before .before .before .before .before .before .before .before .before .before .before .before .before .before .before .before .before .args .path .now) _ (z .5 .ahead) (z .5 .starts) in
     let e : c .before .before .before .before .before .before .before .before .before .before .before .before .before .before .before .before .before .before .before .before .before .before .before .before .before .before .before .go .result ≡ Done (c .before .before .before .before .before .before .before .before .before .before .before .before .before .before .before .before .before .gone .given .0 .0) = c .before .before .before .before .before .before .before .before .before .before .before .before .before .before .before .before .before .gone .given .1 in
     let few = rw e at (c .before .before .before .before .before .before .before .before .before .before .before .before .before .before .before .before .before .before .before .before .before .before .before .before .before .before .before .go .ensures .0) in
     let f = rw s at (c .before .before .before .before .before .before .before .before .before .before .before .before .before .before .before .before .before .before .before .before .before .before .before .before .before .before .before .go .ensures .1) in
     let l = ap length (z .5 .starts) in
-    let kw : length (c .before .before .before .before .before .before .before .before .before .before .before .before .before .before .before .before .before .before .before .before .before .before .before .before .before .before .before .go .last .1 .1 .1 .1 .0) ≡ length (c .before .before .before .before .before .before .before .before .before .before .before .before .before .before .before .before .before .before .before .before .before .before .before .before .before .before .before .before .before .before .before .before .before .before .before .before .before .before .before .before .before .args .standing .now) = c .before .before .before .before .before .before .before .before .before .before .before .before .before .before .before .before .before .before .before .before .before .before .before .before .before .before .before .go .kept .1 .1 .1 .1 .0 in
+    let kw : length (c .before .before .before .before .before .before .before .before .before .before .before .before .before .before .before .before .before .before .before .before .before .before .before .before .before .before .before .go .last .1 .1 .1 .1 .0) ≡ length (c .before .before .before .before .before .before .before .before .before .before .before .before .before .before .before .before .before .before .before .before .before .before .before .before .before .before .before .before .before .before .before .before .before .before .before .before .before .before .before .before .before .before .args .standing .now) = c .before .before .before .before .before .before .before .before .before .before .before .before .before .before .before .before .before .before .before .before .before .before .before .before .before .before .before .go .kept .1 .1 .1 .1 .0 in
     let h = rw (kw, s2) at (c .before .before .before .before .before .before .before .before .way-home .ensures .1) in (
-      at-most-more (omega (arith, few, z .4, part-long (c .before .before .before .before .before .before .before .before .before .before .before .before .before .before .before .before .before .before .before .before .before .before .before .before .before .before .before .before .before .before .before .before .before .before .before .before .before .before .before .before .before .args .path .now) 1, ap length s2, ap length s, drop-last-long (z .5 .ahead), l)) (c .before .before .before .before .before .before .before .before .way-home .ensures .0),
+      at-most-more (omega (arith, few, z .4, part-long (c .before .before .before .before .before .before .before .before .before .before .before .before .before .before .before .before .before .before .before .before .before .before .before .before .before .before .before .before .before .before .before .before .before .before .before .before .before .before .before .before .before .before .args .path .now) 1, ap length s2, ap length s, drop-last-long (z .5 .ahead), l)) (c .before .before .before .before .before .before .before .before .way-home .ensures .0),
       λ t short.
-          let d = tried-done (rw e at (f t (c .before .before .before .before .before .before .before .before .before .before .before .before .before .before .before .before .before .before .before .before .before .before .before .before .before .before .before .before .before .before .before .before .before .before .before .before .before .before .before .before .before .args .goals .now))) in
-          carried-home t (p .most) (z .2) (c .before .before .before .before .before .before .before .before .before .before .before .before .before .before .before .before .before .before .before .before .before .before .before .before .before .before .before .before .before .before .before .before .before .before .before .before .before .before .before .before .before .args .goals .now) (c .before .before .before .before .before .before .before .before .before .before .before .before .before .before .before .before .before .before .before .before .before .before .before .before .before .before .before .before .before .before .before .before .before .before .before .before .before .before .before .before .before .args .r .0) (c .before .before .before .before .before .before .before .before .before .before .before .before .before .before .before .before .before .before .before .before .before .before .before .before .before .before .before .before .before .before .before .before .before .before .before .before .before .before .before .before .before .args .placement .now) (p .placed) (z .1) (z .0) (z .3) (c .before .before .before .before .before .before .before .before .before .before .before .before .before .before .before .before .before .before .before .before .before .before .before .before .before .before .before .before .before .before .before .before .before .before .before .before .before .before .before .before .before .args .path .now) (z .5) short (d .0) (d .1) (d .2) (h t),
+          let d = tried-done (rw e at (f t (c .before .before .before .before .before .before .before .before .before .before .before .before .before .before .before .before .before .before .before .before .before .before .before .before .before .before .before .before .before .before .before .before .before .before .before .before .before .before .before .before .before .before .args .goals .now))) in
+          carried-home t (p .most) (z .2) (c .before .before .before .before .before .before .before .before .before .before .before .before .before .before .before .before .before .before .before .before .before .before .before .before .before .before .before .before .before .before .before .before .before .before .before .before .before .before .before .before .before .before .args .goals .now) (c .before .before .before .before .before .before .before .before .before .before .before .before .before .before .before .before .before .before .before .before .before .before .before .before .before .before .before .before .before .before .before .before .before .before .before .before .before .before .before .before .before .before .args .r .0) (c .before .before .before .before .before .before .before .before .before .before .before .before .before .before .before .before .before .before .before .before .before .before .before .before .before .before .before .before .before .before .before .before .before .before .before .before .before .before .before .before .before .before .args .placement .now) (p .placed) (z .1) (z .0) (z .3) (c .before .before .before .before .before .before .before .before .before .before .before .before .before .before .before .before .before .before .before .before .before .before .before .before .before .before .before .before .before .before .before .before .before .before .before .before .before .before .before .before .before .before .args .path .now) (z .5) short (d .0) (d .1) (d .2) (h t),
     )
 
 pub carry-along-spec : {M : Type 1} → statement M

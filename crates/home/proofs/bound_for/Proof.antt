@@ -1,24 +1,41 @@
--- `home::bound_for` meets its contract. Where v is no goal of theirs, its place among them is past the last.
+-- `home::bound_for` meets its contract. The finished carriers are the first ones.
 -- Assumes nothing.
-use mathlib.Core.Path.{sym, _∙_}
-use lib.ListN.{take}
-use lib.Seq.{length-take-le}
-use Rattle.vacate.proofs.Playing.{carrier-none}
+use mathlib.Core.Path.{_≡_, sym, _∙_}
+use native.Mathlib.Omega.{arith}
 use borrow.Author.Needs.{needs}
+use Rattle.home.proofs.Homing.{place-low, place-high}
 use Rattle.home.proofs.bound_for.Statement.{statement}
 use Rattle.home.proofs.bound_for.Tie as tie
 
-is-goal-requires : tie.Need-is-goal-requires
-is-goal-requires c κs = search needs
+cast-c : tie.Need-cast-c
+cast-c c = search needs
 
-first-for-requires : tie.Need-first-for-requires
-first-for-requires c κs = search needs
+mul-c : tie.Need-mul-c
+mul-c c = search needs
+
+shared-slice-read-c : tie.Need-shared-slice-read-c
+shared-slice-read-c c = search needs
+
+cast-c-2 : tie.Need-cast-c-2
+cast-c-2 c = omega (arith, c .shared-slice-known .given (c .before .before .args .v .0))
 
 returns : tie.Need-returns
-returns c = search needs
+returns c =
+    let z = c .before .before .before .pre in
+    z .2 ∙ sym (place-low (c .before .before .before .args .finished) (c .before .before .before .args .goals .now) (c .before .before .before .args .v .0) (omega (arith, z .2, c .if1 .taken)))
 
 returns-2 : tie.Need-returns-2
-returns-2 c = sym (carrier-none (take (c .before .before .before .args .finished) (c .before .before .before .args .goals .now)) (c .before .before .before .args .v .0) (sym (c .before .is-goal .ensures) ∙ c .if1 .left) ∙ length-take-le (c .before .before .before .args .finished) (c .before .before .before .args .goals .now) (c .before .before .before .pre))
+returns-2 c =
+    let z = c .before .before .before .pre in
+    sym (place-high (c .before .before .before .args .finished) (c .before .before .before .args .goals .now) (c .before .before .before .args .v .0) (z .0) (omega (arith, z .2, c .if1 .left)))
 
 pub bound-for-spec : {M : Type 1} → statement M
-bound-for-spec = tie.close (tie.spec is-goal-requires first-for-requires returns returns-2)
+bound-for-spec =
+    tie.close
+    (tie.spec
+    cast-c
+    mul-c
+    shared-slice-read-c
+    cast-c-2
+    returns
+    returns-2)

@@ -10,30 +10,32 @@ use Rattle.home.proofs.home_at.Statement.{statement}
 use Rattle.home.proofs.home_at.Tie as tie
 
 bound-for-requires : tie.Need-bound-for-requires
-bound-for-requires c κs = search needs
+bound-for-requires c κs =
+    let z = c .before .before .before .before .before .before .before .pre .1 in
+    (z .0, omega (arith, z .2, z .6 .many), z .6 .whose (c .before .before .before .before .before .before .before .args .v .0) (z .2))
 
 returns : tie.Need-returns
-returns c = (at-most (omega arith), λ t. stages-none (home-absent _ _ _ _ _ _ (c .before .bound-for .ensures) (c .if1 .taken)) (c .before .before .before .before .before .before .before .before .pre .0 .placed))
+returns c = (at-most (omega arith), λ t. stages-none (home-absent _ _ _ _ _ _ (c .before .bound-for .ensures) (c .if1 .taken)) (c .before .before .before .before .before .before .before .before .before .pre .0 .placed))
 
 mul-if2 : tie.Need-mul-if2
 mul-if2 c = search needs
 
 slice-read-if2 : tie.Need-slice-read-if2
-slice-read-if2 c = omega (arith, c .before .if1 .left, c .before .before .before .before .before .before .before .before .before .pre .1 .0, c .before .before .before .before .before .before .before .before .before .pre .1 .1)
+slice-read-if2 c = omega (arith, c .before .if1 .left, c .before .before .before .before .before .before .before .before .before .before .pre .1 .0, c .before .before .before .before .before .before .before .before .before .before .pre .1 .1)
 
 returns-2 : tie.Need-returns-2
-returns-2 c = (at-most (omega arith), λ t. stages-none (home-there _ _ _ _ _ _ (c .before .before .before .before .bound-for .ensures) (c .before .before .before .if1 .left) (c .if2 .taken)) (c .before .before .before .before .before .before .before .before .before .before .before .pre .0 .placed))
+returns-2 c = (at-most (omega arith), λ t. stages-none (home-there _ _ _ _ _ _ (c .before .before .before .before .bound-for .ensures) (c .before .before .before .if1 .left) (c .if2 .taken)) (c .before .before .before .before .before .before .before .before .before .before .before .before .pre .0 .placed))
 
-cast-t18 : tie.Need-cast-t18
-cast-t18 c =
-    let p = c .before .before .before .before .before .before .before .before .before .before .before .pre .0 in
-    let z = c .before .before .before .before .before .before .before .before .before .before .before .pre .1 in
+cast-t19 : tie.Need-cast-t19
+cast-t19 c =
+    let p = c .before .before .before .before .before .before .before .before .before .before .before .before .pre .0 in
+    let z = c .before .before .before .before .before .before .before .before .before .before .before .before .pre .1 in
     omega (arith, c .before .before .before .if1 .left, z .0, z .1, p .placed .few, p .most)
 
 step-requires : tie.Need-step-requires
 step-requires c κs =
-    let p = c .before .before .before .before .before .before .before .before .before .before .before .before .before .before .before .pre .0 in
-    let z = c .before .before .before .before .before .before .before .before .before .before .before .before .before .before .before .pre .1 in
+    let p = c .before .before .before .before .before .before .before .before .before .before .before .before .before .before .before .before .pre .0 in
+    let z = c .before .before .before .before .before .before .before .before .before .before .before .before .before .before .before .before .pre .1 in
     let rail = (rw (← (c .before .before .before .before .before .before .before .before .bound-for .ensures)) at (z .5 .beside)) (c .before .before .before .before .before .before .before .if1 .left) (c .before .before .before .before .if2 .left) in
     (p, (omega (arith, c .before .before .before .before .before .before .before .if1 .left, z .0, z .1), omega (arith, z .0, z .1), z .2, rail, z .3, z .4))
 
@@ -87,7 +89,7 @@ home-at-spec =
     mul-if2
     slice-read-if2
     returns-2
-    cast-t18
+    cast-t19
     step-requires
     enum-known-one
     enum-told

@@ -22,16 +22,25 @@ slice-aggregate-play-on-2 c = sym (places _ (c .before .before .before .before .
 slice-aggregate-play-on-3 : tie.Need-slice-aggregate-play-on-3
 slice-aggregate-play-on-3 c = search needs
 
+array-borrow-prefix-owner : tie.Need-array-borrow-prefix-owner
+array-borrow-prefix-owner c = search needs
+
+slice-aggregate-play-on-4 : tie.Need-slice-aggregate-play-on-4
+slice-aggregate-play-on-4 c = sym (places _ (c .before .before .before .before .before .before .before .pre .most))
+
+slice-aggregate-play-on-5 : tie.Need-slice-aggregate-play-on-5
+slice-aggregate-play-on-5 c = search needs
+
 play-on-requires : tie.Need-play-on-requires
 play-on-requires c κs =
-    let a = c .before .before .before .before .before .before .before .pre in
-    (rw (places (c .before .before .before .before .before .before .before .args .n) (a .most)) a, refl, places _ (omega (arith, a .few, a .most)))
+    let a = c .before .before .before .before .before .before .before .before .before .pre in
+    (rw (places (c .before .before .before .before .before .before .before .before .before .args .n) (a .most)) a, refl, places _ (omega (arith, a .few, a .most)), refl, refl)
 
 same-length : tie.Need-same-length
 same-length c = search needs
 
 returns : tie.Need-returns
-returns c = rw (places (c .before .before .before .before .before .before .before .before .before .before .before .before .before .args .n) (c .before .before .before .before .before .before .before .before .before .before .before .before .before .pre .most)) at (c .before .before .before .before .before .play-on .ensures)
+returns c = rw (places (c .before .before .before .before .before .before .before .before .before .before .before .before .before .before .before .before .before .args .n) (c .before .before .before .before .before .before .before .before .before .before .before .before .before .before .before .before .before .pre .most)) at (c .before .before .before .before .before .before .before .play-on .ensures)
 
 pub play-spec : {M : Type 1} → statement M
 play-spec =
@@ -42,6 +51,9 @@ play-spec =
     array-borrow-prefix-standing
     slice-aggregate-play-on-2
     slice-aggregate-play-on-3
+    array-borrow-prefix-owner
+    slice-aggregate-play-on-4
+    slice-aggregate-play-on-5
     play-on-requires
     same-length
     returns)

@@ -2,8 +2,11 @@
 -- Assumes nothing.
 use mathlib.Core.Path.{_≡_, _∙_, sym, ap}
 use denote.Ref.{now}
+use Prim.Native.Nat.{_≤_}
+use native.Mathlib.Omega.{arith}
 use lib.ListN.{length}
-use Rattle.play.proofs.Playing.{all-copied, ready-of, plays-of}
+use Rattle.words.specs.Sets.{span}
+use Rattle.play.proofs.Playing.{all-copied, ready-of, owners-of, plays-of}
 use borrow.Author.Needs.{needs}
 use Rattle.play.proofs.play_on.Statement.{statement}
 use Rattle.play.proofs.play_on.Tie as tie
@@ -14,14 +17,22 @@ shorts-requires c κs = search needs
 place-requires : tie.Need-place-requires
 place-requires c κs = search needs
 
+place-requires-2 : tie.Need-place-requires-2
+place-requires-2 c κs =
+    let pre = c .before .before .before .before .before .before .before .before .before .before .before .before .before .before .before .before .before .before .before .before .before .pre in
+    let a = pre .0 in
+    let most : length (now (c .before .before .before .before .before .before .before .before .before .before .before .before .before .before .before .before .before .before .before .before .before .args .owner)) ≤ span = omega (arith, a .most, pre .3) in
+    (most, pre .4, omega (arith, a .few, a .goals .many, pre .3), a .goals .apart, λ i h. omega (arith, a .goals .inside i h, pre .3))
+
 carry-all-requires : tie.Need-carry-all-requires
 carry-all-requires c κs =
-    let pre = c .before .before .before .before .before .before .before .before .before .before .before .before .before .before .before .before .before .before .before .before .before .before .pre in
+    let pre = c .before .before .before .before .before .before .before .before .before .before .before .before .before .before .before .before .before .before .before .before .before .before .before .before .before .before .before .before .before .before .before .before .pre in
     let a = pre .0 in
-    let e = all-copied _ _ _ (pre .2) (c .before .before .before .before .before .before .before .before .before .before .before .before .before .before .shorts .ensures) in
-    let kept : length (c .before .before .before .before .before .before .before .before .before .place .last .1 .0) ≡ length (now (c .before .before .before .before .before .before .before .before .before .before .before .before .before .before .before .before .before .before .before .before .before .before .args .standing)) = c .before .before .before .before .before .before .before .before .before .place .kept .1 .0 in
-    let placed = c .before .before .before .before .before .before .before .before .before .place .ensures in
-    (ready-of (now (c .before .before .before .before .before .before .before .before .before .before .before .before .before .before .before .before .before .before .before .before .before .before .args .start)) (now (c .before .before .before .before .before .before .before .before .before .before .before .before .before .before .before .before .before .before .before .before .before .before .args .goal)) _ _ _ (rw kept a) (let few = a .most in rw kept (search needs)) e (search needs) (rw kept placed), (record { many = a .goals .many ∙ sym (ap length e); apart = a .goals .apart; inside = rw kept (a .goals .inside) }, rw kept (a .loopless), rw kept (a .reaching)))
+    let e = all-copied _ _ _ (pre .2) (c .before .before .before .before .before .before .before .before .before .before .before .before .before .before .before .before .before .before .before .before .before .before .shorts .ensures) in
+    let kept : length (c .before .before .before .before .before .before .before .before .before .before .before .before .before .before .before .before .before .place .last .1 .0) ≡ length (now (c .before .before .before .before .before .before .before .before .before .before .before .before .before .before .before .before .before .before .before .before .before .before .before .before .before .before .before .before .before .before .before .before .args .standing)) = c .before .before .before .before .before .before .before .before .before .before .before .before .before .before .before .before .before .place .kept .1 .0 in
+    let placed = c .before .before .before .before .before .before .before .before .before .before .before .before .before .before .before .before .before .place .ensures in
+    let kept-owner : length (c .before .before .before .before .before .before .before .before .before .before .place2 .last .1 .0) ≡ length (now (c .before .before .before .before .before .before .before .before .before .before .before .before .before .before .before .before .before .before .before .before .before .before .before .before .before .before .before .before .before .before .before .before .args .owner)) = c .before .before .before .before .before .before .before .before .before .before .place2 .kept .1 .0 in
+    (ready-of (now (c .before .before .before .before .before .before .before .before .before .before .before .before .before .before .before .before .before .before .before .before .before .before .before .before .before .before .before .before .before .before .before .before .args .start)) (now (c .before .before .before .before .before .before .before .before .before .before .before .before .before .before .before .before .before .before .before .before .before .before .before .before .before .before .before .before .before .before .before .before .args .goal)) _ _ _ (rw kept a) (let few = a .most in rw kept (search needs)) e (search needs) (rw kept placed), (record { many = a .goals .many ∙ sym (ap length e); apart = a .goals .apart; inside = rw kept (a .goals .inside) }, rw kept (a .loopless), rw kept (a .reaching), rw kept (owners-of (pre .3) kept-owner (c .before .before .before .before .before .before .before .before .before .before .place2 .ensures))))
 
 same-length : tie.Need-same-length
 same-length c = search needs
@@ -35,10 +46,16 @@ same-length-3 c = search needs
 same-length-4 : tie.Need-same-length-4
 same-length-4 c = search needs
 
+same-length-5 : tie.Need-same-length-5
+same-length-5 c = search needs
+
+same-length-6 : tie.Need-same-length-6
+same-length-6 c = search needs
+
 returns : tie.Need-returns
 returns c = λ t.
-    let e = all-copied _ _ _ (c .before .before .before .before .before .before .before .before .before .before .before .before .before .before .before .before .before .before .before .before .before .before .before .before .before .before .before .before .before .before .before .pre .2) (c .before .before .before .before .before .before .before .before .before .before .before .before .before .before .before .before .before .before .before .before .before .before .before .shorts .ensures) in
-    let kept : length (c .before .before .before .before .before .before .before .before .before .before .before .before .before .before .before .before .before .before .place .last .1 .0) ≡ length (now (c .before .before .before .before .before .before .before .before .before .before .before .before .before .before .before .before .before .before .before .before .before .before .before .before .before .before .before .before .before .before .before .args .standing)) = c .before .before .before .before .before .before .before .before .before .before .before .before .before .before .before .before .before .before .place .kept .1 .0 in
+    let e = all-copied _ _ _ (c .before .before .before .before .before .before .before .before .before .before .before .before .before .before .before .before .before .before .before .before .before .before .before .before .before .before .before .before .before .before .before .before .before .before .before .before .before .before .before .before .before .pre .2) (c .before .before .before .before .before .before .before .before .before .before .before .before .before .before .before .before .before .before .before .before .before .before .before .before .before .before .before .before .before .before .before .shorts .ensures) in
+    let kept : length (c .before .before .before .before .before .before .before .before .before .before .before .before .before .before .before .before .before .before .before .before .before .before .before .before .before .before .place .last .1 .0) ≡ length (now (c .before .before .before .before .before .before .before .before .before .before .before .before .before .before .before .before .before .before .before .before .before .before .before .before .before .before .before .before .before .before .before .before .before .before .before .before .before .before .before .before .before .args .standing)) = c .before .before .before .before .before .before .before .before .before .before .before .before .before .before .before .before .before .before .before .before .before .before .before .before .before .before .place .kept .1 .0 in
     plays-of ((rw (kept, e) at (c .before .before .before .before .before .before .before .before .carry-all .ensures)) t)
 
 pub play-on-spec : {M : Type 1} → statement M
@@ -47,9 +64,12 @@ play-on-spec =
     (tie.spec
     shorts-requires
     place-requires
+    place-requires-2
     carry-all-requires
     same-length
     same-length-2
     same-length-3
     same-length-4
+    same-length-5
+    same-length-6
     returns)

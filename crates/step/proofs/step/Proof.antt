@@ -18,11 +18,11 @@ is-in-requires c κs = search needs
 cast-own : tie.Need-cast-own
 cast-own c = search needs
 
-mul-t17 : tie.Need-mul-t17
-mul-t17 c = search needs
+mul-t19 : tie.Need-mul-t19
+mul-t19 c = search needs
 
-slice-read-t19 : tie.Need-slice-read-t19
-slice-read-t19 c = search needs
+slice-read-t21 : tie.Need-slice-read-t21
+slice-read-t21 c = search needs
 
 cross-requires : tie.Need-cross-requires
 cross-requires c κs =
@@ -70,8 +70,8 @@ slice-read-s c = search needs
 cast-if2 : tie.Need-cast-if2
 cast-if2 c = omega (arith, c .slice-known10 .given (c .before .before .before .before .before .before .before .before .before .before .args .w .0))
 
-cast-t32 : tie.Need-cast-t32
-cast-t32 c = search needs
+cast-t34 : tie.Need-cast-t34
+cast-t34 c = search needs
 
 swap-requires : tie.Need-swap-requires
 swap-requires c κs =
@@ -110,8 +110,20 @@ returns-2 c =
           stepped-swap t (p .most) (z .4) (c .before .before .before .before .before .before .before .before .before .before .before .before .before .before .before .before .before .before .before .before .before .before .args .finished) (c .before .before .before .before .before .before .before .before .before .before .before .before .before .before .before .before .before .before .before .before .before .before .args .r .0) (c .before .before .before .before .before .before .before .before .before .before .before .before .before .before .before .before .before .before .before .before .before .before .args .w .0) (c .before .before .before .before .before .before .before .before .before .before .before .before .before .before .before .before .before .before .before .before .before .before .args .placement .now) (p .placed) (z .0) (z .2) (z .3) f (c .before .before .before .before .before .before .swap .ensures .1 t (met-beside t (p .most) (z .4) (c .before .before .before .before .before .before .before .before .before .before .before .before .before .before .before .before .before .before .before .before .before .before .args .finished) (c .before .before .before .before .before .before .before .before .before .before .before .before .before .before .before .before .before .before .before .before .before .before .args .r .0) (c .before .before .before .before .before .before .before .before .before .before .before .before .before .before .before .before .before .before .before .before .before .before .args .w .0) (c .before .before .before .before .before .before .before .before .before .before .before .before .before .before .before .before .before .before .before .before .before .before .args .placement .now) (p .placed) (z .0) (z .2) (z .3) f)),
     )
 
-make-way-requires : tie.Need-make-way-requires
-make-way-requires c κs = search needs
+lowest-common-requires : tie.Need-lowest-common-requires
+lowest-common-requires c κs =
+    let p = c .before .before .before .before .before .before .before .before .before .before .before .before .pre .0 in
+    let z = c .before .before .before .before .before .before .before .before .before .before .before .before .pre .1 in
+    (omega (arith, p .table-size, z .2), omega (arith, p .empty-size))
+
+cast-t46 : tie.Need-cast-t46
+cast-t46 c = search needs
+
+step-aside-requires : tie.Need-step-aside-requires
+step-aside-requires c κs =
+    let p = c .before .before .before .before .before .before .before .before .before .before .before .before .before .before .before .before .before .before .pre .0 in
+    let z = c .before .before .before .before .before .before .before .before .before .before .before .before .before .before .before .before .before .before .pre .1 in
+    (p, (z .0, z .1, z .2, z .3, z .4, z .5, omega (arith, c .before .before .before .before .before .before .before .if2 .left), sym (c .before .before .before .before .before .before .before .before .before .before .is-in .ensures) ∙ c .before .before .before .before .before .before .before .before .before .if1 .left, c .before .before .before .before .before .lowest-common .ensures, c .before .before .before .before .if3 .taken))
 
 same-length-9 : tie.Need-same-length-9
 same-length-9 c = search needs
@@ -128,6 +140,24 @@ same-length-12 c = search needs
 returns-3 : tie.Need-returns-3
 returns-3 c = search needs
 
+make-way-requires : tie.Need-make-way-requires
+make-way-requires c κs = search needs
+
+same-length-13 : tie.Need-same-length-13
+same-length-13 c = search needs
+
+same-length-14 : tie.Need-same-length-14
+same-length-14 c = search needs
+
+same-length-15 : tie.Need-same-length-15
+same-length-15 c = search needs
+
+same-length-16 : tie.Need-same-length-16
+same-length-16 c = search needs
+
+returns-4 : tie.Need-returns-4
+returns-4 c = search needs
+
 pub step-spec : {M : Type 1} → statement M
 step-spec =
     tie.close
@@ -135,8 +165,8 @@ step-spec =
     cast-bay
     is-in-requires
     cast-own
-    mul-t17
-    slice-read-t19
+    mul-t19
+    slice-read-t21
     cross-requires
     same-length
     same-length-2
@@ -146,16 +176,24 @@ step-spec =
     mul-s
     slice-read-s
     cast-if2
-    cast-t32
+    cast-t34
     swap-requires
     same-length-5
     same-length-6
     same-length-7
     same-length-8
     returns-2
-    make-way-requires
+    lowest-common-requires
+    cast-t46
+    step-aside-requires
     same-length-9
     same-length-10
     same-length-11
     same-length-12
-    returns-3)
+    returns-3
+    make-way-requires
+    same-length-13
+    same-length-14
+    same-length-15
+    same-length-16
+    returns-4)

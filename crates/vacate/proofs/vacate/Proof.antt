@@ -1,20 +1,13 @@
--- `vacate::vacate` meets its contract. The cases of the code are those of the paper; on the path to the nearest empty bay the carriers can be shifted.
+-- `vacate::vacate` meets its contract. The cases of the code are those of the paper; a bay beside x is the nearest there can be.
 -- Assumes nothing.
-use mathlib.Core.Path.{_≡_, refl, sym, ap, _∙_}
+use mathlib.Core.Path.{_≡_, refl, sym, _∙_}
+use Prim.Native.Nat.{_<_}
 use native.Mathlib.Omega.{arith}
-use lib.ListN.{length, take}
-use lib.Seq.{length-take-le}
 use borrow.Author.Needs.{needs}
-use Rattle.paper.proofs.Nearest.{nearest-first}
-use Rattle.paper.specs.Yard.{isEmpty}
 use Rattle.words.specs.Sets.{span}
-use Rattle.rings.specs.Ways.{endOf}
-use Rattle.vacate.proofs.Vacating.{vacates-empty, vacates-held, vacates-none, can-shift, vacates-filled}
+use Rattle.vacate.proofs.Vacating.{vacates-empty, vacates-held, vacates-beside, inside-e, empty-e, full-in}
 use Rattle.vacate.proofs.vacate.Statement.{statement}
 use Rattle.vacate.proofs.vacate.Tie as tie
-use Rattle.vacate.proofs.vacate.Reads as reads
-use Rattle.vacate.proofs.vacate.Lts as lts
-use Rattle.vacate.proofs.shift.Reads as shift-reads
 
 cast-bay : tie.Need-cast-bay
 cast-bay c = search needs
@@ -37,17 +30,22 @@ same-length-2 c = search needs
 returns-2 : tie.Need-returns-2
 returns-2 c = let p = c .before .before .before .before .before .before .before .before .before .before .before .before .before .pre in λ s. vacates-held s (p .0) _ (p .1) (p .7) _ _ (sym (c .before .before .if1 .left) ∙ c .before .before .before .is-in .ensures) (sym (c .if2 .taken) ∙ c .before .is-in2 .ensures)
 
-slice-aggregate-way-to-nearest : tie.Need-slice-aggregate-way-to-nearest
-slice-aggregate-way-to-nearest c = search needs
+free-beside-requires : tie.Need-free-beside-requires
+free-beside-requires c κs = search needs
 
-way-to-nearest-requires : tie.Need-way-to-nearest-requires
-way-to-nearest-requires c κs = let p = c .before .before .before .before .before .before .before .before .before .before .before .before .before .before .before .before .pre in (p .0, p .1, p .2, p .3, p .4, omega arith, omega arith, sym (c .before .before .before .before .is-in2 .ensures) ∙ c .before .before .before .if2 .left, p .8)
+cast-t20 : tie.Need-cast-t20
+cast-t20 c = search needs
 
-enum-known-e : tie.Need-enum-known-e
-enum-known-e c = search needs
-
-enum-told : tie.Need-enum-told
-enum-told c = search needs
+cross-requires : tie.Need-cross-requires
+cross-requires c κs =
+    let p = c .before .before .before .before .before .before .before .before .before .before .before .before .before .before .before .before .before .before .before .before .pre in
+    let out = c .before .before .before .before .before .before .before .before .before .before .before .before .before .before .before .before .before .before .before .before .args .out .now in
+    let at = c .before .before .before .before .before .before .before .before .before .before .before .before .before .before .before .before .before .before .before .before .args .at in
+    let full = sym (c .before .before .before .before .before .before .before .before .before .if1 .left) ∙ c .before .before .before .before .before .before .before .before .before .before .is-in .ensures in
+    let unheld = sym (c .before .before .before .before .before .before .before .if2 .left) ∙ c .before .before .before .before .before .before .before .before .is-in2 .ensures in
+    let low = c .before .before .before .before .before .free-beside .ensures in
+    let there : c .before .before .before .before .before .free-beside .result < span = c .before .before .before .before .if3 .taken in
+    (p .1, inside-e (p .8) (p .0) _ (p .1) (p .7) out at full unheld _ low there, p .0, p .4, omega (arith, p .6), full-in (p .8) (p .0) _ (p .1) (p .7) out at full unheld _ low there, empty-e (p .8) (p .0) _ (p .1) (p .7) out at full unheld _ low there, p .7)
 
 same-length-3 : tie.Need-same-length-3
 same-length-3 c = search needs
@@ -55,23 +53,23 @@ same-length-3 c = search needs
 same-length-4 : tie.Need-same-length-4
 same-length-4 c = search needs
 
-returns-3 : tie.Need-returns-3
-returns-3 c = let p = c .before .before .before .before .before .before .before .before .before .before .before .before .before .before .before .before .before .before .before .before .before .before .pre in λ s. vacates-none s (p .0) _ (p .1) (p .7) _ _ (sym (c .before .before .before .before .before .before .before .before .before .before .before .if1 .left) ∙ c .before .before .before .before .before .before .before .before .before .before .before .before .is-in .ensures) (sym (c .before .before .before .before .before .before .before .before .before .if2 .left) ∙ c .before .before .before .before .before .before .before .before .before .before .is-in2 .ensures) (ap endOf (sym (c .enum-told .given .1)) ∙ c .before .before .before .before .before .way-to-nearest .ensures s (isEmpty _) (p .7 .empties) .nearest ∙ sym (nearest-first _ _ _ _))
-
-array-share-prefix-path : tie.Need-array-share-prefix-path
-array-share-prefix-path c = let p = c .before .before .before .before .before .before .before .before .before .before .before .before .before .before .before .before .before .before .before .before .before .before .before .pre in let t = rw (c .before .e .given .1) at (c .before .before .before .before .before .before .way-to-nearest .ensures (p .8) (isEmpty _) (p .7 .empties)) in let kept : length (c .before .before .before .before .before .before .way-to-nearest .last .1 .1 .1 .1 .1 .1 .0) ≡ span = c .before .before .before .before .before .before .way-to-nearest .kept .1 .1 .1 .1 .1 .1 .0 in omega (arith, t .fits, p .0, kept)
-
-slice-aggregate-shift : tie.Need-slice-aggregate-shift
-slice-aggregate-shift c = let p = c .before .before .before .before .before .before .before .before .before .before .before .before .before .before .before .before .before .before .before .before .before .before .before .before .pre in let t = rw (c .before .before .e .given .1) at (c .before .before .before .before .before .before .before .way-to-nearest .ensures (p .8) (isEmpty _) (p .7 .empties)) in let kept : length (c .before .before .before .before .before .before .before .way-to-nearest .last .1 .1 .1 .1 .1 .1 .0) ≡ span = c .before .before .before .before .before .before .before .way-to-nearest .kept .1 .1 .1 .1 .1 .1 .0 in sym (length-take-le _ _ (omega (arith, t .fits, p .0, kept)))
-
-shift-requires : tie.Need-shift-requires
-shift-requires c κs = let p = c .before .before .before .before .before .before .before .before .before .before .before .before .before .before .before .before .before .before .before .before .before .before .before .before .before .before .before .before .pre in let t = rw (c .before .before .before .before .before .before .e .given .1) at (c .before .before .before .before .before .before .before .before .before .before .before .way-to-nearest .ensures (p .8) (isEmpty _) (p .7 .empties)) in let kept : length (c .before .before .before .before .before .before .before .before .before .before .before .way-to-nearest .last .1 .1 .1 .1 .1 .1 .0) ≡ span = c .before .before .before .before .before .before .before .before .before .before .before .way-to-nearest .kept .1 .1 .1 .1 .1 .1 .0 in let len : length (take (c .before .before .before .before .before .before .e .given .0 .1 .0) (c .before .before .before .before .before .before .before .before .before .before .before .way-to-nearest .last .1 .1 .1 .1 .1 .1 .0)) ≡ c .before .before .before .before .before .before .e .given .0 .1 .0 = length-take-le _ _ (omega (arith, t .fits, p .0, kept)) in (p .0, p .4, omega (arith, len, t .fits, p .0, p .6), p .7, can-shift (p .8) (p .0) _ (p .1) (p .7) (c .before .before .before .before .before .before .before .before .before .before .before .before .before .before .before .before .before .before .before .before .before .before .before .before .before .before .before .before .args .out .now) (c .before .before .before .before .before .before .before .before .before .before .before .before .before .before .before .before .before .before .before .before .before .before .before .before .before .before .before .before .args .at) (sym (c .before .before .before .before .before .before .before .before .before .before .before .before .before .before .before .before .before .if1 .left) ∙ c .before .before .before .before .before .before .before .before .before .before .before .before .before .before .before .before .before .before .is-in .ensures) (sym (c .before .before .before .before .before .before .before .before .before .before .before .before .before .before .before .if2 .left) ∙ c .before .before .before .before .before .before .before .before .before .before .before .before .before .before .before .before .is-in2 .ensures) _ (t .nearest ∙ sym (nearest-first _ _ _ _)) _ (t .path _ refl))
-
 same-length-5 : tie.Need-same-length-5
 same-length-5 c = search needs
 
 same-length-6 : tie.Need-same-length-6
 same-length-6 c = search needs
+
+returns-3 : tie.Need-returns-3
+returns-3 c =
+    let p = c .before .before .before .before .before .before .before .before .before .before .before .before .before .before .before .before .before .before .before .before .before .before .before .before .before .before .before .before .before .pre in
+    let full = sym (c .before .before .before .before .before .before .before .before .before .before .before .before .before .before .before .before .before .before .if1 .left) ∙ c .before .before .before .before .before .before .before .before .before .before .before .before .before .before .before .before .before .before .before .is-in .ensures in
+    let unheld = sym (c .before .before .before .before .before .before .before .before .before .before .before .before .before .before .before .before .if2 .left) ∙ c .before .before .before .before .before .before .before .before .before .before .before .before .before .before .before .before .before .is-in2 .ensures in
+    λ s. vacates-beside s (p .0) _ (p .1) (p .7) _ _ full unheld _ (c .before .before .before .before .before .before .before .before .before .before .before .before .before .before .free-beside .ensures) (c .before .before .before .before .before .before .before .before .before .before .before .before .before .if3 .taken) _ _ _ _ _ _ refl refl (c .before .before .before .before .before .before .before .before .cross .ensures)
+
+fill-nearest-requires : tie.Need-fill-nearest-requires
+fill-nearest-requires c κs =
+    let p = c .before .before .before .before .before .before .before .before .before .before .before .before .before .before .before .before .before .before .before .before .before .pre in
+    (p .0, p .1, p .2, p .3, p .4, p .5, p .6, sym (c .before .before .before .before .before .before .before .before .before .before .before .is-in .ensures) ∙ c .before .before .before .before .before .before .before .before .before .before .if1 .left, sym (c .before .before .before .before .before .before .before .before .before .is-in2 .ensures) ∙ c .before .before .before .before .before .before .before .before .if2 .left, p .7, p .8)
 
 same-length-7 : tie.Need-same-length-7
 same-length-7 c = search needs
@@ -82,8 +80,14 @@ same-length-8 c = search needs
 same-length-9 : tie.Need-same-length-9
 same-length-9 c = search needs
 
+same-length-10 : tie.Need-same-length-10
+same-length-10 c = search needs
+
+same-length-11 : tie.Need-same-length-11
+same-length-11 c = search needs
+
 returns-4 : tie.Need-returns-4
-returns-4 c = let p = c .before .before .before .before .before .before .before .before .before .before .before .before .before .before .before .before .before .before .before .before .before .before .before .before .before .before .before .before .before .before .before .before .before .before .before .before .before .pre in let t = rw (c .before .before .before .before .before .before .before .before .before .before .before .before .before .before .before .e .given .1) at (c .before .before .before .before .before .before .before .before .before .before .before .before .before .before .before .before .before .before .before .before .way-to-nearest .ensures (p .8) (isEmpty _) (p .7 .empties)) in let kept : length (c .before .before .before .before .before .before .before .before .before .before .before .before .before .before .before .before .before .before .before .before .way-to-nearest .last .1 .1 .1 .1 .1 .1 .0) ≡ span = c .before .before .before .before .before .before .before .before .before .before .before .before .before .before .before .before .before .before .before .before .way-to-nearest .kept .1 .1 .1 .1 .1 .1 .0 in let len : length (take (c .before .before .before .before .before .before .before .before .before .before .before .before .before .before .before .e .given .0 .1 .0) (c .before .before .before .before .before .before .before .before .before .before .before .before .before .before .before .before .before .before .before .before .way-to-nearest .last .1 .1 .1 .1 .1 .1 .0)) ≡ c .before .before .before .before .before .before .before .before .before .before .before .before .before .before .before .e .given .0 .1 .0 = length-take-le _ _ (omega (arith, t .fits, p .0, kept)) in λ s. let v = rw (c .before .before .before .before .before .before .before .before .before .before .before .before .before .before .before .e .given .1) at (c .before .before .before .before .before .before .before .before .before .before .before .before .before .before .before .before .before .before .before .before .way-to-nearest .ensures s (isEmpty _) (p .7 .empties)) in vacates-filled s (p .0) _ (p .1) (p .7) _ _ (sym (c .before .before .before .before .before .before .before .before .before .before .before .before .before .before .before .before .before .before .before .before .before .before .before .before .before .before .if1 .left) ∙ c .before .before .before .before .before .before .before .before .before .before .before .before .before .before .before .before .before .before .before .before .before .before .before .before .before .before .before .is-in .ensures) (sym (c .before .before .before .before .before .before .before .before .before .before .before .before .before .before .before .before .before .before .before .before .before .before .before .before .if2 .left) ∙ c .before .before .before .before .before .before .before .before .before .before .before .before .before .before .before .before .before .before .before .before .before .before .before .before .before .is-in2 .ensures) _ (v .nearest ∙ sym (nearest-first _ _ _ _)) _ (v .path _ refl) _ _ _ _ _ _ refl refl (omega (arith, len, t .fits)) (c .before .before .before .before .before .before .before .before .shift .ensures)
+returns-4 c = search needs
 
 pub vacate-spec : {M : Type 1} → statement M
 vacate-spec =
@@ -96,19 +100,18 @@ vacate-spec =
     is-in-requires-2
     same-length-2
     returns-2
-    slice-aggregate-way-to-nearest
-    way-to-nearest-requires
-    enum-known-e
-    enum-told
+    free-beside-requires
+    cast-t20
+    cross-requires
     same-length-3
     same-length-4
-    returns-3
-    array-share-prefix-path
-    slice-aggregate-shift
-    shift-requires
     same-length-5
     same-length-6
+    returns-3
+    fill-nearest-requires
     same-length-7
     same-length-8
     same-length-9
+    same-length-10
+    same-length-11
     returns-4)

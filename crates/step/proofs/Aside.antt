@@ -1,0 +1,88 @@
+-- Where an empty bay is beside w, the paper's vacate moves the carrier at w there: it is not held, since only carriers' bays are.
+-- Assumes nothing.
+use mathlib.Core.Path.{_≡_, sym, ap, _∙_, refl}
+use mathlib.Core.Bool.{true, false, not}
+use mathlib.Core.List.{List, [], _∷_}
+use mathlib.Core.Option.{some}
+use Prim.Native.Nat.{ℕ, _≤_, _<_}
+use native.Mathlib.Omega.{arith}
+use lib.ListN.{length, getD, take, length-take}
+use lib.Dec.{ltb}
+use lib.Seq.{getD-take}
+use borrow.Author.Tests.{not-true, not-false, ltb-true, ltb-false}
+use Rattle.paper.specs.Basics.{_and_, elem, In, Out}
+use Rattle.paper.specs.Path.{Free}
+use Rattle.paper.specs.Procedure.{vacate, holding, shift}
+use Rattle.paper.specs.Yard.{Bay, Carrier, Placement, bayOf, carrierAt, crossing, isEmpty, joined}
+use Rattle.paper.proofs.Members.{In-cases, take-in, in-count}
+use Rattle.paper.proofs.Playing.{placeOf-bay, placeOf-there, bay-in}
+use Rattle.paper.proofs.Tests.{by-cases, not-both, and-left, and-right, and-both}
+use Rattle.words.specs.Sets.{mem, span, memRow, Lowest}
+use Rattle.words.proofs.Sets.{row-zero}
+use Rattle.vacate.specs.Placed.{Placed}
+use Rattle.vacate.proofs.Playing.{carrier-is}
+use Rattle.vacate.proofs.Beside.{beside-nearest, beside-path}
+use Rattle.bring.specs.Acting.{Tabled}
+use Rattle.step.specs.Asking.{Loopless}
+
+module _ {n : ℕ} {table : List ℕ} (t : Tabled n table) (most : n ≤ span) (loopless : Loopless n table) (finished : ℕ) (r : Carrier) (w : Bay) (p : Placement)
+    {standing empty : List ℕ} (k : Placed n p standing empty) (hr : r < length p) (hf : finished ≤ length p) (hw : w < n) (rail : memRow table (bayOf p r) w ≡ true)
+    (high : finished ≤ getD standing w 0) (full : mem empty w ≡ false) (e : Bay) (low : Lowest (λ b. memRow table w b and memRow empty 0 b) 0 span e) (there : e < span) where
+  -- an empty bay is not held
+  unheld : (b : Bay) → Out b p → Out b (holding finished r p)
+  unheld b o =
+      by-cases (elem b (holding finished r p))
+      (λ i. In-cases b (bayOf p r) (take finished p) i (λ q. not-both (rw (← q) at (bay-in p r hr)) o) (λ h. not-both (take-in finished p b h) o))
+      (λ h. h)
+
+  -- nor is w, where a carrier stands that is neither r nor finished
+  w-low : In w (take finished p) → carrierAt p w < finished
+  w-low i =
+      let c = carrierAt (take finished p) w in
+      let h : c < finished = let j = rw length-take at (placeOf-there (take finished p) w i) in omega arith in
+      let there-c : bayOf p c ≡ w = sym (getD-take finished p c 0 h) ∙ placeOf-bay (take finished p) w i in
+      rw (carrier-is p w c (k .apart) (omega arith) there-c) h
+
+  w-unheld : Out w (holding finished r p)
+  w-unheld =
+      by-cases (elem w (holding finished r p))
+      (λ i. In-cases w (bayOf p r) (take finished p) i
+      (λ q. not-both (rw (← q) at rail) (loopless .none w hw))
+      (λ h. absurd (omega (arith, w-low h, rw (k .stands w hw) at high))))
+      (λ h. h)
+
+  full-w : isEmpty p w ≡ false
+  full-w = sym (k .empties w hw) ∙ full
+
+  taken : memRow table w e and memRow empty 0 e ≡ true
+  taken = low .hit there
+
+  rail-e : joined (t .yard) w e ≡ true
+  rail-e = sym (t .joins .same w e hw there) ∙ and-left _ _ taken
+
+  pub inside-e : e < n
+  inside-e = t .joins .inside w e rail-e .1
+
+  pub empty-e : Out e p
+  empty-e = not-true (elem e p) (sym (k .empties e inside-e) ∙ sym (row-zero empty e) ∙ and-right _ _ taken)
+
+  pub full-in : In w p
+  full-in = not-false (elem w p) full-w
+
+  free-of : (b : Bay) → b < n → Out b (holding finished r p) → Free (t .yard) (holding finished r p) b
+  free-of b h o = (in-count 0 (t .yard .bays) b (omega arith) (rw (t .joins .bays) (omega arith)), o)
+
+  lowest-e : (b : Bay) → joined (t .yard) w b ≡ true → Free (t .yard) (holding finished r p) b → Out b p → e ≤ b
+  lowest-e b j f o =
+      let h : b < n = t .joins .inside w b j .1 in
+      let passes = and-both (memRow table w b) (memRow empty 0 b) (t .joins .same w b hw (omega arith) ∙ j) (row-zero empty b ∙ k .empties b h ∙ ap not o) in
+      by-cases (ltb b e) (λ l. not-both passes (low .before b (omega arith) (ltb-true b e l))) (λ l. ltb-false b e l)
+
+  pub made-aside : vacate (t .yard) (holding finished r p) w p ≡ some (crossing (carrierAt p w) w e ∷ [])
+  unfolding vacate shift
+  made-aside =
+      let free-w = free-of w hw w-unheld in
+      let free-e = free-of e inside-e (unheld e empty-e) in
+      let near = beside-nearest (t .yard) (holding finished r p) w p e free-w full-in rail-e free-e empty-e lowest-e in
+      let path = beside-path (t .yard) (holding finished r p) w p e free-w full-in rail-e free-e empty-e in
+      rw (full-w, w-unheld, near, ← path)

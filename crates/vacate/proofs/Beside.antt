@@ -1,0 +1,82 @@
+-- Where an empty bay that is not held is beside x, the lowest such bay is the nearest one, and the path to it is the one rail.
+-- Assumes nothing.
+use mathlib.Core.Path.{_≡_, refl, sym, ap, _∙_}
+use mathlib.Core.Bool.{true, not}
+use mathlib.Core.List.{List, [], _∷_}
+use mathlib.Core.Logic.{inr}
+use mathlib.Core.Option.{some}
+use Prim.Native.Nat.{ℕ, _≤_, _<_}
+use native.Mathlib.Omega.{arith}
+use lib.ListN.{length}
+use Rattle.paper.specs.Basics.{_and_, In, Out}
+use Rattle.paper.specs.Yard.{Bay, Yard, Placement, joined}
+use Rattle.paper.specs.Path.{Free, Route, Way, shortestPath, NotAbove}
+use Rattle.paper.specs.Procedure.{nearestEmpty}
+use Rattle.paper.proofs.Members.{out-cons, nothing-in-nil}
+use Rattle.paper.proofs.Nearest.{Nearest, nearest-exactly}
+use Rattle.paper.proofs.Shortest.{Shortest, shortest-one, shortest-path, way-reached}
+use Rattle.paper.proofs.Tests.{not-both}
+use Rattle.words.specs.Sets.{mem, memRow, span, Lowest, Kept}
+use Rattle.words.proofs.Sets.{row-zero}
+
+module _ (Y : Yard) (held : List Bay) (x : Bay) where
+  -- a way to another bay has two bays or more
+  longer : (b : Bay) (l : List Bay) → (x ≡ b → ⊥) → Route Y held x l b → 2 ≤ length (x ∷ l)
+  longer b [] ne r = absurd (ne r)
+  longer b (y ∷ l) ne r = omega arith
+
+  two : (b : Bay) (m : List Bay) → (x ≡ b → ⊥) → Way Y held x m b → 2 ≤ length m
+  two b m ne w = rw (w .starts) (longer b (w .rest) ne (w .route))
+
+  -- a way of two bays is one rail
+  one : (b : Bay) (l : List Bay) → length l ≡ 1 → Route Y held x l b → (l ≡ b ∷ []) × (joined Y x b ≡ true) × Free Y held b
+  one b [] e r = absurd (omega arith)
+  one b (y ∷ []) e r = rw (← (r .2)) (refl, r .0, r .1)
+  one b (y ∷ z ∷ l) e r = absurd (omega arith)
+
+  module _ (p : Placement) (e : Bay) (free-x : Free Y held x) (full : In x p) (rail : joined Y x e ≡ true) (free-e : Free Y held e) (empty : Out e p) where
+    other : (b : Bay) → Out b p → x ≡ b → ⊥
+    other b o q = not-both (rw q at full) o
+
+    way : Way Y held x (x ∷ e ∷ []) e
+    way = record { rest = e ∷ []; starts = refl; free = free-x; route = (rail, free-e, refl) }
+
+    pub beside-nearest : ((b : Bay) → joined Y x b ≡ true → Free Y held b → Out b p → e ≤ b) → nearestEmpty Y held p x ≡ some e
+    beside-nearest low = (nearest-exactly Y held p x free-x e) .1 (record {
+      empty = empty;
+      path = x ∷ e ∷ [];
+      way = way;
+      nearest = λ b m o w. two b m (other b o) w;
+      lowest = λ b m o w s.
+          let k : length (w .rest) ≡ 1 = let h = rw (w .starts) at s in omega arith in
+          let t = one b (w .rest) k (w .route) in
+          low b (t .1) (t .2) o;
+    })
+
+    short : Shortest Y held x e (x ∷ e ∷ [])
+    short = record {
+      way = way;
+      once = (out-cons x e [] (other e empty) (nothing-in-nil x), (nothing-in-nil e, tt));
+      fewest = λ m w. two e m (other e empty) w;
+      lowest = λ m w s.
+          let k : length (w .rest) ≡ 1 = let h = rw (w .starts) at s in omega arith in
+          let t = one e (w .rest) k (w .route) in
+          rw (w .starts, t .0) (inr (refl, inr (refl, tt)));
+    }
+
+    pub beside-path : x ∷ e ∷ [] ≡ shortestPath Y held x e
+    beside-path = shortest-one Y held x e (x ∷ e ∷ []) (shortestPath Y held x e) short (shortest-path Y held x e free-x free-e (way-reached Y held x e (x ∷ e ∷ []) way))
+
+-- ## In words
+
+pub lowest-free : (s held t₂ : List ℕ) (a : ℕ) {empty t₀ t₁ : List ℕ} {r : ℕ} → Kept t₀ 0 empty t₁ → ((b : ℕ) → mem t₂ b ≡ mem t₁ b and not (mem held b))
+    → Lowest (λ b. memRow s a b and memRow t₂ 0 b) 0 span r → Lowest (λ b. memRow s a b and (mem empty b and not (mem held b))) 0 span r
+lowest-free s held t₂ a {empty} {t₀} {t₁} {r} kept less low =
+    let same : (b : ℕ) → b < span → memRow t₂ 0 b ≡ mem empty b and not (mem held b) =
+    λ b h. row-zero t₂ b ∙ less b ∙ ap (λ z. z and not (mem held b)) (sym (row-zero t₁ b) ∙ kept .row b h) in
+    record {
+      from = low .from;
+      upto = low .upto;
+      hit = λ h. ap (λ z. memRow s a r and z) (sym (same r h)) ∙ low .hit h;
+      before = λ i j h. ap (λ z. memRow s a i and z) (sym (same i (omega (arith, low .upto)))) ∙ low .before i j h;
+    }
