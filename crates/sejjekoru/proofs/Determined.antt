@@ -8,7 +8,8 @@ use Rattle.paper.proofs.Determined.{Determined}
 use Rattle.bills.specs.declared.Line.{Line}
 use Rattle.bills.specs.declared.Record.{Record}
 use Rattle.sejjekoru.specs.Bills.{OpenTells, AgreesTells, ReportBilledTells}
-use Rattle.sejjekoru.specs.Statements.{Tells, TellsAndLeaves, PlanTells, CheckTells, SlotsTell, ReportTells, ShortenTells}
+use Rattle.numbers.specs.Tells.{Tells}
+use Rattle.sejjekoru.specs.Statements.{TellsAndLeaves, PlanTells, CheckTells, SlotsTell, ReportTells, ShortenTells}
 
 tells-determined : {due due-value : ℕ} → Determined (Tells due due-value)
 tells-determined a a′ v v′ s t = (s .numbered ∙ sym (t .numbered), s .valued ∙ sym (t .valued))

@@ -1,6 +1,5 @@
 pub mod Determined
 mod Saying
-pub mod Telling
 pub mod Opened
 pub mod Billing
 pub mod Passing

@@ -10,8 +10,8 @@ use Rattle.bills.specs.declared.Line.{Line}
 use Rattle.bills.specs.declared.Record.{Record}
 use Rattle.ledger.specs.Lines.{gathered}
 use Rattle.ledger.specs.declared.Held.{Held}
-use Rattle.sejjekoru.specs.Numbers.{numberOf, valueOf, agreementNumber, agreementValue, billedNumber, billedValue}
-use Rattle.sejjekoru.specs.Statements.{Tells}
+use Rattle.numbers.specs.Numbers.{numberOf, valueOf, agreementNumber, agreementValue, billedNumber, billedValue}
+use Rattle.numbers.specs.Tells.{Tells}
 use Rattle.sejjekoru.specs.declared.Opening.{Opening}
 use Rattle.sejjekoru.specs.declared.Told.{Told}
 

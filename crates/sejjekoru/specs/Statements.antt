@@ -9,14 +9,10 @@ use Rattle.paper.specs.Answers.{plan, planEnd, check, slotsRefusal, slotsEnd, r
 use Rattle.planner.specs.Statement.{told}
 use Rattle.trips.specs.Shortening.{shortening, shorteningEnd}
 use Rattle.shorten.specs.Statements.{tells as toldShort}
-use Rattle.sejjekoru.specs.Numbers.{numberOf, valueOf, planNumber, planValue, reportNumber, reportValue, shortenNumber, shortenValue}
+use Rattle.numbers.specs.Tells.{Tells}
+use Rattle.numbers.specs.Numbers.{numberOf, valueOf, planNumber, planValue, reportNumber, reportValue, shortenNumber, shortenValue}
 
--- the number answered and the value stored are the due ones
-pub record Tells (due due-value : ℕ) (number value : ℕ) : Type 0 where
-  pub numbered : number ≡ due
-  pub valued : value ≡ due-value
-
--- and so is what stands in the lent list
+-- the two numbers are the due ones, and so is what stands in the lent list
 pub record TellsAndLeaves (due due-value : ℕ) (due-list : List ℕ) (number value : ℕ) (list : List ℕ) : Type 0 where
   pub tells : Tells due due-value number value
   pub leaves : list ≡ due-list

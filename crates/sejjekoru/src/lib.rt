@@ -1,58 +1,10 @@
 // The library for C: each function hands its arguments to a proved one and tells the answer by two numbers, document 01's own and the value
 // that goes with it. include/sejjekoru.h declares them.
-ghost use mathlib.Core.Option.{none, some};
-ghost use Rattle.docket.specs.Reading.{refusalOf};
-ghost use Rattle.checker.specs.Reading.{checkedOf};
-ghost use Rattle.ledger.specs.Statements.{billedOf};
-ghost use Rattle.sejjekoru.specs.Numbers.{numberOf, valueOf, billedNumber, billedValue};
-ghost use Rattle.sejjekoru.specs.Statements.{Tells, PlanTells, CheckTells, SlotsTell, ReportTells, ShortenTells};
+ghost use Rattle.sejjekoru.specs.Statements.{PlanTells, CheckTells, SlotsTell, ReportTells, ShortenTells};
 ghost use Rattle.sejjekoru.specs.Bills.{OpenOn, AgreesOn, ReportOn, OpenTells, AgreesTells, ReportBilledTells};
 use bills::Line;
 use bills::Record;
-use checker::Checked;
-use docket::Refusal;
-use ledger::Agreement;
-use ledger::Billed;
 use ledger::Held;
-use marks::Reported;
-use planner::Planned;
-use reports::Slotted;
-use shorten::Shortened;
-
-// "already" is no refusal, so the table has no number for it.
-const ALREADY: u64 = 100;
-
-// "some crossing is done already" is shortening's own refusal, so the table has no row for it.
-const BEGUN: u64 = 25;
-
-// "record disagrees" is the refusal of a report on a running record, which the table does not have either.
-const DISAGREES: u64 = 19;
-
-// Acceptance, with the length written.
-fn accepted(written: u64, value: &mut u64) -> u64
-    ensures { λ r. ⌜ Tells (numberOf none) (valueOf written none) r (now (value .exit)) ⌝ }
-{
-    *value = written;
-    0
-}
-
-// A refusal, with what it carries.
-fn refused(refusal: Refusal, value: &mut u64) -> u64
-    ensures { λ r. ⌜ Tells (numberOf (some (refusalOf refusal))) (valueOf 0 (some (refusalOf refusal))) r (now (value .exit)) ⌝ }
-{
-    *value = docket::carried(refusal);
-    docket::number(refusal)
-}
-
-// What a check answers.
-fn told_checked(answer: Checked, value: &mut u64) -> u64
-    ensures { λ r. ⌜ Tells (numberOf (checkedOf answer)) (valueOf 0 (checkedOf answer)) r (now (value .exit)) ⌝ }
-{
-    match answer {
-        Checked::Passed => accepted(0, value),
-        Checked::Refused(r) => refused(r, value),
-    }
-}
 
 #[no_mangle]
 pub extern "C" fn sejjekoru_plan(
@@ -66,10 +18,7 @@ pub extern "C" fn sejjekoru_plan(
     ensures { λ r. ⌜ PlanTells bays (now (rails .entry)) (now (start .entry)) (now (goal .entry)) (now (plan .entry)) r (now (value .exit)) (now (plan .exit)) ⌝ }
 {
     let answer = planner::plan(bays, rails, start, goal, plan);
-    match answer {
-        Planned::Accepted(written) => accepted(written, value),
-        Planned::Refused(r) => refused(r, value),
-    }
+    numbers::told_planned(answer, value)
 }
 
 #[no_mangle]
@@ -83,7 +32,8 @@ pub extern "C" fn sejjekoru_check(
 ) -> u64
     ensures { λ r. ⌜ CheckTells bays (now (rails .entry)) (now (start .entry)) (now (goal .entry)) (now (plan .entry)) r (now (value .exit)) ⌝ }
 {
-    told_checked(checker::check(bays, rails, start, goal, plan), value)
+    let answer = checker::check(bays, rails, start, goal, plan);
+    numbers::told_checked(answer, value)
 }
 
 #[no_mangle]
@@ -99,10 +49,7 @@ pub extern "C" fn sejjekoru_slots(
     ensures { λ r. ⌜ SlotsTell bays (now (rails .entry)) (now (start .entry)) (now (goal .entry)) (now (plan .entry)) (now (slots .entry)) r (now (value .exit)) (now (slots .exit)) ⌝ }
 {
     let answer = reports::slots(bays, rails, start, goal, plan, slots);
-    match answer {
-        Slotted::Written => accepted(plan.len() as u64, value),
-        Slotted::Refused(r) => refused(r, value),
-    }
+    numbers::told_slotted(answer, plan.len() as u64, value)
 }
 
 #[no_mangle]
@@ -119,14 +66,7 @@ pub extern "C" fn sejjekoru_report(
     ensures { λ r. ⌜ ReportTells bays (now (rails .entry)) (now (start .entry)) (now (goal .entry)) (now (plan .entry)) (now (marks .entry)) name r (now (value .exit)) (now (marks .exit)) ⌝ }
 {
     let answer = reports::report(bays, rails, start, goal, plan, marks, name);
-    match answer {
-        Reported::Accepted => accepted(0, value),
-        Reported::Already => {
-            *value = 0;
-            ALREADY
-        }
-        Reported::Refused(r) => refused(r, value),
-    }
+    numbers::told_reported(answer, value)
 }
 
 #[no_mangle]
@@ -143,14 +83,7 @@ pub extern "C" fn sejjekoru_shorten(
     ensures { λ r. ⌜ ShortenTells bays (now (rails .entry)) (now (start .entry)) (now (goal .entry)) (now (plan .entry)) (now (marks .entry)) (now (out .entry)) r (now (value .exit)) (now (out .exit)) ⌝ }
 {
     let answer = shorten::shorten(bays, rails, start, goal, plan, marks, out);
-    match answer {
-        Shortened::Written(written) => accepted(written, value),
-        Shortened::Begun => {
-            *value = 0;
-            BEGUN
-        }
-        Shortened::Refused(r) => refused(r, value),
-    }
+    numbers::told_shortened(answer, value)
 }
 
 // What opening answers and leaves.
@@ -179,7 +112,7 @@ fn open_on(
     let running = opening.running;
     let held = opening.held;
     Opening {
-        number: told_checked(answer, value),
+        number: numbers::told_checked(answer, value),
         record: running,
         held: held,
     }
@@ -230,11 +163,7 @@ fn agrees_on(
     ensures { λ r. ⌜ AgreesOn bays (now (rails .entry)) (now (start .entry)) (now (goal .entry)) (now (plan .entry)) (now (marks .entry)) «record» held r (now (value .exit)) ⌝ }
 {
     let answer = ledger::compare(bays, rails, start, goal, plan, marks, record, held);
-    match answer {
-        Agreement::Agrees => accepted(1, value),
-        Agreement::Differs => accepted(0, value),
-        Agreement::Refused(r) => refused(r, value),
-    }
+    numbers::told_agreement(answer, value)
 }
 
 #[no_mangle]
@@ -253,24 +182,6 @@ pub extern "C" fn sejjekoru_agrees(
 {
     let held = sheets::gather(lines);
     agrees_on(bays, rails, start, goal, plan, marks, *record, held, value)
-}
-
-// What a report on a running record answers.
-fn told_billed(answer: Billed, value: &mut u64) -> u64
-    ensures { λ r. ⌜ Tells (billedNumber (billedOf answer)) (billedValue (billedOf answer)) r (now (value .exit)) ⌝ }
-{
-    match answer {
-        Billed::Accepted => accepted(0, value),
-        Billed::Already => {
-            *value = 0;
-            ALREADY
-        }
-        Billed::Disagrees => {
-            *value = 0;
-            DISAGREES
-        }
-        Billed::Refused(r) => refused(r, value),
-    }
 }
 
 // What a report leaves and answers: the record, and one line with its place, which is past the last where none changes.
@@ -302,7 +213,7 @@ fn report_on(
     let at = told.at;
     let line = told.line;
     Told {
-        number: told_billed(answer, value),
+        number: numbers::told_billed(answer, value),
         record: running,
         at: at,
         line: line,

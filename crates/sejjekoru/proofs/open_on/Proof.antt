@@ -1,8 +1,8 @@
 -- `sejjekoru::open_on` meets its contract: what `ledger::open` says, told by numbers.
 -- Assumes nothing.
-use borrow.Author.Needs.{needs}
-use Rattle.sejjekoru.specs.Numbers.{numberOf, valueOf}
+use Rattle.numbers.specs.Numbers.{numberOf, valueOf}
 use Rattle.sejjekoru.proofs.Saying.{told-as}
+use borrow.Author.Needs.{needs}
 use Rattle.sejjekoru.proofs.open_on.Statement.{statement}
 use Rattle.sejjekoru.proofs.open_on.Tie as tie
 

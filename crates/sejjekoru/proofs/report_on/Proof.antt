@@ -1,8 +1,8 @@
 -- `sejjekoru::report_on` meets its contract: what `ledger::report` says, told by numbers.
 -- Assumes nothing.
-use borrow.Author.Needs.{needs}
-use Rattle.sejjekoru.specs.Numbers.{billedNumber, billedValue}
+use Rattle.numbers.specs.Numbers.{billedNumber, billedValue}
 use Rattle.sejjekoru.proofs.Saying.{told-as}
+use borrow.Author.Needs.{needs}
 use Rattle.sejjekoru.proofs.report_on.Statement.{statement}
 use Rattle.sejjekoru.proofs.report_on.Tie as tie
 

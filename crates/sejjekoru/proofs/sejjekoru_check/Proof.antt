@@ -1,6 +1,6 @@
 -- `sejjekoru::sejjekoru_check` meets its contract. The answer is the paper's, so what is told of the one is told of the other.
 -- Assumes nothing.
-use Rattle.sejjekoru.specs.Numbers.{numberOf, valueOf}
+use Rattle.numbers.specs.Numbers.{numberOf, valueOf}
 use Rattle.sejjekoru.proofs.Saying.{told-as}
 use borrow.Author.Needs.{needs}
 use Rattle.sejjekoru.proofs.sejjekoru_check.Statement.{statement}

@@ -15,7 +15,7 @@ use Rattle.bills.specs.Answering.{Agreement, agrees, differs, refused as unagre
 use Rattle.planner.specs.Statement.{Told, long, denied}
 use Rattle.trips.specs.Shortening.{Shortening, shortened, denied as deniedShort, begun, refusalNumber}
 use Rattle.shorten.specs.Statements.{Told as ToldShort, wrote, refuses, has-begun, tells as toldShort}
-use Rattle.sejjekoru.specs.Numbers.{numberOf, valueOf, planNumber, planValue, already-number, reportNumber, reportValue, agreementNumber, agreementValue, billedNumber, billedValue, begun-number, shortenNumber, shortenValue}
+use Rattle.numbers.specs.Numbers.{numberOf, valueOf, planNumber, planValue, already-number, reportNumber, reportValue, agreementNumber, agreementValue, billedNumber, billedValue, begun-number, shortenNumber, shortenValue}
 
 -- what a number and its value are read as
 data Read : Type 0 where
