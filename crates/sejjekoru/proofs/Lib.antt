@@ -4,3 +4,4 @@ pub mod Opened
 pub mod Billing
 pub mod Passing
 pub mod Shared
+pub mod Billed
