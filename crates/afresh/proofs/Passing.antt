@@ -1,7 +1,6 @@
 -- One pass over plan and marks: what is done of the rest, from a name on, and what each of the passes has worked out by then. At each turn what stands
 -- there, and then what the rest gives, is the whole.
 use mathlib.Core.Path.{_≡_, refl, sym, _∙_, ap, ap₂}
-use mathlib.Core.Bool.{true, false}
 use mathlib.Core.List.{List, [], _∷_}
 use Prim.Native.Nat.{ℕ, zero, suc, _≤_, _<_, _+_}
 use native.Mathlib.Omega.{arith}
@@ -13,9 +12,8 @@ use lib.Seq.{drop-cons, getD-set-same, getD-set-other}
 use Rattle.paper.specs.Basics.{if_then_else_, _and_}
 use Rattle.paper.specs.Yard.{Placement, Carrier, Crossing, crossings, named, after, move}
 use Rattle.paper.specs.Dependence.{done, doneOf, countOf}
-use Rattle.paper.specs.OnePass.{Fits}
 use Rattle.paper.proofs.Tests.{by-cases}
-use Rattle.plans.proofs.Rest.{rest-next, rest-none, fits-named}
+use Rattle.plans.proofs.Rest.{rest-next, rest-none}
 use Rattle.bills.specs.Billing.{untouched, lastDone}
 
 -- what is done from the name i on

@@ -155,7 +155,7 @@ unfolding countFrom
 count-long a zero = refl
 count-long a (suc k) = ap suc (count-long (suc a) k)
 
--- "The line list has exactly k entries"; "Line c is carrier c's."
+-- "The line list has exactly k entries", and line c is carrier c's.
 pub lines-long : (k : ℕ) (xs : List Crossing) (ms : List ℕ) → length (linesOf k xs ms) ≡ k
 lines-long k xs ms = length-map (upTo k) (lineOf xs ms) ∙ count-long 0 k
 

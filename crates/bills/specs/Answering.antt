@@ -3,12 +3,12 @@
 -- Assumes nothing.
 use mathlib.Core.Bool.{Bool, true, false, not}
 use mathlib.Core.List.{List, [], _∷_}
-use mathlib.Core.Option.{Option, none, some}
+use mathlib.Core.Option.{Option}
 use Prim.Native.Nat.{ℕ}
 use lib.Dec.{eqb}
 use lib.ListN.{length, getD, set}
 use Rattle.paper.specs.Basics.{if_then_else_, if-some_then_else_, _and_, orElse, when}
-use Rattle.paper.specs.Yard.{Bay, Placement, Crossing, crossings, named}
+use Rattle.paper.specs.Yard.{Bay, Placement, crossings, named}
 use Rattle.paper.specs.Dependence.{slots}
 use Rattle.paper.specs.Docket.{Refusal, room, no-11}
 use Rattle.paper.specs.Answers.{Report, refuse, accepts, tell, check}

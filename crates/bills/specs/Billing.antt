@@ -1,12 +1,11 @@
 -- Bills as we go: what record and lines are once they are worked out afresh from plan, start and marks, and how an accepted report changes them.
 -- Assumes nothing.
-use mathlib.Core.Bool.{Bool, true, false}
 use mathlib.Core.List.{List, [], _∷_, _++_, map}
-use Prim.Native.Nat.{ℕ, zero, suc, _-_, max}
+use Prim.Native.Nat.{ℕ, suc, _-_, max}
 use lib.Dec.{eqb}
 use lib.ListN.{length, getD, set, replicate}
 use Rattle.paper.specs.Basics.{if_then_else_, _and_, upTo}
-use Rattle.paper.specs.Yard.{Bay, Carrier, Placement, Crossing, most-bays, most-crossings, move, named}
+use Rattle.paper.specs.Yard.{Bay, Carrier, Placement, Crossing, most-bays, most-crossings, move}
 use Rattle.paper.specs.Dependence.{done, slots, doneOf, placementBy, countOf}
 use Rattle.bills.specs.declared.Record.{Record}
 use Rattle.bills.specs.declared.Line.{Line}
@@ -42,7 +41,7 @@ recordOf starts xs marks = record {
   highest = highestDone (slots xs) marks;
 }
 
--- "Line c is carrier c's."
+-- an account line, of carrier c: "each with carrier, crossings billed and last name accepted"
 abbrev pub lineOf : List Crossing → List ℕ → Carrier → Line
 lineOf xs marks c = record {
   carrier = c;
@@ -50,7 +49,7 @@ lineOf xs marks c = record {
   last = lastDone c untouched 0 xs marks;
 }
 
--- "The line list has exactly k entries"
+-- "The line list has exactly k entries": line c is carrier c's
 abbrev pub linesOf : ℕ → List Crossing → List ℕ → List Line
 linesOf k xs marks = map (lineOf xs marks) (upTo k)
 
@@ -75,6 +74,6 @@ charged line name = record {
 abbrev pub noLine : Line
 noLine = record { carrier = 0; billed = 0; last = 0 }
 
--- the lines: "one changed per accepted report, all others kept"
+-- the lines: that of the crossing's carrier is charged, and no other changes
 abbrev pub entered : List Line → Crossing → ℕ → List Line
 entered lines x name = set lines (x .carrier) (charged (getD lines (x .carrier) noLine) name)

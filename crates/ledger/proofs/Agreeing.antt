@@ -14,8 +14,8 @@ use Rattle.paper.proofs.Tests.{by-cases, not-both}
 use Rattle.paper.proofs.Packing.{named-is}
 use Rattle.docket.specs.Reading.{refusalOf}
 use Rattle.docket.specs.declared.Refusal.{Refusal}
-use Rattle.bills.specs.Billing.{recordOf, lineOf, linesOf, noLine}
-use Rattle.bills.specs.Answering.{sameRecord, sameLines, upToEleven, agreement, agree}
+use Rattle.bills.specs.Billing.{recordOf, linesOf, noLine}
+use Rattle.bills.specs.Answering.{sameRecord, upToEleven, agreement, agree}
 use Rattle.bills.specs.declared.Line.{Line}
 use Rattle.bills.specs.declared.Record.{Record}
 use Rattle.bills.proofs.Stepping.{line-at, lines-long}

@@ -1,7 +1,7 @@
 -- The lines of the first carriers, from counts and last names: each stands at its place, and with the counts and names worked out afresh they are the lines
 -- worked out afresh.
 use mathlib.Core.Path.{_≡_, sym, _∙_, ap, ap₂}
-use mathlib.Core.List.{List, map}
+use mathlib.Core.List.{List}
 use Prim.Native.Nat.{ℕ, _<_, _≤_, _+_}
 use native.Mathlib.Omega.{arith}
 use native.Mathlib.Numerals.{add-one}

@@ -1,12 +1,11 @@
 -- What opening leaves, way out by way out.
-use mathlib.Core.Path.{_≡_, refl, sym, _∙_, ap, ap₂}
-use mathlib.Core.Bool.{true, false, not}
-use mathlib.Core.List.{List, [], _∷_, _++_, append-nil}
+use mathlib.Core.Path.{_≡_, _∙_, ap, ap₂}
+use mathlib.Core.List.{List, [], _++_, append-nil}
 use mathlib.Core.Option.{none, some}
-use Prim.Native.Nat.{ℕ, _<_, _≤_}
+use Prim.Native.Nat.{ℕ, _≤_}
 use native.Mathlib.Omega.{arith}
 use borrow.Author.Tests.{eq-eqb, ne-eqb}
-use lib.ListN.{length, take, drop, length-replicate, drop-of-length-le}
+use lib.ListN.{length, drop, length-replicate, drop-of-length-le}
 use Rattle.paper.specs.Yard.{Bay, Placement, crossings}
 use Rattle.docket.specs.Reading.{refusalOf}
 use Rattle.docket.specs.declared.Refusal.{Refusal}
@@ -20,7 +19,6 @@ use Rattle.bills.proofs.Stepping.{lines-long}
 use Rattle.ledger.specs.Lines.{noLines, heldOf, gathered}
 use Rattle.ledger.specs.Statements.{OpenSays}
 use Rattle.ledger.specs.declared.Held.{Held}
-use Rattle.ledger.specs.declared.Opening.{Opening}
 use Rattle.ledger.proofs.Laid.{held-long, held-taken}
 use Rattle.ledger.proofs.Refusing.{fit-of}
 

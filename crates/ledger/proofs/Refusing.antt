@@ -1,12 +1,12 @@
 -- The refusals up to 11, way out by way out, and what is known once none of them holds.
-use mathlib.Core.Path.{_≡_, sym, _∙_, ap}
+use mathlib.Core.Path.{_≡_, sym, _∙_}
 use mathlib.Core.Bool.{true, false}
 use mathlib.Core.List.{List}
 use mathlib.Core.Option.{none, some}
-use Prim.Native.Nat.{ℕ, _<_, _≤_}
+use Prim.Native.Nat.{ℕ}
 use native.Mathlib.Omega.{arith}
 use lib.ListN.{length, length-map}
-use Rattle.paper.specs.Yard.{Bay, Placement, crossings, most-crossings}
+use Rattle.paper.specs.Yard.{Bay, Placement, crossings}
 use Rattle.paper.specs.OnePass.{Fits}
 use Rattle.paper.specs.Docket.{badMarks, mismarked}
 use Rattle.paper.specs.Docket as paper

@@ -2,7 +2,6 @@
 use mathlib.Core.Path.{_≡_, refl, sym, _∙_, ap, ap₂}
 use mathlib.Core.Bool.{Bool, true, false}
 use mathlib.Core.List.{List, [], _∷_}
-use mathlib.Core.Option.{none, some}
 use Prim.Native.Nat.{ℕ, zero, suc, _<_, _≤_}
 use native.Mathlib.Omega.{arith}
 use lib.Dec.{leb}
@@ -10,16 +9,14 @@ use lib.ListN.{length, getD, set, length-map}
 use borrow.Author.Tests.{leb-true, leb-false}
 use Rattle.paper.specs.Basics.{if_then_else_}
 use Rattle.paper.specs.Yard.{Bay, Placement, Crossing, crossings, named}
-use Rattle.paper.specs.Docket.{badMarks}
 use Rattle.paper.specs.Docket as paper
-use Rattle.paper.specs.Answers.{Report, accept, already, refuse, accepts, tell, marksAfter}
+use Rattle.paper.specs.Answers.{Report, accept, already, refuse, accepts, marksAfter}
 use Rattle.paper.proofs.Tests.{by-cases, by-option, not-both}
 use Rattle.paper.proofs.Packing.{named-is}
-use Rattle.docket.specs.Reading.{refusalOf}
 use Rattle.docket.specs.declared.Refusal.{Refusal}
 use Rattle.marks.specs.Reading.{toldInOrder}
 use Rattle.marks.proofs.Telling.{told-on, told-unknown}
-use Rattle.bills.specs.Billing.{posted, charged, entered, noLine, linesOf}
+use Rattle.bills.specs.Billing.{charged, noLine}
 use Rattle.bills.specs.Answering.{Billed, told, disagrees, agrees, differs, refused, changes, upToEleven, agree, agreement, billing, marksThen, recordThen, linesThen}
 use Rattle.bills.specs.declared.Line.{Line}
 use Rattle.bills.specs.declared.Record.{Record}

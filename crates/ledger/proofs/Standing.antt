@@ -1,10 +1,10 @@
 -- A placement in its list of places: the places beyond the carriers stay 0 as the carriers move.
-use mathlib.Core.Path.{_≡_, refl, sym, _∙_, ap, ap₂}
+use mathlib.Core.Path.{_≡_, refl, sym, _∙_, ap}
 use mathlib.Core.List.{List, [], _∷_, _++_}
-use Prim.Native.Nat.{ℕ, zero, suc, _<_, _≤_, _-_}
+use Prim.Native.Nat.{ℕ, zero, suc, _<_, _-_}
 use native.Mathlib.Omega.{arith}
-use lib.ListN.{length, getD, set, drop, replicate, length-set, length-map}
-use Rattle.paper.specs.Yard.{Placement, Crossing, unpack, crossings, named, after, move}
+use lib.ListN.{length, set, drop, replicate, length-set, length-map}
+use Rattle.paper.specs.Yard.{Placement, Crossing, crossings, named, after, move}
 use Rattle.paper.specs.Dependence.{done, doneOf, placementBy}
 use Rattle.paper.specs.OnePass.{Fits}
 use Rattle.paper.proofs.Tests.{by-cases}

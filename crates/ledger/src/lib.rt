@@ -1,20 +1,17 @@
 // Record and account lines by value: worked out afresh, compared, and changed by an accepted report. The functions that are lent a record and lines are
 // thin ones above this crate.
 ghost use mathlib.Core.Path.{_≡_};
-ghost use mathlib.Core.Option.{none, some};
-ghost use mathlib.Core.List.{List};
-ghost use Prim.Native.Nat.{ℕ, suc, _≤_, _<_};
-ghost use lib.ListN.{length, getD, replicate};
-ghost use Rattle.paper.specs.Basics.{_and_};
-ghost use Rattle.paper.specs.Yard.{Placement, crossings, named, most-crossings};
-ghost use Rattle.paper.specs.Dependence.{slots as slotsOf, placementBy};
+ghost use Prim.Native.Nat.{_≤_, _<_};
+ghost use lib.ListN.{length, replicate};
+ghost use Rattle.paper.specs.Yard.{crossings, most-crossings};
+ghost use Rattle.paper.specs.Dependence.{placementBy};
 ghost use Rattle.paper.specs.OnePass.{Fits};
 ghost use Rattle.paper.specs.Answers.{accepts};
 ghost use Rattle.docket.specs.Reading.{crossingOf};
 ghost use Rattle.marks.specs.Reading.{reportOf};
 ghost use Rattle.checker.specs.Reading.{checkedOf};
 ghost use Rattle.bills.specs.Billing.{places, recordOf, linesOf, posted as postedOf, charged as chargedOf};
-ghost use Rattle.bills.specs.Answering.{sameNumbers, sameRecord, sameLine, sameLines, upToEleven, told};
+ghost use Rattle.bills.specs.Answering.{sameNumbers, sameRecord, sameLine, upToEleven, told};
 ghost use Rattle.ledger.specs.Lines.{noLines, heldOf, topOf, lineAt, gathered, listed};
 ghost use Rattle.ledger.specs.Statements.{billedOf, Fit, SameHeld, AgreeSays, AgreementSays, OpenSays, PostAsks, PostSays, SettleAsks, SettleSays, BillingSays};
 use bills::Line;

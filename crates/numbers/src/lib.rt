@@ -21,7 +21,7 @@ use shorten::Shortened;
 // "already" is no refusal, so the table has no number for it.
 const ALREADY: u64 = 100;
 
-// "some crossing is done already" is shortening's own refusal, so the table has no row for it.
+// 25, some crossing is done already, is shortening's own refusal, so the table has no row for it.
 const BEGUN: u64 = 25;
 
 // "record disagrees" is the refusal of a report on a running record, which the table does not have either.

@@ -2,9 +2,7 @@
 -- Assumes nothing.
 use borrow.Author.Needs.{needs}
 use mathlib.Core.Path.{sym, _∙_}
-use Prim.Native.Nat.{_-_, _≤_, _<_}
-use native.Mathlib.Omega.{arith}
-use lib.ListN.{length}
+use Prim.Native.Nat.{_-_}
 use Rattle.ledger.proofs.Comparing.{Matching, numbers-differ, numbers-on, numbers-end}
 use Rattle.ledger.proofs.same_places.Statement.{statement}
 use Rattle.ledger.proofs.same_places.Tie as tie
