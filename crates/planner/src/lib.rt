@@ -20,11 +20,44 @@ pub enum Planned {
     Refused(Refusal),
 }
 
-// Below so many carriers 8,192 crossings were enough on grids of 16 × 16. On lines with sidings they are not always; a longer plan is played twice.
-const FEW: usize = 128;
+// Clearing room takes time, and a plan longer than its room is played twice. So there are four rooms, and the one taken follows the lengths
+// measured on 256 bays, the least and the most of 15 random orders each:
+// - random yards with 8 rail ends to a bay: 60 carriers 242 to 300, 128: 767 to 920, 200: 1914 to 2182, 240: 3649 to 4189, 254: 7092 to 10525;
+// - grid of 16 × 16: 60 carriers 1067 to 1526, 128: 3990 to 5459, 200: 11751 to 15942, 240: 32656 to 44029;
+// - lines with sidings: 20 carriers 1808 to 3040, 40: 5413 to 13336.
 
-// Below so many carriers 16,384 were enough there; and for any number of them where there are three rails to a bay.
-const SOME: usize = 160;
+// Crossings that the least room holds.
+const LEAST: usize = 1024;
+
+// Crossings that the second holds.
+const LESS: usize = 4096;
+
+// Crossings that the third holds. The last holds Yard::CROSSINGS, more than which no plan may have.
+const MORE: usize = 16384;
+
+// From so many rail ends to a bay on a yard is dense, and its plans are short.
+const DENSE: usize = 6;
+
+// From so many rail ends to two bays on it is like a grid. All others are narrow, and their plans are long.
+const GRID: usize = 5;
+
+// Fewer carriers than this have the least room in a dense yard.
+const DENSE_LEAST: usize = 144;
+
+// Fewer than this have the second room there, all others the third.
+const DENSE_LESS: usize = 224;
+
+// Fewer carriers than this have the second room in a yard like a grid.
+const GRID_LESS: usize = 72;
+
+// Fewer than this have the third room there, all others the last.
+const GRID_MORE: usize = 208;
+
+// Fewer carriers than this have the second room in a narrow yard.
+const NARROW_LESS: usize = 24;
+
+// Fewer than this have the third room there, all others the last.
+const NARROW_MORE: usize = 64;
 
 // The plan of m crossings goes to the list: copied where it was kept, else played once more.
 fn write(
@@ -74,8 +107,8 @@ fn hand_out_in(
     }
 }
 
-// With room for the plans of few carriers.
-fn hand_out_few(
+// With the least room.
+fn hand_out_least(
     table: &[u64; Yard::TABLE],
     n: usize,
     start: &[u16],
@@ -85,12 +118,12 @@ fn hand_out_few(
     requires { ⌜ Admitted n (now table) (now start) (now goal) ⌝ }
     ensures { λ r. ⌜ ((t : Tabled n (now (table .entry))) → Hands (procedures (t .yard) (now (goal .entry)) (now (start .entry))) (now (out .entry)) r (now (out .exit))) ⌝ }
 {
-    let mut kept = [0u64; 8192];
+    let mut kept = [0u64; LEAST];
     hand_out_in(table, n, start, goal, &mut kept, out)
 }
 
-// With room for the plans of some more.
-fn hand_out_some(
+// With the second.
+fn hand_out_less(
     table: &[u64; Yard::TABLE],
     n: usize,
     start: &[u16],
@@ -100,12 +133,27 @@ fn hand_out_some(
     requires { ⌜ Admitted n (now table) (now start) (now goal) ⌝ }
     ensures { λ r. ⌜ ((t : Tabled n (now (table .entry))) → Hands (procedures (t .yard) (now (goal .entry)) (now (start .entry))) (now (out .entry)) r (now (out .exit))) ⌝ }
 {
-    let mut kept = [0u64; 16384];
+    let mut kept = [0u64; LESS];
     hand_out_in(table, n, start, goal, &mut kept, out)
 }
 
-// With room for every plan that is not too long, so that none is played twice.
-fn hand_out_many(
+// With the third.
+fn hand_out_more(
+    table: &[u64; Yard::TABLE],
+    n: usize,
+    start: &[u16],
+    goal: &[u16],
+    out: &mut [u64],
+) -> Planned
+    requires { ⌜ Admitted n (now table) (now start) (now goal) ⌝ }
+    ensures { λ r. ⌜ ((t : Tabled n (now (table .entry))) → Hands (procedures (t .yard) (now (goal .entry)) (now (start .entry))) (now (out .entry)) r (now (out .exit))) ⌝ }
+{
+    let mut kept = [0u64; MORE];
+    hand_out_in(table, n, start, goal, &mut kept, out)
+}
+
+// With the last, so that no plan is played twice.
+fn hand_out_most(
     table: &[u64; Yard::TABLE],
     n: usize,
     start: &[u16],
@@ -119,7 +167,49 @@ fn hand_out_many(
     hand_out_in(table, n, start, goal, &mut kept, out)
 }
 
-// Clearing room takes time, so there is no more of it than the carriers are likely to need; the rails have so many ends.
+// In a dense yard.
+fn hand_out_dense(
+    table: &[u64; Yard::TABLE],
+    n: usize,
+    start: &[u16],
+    goal: &[u16],
+    out: &mut [u64],
+) -> Planned
+    requires { ⌜ Admitted n (now table) (now start) (now goal) ⌝ }
+    ensures { λ r. ⌜ ((t : Tabled n (now (table .entry))) → Hands (procedures (t .yard) (now (goal .entry)) (now (start .entry))) (now (out .entry)) r (now (out .exit))) ⌝ }
+{
+    if start.len() < DENSE_LEAST {
+        return hand_out_least(table, n, start, goal, out);
+    }
+    if start.len() < DENSE_LESS {
+        return hand_out_less(table, n, start, goal, out);
+    }
+    hand_out_more(table, n, start, goal, out)
+}
+
+// In any other yard: fewer than `less` carriers have the second room, fewer than `more` the third.
+fn hand_out_sparse(
+    table: &[u64; Yard::TABLE],
+    n: usize,
+    less: usize,
+    more: usize,
+    start: &[u16],
+    goal: &[u16],
+    out: &mut [u64],
+) -> Planned
+    requires { ⌜ Admitted n (now table) (now start) (now goal) ⌝ }
+    ensures { λ r. ⌜ ((t : Tabled n (now (table .entry))) → Hands (procedures (t .yard) (now (goal .entry)) (now (start .entry))) (now (out .entry)) r (now (out .exit))) ⌝ }
+{
+    if start.len() < less {
+        return hand_out_less(table, n, start, goal, out);
+    }
+    if start.len() < more {
+        return hand_out_more(table, n, start, goal, out);
+    }
+    hand_out_most(table, n, start, goal, out)
+}
+
+// With the room that the plan is likely to need, by the carriers and by how many rails a bay has; the rails have so many ends.
 fn hand_out(
     table: &[u64; Yard::TABLE],
     n: usize,
@@ -131,16 +221,13 @@ fn hand_out(
     requires { ⌜ Admitted n (now table) (now start) (now goal) ⌝ }
     ensures { λ r. ⌜ ((t : Tabled n (now (table .entry))) → Hands (procedures (t .yard) (now (goal .entry)) (now (start .entry))) (now (out .entry)) r (now (out .exit))) ⌝ }
 {
-    if start.len() < FEW {
-        return hand_out_few(table, n, start, goal, out);
+    if n <= ends / DENSE {
+        return hand_out_dense(table, n, start, goal, out);
     }
-    if start.len() < SOME {
-        return hand_out_some(table, n, start, goal, out);
+    if n <= ends / GRID * 2 {
+        return hand_out_sparse(table, n, GRID_LESS, GRID_MORE, start, goal, out);
     }
-    if n <= ends / 6 {
-        return hand_out_some(table, n, start, goal, out);
-    }
-    hand_out_many(table, n, start, goal, out)
+    hand_out_sparse(table, n, NARROW_LESS, NARROW_MORE, start, goal, out)
 }
 
 // Planning tests 1 to 8 by number. Acceptance writes the plan and nothing beyond its length; a refusal changes nothing.
