@@ -7,12 +7,15 @@ use native.Mathlib.Decide.{ℕ-discrete, decLt}
 use native.Mathlib.Omega.{arith}
 use lib.Bits.{bitAnd, bitOr}
 use lib.Count.{trailingZeros}
+use lib.Dec.{eqb}
 use lib.ListN.{length, getD, set}
 use lib.Seq.{getD-set-same, getD-set-other}
+use borrow.Author.Tests.{ne-eqb}
 use Rattle.paper.specs.Basics.{_and_, _or_}
-use Rattle.words.specs.Sets.{on, mem, memRow, words, span, lessWord, Lowest, Settled, Kept}
+use Rattle.paper.proofs.Tests.{or-neither}
+use Rattle.words.specs.Sets.{on, mem, memRow, words, span, bitOf, lessWord, Lowest, Settled, Kept}
 use Rattle.words.proofs.Bits.{on-or, on-and, on-less, on-zero, on-lowest, on-below, on-shr}
-use Rattle.words.proofs.Sets.{mem-out, mem-row, or-false}
+use Rattle.words.proofs.Sets.{mem-out, mem-row, on-bit, bit-fits}
 
 -- the words below i are f's; those from i on are f's
 pub record Done (l : List ℕ) (i : ℕ) (f : ℕ → ℕ) : Type 0 where
@@ -50,11 +53,17 @@ fit-none l = record { at = λ k h. absurd (omega arith) }
 pub fit-more : (l : List ℕ) (i : ℕ) → Fit l i → getD l i 0 < 2 ^ 64 → Fit l (i + 1)
 fit-more l i f h = record { at = λ k m. elim (ℕ-discrete k i) [ yes q ↦ rw q h | no q ↦ f .at k (omega arith) ] }
 
-pub none-set : (ws : List ℕ) (i : ℕ) → Done ws i (λ k. 0) → length ws ≤ i → (x : ℕ) → mem ws x ≡ false
-none-set ws i d l x = elim (decLt (x / 64) (length ws)) [
-  | yes h ↦ unfold mem in rw (d .at (x / 64) (omega arith)) (on-zero (x % 64))
-  | no h ↦ mem-out ws x (omega arith)
+-- what each word says of its bays is said of all, as past the last word no bay is in the set
+by-words : (c : List ℕ) (i : ℕ) (f : ℕ → ℕ) (g : ℕ → Bool) → Done c i f → length c ≤ i
+    → ((x : ℕ) → x / 64 < i → on (f (x / 64)) (x % 64) ≡ g x) → ((x : ℕ) → 64 * length c ≤ x → g x ≡ false)
+    → (x : ℕ) → mem c x ≡ g x
+by-words c i f g d l says past x = elim (decLt (x / 64) (length c)) [
+  | yes h ↦ unfold mem in rw (d .at (x / 64) (omega arith)) (says x (omega arith))
+  | no h ↦ mem-out c x (omega arith) ∙ sym (past x (omega arith))
 ]
+
+pub none-set : (ws : List ℕ) (i : ℕ) → Done ws i (λ k. 0) → length ws ≤ i → (x : ℕ) → mem ws x ≡ false
+none-set ws i d l = by-words ws i (λ k. 0) (λ x. false) d l (λ x h. on-zero (x % 64)) (λ x h. refl)
 
 module _ (a b c : List ℕ) (i : ℕ) where
   pub both-set : Done c i (λ k. bitOr (getD a k 0) (getD b k 0)) → (x : ℕ) → x / 64 < i → mem c x ≡ mem a x or mem b x
@@ -67,19 +76,35 @@ module _ (a b c : List ℕ) (i : ℕ) where
   rest-set d f x h = rw (d .at (x / 64) h) (on-less _ _ (x % 64) (omega arith) (f .at (x / 64) h))
 
   -- for sets of equal length, past whose words no bay is
-  module _ (all : length c ≤ i) (same : length b ≡ length a) (kept : length c ≡ length a) where
-    pub union-all : Done c i (λ k. bitOr (getD a k 0) (getD b k 0)) → (x : ℕ) → mem c x ≡ mem a x or mem b x
-    union-all d x = elim (decLt (x / 64) i) [
-      | yes h ↦ both-set d x h
-      | no h ↦
-          rw (mem-out a x (omega arith), mem-out b x (omega arith), mem-out c x (omega arith)) (sym (or-false false false refl))
-    ]
+  pub minus-all : length c ≤ i → length b ≡ length a → length c ≡ length a → Done c i (λ k. lessWord (getD a k 0) (getD b k 0)) → Fit b i
+      → (x : ℕ) → mem c x ≡ mem a x and not (mem b x)
+  minus-all all same kept d f x = elim (decLt (x / 64) i) [
+    | yes h ↦ rest-set d f x h
+    | no h ↦ rw (mem-out a x (omega arith), mem-out c x (omega arith)) (unfold _and_ in refl)
+  ]
 
-    pub minus-all : Done c i (λ k. lessWord (getD a k 0) (getD b k 0)) → Fit b i → (x : ℕ) → mem c x ≡ mem a x and not (mem b x)
-    minus-all d f x = elim (decLt (x / 64) i) [
-      | yes h ↦ rest-set d f x h
-      | no h ↦ rw (mem-out a x (omega arith), mem-out c x (omega arith)) (unfold _and_ in refl)
-    ]
+-- ---- one bay of a set of WORDS words, of which all are stored
+
+past-bay : (x y : ℕ) → x < span → span ≤ y → eqb y x ≡ false
+past-bay x y h k = ne-eqb y x (λ e. absurd (omega arith))
+
+module _ (c : List ℕ) (i : ℕ) (all : words ≤ i) (kept : length c ≡ words) where
+  pub alone-all : (x : ℕ) → x < span → Done c i (bitOf x) → (y : ℕ) → mem c y ≡ eqb y x
+  alone-all x h d = by-words c i (bitOf x) (λ y. eqb y x) d (omega arith) (λ y l. on-bit x y) (λ y l. past-bay x y h (omega arith))
+
+  module _ (a : List ℕ) (same : length a ≡ words) where
+    pub joined-all : (x : ℕ) → x < span → Done c i (λ k. bitOr (getD a k 0) (bitOf x k)) → (y : ℕ) → mem c y ≡ mem a y or eqb y x
+    joined-all x h d =
+        by-words c i (λ k. bitOr (getD a k 0) (bitOf x k)) (λ y. mem a y or eqb y x) d (omega arith)
+        (λ y l. unfold mem in rw (on-or, on-bit))
+        (λ y l. or-neither _ _ (mem-out a y (omega arith)) (past-bay x y h (omega arith)))
+
+    pub replaced-all : (x y : ℕ) → x < span → y < span → Done c i (λ k. bitOr (lessWord (getD a k 0) (bitOf x k)) (bitOf y k))
+        → (b : ℕ) → mem c b ≡ (mem a b and not (eqb b x)) or eqb b y
+    replaced-all x y h k d =
+        by-words c i (λ k. bitOr (lessWord (getD a k 0) (bitOf x k)) (bitOf y k)) (λ b. (mem a b and not (eqb b x)) or eqb b y) d (omega arith)
+        (λ b l. unfold mem in rw (on-or, on-bit, on-less _ _ (b % 64) (omega arith) (bit-fits x (b / 64)), on-bit))
+        (λ b l. or-neither _ _ (unfold _and_ in rw (mem-out a b (omega arith))) (past-bay y b k (omega arith)))
 
 pub row-joined : (acc₀ table acc : List ℕ) (a i : ℕ) → words ≤ i
     → Done acc i (λ k. bitOr (getD acc₀ k 0) (getD table (a * words + k) 0))

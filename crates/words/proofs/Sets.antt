@@ -15,7 +15,7 @@ use lib.Seq.{getD-set-same, getD-set-other, ext-getD}
 use borrow.Author.Tests.{eq-eqb, ne-eqb}
 use Rattle.paper.specs.Basics.{_and_, _or_, filter, countFrom, upTo}
 use Rattle.paper.proofs.Tests.{by-cases, not-both}
-use Rattle.words.specs.Sets.{on, mem, memRow, words, span, lessWord}
+use Rattle.words.specs.Sets.{on, mem, memRow, words, span, bitOf, lessWord}
 use Rattle.words.proofs.Bits.{bit-half, bit-low, on-or, on-less, on-zero, on-one}
 
 -- past its last word a set has no member
@@ -62,7 +62,7 @@ same-bit x y e = elim (ℕ-discrete y x) [
   | no q ↦ ne-eqb (y % 64) (x % 64) (λ d. q (omega arith)) ∙ sym (ne-eqb y x q)
 ]
 
-pub or-false : (a b : Bool) → b ≡ false → a or b ≡ a
+or-false : (a b : Bool) → b ≡ false → a or b ≡ a
 unfolding _or_
 or-false true b e = refl
 or-false false b e = e
@@ -98,6 +98,21 @@ mem-less ws x y h = elim (ℕ-discrete (y / 64) (x / 64)) [
   | no n ↦
       ap (λ (v : ℕ). on v (y % 64)) (getD-set-other ws (x / 64) (y / 64) (lessWord (getD ws (x / 64) 0) (2 ^ (x % 64))) 0 n)
       ∙ sym (and-true _ (not (eqb y x)) (ap not (other-bay x y n)))
+]
+
+-- where bay y stands, x's bit is set only if y is x
+pub on-bit : (x y : ℕ) → on (bitOf x (y / 64)) (y % 64) ≡ eqb y x
+unfolding bitOf
+on-bit x y = elim (ℕ-discrete (x / 64) (y / 64)) [
+  | yes e ↦ rw (eq-eqb (x / 64) (y / 64) e) (on-one (x % 64) (y % 64) ∙ same-bit x y (sym e))
+  | no n ↦ rw (ne-eqb (x / 64) (y / 64) n) (on-zero (y % 64) ∙ sym (other-bay x y (λ e. n (sym e))))
+]
+
+pub bit-fits : (x i : ℕ) → bitOf x i < 2 ^ 64
+unfolding bitOf
+bit-fits x i = elim (ℕ-discrete (x / 64) i) [
+  | yes e ↦ rw (eq-eqb (x / 64) i e) (pow-lt (let k : x % 64 < 64 = omega arith in k))
+  | no n ↦ rw (ne-eqb (x / 64) i n) (omega arith)
 ]
 
 -- ---- how many members

@@ -7,7 +7,7 @@ use Prim.Native.Nat.{ℕ, zero, suc, _+_, _-_, _*_, _/_, _%_, _^_, _≤_, _<_}
 use lib.Bits.{bitAnd}
 use lib.Dec.{eqb}
 use lib.ListN.{length, getD}
-use Rattle.paper.specs.Basics.{_and_, _or_, filter, upTo}
+use Rattle.paper.specs.Basics.{_and_, _or_, if_then_else_, filter, upTo}
 
 -- bit k of the word w, 0 or 1
 unfoldable pub bit : ℕ → ℕ → ℕ
@@ -20,6 +20,10 @@ on w k = eqb (bit w k) 1
 -- bay x is in the set
 unfoldable pub mem : List ℕ → ℕ → Bool
 mem ws x = on (getD ws (x / 64) 0) (x % 64)
+
+-- the bit of bay x, as it stands in word i
+unfoldable pub bitOf : ℕ → ℕ → ℕ
+bitOf x i = if eqb (x / 64) i then 2 ^ (x % 64) else 0
 
 -- the members of the set, rising
 unfoldable pub members : List ℕ → List ℕ

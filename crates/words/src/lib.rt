@@ -1,12 +1,12 @@
 // Sets of bays as 64-bit words, and tables with a set in each row. A set has any count of words; a row has WORDS.
 ghost use mathlib.Core.Path.{_≡_};
-ghost use mathlib.Core.Bool.{Bool, true, false, not};
+ghost use mathlib.Core.Bool.{true, false, not};
 ghost use Prim.Native.Nat.{ℕ, _+_, _-_, _*_, _/_, _^_, _≤_, _<_};
-ghost use lib.ListN.{length, getD};
+ghost use lib.ListN.{length};
 ghost use lib.Count.{trailingZeros};
 ghost use lib.Dec.{eqb};
 ghost use Rattle.paper.specs.Basics.{_and_, _or_};
-ghost use Rattle.words.specs.Sets.{mem, memRow, members, words, span, Lowest, Settled, Kept, Beside};
+ghost use Rattle.words.specs.Sets.{mem, memRow, members, words, span, bitOf, anyBelow, Lowest, Settled, Kept, Beside};
 
 // The words of a row, and the bays that they hold.
 pub const WORDS: usize = 4;
@@ -44,6 +44,52 @@ pub fn remove(ws: &mut [u64], x: usize)
     ws[i] = ws[i] & !(1u64 << b);
 }
 
+// The bit of bay x, as it stands in word i.
+fn bit_of(x: usize, i: usize) -> u64
+    ensures { λ r. ⌜ r ≡ bitOf x i ⌝ }
+{
+    if x / 64 == i {
+        return 1u64 << (x % 64);
+    }
+    0
+}
+
+// Bay x alone is in the set. All words are stored, so that loading them together does not wait for one stored alone.
+pub fn alone(ws: &mut [u64], x: usize)
+    requires { ⌜ (length (now ws) ≡ words) × (x < span) ⌝ }
+    ensures { λ _. ⌜ ((y : ℕ) → mem (now (ws .exit)) y ≡ eqb y x) ⌝ }
+{
+    let mut i = 0;
+    while i < WORDS {
+        ws[i] = bit_of(x, i);
+        i += 1;
+    }
+}
+
+// Bay x joins the set, of which all words are stored.
+pub fn join(ws: &mut [u64], x: usize)
+    requires { ⌜ (length (now ws) ≡ words) × (x < span) ⌝ }
+    ensures { λ _. ⌜ ((y : ℕ) → mem (now (ws .exit)) y ≡ mem (now (ws .entry)) y or eqb y x) ⌝ }
+{
+    let mut i = 0;
+    while i < WORDS {
+        ws[i] = ws[i] | bit_of(x, i);
+        i += 1;
+    }
+}
+
+// Bay x leaves the set and y joins it; all words are stored.
+pub fn replace(ws: &mut [u64], x: usize, y: usize)
+    requires { ⌜ (length (now ws) ≡ words) × (x < span) × (y < span) ⌝ }
+    ensures { λ _. ⌜ ((b : ℕ) → mem (now (ws .exit)) b ≡ (mem (now (ws .entry)) b and not (eqb b x)) or eqb b y) ⌝ }
+{
+    let mut i = 0;
+    while i < WORDS {
+        ws[i] = (ws[i] & !bit_of(x, i)) | bit_of(y, i);
+        i += 1;
+    }
+}
+
 // Whether bay x is in the set.
 pub fn is_in(ws: &[u64], x: usize) -> bool
     requires { ⌜ x / 64 < length (now ws) ⌝ }
@@ -51,18 +97,6 @@ pub fn is_in(ws: &[u64], x: usize) -> bool
 {
     let i = x / 64;
     (ws[i] >> (x % 64)) % 2 == 1
-}
-
-// The bays of b join a.
-pub fn union(a: &mut [u64], b: &[u64])
-    requires { ⌜ length (now b) ≡ length (now a) ⌝ }
-    ensures { λ _. ⌜ ((x : ℕ) → mem (now (a .exit)) x ≡ mem (now (a .entry)) x or mem (now (b .entry)) x) ⌝ }
-{
-    let mut i = 0;
-    while i < a.len() {
-        a[i] = a[i] | b[i];
-        i += 1;
-    }
 }
 
 // The bays of b leave a.
@@ -151,6 +185,34 @@ pub fn lowest_common(s: &[u64], a: usize, t: &[u64], b: usize) -> usize
         i += 1;
     }
     SPAN
+}
+
+// Whether row a of s and row b of t have a bay in common. All words are read: that is sooner done than asking at each word.
+pub fn meets(s: &[u64], a: usize, t: &[u64], b: usize) -> bool
+    requires { ⌜ (a * words + words ≤ length (now s)) × (b * words + words ≤ length (now t)) ⌝ }
+    ensures { λ r. ⌜ r ≡ anyBelow (λ x. memRow (now (s .entry)) a x and memRow (now (t .entry)) b x) span ⌝ }
+{
+    let mut any: u64 = 0;
+    let mut i = 0;
+    while i < WORDS {
+        any = any | (s[a * WORDS + i] & t[b * WORDS + i]);
+        i += 1;
+    }
+    any != 0
+}
+
+// Whether no bay is in the set.
+pub fn is_empty(ws: &[u64]) -> bool
+    requires { ⌜ length (now ws) ≡ words ⌝ }
+    ensures { λ r. ⌜ r ≡ not (anyBelow (mem (now (ws .entry))) span) ⌝ }
+{
+    let mut any: u64 = 0;
+    let mut i = 0;
+    while i < WORDS {
+        any = any | ws[i];
+        i += 1;
+    }
+    any == 0
 }
 
 // The lowest bay of the set from a on; SPAN where there is none.
