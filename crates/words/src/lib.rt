@@ -245,14 +245,15 @@ fn join_word(table: &[u64], set: &[u64], i: usize, found: &mut [u64])
     }
 }
 
-// The bays that stand in the rows of the set's members. They are gathered in an array of its own, which the compiler holds in registers.
+// The bays that stand in the rows of the set's members. They are gathered in an array of its own, which the compiler holds in registers. The set is
+// asked for its length, so that the compiler keeps this short enough to put it into its callers.
 pub fn beside(table: &[u64], set: &[u64], found: &mut [u64])
     requires { ⌜ (length (now set) ≡ words) × (length (now found) ≡ words) × ((a : ℕ) → a < span → mem (now set) a ≡ true → a * words + words ≤ length (now table)) ⌝ }
     ensures { λ _. ⌜ Beside (now (table .entry)) (now (set .entry)) (now (found .exit)) span ⌝ }
 {
     let mut all = [0u64; WORDS];
     let mut i = 0;
-    while i < WORDS {
+    while i < set.len() {
         join_word(table, set, i, &mut all);
         i += 1;
     }
