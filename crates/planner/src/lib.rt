@@ -209,7 +209,8 @@ fn hand_out_sparse(
     hand_out_most(table, n, start, goal, out)
 }
 
-// With the room that the plan is likely to need, by the carriers and by how many rails a bay has; the rails have so many ends.
+// With the room that the plan is likely to need, by the carriers and by how many rails a bay has; the rails have so many ends. One call serves grids
+// and narrow yards, since a function called twice is compiled apart and its rooms then take stack beside the others'.
 fn hand_out(
     table: &[u64; Yard::TABLE],
     n: usize,
@@ -224,10 +225,10 @@ fn hand_out(
     if n <= ends / DENSE {
         return hand_out_dense(table, n, start, goal, out);
     }
-    if n <= ends / GRID * 2 {
-        return hand_out_sparse(table, n, GRID_LESS, GRID_MORE, start, goal, out);
-    }
-    hand_out_sparse(table, n, NARROW_LESS, NARROW_MORE, start, goal, out)
+    let grid = n <= ends / GRID * 2;
+    let less = if grid { GRID_LESS } else { NARROW_LESS };
+    let more = if grid { GRID_MORE } else { NARROW_MORE };
+    hand_out_sparse(table, n, less, more, start, goal, out)
 }
 
 // Planning tests 1 to 8 by number. Acceptance writes the plan and nothing beyond its length; a refusal changes nothing.
