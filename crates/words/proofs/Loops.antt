@@ -12,10 +12,11 @@ use lib.ListN.{length, getD, set}
 use lib.Seq.{getD-set-same, getD-set-other}
 use borrow.Author.Tests.{ne-eqb}
 use Rattle.paper.specs.Basics.{_and_, _or_}
+use Rattle.paper.proofs.Fields.{and-assoc}
 use Rattle.paper.proofs.Tests.{or-neither}
 use Rattle.words.specs.Sets.{on, mem, memRow, words, span, bitOf, lessWord, Lowest, Settled, Kept}
 use Rattle.words.proofs.Bits.{on-or, on-and, on-less, on-zero, on-lowest, on-below, on-shr}
-use Rattle.words.proofs.Sets.{mem-out, mem-row, on-bit, bit-fits}
+use Rattle.words.proofs.Sets.{mem-out, mem-row, word-bit, on-bit, bit-fits}
 
 -- the words below i are f's; those from i on are f's
 pub record Done (l : List ℕ) (i : ℕ) (f : ℕ → ℕ) : Type 0 where
@@ -202,6 +203,20 @@ common-word s a t b i k h =
     let q : x / 64 ≡ i = omega arith in
     let r : x % 64 ≡ k = omega arith in
     rw (mem-row s a x, mem-row t b x, q, r, on-and)
+
+pub free-word : (s : List ℕ) (a : ℕ) (t u : List ℕ) (i k : ℕ) → 0 + k < 64 → getD u i 0 < 2 ^ 64
+    → memRow s a (i * 64 + 0 + k) and (mem t (i * 64 + 0 + k) and not (mem u (i * 64 + 0 + k)))
+    ≡ on (lessWord (bitAnd (getD s (a * words + i) 0) (getD t i 0)) (getD u i 0)) k
+free-word s a t u i k h l =
+    let x : ℕ = i * 64 + 0 + k in
+    let e : x ≡ 64 * i + k = omega arith in
+    let q : x / 64 ≡ i = omega arith in
+    let r : x % 64 ≡ k = omega arith in
+    let mt : mem t x ≡ on (getD t i 0) k = ap (mem t) e ∙ word-bit t i k (omega arith) in
+    let mu : mem u x ≡ on (getD u i 0) k = ap (mem u) e ∙ word-bit u i k (omega arith) in
+    let w = getD s (a * words + i) 0 in
+    rw (mem-row s a x, q, r, mt, mu)
+    (sym (on-less (bitAnd w (getD t i 0)) (getD u i 0) k (omega arith) l ∙ ap (λ (z : Bool). z and not (on (getD u i 0) k)) (on-and w (getD t i 0) k) ∙ and-assoc _ _ _))
 
 pub next-word : (ws : List ℕ) (i s k : ℕ) → s < 64 → s + k < 64 → mem ws (i * 64 + s + k) ≡ on (getD ws i 0 / 2 ^ s) k
 unfolding mem

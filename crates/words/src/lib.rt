@@ -215,6 +215,22 @@ pub fn is_empty(ws: &[u64]) -> bool
     any == 0
 }
 
+// The lowest bay of row a of the table that is wanted and not held; SPAN where there is none.
+pub fn lowest_free(table: &[u64], a: usize, wanted: &[u64], held: &[u64]) -> usize
+    requires { ⌜ (a * words + words ≤ length (now table)) × (length (now wanted) ≡ words) × (length (now held) ≡ words) ⌝ }
+    ensures { λ r. ⌜ Lowest (λ b. memRow (now (table .entry)) a b and (mem (now (wanted .entry)) b and not (mem (now (held .entry)) b))) 0 span r ⌝ }
+{
+    let mut i = 0;
+    while i < WORDS {
+        let free = table[a * WORDS + i] & wanted[i] & !held[i];
+        if free != 0 {
+            return lowest_of(i, free);
+        }
+        i += 1;
+    }
+    SPAN
+}
+
 // The lowest bay of the set from a on; SPAN where there is none.
 pub fn next_from(ws: &[u64], a: usize) -> usize
     requires { ⌜ (length (now ws) ≡ words) × (a ≤ span) ⌝ }
