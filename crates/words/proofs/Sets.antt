@@ -62,7 +62,7 @@ same-bit x y e = elim (ℕ-discrete y x) [
   | no q ↦ ne-eqb (y % 64) (x % 64) (λ d. q (omega arith)) ∙ sym (ne-eqb y x q)
 ]
 
-or-false : (a b : Bool) → b ≡ false → a or b ≡ a
+pub or-false : (a b : Bool) → b ≡ false → a or b ≡ a
 unfolding _or_
 or-false true b e = refl
 or-false false b e = e
