@@ -18,8 +18,8 @@ use Rattle.paper.proofs.Tests.{by-cases, not-both, and-left, and-right, and-bot
 use Rattle.paper.proofs.Members.{In-head, In-append, In-append-left, In-append-right, filter-in, filter-passes, in-filter, any-of, any-some, without-out, in-without, count-high, in-count}
 use Rattle.paper.proofs.Rings.{joined-sym, ring-zero}
 use Rattle.paper.proofs.Rings.{ring-free, ringsFrom-length}
-use Rattle.words.specs.Sets.{mem, memRow, Lowest, Kept, Settled, span, words, anyBelow, reaches, Beside, members}
-use Rattle.words.proofs.Sets.{row-zero, zeros, mem-zeros}
+use Rattle.words.specs.Sets.{mem, memRow, Kept, Settled, span, words, anyBelow, reaches, Beside, members}
+use Rattle.words.proofs.Sets.{row-zero}
 use Rattle.words.proofs.Besides.{equal-tests, anyBelow-some, anyBelow-of}
 use Rattle.yard.specs.Table.{Table}
 use mathlib.Core.Logic.{⊎-elim}
@@ -187,14 +187,14 @@ module _ {n : ℕ} {table held : List ℕ} (s : Shown n table held) (x : Bay) wh
       → (b : ℕ) → b < span → mem ring b ≡ true → b < n
   searching-inside wanted d seen ring rows most hx g b h m = in-yard most hx d b (sym (g .ringing b h) ∙ m)
 
-  pub widening-first : (seen₁ ring₀ : List ℕ) {seen ring : List ℕ} → x < n → ((b : ℕ) → b < span → mem seen₁ b ≡ mem held b) → ((y : ℕ) → mem seen y ≡ mem seen₁ y or eqb y x)
-      → ((y : ℕ) → mem ring₀ y ≡ false) → ((y : ℕ) → mem ring y ≡ mem ring₀ y or eqb y x) → Widening 0 seen ring
-  widening-first seen₁ ring₀ h same f z r =
+  pub widening-first : (seen₁ : List ℕ) {seen ring : List ℕ} → x < n → ((b : ℕ) → b < span → mem seen₁ b ≡ mem held b)
+      → ((y : ℕ) → mem seen y ≡ mem seen₁ y or eqb y x) → ((y : ℕ) → mem ring y ≡ eqb y x) → Widening 0 seen ring
+  widening-first seen₁ h same f r =
       let first : ringOn s x 0 ≡ x ∷ [] = ring-first (s .yard) (s .bays) x (rw (s .joins .bays) (omega arith)) in
       let start : within (s .yard) (s .bays) x 0 ≡ x ∷ [] = unfold seenFrom in refl in
       record {
         seeing = λ b l. f b ∙ rw (same b l, s .holds b l, start, elem-append, elem-one b x);
-        ringing = λ b l. r b ∙ rw (z b, first, elem-one b x) (unfold _or_ in refl);
+        ringing = λ b l. r b ∙ rw (first, elem-one b x);
       }
 
   pub widening-more : {d : ℕ} {seen ring seen′ ring′ : List ℕ} → n ≤ span → x < n → d + 1 < n → Widening d seen ring → Widened table seen ring seen′ ring′ → Widening (d + 1) seen′ ring′
@@ -223,12 +223,11 @@ module _ {n : ℕ} {table held : List ℕ} (s : Shown n table held) (x : Bay) wh
   pub ring-none : (i : ℕ) → n ≤ i → ringOn s x i ≡ []
   ring-none i h = ring-beyond (s .yard) (s .bays) x i (rw (s .joins .bays) (omega arith))
 
-  pub searching-first : (wanted seen₀ seen₁ seen ring₀ ring rows₀ rows : List ℕ) → x < n
-      → Kept seen₀ 0 held seen₁ → ((y : ℕ) → mem seen y ≡ mem seen₁ y or eqb y x)
-      → ((y : ℕ) → mem ring₀ y ≡ false) → ((y : ℕ) → mem ring y ≡ mem ring₀ y or eqb y x)
+  pub searching-first : (wanted seen₀ seen₁ seen ring rows₀ rows : List ℕ) → x < n
+      → Kept seen₀ 0 held seen₁ → ((y : ℕ) → mem seen y ≡ mem seen₁ y or eqb y x) → ((y : ℕ) → mem ring y ≡ eqb y x)
       → Kept rows₀ 0 ring rows → Searching wanted 0 seen ring rows
-  searching-first wanted seen₀ seen₁ seen ring₀ ring rows₀ rows h k sn z r w =
-      let g = widening-first seen₁ ring₀ h (λ b l. sym (row-zero seen₁ b) ∙ k .row b l) sn z r in
+  searching-first wanted seen₀ seen₁ seen ring rows₀ rows h k sn r w =
+      let g = widening-first seen₁ h (λ b l. sym (row-zero seen₁ b) ∙ k .row b l) sn r in
       record {
         far = omega arith;
         seeing = g .seeing;
@@ -237,16 +236,20 @@ module _ {n : ℕ} {table held : List ℕ} (s : Shown n table held) (x : Bay) wh
         before = λ i b j. absurd (omega arith);
       }
 
-  -- no wanted bay is in row d
-  missed : (rows wanted : List ℕ) (d r b : ℕ) → Lowest (λ y. memRow rows d y and memRow wanted 0 y) 0 span r → span ≤ r → b < span → memRow rows d b ≡ true → mem wanted b ≡ false
-  missed rows wanted d r b l h k m =
-      let y : memRow rows d b and mem wanted b ≡ false = rw (row-zero wanted b) at (l .before b (omega arith) (omega arith)) in
-      by-cases (mem wanted b) (λ t. not-both (and-both _ _ m t) y) (λ t. t)
+  -- a wanted bay is in the ring
+  abbrev meeting : List ℕ → List ℕ → Bool
+  meeting ring wanted = anyBelow (λ y. memRow ring 0 y and memRow wanted 0 y) span
 
-  pub searching-more : (wanted : List ℕ) (d : ℕ) (seen ring rows seen′ ring′ rows′ : List ℕ) (r : ℕ) → n ≤ span → x < n → d + 1 < n → Searching wanted d seen ring rows
-      → Lowest (λ y. memRow rows d y and memRow wanted 0 y) 0 span r → span ≤ r
+  missed : (ring wanted : List ℕ) (b : ℕ) → meeting ring wanted ≡ false → b < span → mem ring b ≡ true → mem wanted b ≡ false
+  missed ring wanted b l h m =
+      by-cases (mem wanted b)
+      (λ t. not-both (anyBelow-of _ span b h (and-both _ _ (row-zero ring b ∙ m) (row-zero wanted b ∙ t))) l)
+      (λ t. t)
+
+  pub searching-more : (wanted : List ℕ) (d : ℕ) (seen ring rows seen′ ring′ rows′ : List ℕ) → n ≤ span → x < n → d + 1 < n
+      → Searching wanted d seen ring rows → meeting ring wanted ≡ false
       → NextRing table d seen ring rows seen′ ring′ rows′ → Searching wanted (d + 1) seen′ ring′ rows′
-  searching-more wanted d seen ring rows seen′ ring′ rows′ r most hx h g l m e =
+  searching-more wanted d seen ring rows seen′ ring′ rows′ most hx h g l e =
       let w = widening-more most hx h (record { seeing = g .seeing; ringing = g .ringing }) (record { ringed = e .ringed; all-seen = e .all-seen }) in
       record {
         far = h;
@@ -260,7 +263,7 @@ module _ {n : ℕ} {table held : List ℕ} (s : Shown n table held) (x : Bay) wh
           | yes q ↦
               let y′ : In b (ringOn s x d) = rw q at y in
               let low : b < n = in-yard most hx d b y′ in
-              missed rows wanted d r b l m (omega arith) (g .rowing d b (omega arith) (omega arith) ∙ y′)
+              missed ring wanted b l (omega arith) (g .ringing b (omega arith) ∙ y′)
           | no q ↦ g .before i b (omega arith) y
         ];
       }
@@ -272,14 +275,14 @@ module _ {n : ℕ} {table held : List ℕ} (s : Shown n table held) (x : Bay) wh
   searched wanted d seen ring rows g k f = record { far = g .far; rowing = g .rowing; before = g .before; roomy = k; last = f }
 
   -- the ring has a wanted bay
-  pub searched-wanted : (wanted : List ℕ) (d : ℕ) (seen ring rows : List ℕ) (r : ℕ) → Searching wanted d seen ring rows
-      → Lowest (λ y. memRow rows d y and memRow wanted 0 y) 0 span r → r < span → (d + 1) * words ≤ length rows → Searched s x wanted rows d
-  searched-wanted wanted d seen ring rows r g l h k =
+  pub searched-wanted : (wanted : List ℕ) (d : ℕ) (seen ring rows : List ℕ) → Searching wanted d seen ring rows
+      → meeting ring wanted ≡ true → (d + 1) * words ≤ length rows → Searched s x wanted rows d
+  searched-wanted wanted d seen ring rows g l k =
       searched wanted d seen ring rows g k
       (λ o f.
-      let z : memRow rows d r and mem wanted r ≡ true = rw (row-zero wanted r) at (l .hit h) in
-      let i : In r (ringOn s x d) = sym (g .rowing d r (omega arith) h) ∙ and-left _ _ z in
-      not-both (and-right _ _ z) (f r i))
+      let z = anyBelow-some _ span l in
+      let i : In (z .0) (ringOn s x d) = sym (g .ringing (z .0) (z .1)) ∙ sym (row-zero ring (z .0)) ∙ and-left _ _ (z .2) in
+      not-both (sym (row-zero wanted (z .0)) ∙ and-right _ _ (z .2)) (f (z .0) i))
 
   -- there are as many rings as bays
   pub searched-all : (wanted : List ℕ) (d : ℕ) (seen ring rows : List ℕ) → Searching wanted d seen ring rows → n ≤ d + 1 → (d + 1) * words ≤ length rows → Searched s x wanted rows d
@@ -287,12 +290,12 @@ module _ {n : ℕ} {table held : List ℕ} (s : Shown n table held) (x : Bay) wh
       searched wanted d seen ring rows g m (λ o f i k. ring-beyond (s .yard) (s .bays) x i (rw (s .joins .bays) (omega arith)))
 
   -- the ring is empty
-  pub searched-dry : (wanted : List ℕ) (d : ℕ) (seen ring rows : List ℕ) (r : ℕ) → n ≤ span → x < n → Searching wanted d seen ring rows
-      → Lowest (mem ring) 0 span r → span ≤ r → (d + 1) * words ≤ length rows → Searched s x wanted rows d
-  searched-dry wanted d seen ring rows r most hx g l h m =
+  pub searched-dry : (wanted : List ℕ) (d : ℕ) (seen ring rows : List ℕ) → n ≤ span → x < n → Searching wanted d seen ring rows
+      → not (anyBelow (mem ring) span) ≡ true → (d + 1) * words ≤ length rows → Searched s x wanted rows d
+  searched-dry wanted d seen ring rows most hx g l m =
       let none : ringOn s x d ≡ [] = no-member (ringOn s x d) (λ b i.
       let low : b < n = in-yard most hx d b i in
-      not-both (g .ringing b (omega arith) ∙ i) (l .before b (omega arith) (omega arith))) in
+      not-both (anyBelow-of (mem ring) span b (omega arith) (g .ringing b (omega arith) ∙ i)) (not-true _ l)) in
       searched wanted d seen ring rows g m (λ o f i k. ring-dry (s .yard) (s .bays) x d i none k)
 
   -- there is no row for another ring
@@ -300,12 +303,6 @@ module _ {n : ℕ} {table held : List ℕ} (s : Shown n table held) (x : Bay) wh
       → (d + 1) * words ≤ length rows → Searched s x wanted rows d
   searched-short wanted d seen ring rows g h k m =
       searched wanted d seen ring rows g m (λ o f i j. absurd (⊎-elim (λ l. omega arith) (λ l. omega arith) o))
-
--- ## The set of one bay
-
-pub only : (g : List ℕ) (x : ℕ) → ((y : ℕ) → mem g y ≡ mem (zeros words) y or eqb y x) → (b : ℕ) → mem g b ≡ eqb b x
-unfolding _or_
-only g x h b = h b ∙ rw (mem-zeros words b)
 
 -- ## Any set is held
 

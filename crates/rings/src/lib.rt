@@ -71,15 +71,15 @@ pub fn search(
     let mut seen = [0u64; words::WORDS];
     let mut ring = [0u64; words::WORDS];
     words::keep(&mut seen, 0, held);
-    words::add(&mut seen, middle);
-    words::add(&mut ring, middle);
+    words::join(&mut seen, middle);
+    words::alone(&mut ring, middle);
     words::keep(rows, 0, &ring);
     let mut d = 0;
     loop {
-        if words::lowest_common(rows, d, wanted, 0) < words::SPAN {
+        if words::meets(&ring, 0, wanted, 0) {
             return d;
         }
-        if words::next_from(&ring, 0) == words::SPAN {
+        if words::is_empty(&ring) {
             return d;
         }
         if n <= d + 1 {
@@ -139,7 +139,7 @@ fn narrow(table: &[u64], n: usize, rows: &mut [u64], d: usize, e: Bay)
 {
     let last = e.0 as usize;
     let mut kept = [0u64; words::WORDS];
-    words::add(&mut kept, last);
+    words::alone(&mut kept, last);
     words::keep(rows, d, &kept);
     let mut i = d;
     while 1 < i {
@@ -178,7 +178,7 @@ fn path_near(
 {
     let from = u.0 as usize;
     let mut start = [0u64; words::WORDS];
-    words::add(&mut start, from);
+    words::alone(&mut start, from);
     let d = search(table, n, held, v, &start, rows);
     if words::is_in(rows, d * words::SPAN + from) {
         inward(table, n, rows, d, u, path);

@@ -7,7 +7,6 @@ use lib.ListN.{length}
 use borrow.Author.Needs.{needs}
 use Rattle.words.specs.Sets.{words}
 use Rattle.rings.specs.Ways.{Ended}
-use Rattle.rings.proofs.Searching.{only}
 use Rattle.rings.proofs.Narrowing.{Narrowing, narrowing-first, narrowing-inside, narrowing-more, narrowing-all, ended-kept}
 use Rattle.rings.proofs.narrow.Statement.{statement}
 use Rattle.rings.proofs.narrow.Tie as tie
@@ -24,11 +23,11 @@ abbrev μ-loop : tie.MeasureT-loop
 cast-last : tie.Need-cast-last Inv-loop μ-loop
 cast-last c = search needs
 
-slice-aggregate-add : tie.Need-slice-aggregate-add Inv-loop μ-loop
-slice-aggregate-add c = search needs
+slice-aggregate-alone : tie.Need-slice-aggregate-alone Inv-loop μ-loop
+slice-aggregate-alone c = search needs
 
-add-requires : tie.Need-add-requires Inv-loop μ-loop
-add-requires c κs = search needs
+alone-requires : tie.Need-alone-requires Inv-loop μ-loop
+alone-requires c κs = search needs
 
 slice-aggregate-keep : tie.Need-slice-aggregate-keep Inv-loop μ-loop
 slice-aggregate-keep c = search needs
@@ -37,7 +36,7 @@ keep-requires : tie.Need-keep-requires Inv-loop μ-loop
 keep-requires c κs = search needs
 
 loop-holds : tie.Need-loop-holds Inv-loop μ-loop
-loop-holds c = (omega arith, refl, omega arith, λ t. narrowing-first t _ (only _ _ (c .before .before .before .before .before .before .add .ensures)) (c .before .before .keep .ensures .row))
+loop-holds c = (omega arith, refl, omega arith, λ t. narrowing-first t _ (c .before .before .before .before .before .before .alone .ensures) (c .before .before .keep .ensures .row))
 
 sub-i : tie.Need-sub-i Inv-loop μ-loop
 sub-i c = search needs
@@ -67,8 +66,8 @@ narrow-spec =
     Inv-loop
     μ-loop
     cast-last
-    slice-aggregate-add
-    add-requires
+    slice-aggregate-alone
+    alone-requires
     slice-aggregate-keep
     keep-requires
     loop-holds

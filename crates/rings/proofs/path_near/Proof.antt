@@ -3,7 +3,6 @@
 use mathlib.Core.Path.{sym, _∙_}
 use native.Mathlib.Omega.{arith}
 use borrow.Author.Needs.{needs}
-use Rattle.rings.proofs.Searching.{only}
 use Rattle.rings.proofs.Reading.{inside, path-first, path-none, path-near, path-ended}
 use Rattle.rings.proofs.path_near.Statement.{statement}
 use Rattle.rings.proofs.path_near.Tie as tie
@@ -15,11 +14,11 @@ use Rattle.rings.proofs.search.Reads as search-reads
 cast-from : tie.Need-cast-from
 cast-from c = search needs
 
-slice-aggregate-add : tie.Need-slice-aggregate-add
-slice-aggregate-add c = search needs
+slice-aggregate-alone : tie.Need-slice-aggregate-alone
+slice-aggregate-alone c = search needs
 
-add-requires : tie.Need-add-requires
-add-requires c κs = search needs
+alone-requires : tie.Need-alone-requires
+alone-requires c κs = search needs
 
 slice-aggregate-search : tie.Need-slice-aggregate-search
 slice-aggregate-search c = search needs
@@ -37,7 +36,7 @@ is-in-requires : tie.Need-is-in-requires
 is-in-requires c κs = let f = c .before .before .before .search .ensures (c .before .before .before .before .before .before .before .before .before .before .before .before .before .before .pre .7) in omega (arith, f .roomy, c .before .before .before .before .before .before .before .before .before .before .before .before .before .before .pre .0, c .before .before .before .before .before .before .before .before .before .before .before .before .before .before .pre .1)
 
 inward-requires : tie.Need-inward-requires
-inward-requires c κs = let p = c .before .before .before .before .before .before .before .before .before .before .before .before .before .before .before .before .before .before .pre in let f = c .before .before .before .before .before .before .before .search .ensures (p .7) in (p .0, f .far, p .3, f .roomy, p .6, inside (p .7) (p .0) _ _ (p .2) _ _ _ (only _ _ (c .before .before .before .before .before .before .before .before .before .before .before .add .ensures)) f (p .1) (sym (c .before .before .if1 .taken) ∙ c .before .before .before .is-in .ensures))
+inward-requires c κs = let p = c .before .before .before .before .before .before .before .before .before .before .before .before .before .before .before .before .before .before .pre in let f = c .before .before .before .before .before .before .before .search .ensures (p .7) in (p .0, f .far, p .3, f .roomy, p .6, inside (p .7) (p .0) _ _ (p .2) _ _ _ (c .before .before .before .before .before .before .before .before .before .before .before .alone .ensures) f (p .1) (sym (c .before .before .if1 .taken) ∙ c .before .before .before .is-in .ensures))
 
 add-t28 : tie.Need-add-t28
 add-t28 c = let f = c .before .before .before .before .before .before .before .before .before .before .search .ensures (c .before .before .before .before .before .before .before .before .before .before .before .before .before .before .before .before .before .before .before .before .before .pre .7) .far in omega (arith, f, c .before .before .before .before .before .before .before .before .before .before .before .before .before .before .before .before .before .before .before .before .before .pre .0)
@@ -49,7 +48,7 @@ same-length-2 : tie.Need-same-length-2
 same-length-2 c = search needs
 
 returns : tie.Need-returns
-returns c = let p = c .before .before .before .before .before .before .before .before .before .before .before .before .before .before .before .before .before .before .before .before .before .pre in λ s. let f = c .before .before .before .before .before .before .before .before .before .before .search .ensures s in let w = only _ _ (c .before .before .before .before .before .before .before .before .before .before .before .before .before .before .add .ensures) in let k = sym (c .before .before .before .before .before .if1 .taken) ∙ c .before .before .before .before .before .before .is-in .ensures in path-near s (path-first s (p .0) _ _ (p .2) _ _ _ w f (p .1) k _ (c .before .before .inward .ensures (inside s (p .0) _ _ (p .2) _ _ _ w f (p .1) k)))
+returns c = let p = c .before .before .before .before .before .before .before .before .before .before .before .before .before .before .before .before .before .before .before .before .before .pre in λ s. let f = c .before .before .before .before .before .before .before .before .before .before .search .ensures s in let w = c .before .before .before .before .before .before .before .before .before .before .before .before .before .before .alone .ensures in let k = sym (c .before .before .before .before .before .if1 .taken) ∙ c .before .before .before .before .before .before .is-in .ensures in path-near s (path-first s (p .0) _ _ (p .2) _ _ _ w f (p .1) k _ (c .before .before .inward .ensures (inside s (p .0) _ _ (p .2) _ _ _ w f (p .1) k)))
 
 ended-requires : tie.Need-ended-requires
 ended-requires c κs = (c .before .before .before .before .before .before .before .before .before .before .before .before .before .before .before .before .before .pre .0, c .before .before .before .before .before .before .search .ensures (c .before .before .before .before .before .before .before .before .before .before .before .before .before .before .before .before .before .pre .7) .far)
@@ -58,15 +57,15 @@ same-length-3 : tie.Need-same-length-3
 same-length-3 c = search needs
 
 returns-2 : tie.Need-returns-2
-returns-2 c = let p = c .before .before .before .before .before .before .before .before .before .before .before .before .before .before .before .before .before .before .pre in λ s. let f = c .before .before .before .before .before .before .before .search .ensures s in path-ended s (c .ended .ensures) (search needs) (path-none s (p .0) _ _ (p .2) _ _ _ (only _ _ (c .before .before .before .before .before .before .before .before .before .before .before .add .ensures)) f (p .1) _ (sym (c .before .before .if1 .left) ∙ c .before .before .before .is-in .ensures))
+returns-2 c = let p = c .before .before .before .before .before .before .before .before .before .before .before .before .before .before .before .before .before .before .pre in λ s. let f = c .before .before .before .before .before .before .before .search .ensures s in path-ended s (c .ended .ensures) (search needs) (path-none s (p .0) _ _ (p .2) _ _ _ (c .before .before .before .before .before .before .before .before .before .before .before .alone .ensures) f (p .1) _ (sym (c .before .before .if1 .left) ∙ c .before .before .before .is-in .ensures))
 
 pub path-near-spec : {M : Type 1} → statement M
 path-near-spec =
     tie.close
     (tie.spec
     cast-from
-    slice-aggregate-add
-    add-requires
+    slice-aggregate-alone
+    alone-requires
     slice-aggregate-search
     search-requires
     mul-is-in

@@ -1,13 +1,12 @@
 -- `rings::search` meets its contract. At each turn the rows up to d are the rings and none before d has a wanted bay; the loop ends at the first that has one, at an empty ring, or at ring n − 1, behind which there is none.
 -- Assumes nothing.
-use mathlib.Core.Path.{_≡_, refl}
+use mathlib.Core.Path.{_≡_, refl, sym, _∙_}
 use Prim.Native.Nat.{_-_, _+_, _*_, _≤_, _<_}
 use native.Mathlib.Omega.{arith}
 use lib.ListN.{length}
 use borrow.Author.Needs.{needs}
 use Rattle.words.specs.Sets.{words}
 use Rattle.rings.specs.Search.{Shown}
-use Rattle.words.proofs.Sets.{mem-zeros}
 use Rattle.rings.proofs.Searching.{Searching, searching-first, searching-inside, searching-more, searched-wanted, searched-all, searched-dry, searched-short}
 use Rattle.rings.proofs.search.Statement.{statement}
 use Rattle.rings.proofs.search.Tie as tie
@@ -30,17 +29,17 @@ slice-aggregate-keep c = search needs
 keep-requires : tie.Need-keep-requires Inv-loop μ-loop
 keep-requires c κs = search needs
 
-slice-aggregate-add : tie.Need-slice-aggregate-add Inv-loop μ-loop
-slice-aggregate-add c = search needs
+slice-aggregate-join : tie.Need-slice-aggregate-join Inv-loop μ-loop
+slice-aggregate-join c = search needs
 
-add-requires : tie.Need-add-requires Inv-loop μ-loop
-add-requires c κs = search needs
+join-requires : tie.Need-join-requires Inv-loop μ-loop
+join-requires c κs = search needs
 
-slice-aggregate-add-2 : tie.Need-slice-aggregate-add-2 Inv-loop μ-loop
-slice-aggregate-add-2 c = search needs
+slice-aggregate-alone : tie.Need-slice-aggregate-alone Inv-loop μ-loop
+slice-aggregate-alone c = search needs
 
-add-requires-2 : tie.Need-add-requires-2 Inv-loop μ-loop
-add-requires-2 c κs = search needs
+alone-requires : tie.Need-alone-requires Inv-loop μ-loop
+alone-requires c κs = search needs
 
 slice-aggregate-keep-2 : tie.Need-slice-aggregate-keep-2 Inv-loop μ-loop
 slice-aggregate-keep-2 c = search needs
@@ -49,28 +48,31 @@ keep-requires-2 : tie.Need-keep-requires-2 Inv-loop μ-loop
 keep-requires-2 c κs = search needs
 
 loop-holds : tie.Need-loop-holds Inv-loop μ-loop
-loop-holds c = (refl, omega arith, omega arith, omega arith, omega arith, λ s. searching-first s _ _ _ _ _ _ _ _ _ (c .before .before .before .before .before .before .before .before .before .before .before .before .before .before .before .before .before .before .before .pre .1) (c .before .before .before .before .before .before .before .before .before .before .before .before .keep .ensures) (c .before .before .before .before .before .before .before .before .before .add .ensures) (mem-zeros words) (c .before .before .before .before .before .before .add2 .ensures) (c .before .before .keep2 .ensures))
+loop-holds c = (refl, omega arith, omega arith, omega arith, omega arith, λ s. searching-first s _ _ _ _ _ _ _ _ (c .before .before .before .before .before .before .before .before .before .before .before .before .before .before .before .before .before .before .before .pre .1) (c .before .before .before .before .before .before .before .before .before .before .before .before .keep .ensures) (c .before .before .before .before .before .before .before .before .before .join .ensures) (c .before .before .before .before .before .before .alone .ensures) (c .before .before .keep2 .ensures))
 
-lowest-common-requires : tie.Need-lowest-common-requires Inv-loop μ-loop
-lowest-common-requires c κs = search needs
+slice-aggregate-meets : tie.Need-slice-aggregate-meets Inv-loop μ-loop
+slice-aggregate-meets c = search needs
+
+meets-requires : tie.Need-meets-requires Inv-loop μ-loop
+meets-requires c κs = search needs
 
 same-length : tie.Need-same-length Inv-loop μ-loop
 same-length c = search needs
 
 returns : tie.Need-returns Inv-loop μ-loop
-returns c = λ s. searched-wanted s _ _ _ _ _ _ _ (c .before .before .before .loop .inv .5 s) (c .before .lowest-common .ensures) (c .if1 .taken) (c .before .before .before .loop .inv .4)
+returns c = λ s. searched-wanted s _ _ _ _ _ _ (c .before .before .before .loop .inv .5 s) (sym (c .before .meets .ensures) ∙ c .if1 .taken) (c .before .before .before .loop .inv .4)
 
-slice-aggregate-next-from : tie.Need-slice-aggregate-next-from Inv-loop μ-loop
-slice-aggregate-next-from c = search needs
+slice-aggregate-is-empty : tie.Need-slice-aggregate-is-empty Inv-loop μ-loop
+slice-aggregate-is-empty c = search needs
 
-next-from-requires : tie.Need-next-from-requires Inv-loop μ-loop
-next-from-requires c κs = search needs
+is-empty-requires : tie.Need-is-empty-requires Inv-loop μ-loop
+is-empty-requires c κs = search needs
 
 same-length-2 : tie.Need-same-length-2 Inv-loop μ-loop
 same-length-2 c = search needs
 
 returns-2 : tie.Need-returns-2 Inv-loop μ-loop
-returns-2 c = λ s. searched-dry s _ _ _ _ _ _ _ (c .before .before .before .before .before .before .before .before .before .before .before .before .before .before .before .before .before .before .before .before .before .before .before .before .before .before .pre .0) (c .before .before .before .before .before .before .before .before .before .before .before .before .before .before .before .before .before .before .before .before .before .before .before .before .before .before .pre .1) (c .before .before .before .before .before .before .loop .inv .5 s) (c .before .next-from .ensures) (omega arith) (c .before .before .before .before .before .before .loop .inv .4)
+returns-2 c = let p = c .before .before .before .before .before .before .before .before .before .before .before .before .before .before .before .before .before .before .before .before .before .before .before .before .before .before .pre in λ s. searched-dry s _ _ _ _ _ _ (p .0) (p .1) (c .before .before .before .before .before .before .loop .inv .5 s) (sym (c .before .is-empty .ensures) ∙ c .if2 .taken) (c .before .before .before .before .before .before .loop .inv .4)
 
 add-if3 : tie.Need-add-if3 Inv-loop μ-loop
 add-if3 c = search needs
@@ -109,7 +111,7 @@ loop-less : tie.Need-loop-less Inv-loop μ-loop
 loop-less c = search needs
 
 loop-again : tie.Need-loop-again Inv-loop μ-loop
-loop-again c = (omega arith, omega arith, omega arith, omega (arith, c .before .before .before .before .before .before .before .before .before .if3 .left), omega (arith, c .before .before .before .before .before .before .before .before .if4 .left), λ s. searching-more s _ _ _ _ _ _ _ _ _ _ (c .before .before .before .before .before .before .before .before .before .before .before .before .before .before .before .before .before .before .before .before .before .before .before .before .before .before .before .before .before .before .before .before .before .before .before .before .pre .0) (c .before .before .before .before .before .before .before .before .before .before .before .before .before .before .before .before .before .before .before .before .before .before .before .before .before .before .before .before .before .before .before .before .before .before .before .before .pre .1) (omega arith) (c .before .before .before .before .before .before .before .before .before .before .before .before .before .before .before .before .loop .inv .5 s) (c .before .before .before .before .before .before .before .before .before .before .before .before .before .before .lowest-common .ensures) (c .before .before .before .before .before .before .before .before .before .before .before .before .before .if1 .left) (c .before .before .before .before .next-ring .ensures))
+loop-again c = (omega arith, omega arith, omega arith, omega (arith, c .before .before .before .before .before .before .before .before .before .if3 .left), omega (arith, c .before .before .before .before .before .before .before .before .if4 .left), λ s. searching-more s _ _ _ _ _ _ _ _ _ (c .before .before .before .before .before .before .before .before .before .before .before .before .before .before .before .before .before .before .before .before .before .before .before .before .before .before .before .before .before .before .before .before .before .before .before .before .pre .0) (c .before .before .before .before .before .before .before .before .before .before .before .before .before .before .before .before .before .before .before .before .before .before .before .before .before .before .before .before .before .before .before .before .before .before .before .before .pre .1) (omega arith) (c .before .before .before .before .before .before .before .before .before .before .before .before .before .before .before .before .loop .inv .5 s) (sym (c .before .before .before .before .before .before .before .before .before .before .before .before .before .before .meets .ensures) ∙ c .before .before .before .before .before .before .before .before .before .before .before .before .before .if1 .left) (c .before .before .before .before .next-ring .ensures))
 
 pub search-spec : {M : Type 1} → statement M
 search-spec =
@@ -120,18 +122,19 @@ search-spec =
     cast-middle
     slice-aggregate-keep
     keep-requires
-    slice-aggregate-add
-    add-requires
-    slice-aggregate-add-2
-    add-requires-2
+    slice-aggregate-join
+    join-requires
+    slice-aggregate-alone
+    alone-requires
     slice-aggregate-keep-2
     keep-requires-2
     loop-holds
-    lowest-common-requires
+    slice-aggregate-meets
+    meets-requires
     same-length
     returns
-    slice-aggregate-next-from
-    next-from-requires
+    slice-aggregate-is-empty
+    is-empty-requires
     same-length-2
     returns-2
     add-if3
