@@ -1,0 +1,67 @@
+// Levels above the rails: level after level, the table gets for each bay the bays that are one rail further away.
+use words::WORDS;
+ghost use mathlib.Core.Path.{_≡_};
+ghost use mathlib.Core.Bool.{true};
+ghost use Prim.Native.Nat.{ℕ, _+_, _*_, _≤_, _<_};
+ghost use lib.ListN.{length, take, getD};
+ghost use Rattle.words.specs.Sets.{memRow, words, span};
+ghost use Rattle.levels.specs.Levels.{Levelled};
+ghost use Rattle.levels.specs.Raising.{Rails, RowRaised, LevelRaised};
+
+// Row x of level j + 1: what level j has for x, and what it has for the neighbours of x.
+fn raise_row(n: usize, table: &mut [u64], j: usize, x: usize)
+    requires { ⌜ (x < n) × ((j + 2) * n * words ≤ length (now table)) × ((b : ℕ) → b < span → memRow (now table) x b ≡ true → b < n) ⌝ }
+    ensures { λ _. ⌜ RowRaised n j x (now (table .entry)) (now (table .exit)) ⌝ }
+{
+    let mut near = [0u64; WORDS];
+    let mut all = [0u64; WORDS];
+    let from = j * n * WORDS;
+    let own = j * n + x;
+    words::join_row(&mut near, table, x);
+    words::beside(&table[from..], &near, &mut all);
+    words::join_row(&mut all, table, own);
+    words::keep(table, own + n, &all);
+}
+
+// Level j + 1, from level j.
+fn raise_level(n: usize, table: &mut [u64], j: usize)
+    requires { ⌜ ((j + 2) * n * words ≤ length (now table)) × Rails n (now table) ⌝ }
+    ensures { λ _. ⌜ LevelRaised n j n (now (table .entry)) (now (table .exit)) ⌝ }
+{
+    let mut x = 0;
+    while x < n {
+        raise_row(n, table, j, x);
+        x += 1;
+    }
+}
+
+// Whether the `size` words from `at` on stand behind them once more.
+fn stands_twice(table: &[u64], at: usize, size: usize) -> bool
+    requires { ⌜ at + size + size ≤ length (now table) ⌝ }
+    ensures { λ r. ⌜ (r ≡ true → (i : ℕ) → i < size → getD (now (table .entry)) (at + size + i) 0 ≡ getD (now (table .entry)) (at + i) 0) ⌝ }
+{
+    let mut i = 0;
+    while i < size {
+        if table[at + size + i] != table[at + i] {
+            return false;
+        }
+        i += 1;
+    }
+    true
+}
+
+// Fills level after level above the rails, as far as the table goes or until a level adds nothing; answers how many levels there are.
+pub fn raise(n: usize, table: &mut [u64]) -> usize
+    requires { ⌜ (n ≤ span) × (0 < n) × (n * words ≤ length (now table)) × Rails n (now table) ⌝ }
+    ensures { λ r. ⌜ (1 ≤ r) × (r * n * words ≤ length (now (table .exit))) × Levelled n (take (r * n * words) (now (table .exit))) × ((x b : ℕ) → x < n → b < span → memRow (now (table .exit)) x b ≡ memRow (now (table .entry)) x b) ⌝ }
+{
+    let mut top = 0;
+    while n * WORDS <= table.len() - (top + 1) * n * WORDS {
+        raise_level(n, table, top);
+        if stands_twice(table, top * n * WORDS, n * WORDS) {
+            return top + 1;
+        }
+        top += 1;
+    }
+    top + 1
+}

@@ -1,0 +1,194 @@
+-- Level by level: a bay stands in level j for x exactly if a walk of one to j + 1 rails leads from x to it, with no bay held. So of the bays beside one
+-- that is j + 2 rails from e, those in level j for e are exactly the ones that are a rail nearer.
+-- Assumes nothing.
+use mathlib.Core.Path.{_≡_, refl, sym, ap, _∙_}
+use mathlib.Core.Bool.{Bool, true, false}
+use mathlib.Core.List.{List, [], _∷_}
+use Prim.Native.Nat.{ℕ, zero, suc, _+_, _*_, _≤_, _<_}
+use native.Mathlib.Decide.{ℕ-discrete, decLt}
+use native.Mathlib.Nat.{add-mul, mul-le-mul-left, mul-le-mul-right}
+use native.Mathlib.Numerals.{add-one}
+use native.Mathlib.Omega.{arith}
+use lib.ListN.{length}
+use Rattle.paper.specs.Basics.{_and_, _or_, upTo, In}
+use Rattle.paper.specs.Yard.{Bay, Yard, joined}
+use Rattle.paper.specs.Path.{Free, rings}
+use Rattle.paper.proofs.Tests.{not-both, and-left, and-right, and-both, or-left, or-right, or-cases}
+use Rattle.paper.proofs.Members.{in-count, count-high, nothing-in-nil, lowest-least}
+use Rattle.paper.proofs.Rings.{joined-sym, Walk, here, on, walk-cons, walk-free, ring-walk, walk-ring, rings-apart}
+use Rattle.paper.proofs.Rings.{reached-walk, in-ring, ringsFrom-length}
+use Rattle.paper.proofs.Reach.{enough}
+use Rattle.paper.proofs.Shortest.{Next}
+use Rattle.words.specs.Sets.{memRow, words, span, anyBelow, Lowest}
+use Rattle.words.proofs.Besides.{anyBelow-some, anyBelow-of}
+use Rattle.yard.specs.Table.{Table}
+use Rattle.rings.specs.Search.{around}
+use Rattle.levels.specs.Levels.{Levelled}
+use Rattle.lookup.specs.Told.{FirstLevel}
+
+-- ## Rows
+
+-- row x of a level below k is in the table, if k levels are
+pub row-fits : (k n j x : ℕ) {size : ℕ} → k * n * words ≤ size → j < k → x < n → (j * n + x) * words + words ≤ size
+row-fits k n j x h l hx =
+    let m : (j + 1) * n ≤ k * n = mul-le-mul-right n (omega arith) in
+    let e : (j + 1) * n ≡ j * n + n = rw (add-mul j 1 n) (omega arith) in
+    omega arith
+
+-- fewer levels are in it too
+pub fewer-fit : (k n j : ℕ) {size : ℕ} → k * n * words ≤ size → j ≤ k → j * n * words ≤ size
+fewer-fit k n j h l = let m : j * n ≤ k * n = mul-le-mul-right n l in omega arith
+
+-- there are no more of them than words
+pub levels-few : (k n : ℕ) {size : ℕ} → 0 < n → k * n * words ≤ size → k ≤ size
+levels-few k n h l = let m : k * 1 ≤ k * n = mul-le-mul-left k (omega arith) in omega arith
+
+-- ## Walks
+
+-- a walk has no rail, or a first one
+pub walk-first : (Y : Yard) {x b : Bay} {i : ℕ} {P : Type 0} → Walk Y [] x i b → (i ≡ 0 → x ≡ b → P)
+    → ((k : ℕ) (y : Bay) → i ≡ suc k → joined Y x y ≡ true → Free Y [] y → Walk Y [] y k b → P) → P
+walk-first Y here f g = f refl refl
+walk-first Y {b = b} (on r rail free) f g =
+    walk-first Y r
+    (λ z same. g 0 b (ap suc z) (rw same rail) free here)
+    (λ k y z first y-free w. g (suc k) y (ap suc z) first y-free (on w rail free))
+
+module _ {Y : Yard} {n : ℕ} {table : List ℕ} (t : Table Y n table) (most : n ≤ span) where
+  pub free-inside : (b : Bay) → b < n → Free Y [] b
+  free-inside b h = (in-count 0 (Y .bays) b (omega arith) (rw (t .bays) (omega arith)), nothing-in-nil b)
+
+  pub inside : (b : Bay) → In b (upTo (Y .bays)) → b < n
+  inside b i = omega (arith, t .bays, count-high 0 (Y .bays) b i)
+
+  module _ (l : Levelled n table) where
+    rises : (j x b : ℕ) → (suc j + 1) * n * words ≤ length table → x < n → b < span
+        → memRow table (suc j * n + x) b ≡ memRow table (j * n + x) b or anyBelow (λ y. memRow table x y and memRow table (j * n + y) b) span
+    rises j x b fits hx hb =
+        let e : j + 2 ≡ suc j + 1 = omega arith in
+        rw add-one at (l .rises j x b (rw e fits) hx hb)
+
+    -- what stands in level j is at most j + 1 rails away
+    pub level-walk : (j x b : ℕ) → (j + 1) * n * words ≤ length table → x < n → b < span → memRow table (j * n + x) b ≡ true
+        → (i : ℕ) × (1 ≤ i) × (i ≤ j + 1) × Walk Y [] x i b
+    level-walk zero x b fits hx hb m =
+        let first : 0 * n + x ≡ x = omega arith in
+        let rail : joined Y x b ≡ true = sym (t .same x b hx hb) ∙ (rw first at m) in
+        (1, omega arith, omega arith, on here rail (free-inside b (t .inside x b rail .1)))
+    level-walk (suc j) x b fits hx hb m =
+        let below : (j + 1) * n * words ≤ length table = fewer-fit (suc j + 1) n (j + 1) fits (omega arith) in
+        or-cases _ _ (sym (rises j x b fits hx hb) ∙ m)
+        (λ k. let r = level-walk j x b below hx hb k in (r .0, r .1, omega (arith, r .2), r .3))
+        (λ k.
+        let r = anyBelow-some (λ y. memRow table x y and memRow table (j * n + y) b) span k in
+        let rail : joined Y x (r .0) ≡ true = sym (t .same x (r .0) hx (r .1)) ∙ and-left _ _ (r .2) in
+        let hy : r .0 < n = t .inside x (r .0) rail .1 in
+        let s = level-walk j (r .0) b below hy hb (and-right _ _ (r .2)) in
+        (suc (s .0), omega arith, omega (arith, s .2), walk-cons Y [] rail (free-inside (r .0) hy) (s .3)))
+
+    -- what is at most j + 1 rails away, and not by no rail, stands in level j
+    pub walk-level : (j x b : ℕ) {i : ℕ} → (j + 1) * n * words ≤ length table → x < n → Walk Y [] x i b → 1 ≤ i → i ≤ j + 1
+        → memRow table (j * n + x) b ≡ true
+    walk-level zero x b fits hx w low high =
+        let first : 0 * n + x ≡ x = omega arith in
+        walk-first Y w
+        (λ z same. absurd (omega arith))
+        (λ k y z rail y-free v. walk-first Y v
+        (λ z′ same. rw first (t .same x b hx (let h = inside y (y-free .0) in omega arith) ∙ rw (← same) rail))
+        (λ k′ y′ z′ rail′ free′ v′. absurd (omega arith)))
+    walk-level (suc j) x b fits hx w low high =
+        let below : (j + 1) * n * words ≤ length table = fewer-fit (suc j + 1) n (j + 1) fits (omega arith) in
+        let b-low : b < n = inside b (walk-free Y [] (free-inside x hx) w .0) in
+        let up = rises j x b fits hx (omega arith) in
+        walk-first Y w
+        (λ z same. absurd (omega arith))
+        (λ k y z rail y-free v.
+        let hy : y < n = inside y (y-free .0) in
+        walk-first Y v
+        (λ z′ same. up ∙ or-left _ _ (walk-level j x b below hx (on here (rw (← same) rail) (rw (← same) y-free)) (omega arith) (omega arith)))
+        (λ k′ y′ z′ rail′ free′ v′. up ∙ or-right _ _
+        (anyBelow-of (λ y. memRow table x y and memRow table (j * n + y) b) span y (omega arith)
+        (and-both _ _ (t .same x y hx (omega arith) ∙ rail) (walk-level j y b below hy v (omega arith) (omega arith))))))
+
+    -- ## How far it is
+
+    module _ (e : Bay) (he : e < n) where
+      -- d rails from e, and no fewer
+      pub record Far (d : ℕ) (u : Bay) : Type 0 where
+        pub walk : Walk Y [] e d u
+        pub least : (i : ℕ) → Walk Y [] e i u → d ≤ i
+
+      pub far-short : {d : ℕ} {u : Bay} → Far d u → d < n
+      far-short {d} {u} f =
+          let r = reached-walk Y [] e u (enough Y [] e (free-inside e he) (f .walk)) in
+          omega (arith, t .bays, r .1, f .least (r .0) (r .2))
+
+      -- it is ring d
+      pub far-ring : {d : ℕ} {u : Bay} → Far d u → In u (around Y [] e d)
+      far-ring {d} {u} f =
+          let r = walk-ring Y [] (Y .bays) e (f .walk) (rw (t .bays) (far-short f)) in
+          let k : d ≤ r .0 = f .least (r .0) (ring-walk Y [] (Y .bays) e (r .0) u (r .2)) in
+          let same : r .0 ≡ d = omega (arith, r .1) in
+          rw same at (r .2)
+
+      pub ring-far : {d : ℕ} {u : Bay} → In u (around Y [] e d) → Far d u
+      ring-far {d} {u} i = record {
+        walk = ring-walk Y [] (Y .bays) e d u i;
+        least = λ k w. elim (decLt k d) [
+          | yes h ↦
+              let fits : d < Y .bays = rw ringsFrom-length at (in-ring u (rings Y [] e) d i) in
+              let r = walk-ring Y [] (Y .bays) e w (omega arith) in
+              not-both (r .2) (rings-apart Y [] (Y .bays) [] (e ∷ []) (r .0) d u (omega (arith, r .1)) i)
+          | no h ↦ omega arith
+        ];
+      }
+
+      -- The lowest bay beside u that stands in level k for e is the path's next bay, where u is k + 2 rails from e.
+      pub next-bay : (k u r : ℕ) → (k + 1) * n * words ≤ length table → u < n → In u (around Y [] e (suc (suc k))) → (s : Next Y [] e (suc k) u)
+          → Lowest (λ b. memRow table u b and memRow table (k * n + e) b) 0 span r → (s .bay ≡ r) × In r (around Y [] e (suc k))
+      next-bay k u r fits hu i s l =
+          let f = ring-far i in
+          let walk : Walk Y [] e (suc k) (s .bay) = ring-walk Y [] (Y .bays) e (suc k) (s .bay) (s .nearer) in
+          let hb : s .bay < n = inside (s .bay) (walk-free Y [] (free-inside e he) walk .0) in
+          let one : memRow table u (s .bay) ≡ true = t .same u (s .bay) hu (omega arith) ∙ s .rail in
+          let two : memRow table (k * n + e) (s .bay) ≡ true = walk-level k e (s .bay) fits he walk (omega arith) (omega arith) in
+          let r-low : r ≤ s .bay = elim (decLt (s .bay) r) [
+            | yes m ↦ not-both (and-both _ _ one two) (l .before (s .bay) (omega arith) m)
+            | no m ↦ omega arith
+          ] in
+          let hit : memRow table u r and memRow table (k * n + e) r ≡ true = l .hit (omega arith) in
+          let rail : joined Y u r ≡ true = sym (t .same u r hu (omega arith)) ∙ and-left _ _ hit in
+          let w = level-walk k e r fits he (omega arith) (and-right _ _ hit) in
+          let no-nearer : (m : ℕ) → Walk Y [] e m r → suc k ≤ m =
+          λ m v. let h = f .least (suc m) (on v (joined-sym Y u r rail) (free-inside u hu)) in omega arith in
+          let same : w .0 ≡ suc k = omega (arith, w .2, no-nearer (w .0) (w .3)) in
+          let r-in : In r (around Y [] e (suc k)) = far-ring (record { walk = rw same at (w .3); least = no-nearer }) in
+          let b-low : s .bay ≤ r = lowest-least (joined Y u) (around Y [] e (suc k)) (s .found) r r-in rail in
+          (omega arith, r-in)
+
+-- ## The first level that has one of the bays
+
+module _ (n : ℕ) (table : List ℕ) (x : Bay) (bays : List ℕ) where
+  -- level j has one
+  abbrev meetsAt : ℕ → Bool
+  meetsAt j = anyBelow (λ b. memRow table (j * n + x) b and memRow bays 0 b) span
+
+  -- there are j levels, and none of them has one
+  pub record Missed (j : ℕ) : Type 0 where
+    pub fits : j * n * words ≤ length table
+    pub before : (i : ℕ) → i < j → meetsAt i ≡ false
+
+  pub missed-none : Missed 0
+  missed-none = record { fits = omega arith; before = λ i h. absurd (omega arith) }
+
+  pub missed-more : (j : ℕ) → Missed j → (j + 1) * n * words ≤ length table → meetsAt j ≡ false → Missed (j + 1)
+  missed-more j m h miss = record {
+    fits = h;
+    before = λ i k. elim (ℕ-discrete i j) [ yes q ↦ rw q miss | no q ↦ m .before i (omega arith) ];
+  }
+
+  pub missed-hit : (j : ℕ) → Missed j → meetsAt j ≡ true → FirstLevel n table x bays j
+  missed-hit j m h = record { fits = m .fits; hit = λ k. h; before = m .before }
+
+  pub missed-all : (j : ℕ) → Missed j → length table < (j + 1) * n * words → FirstLevel n table x bays j
+  missed-all j m h = record { fits = m .fits; hit = λ k. absurd (omega arith); before = m .before }

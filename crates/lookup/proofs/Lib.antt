@@ -1,0 +1,3 @@
+pub mod Levelling
+pub mod Leading
+pub mod Looking

@@ -1,0 +1,47 @@
+-- What the levels of a table tell: the nearest of some bays and the shortest path to it, with no bay held; and when that is the answer with the held
+-- bays too.
+-- Assumes nothing.
+use mathlib.Core.Path.{_≡_}
+use mathlib.Core.Bool.{Bool, true, false}
+use mathlib.Core.List.{List, []}
+use Prim.Native.Nat.{ℕ, _+_, _*_, _≤_, _<_}
+use lib.ListN.{length, take}
+use Rattle.paper.specs.Basics.{_and_, In}
+use Rattle.paper.specs.Yard.{Bay, Yard}
+use Rattle.paper.specs.Path.{rings, inward}
+use Rattle.words.specs.Sets.{mem, memRow, words, span, anyBelow}
+use Rattle.yard.specs.Table.{Table}
+use Rattle.rings.specs.Search.{Shown, around}
+use Rattle.rings.specs.Ways.{WayFound}
+use Rattle.rings.specs.declared.Way.the-variants as way
+use Rattle.levels.specs.Levels.{Levelled}
+use Rattle.docket.specs.declared.Bay.{Bay as Held}
+use Rattle.lookup.specs.declared.Known.{Known}
+use Rattle.lookup.specs.declared.Known.the-variants.{To}
+
+-- level j is the first whose row for x has one of the bays, or there is no level j
+pub record FirstLevel (n : ℕ) (table : List ℕ) (x : Bay) (bays : List ℕ) (j : ℕ) : Type 0 where
+  pub fits : j * n * words ≤ length table
+  pub hit : (j + 1) * n * words ≤ length table → anyBelow (λ b. memRow table (j * n + x) b and memRow bays 0 b) span ≡ true
+  pub before : (i : ℕ) → i < j → anyBelow (λ b. memRow table (i * n + x) b and memRow bays 0 b) span ≡ false
+
+-- with no bay held, x is d rails from e
+pub record Distant (n : ℕ) (table : List ℕ) (x e d : ℕ) : Type 0 where
+  pub yard : Yard
+  pub joins : Table yard n table
+  pub levels : Levelled n table
+  pub home : e < n
+  pub far : In x (around yard [] e d)
+
+-- the shortest path between them
+abbrev pub plainPath : {n : ℕ} {table : List ℕ} {x e d : ℕ} → Distant n table x e d → List Bay
+plainPath {x = x} {e = e} {d = d} t = inward (t .yard) (rings (t .yard) [] e) d x
+
+-- it is the first bays of the room, and none of them is held
+pub record Led {n : ℕ} {table : List ℕ} {x e d : ℕ} (t : Distant n table x e d) (held room : List ℕ) : Type 0 where
+  pub path : take (d + 1) room ≡ plainPath t
+  pub unheld : (b : ℕ) → In b (take (d + 1) room) → mem held b ≡ false
+
+-- what is told is the nearest bay of which q holds, and the shortest path to it
+abbrev pub Told : {n : ℕ} {table held : List ℕ} → Shown n table held → Bay → (Bay → Bool) → List ℕ → Known → Type 0
+Told s x q room r = (e : Held) (m : ℕ) → r ≡ To e m → WayFound s x q room (way.To e m)

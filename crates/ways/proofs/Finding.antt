@@ -1,0 +1,204 @@
+-- Ring after ring, the lowest wanted bay of the first ring that has one is the nearest, and the path back from it is the paper's. Where
+-- a ring leads to nothing new, there is none.
+-- Assumes nothing.
+use mathlib.Core.Path.{_≡_, refl, sym, ap, _∙_}
+use mathlib.Core.Bool.{Bool, true, false, not}
+use mathlib.Core.List.{List, [], _∷_}
+use mathlib.Core.Option.{some}
+use Prim.Native.Nat.{ℕ, zero, suc, _+_, _-_, _≤_, _<_}
+use native.Mathlib.Decide.{ℕ-discrete, decLt}
+use native.Mathlib.Omega.{arith}
+use lib.Dec.{eqb}
+use lib.ListN.{take}
+use borrow.Author.Tests.{eqb-true, eq-eqb, not-true}
+use Rattle.paper.specs.Basics.{_and_, _or_, concat, find, elem, In}
+use Rattle.paper.specs.Yard.{Bay}
+use Rattle.paper.specs.Path.{rings, nearestFirst, ringOf, pathBetween}
+use Rattle.paper.proofs.Tests.{by-cases, not-both, and-left, and-right, and-both, some-same}
+use Rattle.paper.proofs.Members.{In-one, In-head, In-nil, nothing-in-nil, none-find, find-in, find-passes, find-none}
+use Rattle.paper.proofs.Rings.{ring-step, distance-in, reached-sym}
+use Rattle.paper.proofs.Shortest.{rings-rise, inward-zero}
+use Rattle.docket.specs.declared.Bay.{Bay as Held}
+use Rattle.words.specs.Sets.{mem, memRow, span, Kept, Lowest}
+use Rattle.words.proofs.Sets.{row-zero}
+use Rattle.rings.specs.Search.{Shown, ringOn}
+use Rattle.rings.specs.Ways.{WayFound, PathFound}
+use Rattle.rings.specs.declared.Way.the-variants.{To, NoWay}
+use Rattle.rings.specs.declared.Path.the-variants.{First, NoPath}
+use Rattle.rings.proofs.Searching.{elem-one, ring-first, in-yard, ring-none, Widening, widening-first, widening-more}
+use Rattle.rings.proofs.Reading.{find-rings, find-is, way-none}
+use Rattle.rings.proofs.Between.{shortest-far}
+use Rattle.ways.specs.Meeting.{back}
+use Rattle.ways.specs.Queue.{Met, Stands, Passed}
+use Rattle.ways.proofs.Tracing.{free-of, path-back}
+
+-- the lowest that passes, of the first ring that has one, is the nearest
+nearest-of : {n : ℕ} {table held : List ℕ} (s : Shown n table held) (x : Bay) (q : Bay → Bool) (d e : ℕ) → In e (ringOn s x d) → q e ≡ true
+    → ((i b : ℕ) → i < d → In b (ringOn s x i) → q b ≡ false) → ((b : ℕ) → In b (ringOn s x d) → b < e → q b ≡ false)
+    → some e ≡ find q (nearestFirst (s .yard) (s .bays) x)
+nearest-of s x q d e i h early lower =
+    sym (find-rings q (rings (s .yard) (s .bays) x) d e early (find-is q (ringOn s x d) e (rings-rise (s .yard) (s .bays) x d) i h lower))
+
+-- ## Where the search stands
+
+-- at ring d, and no ring up to it has a wanted bay
+pub record Stage {n : ℕ} {table held : List ℕ} (s : Shown n table held) (x : Bay) (wanted : List ℕ) (d : ℕ) (seen ring met before : List ℕ) (done count : ℕ) : Type 0 where
+  pub stands : Stands n table held x seen ring met before done count
+  pub widening : Widening s x d seen ring
+  pub missed : (i b : ℕ) → i ≤ d → In b (ringOn s x i) → mem wanted b ≡ false
+  pub near : d ≤ done
+
+module _ {n : ℕ} {table held : List ℕ} (s : Shown n table held) (most : n ≤ span) (x : Bay) (hx : x < n) (unheld : mem held x ≡ false) where
+  first-ring : ringOn s x 0 ≡ x ∷ []
+  first-ring = ring-first (s .yard) (s .bays) x (rw (s .joins .bays) (omega arith))
+
+  start-met : (seen before : List ℕ) → ((b : ℕ) → b < span → mem seen b ≡ mem held b or eqb b x) → Met n table held x seen (x ∷ []) before 0
+  start-met seen before f = record {
+    rails = λ a b h k e. s .joins .inside a b (sym (s .joins .same a b h k) ∙ e) .1;
+    starts = refl;
+    inside = λ b i. rw (In-one b x i) hx;
+    unheld = λ b i. rw (In-one b x i) unheld;
+    once = (nothing-in-nil x, tt);
+    seeing = λ b h. f b h ∙ rw (elem-one b x);
+    parent = λ j p h. absurd (omega arith);
+    looked = λ l z h. absurd (omega arith);
+  }
+
+  one-and-not : (b : ℕ) → eqb b x ≡ elem b (x ∷ []) and not (elem b [])
+  unfolding elem _and_
+  one-and-not b = by-cases (eqb b x) (λ e. rw e) (λ e. rw e)
+
+  pub stage-first : (wanted seen₀ seen₁ seen ring met before : List ℕ) → mem wanted x ≡ false → Kept seen₀ 0 held seen₁ → ((y : ℕ) → mem seen y ≡ mem seen₁ y or eqb y x)
+      → ((y : ℕ) → mem ring y ≡ eqb y x) → take 1 met ≡ x ∷ [] → Stage s x wanted 0 seen ring met before 0 1
+  stage-first wanted seen₀ seen₁ seen ring met before miss k f r first =
+      let kept : (b : ℕ) → b < span → mem seen₁ b ≡ mem held b = λ b l. sym (row-zero seen₁ b) ∙ k .row b l in
+      record {
+        stands = record {
+          queue = rw first (start-met seen before (λ b l. f b ∙ rw (kept b l)));
+          ringing = λ b l. r b ∙ rw first (one-and-not b);
+        };
+        widening = widening-first s x seen₁ hx kept f r;
+        missed = λ i b l y. let e : i ≡ 0 = omega arith in rw (In-one b x (rw (e, first-ring) at y)) miss;
+        near = omega arith;
+      }
+
+  module _ (wanted : List ℕ) (d : ℕ) (seen ring met before : List ℕ) (done count : ℕ) (g : Stage s x wanted d seen ring met before done count)
+      (seen′ ring′ met′ before′ : List ℕ) (r : ℕ) (p : Passed n table held x seen ring seen′ ring′ met′ before′ count r) (some-left : done < count) where
+    -- ## Nothing new
+
+    next-dry : r ≡ count → (b : ℕ) → In b (ringOn s x (d + 1)) → ⊥
+    next-dry e b i = elim (decLt (d + 1) n) [
+      | yes h ↦
+          let hb : b < n = in-yard s x most hx (d + 1) b i in
+          let w = widening-more s x most hx h (g .widening) (p .widened) in
+          let z : elem b (take count met′) and not (elem b (take count met′)) ≡ true =
+          rw e at (sym (p .stands .ringing b (omega arith)) ∙ w .ringing b (omega arith) ∙ i) in
+          not-both (and-left _ _ z) (not-true _ (and-right _ _ z))
+      | no h ↦ In-nil b (rw (ring-none s x (d + 1) (omega arith)) at i)
+    ]
+
+    all-dry : r ≡ count → (k b : ℕ) → In b (ringOn s x (k + (d + 1))) → ⊥
+    all-dry e zero b i = let z : 0 + (d + 1) ≡ d + 1 = omega arith in next-dry e b (rw z at i)
+    all-dry e (suc k) b i =
+        let z : suc k + (d + 1) ≡ suc (k + (d + 1)) = omega arith in
+        let t = ring-step (s .yard) (s .bays) (s .yard .bays) [] (x ∷ []) (k + (d + 1)) b (rw z at i) in
+        all-dry e k (t .0) (t .1)
+
+    pub way-nowhere : r ≡ count → (q : Bay → Bool) → ((b : ℕ) → b < n → mem wanted b ≡ q b) → (room : List ℕ) → WayFound s x q room NoWay
+    way-nowhere e q w room =
+        let rs = rings (s .yard) (s .bays) x in
+        way-none s x q room (sym (none-find q (concat rs) (λ b i.
+        let k : ℕ = ringOf (s .yard) b rs in
+        let y : In b (ringOn s x k) = distance-in (s .yard) b rs i in
+        elim (decLt d k) [
+          | yes h ↦ let z : k ≡ (k - (d + 1)) + (d + 1) = omega arith in absurd (all-dry e (k - (d + 1)) b (rw z at y))
+          | no h ↦ sym (w b (in-yard s x most hx k b y)) ∙ g .missed k b (omega arith) y
+        ])))
+
+    -- ## One ring more
+
+    module _ (grew : count < r) where
+      far : d + 1 < n
+      far = omega (arith, g .near, p .most)
+
+      wider : Widening s x (d + 1) seen′ ring′
+      wider = widening-more s x most hx far (g .widening) (p .widened)
+
+      module _ (e : ℕ) (l : Lowest (λ y. memRow ring′ 0 y and memRow wanted 0 y) 0 span e) where
+        lower : (b : ℕ) → b < e → In b (ringOn s x (d + 1)) → mem wanted b ≡ false
+        lower b h i =
+            let hb : b < n = in-yard s x most hx (d + 1) b i in
+            let z : mem ring′ b and mem wanted b ≡ false = rw (row-zero ring′ b, row-zero wanted b) at (l .before b (omega arith) h) in
+            by-cases (mem wanted b) (λ t. not-both (and-both _ _ (wider .ringing b (omega arith) ∙ i) t) z) (λ t. t)
+
+        pub stage-more : span ≤ e → Stage s x wanted (d + 1) seen′ ring′ met′ before′ count r
+        stage-more h = record {
+          stands = p .stands;
+          widening = wider;
+          missed = λ i b k y. elim (ℕ-discrete i (d + 1)) [
+            | yes o ↦
+                let y′ : In b (ringOn s x (d + 1)) = rw o at y in
+                let hb : b < n = in-yard s x most hx (d + 1) b y′ in
+                lower b (omega arith) y′
+            | no o ↦ g .missed i b (omega arith) y
+          ];
+          near = omega (arith, g .near);
+        }
+
+        pub way-found : e < span → (q : Bay → Bool) → ((b : ℕ) → b < n → mem wanted b ≡ q b) → (room : List ℕ) (bay : Held) → bay .0 ≡ e
+            → take (d + 1 + 1) room ≡ back before′ (d + 1) e [] → WayFound s x q room (To bay (d + 1 + 1))
+        way-found hit q w room bay same path =
+            let z : mem ring′ e and mem wanted e ≡ true = rw (row-zero ring′ e, row-zero wanted e) at (l .hit hit) in
+            let e-in : In e (ringOn s x (d + 1)) = sym (wider .ringing e hit) ∙ and-left _ _ z in
+            let in-queue : In e (take r met′) = and-left _ _ (sym (p .stands .ringing e hit) ∙ and-left _ _ z) in
+            let low : (i b : ℕ) → In b (ringOn s x i) → b < n = in-yard s x most hx in
+            record {
+              nearest = rw same (nearest-of s x q (d + 1) e e-in (sym (w e (low (d + 1) e e-in)) ∙ and-right _ _ z)
+                  (λ i b h y. sym (w b (low i b y)) ∙ g .missed i b (omega arith) y)
+                  (λ b y h. sym (w b (low (d + 1) b y)) ∙ lower b h y));
+              fits = let h = far in omega arith;
+              path = λ y k.
+                  let it : e ≡ y = let u = rw same at k in some-same u in
+                  rw (← it) (path ∙ path-back s most x e (d + 1) (p .stands .queue) hx unheld e-in in-queue);
+            }
+
+  -- ## x itself
+
+  pub way-here : (wanted : List ℕ) → mem wanted x ≡ true → (q : Bay → Bool) → ((b : ℕ) → b < n → mem wanted b ≡ q b) → (room : List ℕ) (bay : Held) → bay .0 ≡ x
+      → take 1 room ≡ x ∷ [] → WayFound s x q room (To bay 1)
+  way-here wanted hit q w room bay same path =
+      let x-in : In x (ringOn s x 0) = rw first-ring (In-head x []) in
+      record {
+        nearest = rw same (nearest-of s x q 0 x x-in (sym (w x hx) ∙ hit) (λ i b h y. absurd (omega arith))
+            (λ b y h. let z : b ≡ x = In-one b x (rw first-ring at y) in absurd (omega arith)));
+        fits = omega arith;
+        path = λ y k.
+            let it : x ≡ y = let u = rw same at k in some-same u in
+            rw (← it) (path ∙ sym (shortest-far (s .yard) (s .bays) x x 0 (free-of s most x hx unheld) x-in ∙ inward-zero (s .yard) (rings (s .yard) (s .bays) x) x));
+      }
+
+-- ## The way to one bay is the path to it
+
+module _ {n : ℕ} {table held : List ℕ} (s : Shown n table held) (most : n ≤ span) (u v : Bay) (hu : u < n) (hv : v < n) (u-free : mem held u ≡ false) (v-free : mem held v ≡ false) (room : List ℕ) where
+  abbrev pub isGoal : Bay → Bool
+  isGoal b = eqb b v
+
+  pub path-first : (e : Held) (m : ℕ) → WayFound s u isGoal room (To e m) → PathFound s u v room (First m)
+  unfolding pathBetween
+  path-first e m f =
+      let there = sym (f .nearest) in
+      let same : e .0 ≡ v = eqb-true (e .0) v (find-passes isGoal (nearestFirst (s .yard) (s .bays) u) there) in
+      let v-in : In v (nearestFirst (s .yard) (s .bays) u) = rw same at (find-in isGoal (nearestFirst (s .yard) (s .bays) u) there) in
+      let u-in : In u (nearestFirst (s .yard) (s .bays) v) = reached-sym (s .yard) (s .bays) u v (free-of s most u hu u-free) v-in in
+      record { fits = f .fits; same = rw u-in (ap some (f .path v (ap some same))) }
+
+  pub path-none : WayFound s u isGoal room NoWay → PathFound s u v room NoPath
+  unfolding pathBetween
+  path-none f =
+      let out : elem u (nearestFirst (s .yard) (s .bays) v) ≡ false =
+      by-cases (elem u (nearestFirst (s .yard) (s .bays) v))
+      (λ i.
+      let v-in = reached-sym (s .yard) (s .bays) v u (free-of s most v hv v-free) i in
+      not-both (eq-eqb v v refl) (find-none isGoal (nearestFirst (s .yard) (s .bays) u) v (sym (f .nearest)) v-in))
+      (λ o. o) in
+      record { fits = omega arith; same = rw out }

@@ -1,0 +1,52 @@
+-- The queue of a search: from its bays up to a place all that they lead to is in it, and each bay of it was met from the first that is
+-- joined to it, those of one bay rising.
+-- Assumes nothing.
+use mathlib.Core.Path.{_≡_}
+use mathlib.Core.Bool.{true, false, not}
+use mathlib.Core.List.{List}
+use mathlib.Core.Logic.{_⊎_}
+use Prim.Native.Nat.{ℕ, _≤_, _<_}
+use lib.ListN.{length, getD, take}
+use Rattle.paper.specs.Basics.{_and_, _or_, elem, In, NoDup}
+use Rattle.words.specs.Sets.{mem, memRow, span}
+use Rattle.rings.specs.Widening.{Widened}
+
+-- a rail leads from the bay at place l of the queue to z, which is not held
+abbrev pub Leads : List ℕ → List ℕ → List ℕ → ℕ → ℕ → Type 0
+Leads table held queue l z = (memRow table (getD queue l 0) z ≡ true) × (mem held z ≡ false)
+
+-- Where the bay at place j was met from. What an earlier bay leads to stands before it, and of what that same bay leads to, what is lower.
+pub record Parent (table held queue before : List ℕ) (done j : ℕ) : Type 0 where
+  pub place : ℕ
+  pub earlier : place < j
+  pub passed : place < done
+  pub there : getD before (getD queue j 0) 0 ≡ getD queue place 0
+  pub rail : memRow table (getD queue place 0) (getD queue j 0) ≡ true
+  pub first : (l z : ℕ) → z < span → (l < place) ⊎ ((l ≡ place) × (z < getD queue j 0)) → Leads table held queue l z → In z (take j queue)
+
+-- the bays below `done` of the queue have been passed
+pub record Met (n : ℕ) (table held : List ℕ) (x : ℕ) (seen queue before : List ℕ) (done : ℕ) : Type 0 where
+  pub rails : (a b : ℕ) → a < n → b < span → memRow table a b ≡ true → b < n
+  pub starts : getD queue 0 0 ≡ x
+  pub inside : (b : ℕ) → In b queue → b < n
+  pub unheld : (b : ℕ) → In b queue → mem held b ≡ false
+  pub once : NoDup queue
+  pub seeing : (b : ℕ) → b < span → mem seen b ≡ mem held b or elem b queue
+  pub parent : (j : ℕ) → 0 < j → j < length queue → Parent table held queue before done j
+  pub looked : (l z : ℕ) → l < done → z < span → Leads table held queue l z → In z queue
+
+-- the same in the code's words: the ring is what stands from `done` to `count`
+pub record Stands (n : ℕ) (table held : List ℕ) (x : ℕ) (seen ring met before : List ℕ) (done count : ℕ) : Type 0 where
+  pub queue : Met n table held x seen (take count met) before done
+  pub ringing : (b : ℕ) → b < span → mem ring b ≡ elem b (take count met) and not (elem b (take done met))
+
+-- of some search
+abbrev pub Standing : ℕ → List ℕ → List ℕ → List ℕ → List ℕ → List ℕ → ℕ → ℕ → Type 0
+Standing n table seen ring met before done count = (held : List ℕ) × (x : ℕ) × Stands n table held x seen ring met before done count
+
+-- the bays from `done` to `count` have been passed, and what they led to is the next ring
+pub record Passed (n : ℕ) (table held : List ℕ) (x : ℕ) (seen ring seen′ ring′ met′ before′ : List ℕ) (count r : ℕ) : Type 0 where
+  pub stands : Stands n table held x seen′ ring′ met′ before′ count r
+  pub widened : Widened table seen ring seen′ ring′
+  pub more : count ≤ r
+  pub most : r ≤ n

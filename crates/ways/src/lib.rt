@@ -1,0 +1,238 @@
+// The shortest path to the nearest wanted bay. Where few rails lead to a bay, the bays are met one by one, each from the first in the
+// queue that is joined to it, and the path is read backwards; elsewhere ring by ring.
+use docket::Bay;
+use rings::Path;
+use rings::Way;
+ghost use mathlib.Core.Path.{_≡_};
+ghost use mathlib.Core.Bool.{Bool, false, not};
+ghost use mathlib.Core.List.{List, []};
+ghost use Prim.Native.Nat.{ℕ, _+_, _*_, _≤_, _<_};
+ghost use lib.ListN.{length, take};
+ghost use Rattle.paper.specs.Basics.{_and_};
+ghost use Rattle.words.specs.Sets.{mem, words, span};
+ghost use Rattle.rings.specs.Search.{Shown};
+ghost use Rattle.rings.specs.Ways.{PathFound, WayFound};
+ghost use Rattle.ways.specs.Meeting.{few, inWord, newIn, new, Queued, Meets, back};
+ghost use Rattle.ways.specs.Queue.{Stands, Standing, Passed};
+
+// Whether fewer than four rails lead to the bay: then a queue is faster than rings.
+fn few_rails(table: &[u64], a: usize) -> bool
+    requires { ⌜ a * words + words ≤ length (now table) ⌝ }
+    ensures { λ r. ⌜ r ≡ few (now (table .entry)) a ⌝ }
+{
+    let from = a * words::WORDS;
+    words::count(&table[from..from + words::WORDS]) < 4
+}
+
+// The bays of word i go to the queue's end, rising, as met from a.
+fn enqueue(i: usize, word: u64, a: u8, met: &mut [u8], before: &mut [u8], count: usize) -> usize
+    requires { ⌜ (i < words) × (length (now before) ≡ span) × (length (now met) ≡ span) × (count + length (inWord i word) ≤ span) ⌝ }
+    ensures { λ r. ⌜ Queued (inWord i word) a count (now (met .entry)) (now (before .entry)) (now (met .exit)) (now (before .exit)) r ⌝ }
+{
+    let mut left = word;
+    let mut c = count;
+    while left != 0 {
+        let y = i * 64 + u64::trailing_zeros(left) as usize;
+        left = left & (left - 1);
+        before[y] = a;
+        met[c] = y as u8;
+        c += 1;
+    }
+    c
+}
+
+// The new bays of word i that a leads to.
+fn meet_word(
+    table: &[u64],
+    a: u8,
+    i: usize,
+    seen: &mut [u64],
+    ring: &mut [u64],
+    met: &mut [u8],
+    before: &mut [u8],
+    count: usize,
+) -> usize
+    requires { ⌜ (i < words) × (a * words + words ≤ length (now table)) × (length (now seen) ≡ words) × (length (now ring) ≡ words) × (length (now before) ≡ span) × (length (now met) ≡ span) × (count + length (newIn (now table) (now seen) a i) ≤ span) ⌝ }
+    ensures { λ r. ⌜ Meets (newIn (now (table .entry)) (now (seen .entry)) a i) a count (now (seen .entry)) (now (ring .entry)) (now (met .entry)) (now (before .entry)) (now (seen .exit)) (now (ring .exit)) (now (met .exit)) (now (before .exit)) r ⌝ }
+{
+    let word = table[a as usize * words::WORDS + i] & !seen[i];
+    if word == 0 {
+        return count;
+    }
+    seen[i] = seen[i] | word;
+    ring[i] = ring[i] | word;
+    enqueue(i, word, a, met, before, count)
+}
+
+// All new bays that a leads to.
+fn meet(
+    table: &[u64],
+    a: u8,
+    seen: &mut [u64],
+    ring: &mut [u64],
+    met: &mut [u8],
+    before: &mut [u8],
+    count: usize,
+) -> usize
+    requires { ⌜ (a * words + words ≤ length (now table)) × (length (now seen) ≡ words) × (length (now ring) ≡ words) × (length (now before) ≡ span) × (length (now met) ≡ span) × (count + length (new (now table) (now seen) a) ≤ span) ⌝ }
+    ensures { λ r. ⌜ Meets (new (now (table .entry)) (now (seen .entry)) a) a count (now (seen .entry)) (now (ring .entry)) (now (met .entry)) (now (before .entry)) (now (seen .exit)) (now (ring .exit)) (now (met .exit)) (now (before .exit)) r ⌝ }
+{
+    let mut c = count;
+    let mut i = 0;
+    while i < words::WORDS {
+        c = meet_word(table, a, i, seen, ring, met, before, c);
+        i += 1;
+    }
+    c
+}
+
+// The bays of the queue from `start` to `count` are passed: what they lead to is the next ring.
+fn pass(
+    table: &[u64],
+    n: usize,
+    start: usize,
+    count: usize,
+    seen: &mut [u64],
+    ring: &mut [u64],
+    met: &mut [u8],
+    before: &mut [u8],
+) -> usize
+    requires { ⌜ (n ≤ span) × (n * words ≤ length (now table)) × (start < count) × (count ≤ span) × (length (now seen) ≡ words) × (length (now ring) ≡ words) × (length (now met) ≡ span) × (length (now before) ≡ span) × Standing n (now table) (now seen) (now ring) (now met) (now before) start count ⌝ }
+    ensures { λ r. ⌜ ((held : List ℕ) (x : ℕ) → Stands n (now (table .entry)) held x (now (seen .entry)) (now (ring .entry)) (now (met .entry)) (now (before .entry)) start count → Passed n (now (table .entry)) held x (now (seen .entry)) (now (ring .entry)) (now (seen .exit)) (now (ring .exit)) (now (met .exit)) (now (before .exit)) count r) ⌝ }
+{
+    words::clear(ring);
+    let mut done = start;
+    let mut c = count;
+    while done < count {
+        c = meet(table, met[done], seen, ring, met, before, c);
+        done += 1;
+    }
+    c
+}
+
+// The path to e, d rails long, is read from its end.
+fn trace(before: &[u8], e: usize, d: usize, path: &mut [u16])
+    requires { ⌜ (length (now before) ≡ span) × (e < span) × (d < length (now path)) ⌝ }
+    ensures { λ _. ⌜ take (d + 1) (now (path .exit)) ≡ back (now (before .entry)) d e [] ⌝ }
+{
+    let mut i = d;
+    let mut u = e;
+    while 0 < i {
+        path[i] = u as u16;
+        u = before[u] as usize;
+        i -= 1;
+    }
+    path[0] = u as u16;
+}
+
+// The shortest path from x to the nearest wanted bay, through bays not held, by a queue.
+fn one_by_one(
+    table: &[u64],
+    n: usize,
+    held: &[u64],
+    x: Bay,
+    wanted: &[u64],
+    path: &mut [u16],
+) -> Way
+    requires { ⌜ (n ≤ span) × (x .0 < n) × (n * words ≤ length (now table)) × (length (now held) ≡ words) × (length (now wanted) ≡ words) × (n ≤ length (now path)) × (mem (now held) (x .0) ≡ false) × Shown n (now table) (now held) ⌝ }
+    ensures { λ r. ⌜ ((s : Shown n (now (table .entry)) (now (held .entry))) (q : ℕ → Bool) → ((b : ℕ) → b < n → mem (now (wanted .entry)) b ≡ q b) → WayFound s (x .0) q (now (path .exit)) r) ⌝ }
+{
+    let middle = x.0 as usize;
+    if words::is_in(wanted, middle) {
+        path[0] = x.0;
+        return Way::To(x, 1);
+    }
+    let mut seen = [0u64; words::WORDS];
+    let mut ring = [0u64; words::WORDS];
+    let mut met = [0u8; words::SPAN];
+    let mut before = [0u8; words::SPAN];
+    words::keep(&mut seen, 0, held);
+    words::join(&mut seen, middle);
+    words::alone(&mut ring, middle);
+    met[0] = middle as u8;
+    let mut done = 0;
+    let mut count = 1;
+    let mut d = 0;
+    loop {
+        let end = count;
+        count = pass(
+            table,
+            n,
+            done,
+            end,
+            &mut seen,
+            &mut ring,
+            &mut met,
+            &mut before,
+        );
+        if count == end {
+            return Way::NoWay;
+        }
+        done = end;
+        d += 1;
+        let e = words::lowest_common(&ring, 0, wanted, 0);
+        if e < words::SPAN {
+            trace(&before, e, d, path);
+            return Way::To(Bay(e as u16), d + 1);
+        }
+    }
+}
+
+// The shortest path from x to the nearest wanted bay, through bays not held.
+pub fn way_to_nearest(
+    table: &[u64],
+    n: usize,
+    held: &[u64],
+    x: Bay,
+    wanted: &[u64],
+    path: &mut [u16],
+) -> Way
+    requires { ⌜ (n ≤ span) × (x .0 < n) × (n * words ≤ length (now table)) × (length (now held) ≡ words) × (length (now wanted) ≡ words) × (n ≤ length (now path)) × (mem (now held) (x .0) ≡ false) × Shown n (now table) (now held) ⌝ }
+    ensures { λ r. ⌜ ((s : Shown n (now (table .entry)) (now (held .entry))) (q : ℕ → Bool) → ((b : ℕ) → b < n → mem (now (wanted .entry)) b ≡ q b) → WayFound s (x .0) q (now (path .exit)) r) ⌝ }
+{
+    if few_rails(table, x.0 as usize) {
+        return one_by_one(table, n, held, x, wanted, path);
+    }
+    rings::way_to_nearest(table, n, held, x, wanted, path)
+}
+
+// The shortest path from u to v, neither of them held, by a queue.
+fn path_by_queue(table: &[u64], n: usize, held: &[u64], u: Bay, v: Bay, path: &mut [u16]) -> Path
+    requires { ⌜ (n ≤ span) × (u .0 < n) × (v .0 < n) × (n * words ≤ length (now table)) × (length (now held) ≡ words) × (n ≤ length (now path)) × (mem (now held) (u .0) ≡ false) × (mem (now held) (v .0) ≡ false) × Shown n (now table) (now held) ⌝ }
+    ensures { λ r. ⌜ ((s : Shown n (now (table .entry)) (now (held .entry))) → PathFound s (u .0) (v .0) (now (path .exit)) r) ⌝ }
+{
+    let mut goal = [0u64; words::WORDS];
+    words::alone(&mut goal, v.0 as usize);
+    let Way::To(_, m) = one_by_one(table, n, held, u, &goal, path) else {
+        return Path::NoPath;
+    };
+    Path::First(m)
+}
+
+// Whether a queue serves from u to v: few rails lead to both, and neither is held.
+fn by_queue(table: &[u64], held: &[u64], u: usize, v: usize) -> bool
+    requires { ⌜ (u * words + words ≤ length (now table)) × (v * words + words ≤ length (now table)) × (length (now held) ≡ words) × (u < span) × (v < span) ⌝ }
+    ensures { λ r. ⌜ r ≡ (few (now (table .entry)) u and few (now (table .entry)) v) and (not (mem (now (held .entry)) u) and not (mem (now (held .entry)) v)) ⌝ }
+{
+    if !few_rails(table, u) {
+        return false;
+    }
+    if !few_rails(table, v) {
+        return false;
+    }
+    if words::is_in(held, u) {
+        return false;
+    }
+    !words::is_in(held, v)
+}
+
+// The shortest path from u to v through bays not held.
+pub fn path_between(table: &[u64], n: usize, held: &[u64], u: Bay, v: Bay, path: &mut [u16]) -> Path
+    requires { ⌜ (n ≤ span) × (u .0 < n) × (v .0 < n) × (n * words ≤ length (now table)) × (length (now held) ≡ words) × (n ≤ length (now path)) × Shown n (now table) (now held) ⌝ }
+    ensures { λ r. ⌜ ((s : Shown n (now (table .entry)) (now (held .entry))) → PathFound s (u .0) (v .0) (now (path .exit)) r) ⌝ }
+{
+    if by_queue(table, held, u.0 as usize, v.0 as usize) {
+        return path_by_queue(table, n, held, u, v, path);
+    }
+    rings::path_between(table, n, held, u, v, path)
+}
