@@ -19,8 +19,7 @@ use Rattle.paper.proofs.Members.{In-head, In-tail, in-count}
 use Rattle.paper.proofs.Playing.{Apart, after-append, after-length, bay-in, out-of}
 use Rattle.paper.proofs.Tests.{by-option, not-both, never-some}
 use Rattle.paper.proofs.Vacating.{Vacated, vacate-vacates}
-use Rattle.words.specs.Sets.{mem, words}
-use Rattle.words.proofs.Sets.{zeros, mem-zeros}
+use Rattle.words.specs.Sets.{mem}
 use Rattle.vacate.specs.Placed.{Played, Placed}
 use Rattle.rings.specs.Search.{Shown}
 use Rattle.vacate.proofs.Playing.{played-none, played-then, carrier-is}
@@ -45,17 +44,17 @@ moved-out q L x apart h o = out-of (set q L x) (bayOf q L) (λ c k e. elim (ℕ-
 ])
 
 -- two held bays
-pub pair-view : {n : ℕ} {table : List ℕ} (t : Tabled n table) (u w : Bay) (h₁ h₂ : List ℕ) → ((y : ℕ) → mem h₁ y ≡ mem (zeros words) y or eqb y u)
+pub pair-view : {n : ℕ} {table : List ℕ} (t : Tabled n table) (u w : Bay) (h₁ h₂ : List ℕ) → ((y : ℕ) → mem h₁ y ≡ eqb y u)
     → ((y : ℕ) → mem h₂ y ≡ mem h₁ y or eqb y w) → (b : ℕ) → mem h₂ b ≡ elem b (u ∷ w ∷ [])
 unfolding _or_ elem
-pair-view t u w h₁ h₂ f g b = g b ∙ rw (f b, mem-zeros words b) (sort (eqb b u) (eqb b w))
+pair-view t u w h₁ h₂ f g b = g b ∙ rw (f b) (sort (eqb b u) (eqb b w))
   where
     sort : (s t : Bool) → (s or t) ≡ (if s then true else (if t then true else false))
     sort true t = refl
     sort false true = refl
     sort false false = refl
 
-abbrev pub pairShown : {n : ℕ} {table : List ℕ} (t : Tabled n table) (u w : Bay) (h₁ h₂ : List ℕ) → ((y : ℕ) → mem h₁ y ≡ mem (zeros words) y or eqb y u)
+abbrev pub pairShown : {n : ℕ} {table : List ℕ} (t : Tabled n table) (u w : Bay) (h₁ h₂ : List ℕ) → ((y : ℕ) → mem h₁ y ≡ eqb y u)
     → ((y : ℕ) → mem h₂ y ≡ mem h₁ y or eqb y w) → Shown n table h₂
 pairShown t u w h₁ h₂ f g = record { yard = t .yard; bays = u ∷ w ∷ []; joins = t .joins; holds = λ b h. pair-view t u w h₁ h₂ f g b }
 

@@ -9,6 +9,7 @@ use Rattle.paper.specs.Procedure.{vacate, bring}
 use Rattle.paper.specs.Yard.{Bay, Carrier, Yard, Placement, Crossing}
 use Rattle.words.specs.Sets.{words, span}
 use Rattle.yard.specs.Table.{Table}
+use Rattle.levels.specs.Levels.{Levelled}
 use Rattle.vacate.specs.Placed.{Played, Placed, Unchanged}
 use Rattle.bring.specs.declared.Tried.the-variants.{Done}
 use Rattle.bring.specs.declared.Tried.the-variants.{Failed}
@@ -26,6 +27,7 @@ pub record Ready (table placement standing empty : List ℕ) : Type 0 where
   pub empty-size : length empty ≡ words
   pub placed : Placed (length standing) placement standing empty
   pub tabled : Tabled (length standing) table
+  pub levelled : Levelled (length standing) table
 
 -- the count of crossings afterwards, if it succeeded
 abbrev pub countOf : Tried → Option ℕ

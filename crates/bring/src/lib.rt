@@ -40,15 +40,14 @@ pub fn make_room(
     placement: &mut [u16],
     standing: &mut [u16],
     empty: &mut [u64],
-    rows: &mut [u64],
     out: &mut [u64],
     at: usize,
 ) -> Tried
     requires { ⌜ Ready (now table) (now placement) (now standing) (now empty) ⌝ }
-    requires { ⌜ (x .0 < length (now standing)) × (length (now held) ≡ words) × (words ≤ length (now rows)) × (at < 2 ^ 62) × Shown (length (now standing)) (now table) (now held) ⌝ }
+    requires { ⌜ (x .0 < length (now standing)) × (length (now held) ≡ words) × (at < 2 ^ 62) × Shown (length (now standing)) (now table) (now held) ⌝ }
     ensures { λ r. ⌜ (Within at span r) × ((s : Shown (length (now (standing .entry))) (now (table .entry)) (now (held .entry))) → Acts (vacates (s .yard) (s .bays) (x .0) (now (placement .entry))) (length (now (standing .entry))) (now (placement .entry)) (now (standing .entry)) (now (empty .entry)) (now (out .entry)) at (now (placement .exit)) (now (standing .exit)) (now (empty .exit)) (now (out .exit)) r) ⌝ }
 {
-    let answer = vacate::vacate(table, held, x, placement, standing, empty, rows, out, at);
+    let answer = vacate::vacate(table, held, x, placement, standing, empty, out, at);
     counted(answer, at)
 }
 
@@ -61,12 +60,11 @@ fn bring_one(
     placement: &mut [u16],
     standing: &mut [u16],
     empty: &mut [u64],
-    rows: &mut [u64],
     out: &mut [u64],
     at: usize,
 ) -> Tried
     requires { ⌜ Ready (now table) (now placement) (now standing) (now empty) ⌝ }
-    requires { ⌜ (l .0 < length (now placement)) × (m .0 < length (now placement)) × (m .0 ≡ l .0 → ⊥) × (x .0 < length (now standing)) × (words ≤ length (now rows)) × (at < 2 ^ 62) ⌝ }
+    requires { ⌜ (l .0 < length (now placement)) × (m .0 < length (now placement)) × (m .0 ≡ l .0 → ⊥) × (x .0 < length (now standing)) × (at < 2 ^ 62) ⌝ }
     ensures { λ r. ⌜ (Within at 258 r) × ((t : Tabled (length (now (standing .entry))) (now (table .entry))) → Tries (brings (t .yard) (l .0) (m .0) (x .0 ∷ []) (now (placement .entry))) (length (now (standing .entry))) (now (placement .entry)) (now (out .entry)) at (now (placement .exit)) (now (standing .exit)) (now (empty .exit)) (now (out .exit)) r) ⌝ }
 {
     let first = l.0 as usize;
@@ -74,9 +72,9 @@ fn bring_one(
     let u = placement[first];
     let w = placement[second];
     let mut held = [0u64; words::WORDS];
-    words::add(&mut held, u as usize);
-    words::add(&mut held, w as usize);
-    let vacated = make_room(table, &held, x, placement, standing, empty, rows, out, at);
+    words::alone(&mut held, u as usize);
+    words::join(&mut held, w as usize);
+    let vacated = make_room(table, &held, x, placement, standing, empty, out, at);
     let Tried::Done(a) = vacated else {
         return Tried::Failed;
     };
@@ -93,19 +91,18 @@ pub fn bring(
     placement: &mut [u16],
     standing: &mut [u16],
     empty: &mut [u64],
-    rows: &mut [u64],
     out: &mut [u64],
     at: usize,
 ) -> Tried
     requires { ⌜ Ready (now table) (now placement) (now standing) (now empty) ⌝ }
-    requires { ⌜ (l .0 < length (now placement)) × (m .0 < length (now placement)) × (m .0 ≡ l .0 → ⊥) × ((k : ℕ) → k < length (now path) → getD (now path) k 0 < length (now standing)) × (words ≤ length (now rows)) × (at + 258 * length (now path) < 2 ^ 62) ⌝ }
+    requires { ⌜ (l .0 < length (now placement)) × (m .0 < length (now placement)) × (m .0 ≡ l .0 → ⊥) × ((k : ℕ) → k < length (now path) → getD (now path) k 0 < length (now standing)) × (at + 258 * length (now path) < 2 ^ 62) ⌝ }
     ensures { λ r. ⌜ (Within at (258 * length (now (path .entry))) r) × ((t : Tabled (length (now (standing .entry))) (now (table .entry))) → Tries (brings (t .yard) (l .0) (m .0) (now (path .entry)) (now (placement .entry))) (length (now (standing .entry))) (now (placement .entry)) (now (out .entry)) at (now (placement .exit)) (now (standing .exit)) (now (empty .exit)) (now (out .exit)) r) ⌝ }
 {
     let mut count = at;
     let mut i = 0;
     while i < path.len() {
         let x = Bay(path[i]);
-        let one = bring_one(table, l, m, x, placement, standing, empty, rows, out, count);
+        let one = bring_one(table, l, m, x, placement, standing, empty, out, count);
         let Tried::Done(c) = one else {
             return Tried::Failed;
         };

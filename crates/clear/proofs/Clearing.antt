@@ -336,7 +336,7 @@ inside-of t v b w₁ w₂ hv f g = record {
 pub inside-less : {n : ℕ} {w : List ℕ} → Among n w → (x : ℕ) (w′ : List ℕ) → ((y : ℕ) → mem w′ y ≡ mem w y and not (eqb y x)) → Among n w′
 inside-less i x w′ f = record { low = λ y h m. i .low y h (and-left _ _ (sym (f y) ∙ m)) }
 
-abbrev pub holdsTwo : {n : ℕ} {table : List ℕ} (t : Tabled n table) (v b : Bay) (h₁ h₂ : List ℕ) → ((y : ℕ) → mem h₁ y ≡ mem (zeros words) y or eqb y v)
+abbrev pub holdsTwo : {n : ℕ} {table : List ℕ} (t : Tabled n table) (v b : Bay) (h₁ h₂ : List ℕ) → ((y : ℕ) → mem h₁ y ≡ eqb y v)
     → ((y : ℕ) → mem h₂ y ≡ mem h₁ y or eqb y b) → HoldsTwo h₂
 holdsTwo t v b h₁ h₂ f g = record { one = v; two = b; holds = λ y h. pair-view t v b h₁ h₂ f g y }
 
@@ -350,6 +350,7 @@ ready-again f p′ standing′ empty′ kw kf k = record {
   empty-size = omega (arith, f .empty-size);
   placed = rw kw k;
   tabled = rw kw (f .tabled);
+  levelled = rw kw (f .levelled);
 }
 
 pub clears-both : {c : Cleared} {x y : Numbered} → c ≡ record { moves = []; kept = x .0 ∷ y .0 ∷ [] } → {n : ℕ} {p standing empty : List ℕ} (out : List ℕ) (at : ℕ) → Placed n p standing empty

@@ -39,21 +39,10 @@ fn keep_one(
     requires { ⌜ (length (now others) ≡ words) × (length (now held) ≡ words) × (a ≤ span) × Among (length (now standing)) (now others) × (at < 2 ^ 62) × Shown (length (now standing)) (now table) (now held) ⌝ }
     ensures { λ r. ⌜ (KeptBy at r) × ((s : Shown (length (now (standing .entry))) (now (table .entry)) (now (held .entry))) → Keeps (s .yard) (s .bays) (now (others .entry)) a (length (now (standing .entry))) (now (placement .entry)) (now (out .entry)) at (now (placement .exit)) (now (standing .exit)) (now (empty .exit)) (now (out .exit)) r) ⌝ }
 {
-    let mut rows = [0u64; rings::NEAR];
     let mut x = words::next_from(others, a);
     while x < words::SPAN {
         let bay = Bay(x as u16);
-        let vacated = bring::make_room(
-            table,
-            held,
-            bay,
-            placement,
-            standing,
-            empty,
-            &mut rows,
-            out,
-            at,
-        );
+        let vacated = bring::make_room(table, held, bay, placement, standing, empty, out, at);
         if let Tried::Done(m) = vacated {
             return Kept::One(bay, m);
         }
@@ -79,7 +68,7 @@ fn keep_second(
     requires { ⌜ (length (now others) ≡ words) × (length (now held) ≡ words) × (a ≤ length (now standing)) × (x .0 < span) × Among (length (now standing)) (now others) × (at < 2 ^ 62) × HoldsTwo (now held) ⌝ }
     ensures { λ r. ⌜ (TwoBy at span r) × ((t : Tabled (length (now (standing .entry))) (now (table .entry))) (h : HoldsTwo (now (held .entry))) → Clears (clearingFrom (t .yard) (h .one) (h .two) (x .0 ∷ []) (from (mem (now (others .entry))) a (length (now (standing .entry)))) (now (placement .entry))) (length (now (standing .entry))) (now (placement .entry)) (now (out .entry)) at (now (placement .exit)) (now (standing .exit)) (now (empty .exit)) (now (out .exit)) r) ⌝ }
 {
-    words::add(held, x.0 as usize);
+    words::join(held, x.0 as usize);
     let second = keep_one(table, others, a, held, placement, standing, empty, out, at);
     let Kept::One(y, m) = second else {
         return Two::Short;
@@ -106,8 +95,8 @@ pub fn clear(
     let mut held = [0u64; words::WORDS];
     words::join_row(&mut others, table, v.0 as usize);
     words::remove(&mut others, b.0 as usize);
-    words::add(&mut held, v.0 as usize);
-    words::add(&mut held, b.0 as usize);
+    words::alone(&mut held, v.0 as usize);
+    words::join(&mut held, b.0 as usize);
     let x = words::lowest_common(&others, 0, empty, 0);
     if x < words::SPAN {
         words::remove(&mut others, x);

@@ -37,7 +37,7 @@ use Rattle.rings.proofs.Searching.{ring-inside, in-yard}
 -- ## The first that passes, in rings
 
 module _ (q : ℕ → Bool) where
-  find-rings : (rs : List (List ℕ)) (r e : ℕ) → ((i b : ℕ) → i < r → In b (getD rs i []) → q b ≡ false) → find q (getD rs r []) ≡ some e → find q (concat rs) ≡ some e
+  pub find-rings : (rs : List (List ℕ)) (r e : ℕ) → ((i b : ℕ) → i < r → In b (getD rs i []) → q b ≡ false) → find q (getD rs r []) ≡ some e → find q (concat rs) ≡ some e
   unfolding concat
   find-rings [] r e f h = unfold find in h
   find-rings (l ∷ rs) zero e f h = find-here q l (concat rs) h
@@ -45,7 +45,7 @@ module _ (q : ℕ → Bool) where
       find-later q l (concat rs) (none-find q l (λ b i. f 0 b (omega arith) i))
       ∙ find-rings rs r e (λ i b k y. f (suc i) b (omega arith) y) h
 
-  find-is : (l : List ℕ) (e : ℕ) → Rising l → In e l → q e ≡ true → ((b : ℕ) → In b l → b < e → q b ≡ false) → find q l ≡ some e
+  pub find-is : (l : List ℕ) (e : ℕ) → Rising l → In e l → q e ≡ true → ((b : ℕ) → In b l → b < e → q b ≡ false) → find q l ≡ some e
   find-is l e r i h f =
       let y = find-some q l e i h in
       let low : y .0 ≤ e = find-lowest q l (y .0) e r (y .1) i h in

@@ -1,5 +1,5 @@
 // Ring by ring around a bay, through bays not held: rows of words, of which row i is ring i. The nearest bay of a set and the
-// shortest path are read from them. The rows and the room for the path are lent, so that nothing is cleared that is not used.
+// shortest path are read from them. The room for the path is lent.
 use docket::Bay;
 ghost use mathlib.Core.Path.{_≡_};
 ghost use mathlib.Core.Bool.{Bool, true, false};
@@ -11,8 +11,8 @@ ghost use Rattle.rings.specs.Search.{NextRing, Shown, Searched};
 ghost use Rattle.rings.specs.Widening.{Widened};
 ghost use Rattle.rings.specs.Ways.{Inside, pathIn, Ended, Narrowed, Outside, pathOut, KeptBeside, PathFound, WayFound, PathNear, WayNear, Ends, pathBy, wayBy};
 
-// Words of the rows that a search is lent at first: 32 rings, which do in most yards and are soon cleared.
-pub const NEAR: usize = 32 * words::WORDS;
+// Words of the rows that a search has at first: 32 rings, which do in most yards and are soon cleared.
+const NEAR: usize = 32 * words::WORDS;
 
 // Words of rows for any search.
 const ALL: usize = words::SPAN * words::WORDS;
@@ -222,19 +222,12 @@ fn way_of(near: Near) -> Way
 }
 
 // The shortest path from u to v through bays not held. Few rows do mostly, and are soon cleared; where they don't, all are taken.
-pub fn path_between(
-    table: &[u64],
-    n: usize,
-    held: &[u64],
-    u: Bay,
-    v: Bay,
-    rows: &mut [u64],
-    path: &mut [u16],
-) -> Path
-    requires { ⌜ (n ≤ span) × (u .0 < n) × (v .0 < n) × (n * words ≤ length (now table)) × (length (now held) ≡ words) × (words ≤ length (now rows)) × (n ≤ length (now path)) × Shown n (now table) (now held) ⌝ }
+pub fn path_between(table: &[u64], n: usize, held: &[u64], u: Bay, v: Bay, path: &mut [u16]) -> Path
+    requires { ⌜ (n ≤ span) × (u .0 < n) × (v .0 < n) × (n * words ≤ length (now table)) × (length (now held) ≡ words) × (n ≤ length (now path)) × Shown n (now table) (now held) ⌝ }
     ensures { λ r. ⌜ ((s : Shown n (now (table .entry)) (now (held .entry))) → PathFound s (u .0) (v .0) (now (path .exit)) r) ⌝ }
 {
-    let near = path_near(table, n, held, u, v, rows, path);
+    let mut rows = [0u64; NEAR];
+    let near = path_near(table, n, held, u, v, &mut rows, path);
     match near {
         Near::Found(_, m) => Path::First(m),
         Near::Nowhere => Path::NoPath,
@@ -276,13 +269,13 @@ pub fn way_to_nearest(
     held: &[u64],
     x: Bay,
     wanted: &[u64],
-    rows: &mut [u64],
     path: &mut [u16],
 ) -> Way
-    requires { ⌜ (n ≤ span) × (x .0 < n) × (n * words ≤ length (now table)) × (length (now held) ≡ words) × (length (now wanted) ≡ words) × (words ≤ length (now rows)) × (n ≤ length (now path)) × (mem (now held) (x .0) ≡ false) × Shown n (now table) (now held) ⌝ }
+    requires { ⌜ (n ≤ span) × (x .0 < n) × (n * words ≤ length (now table)) × (length (now held) ≡ words) × (length (now wanted) ≡ words) × (n ≤ length (now path)) × (mem (now held) (x .0) ≡ false) × Shown n (now table) (now held) ⌝ }
     ensures { λ r. ⌜ ((s : Shown n (now (table .entry)) (now (held .entry))) (q : ℕ → Bool) → ((b : ℕ) → b < n → mem (now (wanted .entry)) b ≡ q b) → WayFound s (x .0) q (now (path .exit)) r) ⌝ }
 {
-    let near = way_near(table, n, held, x, wanted, rows, path);
+    let mut rows = [0u64; NEAR];
+    let near = way_near(table, n, held, x, wanted, &mut rows, path);
     match near {
         Near::Found(e, m) => Way::To(e, m),
         Near::Nowhere => Way::NoWay,

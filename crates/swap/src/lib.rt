@@ -80,8 +80,8 @@ fn seek(
     let n = standing.len();
     let mut seen = [0u64; words::WORDS];
     let mut ring = [0u64; words::WORDS];
-    words::add(&mut seen, u);
-    words::add(&mut ring, u);
+    words::alone(&mut seen, u);
+    words::alone(&mut ring, u);
     let mut d = 0;
     'nearest: loop {
         if n <= d {
@@ -145,7 +145,7 @@ fn write(
     at: usize,
 )
     requires { ⌜ Ready (now table) (now placement) (now standing) (now empty) ⌝ }
-    requires { ⌜ (r .0 < length (now placement)) × (s .0 < length (now placement)) × (s .0 ≡ r .0 → ⊥) × (v .0 < length (now standing)) × (at < 2 ^ 60) × (length (now log) ≡ 256) ⌝ }
+    requires { ⌜ (r .0 < length (now placement)) × (s .0 < length (now placement)) × (s .0 ≡ r .0 → ⊥) × (v .0 < length (now standing)) × (at < 2 ^ 60) × (length (now log) ≡ 128) ⌝ }
     ensures { λ _. ⌜ ((t : Tabled (length (now (standing .entry))) (now (table .entry))) → Near (t .yard) (r .0) (s .0) (v .0) (now (placement .entry)) → Written (t .yard) (r .0) (s .0) (v .0) (now (placement .entry)) (now (log .entry)) m (now (out .entry)) at (now (out .exit))) ⌝ }
 {
     if m <= log.len() {
@@ -170,7 +170,7 @@ pub fn swap(
     requires { ⌜ (r .0 < length (now placement)) × (s .0 < length (now placement)) × (s .0 ≡ r .0 → ⊥) × (at < 2 ^ 60) × SideBySide (length (now standing)) (now table) (r .0) (s .0) (now placement) ⌝ }
     ensures { λ z. ⌜ (Within at 150000 z) × ((t : Tabled (length (now (standing .entry))) (now (table .entry))) → Beside (t .yard) (r .0) (s .0) (now (placement .entry)) → Acts (swaps (t .yard) (r .0) (s .0) (now (placement .entry))) (length (now (standing .entry))) (now (placement .entry)) (now (standing .entry)) (now (empty .entry)) (now (out .entry)) at (now (placement .exit)) (now (standing .exit)) (now (empty .entry)) (now (out .exit)) z) ⌝ }
 {
-    let mut log = [0u64; 256];
+    let mut log = [0u64; 128];
     let found = seek(table, r, s, placement, standing, empty, &mut log);
     let Junction::At(v, m) = found else {
         return Tried::Failed;

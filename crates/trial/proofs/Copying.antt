@@ -46,6 +46,7 @@ ready-copy {table} {placement} {standing} {empty} x p w f e d l g = rw (e, d) (r
     empties = λ b h. (let z : 0 * span + b ≡ b = omega arith in rw z at (g b (omega (arith, x .most)))) ∙ x .placed .empties b h;
   };
   tabled = x .tabled;
+  levelled = x .levelled;
 })
 
 -- the code's part of a list from i on

@@ -109,19 +109,7 @@ fn set_up(
     requires { ⌜ (l .0 < length (now placement)) × (m .0 < length (now placement)) × (m .0 ≡ l .0 → ⊥) × (v .0 < length (now standing)) × ((k : ℕ) → k < length (now path) → getD (now path) k 0 < length (now standing)) × (length (now path) ≤ 256) × (at < 2 ^ 60) ⌝ }
     ensures { λ r. ⌜ (TwoBy at 70000 r) × ((t : Tabled (length (now (standing .entry))) (now (table .entry))) → SetsUp (t .yard) (l .0) (m .0) (v .0) (now (path .entry)) (length (now (standing .entry))) (now (placement .entry)) (now (out .entry)) at (now (placement .exit)) (now (standing .exit)) (now (empty .exit)) (now (out .exit)) r) ⌝ }
 {
-    let mut rows = [0u64; rings::NEAR];
-    let brought = bring::bring(
-        table,
-        path,
-        l,
-        m,
-        placement,
-        standing,
-        empty,
-        &mut rows,
-        out,
-        at,
-    );
+    let brought = bring::bring(table, path, l, m, placement, standing, empty, out, at);
     let Tried::Done(a) = brought else {
         return Two::Short;
     };
@@ -307,9 +295,8 @@ fn try_along(
     let u = Bay(placement[carrier]);
     let n = standing.len();
     let none = [0u64; words::WORDS];
-    let mut rows = [0u64; rings::NEAR];
     let mut path = [0u16; words::SPAN];
-    let Path::First(k) = rings::path_between(table, n, &none, u, v, &mut rows, &mut path) else {
+    let Path::First(k) = ways::path_between(table, n, &none, u, v, &mut path) else {
         return Tried::Failed;
     };
     try_on(

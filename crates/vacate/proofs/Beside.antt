@@ -1,14 +1,14 @@
 -- Where an empty bay that is not held is beside x, the lowest such bay is the nearest one, and the path to it is the one rail.
 -- Assumes nothing.
-use mathlib.Core.Path.{_≡_, refl, sym, ap, _∙_}
-use mathlib.Core.Bool.{true, not}
+use mathlib.Core.Path.{_≡_, refl}
+use mathlib.Core.Bool.{true}
 use mathlib.Core.List.{List, [], _∷_}
 use mathlib.Core.Logic.{inr}
 use mathlib.Core.Option.{some}
-use Prim.Native.Nat.{ℕ, _≤_, _<_}
+use Prim.Native.Nat.{_≤_}
 use native.Mathlib.Omega.{arith}
 use lib.ListN.{length}
-use Rattle.paper.specs.Basics.{_and_, In, Out}
+use Rattle.paper.specs.Basics.{In, Out}
 use Rattle.paper.specs.Yard.{Bay, Yard, Placement, joined}
 use Rattle.paper.specs.Path.{Free, Route, Way, shortestPath, NotAbove}
 use Rattle.paper.specs.Procedure.{nearestEmpty}
@@ -16,8 +16,6 @@ use Rattle.paper.proofs.Members.{out-cons, nothing-in-nil}
 use Rattle.paper.proofs.Nearest.{Nearest, nearest-exactly}
 use Rattle.paper.proofs.Shortest.{Shortest, shortest-one, shortest-path, way-reached}
 use Rattle.paper.proofs.Tests.{not-both}
-use Rattle.words.specs.Sets.{mem, memRow, span, Lowest, Kept}
-use Rattle.words.proofs.Sets.{row-zero}
 
 module _ (Y : Yard) (held : List Bay) (x : Bay) where
   -- a way to another bay has two bays or more
@@ -66,17 +64,3 @@ module _ (Y : Yard) (held : List Bay) (x : Bay) where
 
     pub beside-path : x ∷ e ∷ [] ≡ shortestPath Y held x e
     beside-path = shortest-one Y held x e (x ∷ e ∷ []) (shortestPath Y held x e) short (shortest-path Y held x e free-x free-e (way-reached Y held x e (x ∷ e ∷ []) way))
-
--- ## In words
-
-pub lowest-free : (s held t₂ : List ℕ) (a : ℕ) {empty t₀ t₁ : List ℕ} {r : ℕ} → Kept t₀ 0 empty t₁ → ((b : ℕ) → mem t₂ b ≡ mem t₁ b and not (mem held b))
-    → Lowest (λ b. memRow s a b and memRow t₂ 0 b) 0 span r → Lowest (λ b. memRow s a b and (mem empty b and not (mem held b))) 0 span r
-lowest-free s held t₂ a {empty} {t₀} {t₁} {r} kept less low =
-    let same : (b : ℕ) → b < span → memRow t₂ 0 b ≡ mem empty b and not (mem held b) =
-    λ b h. row-zero t₂ b ∙ less b ∙ ap (λ z. z and not (mem held b)) (sym (row-zero t₁ b) ∙ kept .row b h) in
-    record {
-      from = low .from;
-      upto = low .upto;
-      hit = λ h. ap (λ z. memRow s a r and z) (sym (same r h)) ∙ low .hit h;
-      before = λ i j h. ap (λ z. memRow s a i and z) (sym (same i (omega (arith, low .upto)))) ∙ low .before i j h;
-    }

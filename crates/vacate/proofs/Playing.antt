@@ -3,7 +3,7 @@
 -- Assumes nothing.
 use mathlib.Core.Path.{_≡_, refl, sym, ap, _∙_}
 use mathlib.Core.Bool.{Bool, true, false, not}
-use mathlib.Core.List.{List, [], _∷_, _++_, map-append}
+use mathlib.Core.List.{List, [], _∷_, _++_, map, map-append}
 use Prim.Native.Nat.{ℕ, suc, _+_, _≤_, _<_}
 use native.Mathlib.Decide.{ℕ-discrete}
 use native.Mathlib.Omega.{arith}
@@ -12,12 +12,12 @@ use lib.ListN.{length, getD, set, length-set, length-append, length-map}
 use lib.Seq.{getD-set-same, getD-set-other, sets}
 use borrow.Author.Tests.{eq-eqb, ne-eqb}
 use Rattle.paper.specs.Basics.{_and_, _or_, any, elem, placeOf, In, Out}
-use Rattle.paper.specs.Yard.{Bay, Carrier, Yard, Placement, Crossing, crossing, bayOf, carrierAt, move, after, joined, pack}
+use Rattle.paper.specs.Yard.{Bay, Carrier, Yard, Placement, Crossing, crossing, bayOf, carrierAt, isEmpty, move, after, joined, pack}
 use Rattle.paper.proofs.Tests.{by-cases, not-both}
 use Rattle.paper.proofs.Members.{Out-head, Out-tail}
 use Rattle.paper.proofs.Playing.{Apart, Legal, after-append, placeOf-bay, placeOf-there, bay-in, move-self, move-other, move-apart, move-empties, move-out}
 use Rattle.words.specs.Sets.{mem}
-use Rattle.vacate.specs.Placed.{Placed, Played, Unchanged}
+use Rattle.vacate.specs.Placed.{Placed, Played, MovedOn, Unchanged}
 
 pub sets-append : (l : List ℕ) (i : ℕ) (xs ys : List ℕ) → sets l i (xs ++ ys) ≡ sets (sets l i xs) (i + length xs) ys
 sets-append l i [] ys = let e : i ≡ i + 0 = omega arith in ap (λ (k : ℕ). sets l k ys) e
@@ -30,15 +30,28 @@ pub played-none : (n : ℕ) (p standing empty out : List ℕ) (at : ℕ) → Pla
 unfolding after
 played-none n p standing empty out at k = record { moved = refl; placed = k; stored = refl; counted = omega arith }
 
+-- Played, but for the lists that go with the placement
+pub record Told (xs : List Crossing) (p p′ out : List ℕ) (at : ℕ) (out′ : List ℕ) (r : ℕ) : Type 0 where
+  pub moved : p′ ≡ after p xs
+  pub stored : out′ ≡ sets out at (map pack xs)
+  pub counted : r ≡ at + length xs
+
 -- one list of crossings after another
-pub played-then : {n : ℕ} {xs ys : List Crossing} {p q p′ standing standing′ empty empty′ out out₁ out′ : List ℕ} {at m r : ℕ}
-    → Played xs n p q standing empty out at out₁ m → Played ys n q p′ standing′ empty′ out₁ m out′ r → Played (xs ++ ys) n p p′ standing′ empty′ out at out′ r
-played-then {xs = xs} {ys = ys} {p = p} {out = out} {at = at} a b = record {
+pub told-then : {xs ys : List Crossing} {p q p′ out out₁ out′ : List ℕ} {at m r : ℕ}
+    → Told xs p q out at out₁ m → Told ys q p′ out₁ m out′ r → Told (xs ++ ys) p p′ out at out′ r
+told-then {xs} {ys} {p} {out = out} {at = at} a b = record {
   moved = b .moved ∙ ap (λ (q : List ℕ). after q ys) (a .moved) ∙ sym (after-append p xs ys);
-  placed = b .placed;
   stored = b .stored ∙ rw (a .stored, a .counted, map-append, sets-append, length-map);
   counted = b .counted ∙ rw (a .counted, length-append) (omega arith);
 }
+
+pub played-then : {n : ℕ} {xs ys : List Crossing} {p q p′ standing standing′ empty empty′ out out₁ out′ : List ℕ} {at m r : ℕ}
+    → Played xs n p q standing empty out at out₁ m → Played ys n q p′ standing′ empty′ out₁ m out′ r → Played (xs ++ ys) n p p′ standing′ empty′ out at out′ r
+played-then {xs = xs} {ys = ys} {p = p} {q = q} {p′ = p′} {out = out} {out₁ = out₁} {out′ = out′} {at = at} {m = m} {r = r} a b =
+    let first : Told xs p q out at out₁ m = record { moved = a .moved; stored = a .stored; counted = a .counted } in
+    let second : Told ys q p′ out₁ m out′ r = record { moved = b .moved; stored = b .stored; counted = b .counted } in
+    let t = told-then first second in
+    record { moved = t .moved; placed = b .placed; stored = t .stored; counted = t .counted }
 
 pub unchanged : (p standing empty out : List ℕ) → Unchanged p standing empty out p standing empty out
 unchanged p standing empty out = record { same-placement = refl; same-standing = refl; same-empty = refl; same-list = refl }
@@ -60,7 +73,7 @@ carrier-none (y ∷ p) z o = rw (ne-eqb z y (Out-head z y p o)) (ap suc (carrier
 pub stands-there : {n : ℕ} {p standing empty : List ℕ} {a : Bay} → Placed n p standing empty → In a p → a < n → getD standing a 0 < length p
 stands-there {p = p} {a = a} k i h = rw (k .stands a h) (placeOf-there p a i)
 
-neither : (t : Bool) → (not t and not false) or false ≡ not t
+pub neither : (t : Bool) → (not t and not false) or false ≡ not t
 unfolding _and_ _or_
 neither true = refl
 neither false = refl
@@ -73,7 +86,17 @@ one-joined : (a b : Bay) → joined (oneRail a b) a b ≡ true
 unfolding joined any _and_ _or_
 one-joined a b = rw (eq-eqb a a refl, eq-eqb b b refl)
 
-module _ (n : ℕ) (p standing empty : List ℕ) (a b : Bay) (k : Placed n p standing empty) (i : In a p) (o : Out b p) where
+-- who stands at each of the n bays says the same as the placement: Placed, but for the set of empty bays
+pub record Stood (n : ℕ) (p standing : List ℕ) : Type 0 where
+  pub apart : Apart p
+  pub inside : (c : ℕ) → c < length p → bayOf p c < n
+  pub few : length p ≤ n
+  pub stands : (b : ℕ) → b < n → getD standing b 0 ≡ carrierAt p b
+
+pub stood : {n : ℕ} {p standing empty : List ℕ} → Placed n p standing empty → Stood n p standing
+stood k = record { apart = k .apart; inside = k .inside; few = k .few; stands = k .stands }
+
+module _ (p : Placement) (a b : Bay) (apart : Apart p) (i : In a p) (o : Out b p) where
   abbrev it : Crossing
   it = crossing (carrierAt p a) a b
 
@@ -81,10 +104,10 @@ module _ (n : ℕ) (p standing empty : List ℕ) (a b : Bay) (k : Placed n p sta
   legal-it = record { there = placeOf-there p a i; stands = placeOf-bay p a i; rail = one-joined a b; free = o }
 
   apart-it : Apart (move p it)
-  apart-it = move-apart (oneRail a b) p it legal-it (k .apart)
+  apart-it = move-apart (oneRail a b) p it legal-it apart
 
   leaves : Out a (move p it)
-  leaves = move-empties (oneRail a b) p it legal-it (k .apart)
+  leaves = move-empties (oneRail a b) p it legal-it apart
 
   arrives : In b (move p it)
   arrives =
@@ -107,11 +130,20 @@ module _ (n : ℕ) (p standing empty : List ℕ) (a b : Bay) (k : Placed n p sta
       let out : Out z (move p it) = move-out (oneRail a b) p it legal-it z y nb in
       (out ∙ sym y, carrier-none (move p it) z out ∙ length-set p (carrierAt p a) b ∙ sym (carrier-none p z y)))
 
-  crossed-placed : (empty₁ empty′ : List ℕ) → a < n → b < n → n ≤ length standing → ((z : ℕ) → mem empty₁ z ≡ mem empty z and not (eqb z b)) → ((z : ℕ) → mem empty′ z ≡ mem empty₁ z or eqb z a)
-      → Placed n (set p (getD standing a 0) b) (set (set standing b (getD standing a 0)) a (length p)) empty′
+  -- b is not empty any more, and a is
+  pub crossed-empty : (z : Bay) → isEmpty (move p it) z ≡ (isEmpty p z and not (eqb z b)) or eqb z a
   unfolding _and_ _or_
-  crossed-placed empty₁ empty′ ha hb hw f g =
-      let differ : a ≡ b → ⊥ = λ e. not-both (rw e at i) o in
+  crossed-empty z = elim (ℕ-discrete z a) [
+    | yes e ↦ rw (e, leaves, eq-eqb a a refl, ne-eqb a b (λ q. not-both (rw q at i) o), i)
+    | no e ↦ elim (ℕ-discrete z b) [
+      | yes d ↦ rw (d, arrives, eq-eqb b b refl, ne-eqb b a (λ q. not-both (rw (← q) at i) o), o)
+      | no d ↦ rw (ne-eqb z b d, ne-eqb z a e, same-at z e d .0) (sym (neither (elem z p)))
+    ]
+  ]
+
+  pub crossed-stood : {n : ℕ} {standing : List ℕ} → Stood n p standing → a < n → b < n → n ≤ length standing
+      → Stood n (set p (getD standing a 0) b) (set (set standing b (getD standing a 0)) a (length p))
+  crossed-stood {n} {standing} k ha hb hw =
       rw (k .stands a ha) (record {
         apart = apart-it;
         inside = λ c h. elim (ℕ-discrete c (carrierAt p a)) [
@@ -130,23 +162,30 @@ module _ (n : ℕ) (p standing empty : List ℕ) (a b : Bay) (k : Placed n p sta
             | no d ↦ getD-set-other standing b z (carrierAt p a) 0 d ∙ k .stands z h ∙ sym (same-at z e d .1)
           ])
         ];
-        empties = λ z h. elim (ℕ-discrete z a) [
-          | yes e ↦ g z ∙ rw (f z, e, leaves, eq-eqb a a refl, ne-eqb a b differ, k .empties a ha, i)
-          | no e ↦ elim (ℕ-discrete z b) [
-            | yes d ↦ g z ∙ rw (f z, d, arrives, eq-eqb b b refl, ne-eqb b a (λ q. differ (sym q)), k .empties b hb, o)
-            | no d ↦ g z ∙ rw (f z, ne-eqb z b d, ne-eqb z a e, k .empties z h, same-at z e d .0) (neither (elem z p))
-          ]
-        ];
       })
 
-pub crossed : (n : ℕ) (p standing empty empty₁ empty′ : List ℕ) (a b : Bay) (out : List ℕ) (at number : ℕ) (out′ : List ℕ) (r : ℕ) → Placed n p standing empty → In a p → Out b p
-    → a < n → b < n → n ≤ length standing → ((z : ℕ) → mem empty₁ z ≡ mem empty z and not (eqb z b)) → ((z : ℕ) → mem empty′ z ≡ mem empty₁ z or eqb z a)
-    → number ≡ pack (crossing (getD standing a 0) a b) → out′ ≡ set out at number → r ≡ at + 1
-    → Played (crossing (carrierAt p a) a b ∷ []) n p (set p (getD standing a 0) b) (set (set standing b (getD standing a 0)) a (length p)) empty′ out at out′ r
-unfolding after
-crossed n p standing empty empty₁ empty′ a b out at number out′ r k i o ha hb hw f g e s c = record {
-  moved = rw (k .stands a ha);
-  placed = crossed-placed n p standing empty a b k i o empty₁ empty′ ha hb hw f g;
-  stored = s ∙ rw (e, k .stands a ha);
-  counted = c;
-}
+-- the lists say the same as the placement where they say who stands where and which bays are empty
+pub placed-of : {n : ℕ} {p standing empty : List ℕ} → Stood n p standing
+    → ((z : ℕ) → z < n → mem empty z ≡ isEmpty p z) → Placed n p standing empty
+placed-of k e = record { apart = k .apart; inside = k .inside; few = k .few; stands = k .stands; empties = e }
+
+module _ {p standing out : List ℕ} {a b : Bay} {at : ℕ} {p′ standing₁ out′ : List ℕ} {r : ℕ}
+    (m : MovedOn a b p standing out at p′ standing₁ out′ r) where
+  pub moved-length : length p′ ≡ length p
+  moved-length = ap length (m .moved) ∙ length-set p (getD standing a 0) b
+
+  -- the carrier moved on, and the two bays changed between empty and occupied
+  pub crossed : {n : ℕ} {empty : List ℕ} (empty₁ empty′ : List ℕ) → Placed n p standing empty → In a p → Out b p → a < n → b < n → n ≤ length standing
+      → ((z : ℕ) → mem empty₁ z ≡ mem empty z and not (eqb z b)) → ((z : ℕ) → mem empty′ z ≡ mem empty₁ z or eqb z a)
+      → Played (crossing (carrierAt p a) a b ∷ []) n p p′ (set standing₁ a (length p′)) empty′ out at out′ r
+  unfolding after
+  crossed {n} empty₁ empty′ k i o ha hb hw f g =
+      let emptied : (z : ℕ) → z < n → mem empty′ z ≡ isEmpty (set p (getD standing a 0) b) z =
+      λ z h. g z ∙ rw (f z, k .empties z h, k .stands a ha) (sym (crossed-empty p a b (k .apart) i o z)) in
+      let stands = crossed-stood p a b (k .apart) i o (stood k) ha hb hw in
+      record {
+        moved = m .moved ∙ rw (k .stands a ha);
+        placed = rw (moved-length, m .moved, m .shown) (placed-of stands emptied);
+        stored = m .stored ∙ rw (k .stands a ha);
+        counted = m .counted;
+      }

@@ -5,10 +5,10 @@ use mathlib.Core.Path.{_≡_}
 use mathlib.Core.List.{List, map}
 use mathlib.Core.Option.{Option, none, some}
 use Prim.Native.Nat.{ℕ, _+_, _≤_, _<_}
-use lib.ListN.{length, getD}
+use lib.ListN.{length, getD, set}
 use lib.Seq.{sets}
 use Rattle.paper.specs.Basics.{In}
-use Rattle.paper.specs.Yard.{Bay, Yard, Placement, Crossing, carrierAt, bayOf, isEmpty, after, pack}
+use Rattle.paper.specs.Yard.{Bay, Yard, Placement, Crossing, crossing, carrierAt, bayOf, isEmpty, after, pack}
 use Rattle.paper.specs.Procedure.{shift}
 use Rattle.paper.proofs.Playing.{Apart}
 use Rattle.paper.proofs.Vacating.{Shiftable}
@@ -29,6 +29,13 @@ pub record Played (xs : List Crossing) (n : ℕ) (p p′ standing′ empty′ ou
   pub placed : Placed n p′ standing′ empty′
   pub stored : out′ ≡ sets out at (map pack xs)
   pub counted : r ≡ at + length xs
+
+-- The carrier that is shown at a has b for its bay, is shown at b too, and its crossing is stored where the list is so long.
+pub record MovedOn (a b : Bay) (p standing out : List ℕ) (at : ℕ) (p′ standing′ out′ : List ℕ) (r : ℕ) : Type 0 where
+  pub moved : p′ ≡ set p (getD standing a 0) b
+  pub shown : standing′ ≡ set standing b (getD standing a 0)
+  pub stored : out′ ≡ set out at (pack (crossing (getD standing a 0) a b))
+  pub counted : r ≡ at + 1
 
 -- nothing is changed
 pub record Unchanged (p standing empty out p′ standing′ empty′ out′ : List ℕ) : Type 0 where

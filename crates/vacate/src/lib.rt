@@ -3,17 +3,20 @@
 use docket::Bay;
 use docket::Carrier;
 use docket::Crossing;
+use lookup::Known;
 use rings::Way;
 ghost use mathlib.Core.Path.{_≡_};
-ghost use mathlib.Core.Bool.{false, not};
+ghost use mathlib.Core.Bool.{Bool, false};
 ghost use mathlib.Core.List.{[], _∷_};
-ghost use Prim.Native.Nat.{_+_, _*_, _^_, _≤_, _<_};
-ghost use lib.ListN.{length, set};
-ghost use Rattle.paper.specs.Basics.{_and_, In, Out};
+ghost use Prim.Native.Nat.{ℕ, _+_, _*_, _^_, _≤_, _<_};
+ghost use lib.ListN.{length, getD, set};
+ghost use Rattle.paper.specs.Basics.{In, Out};
 ghost use Rattle.paper.specs.Yard.{crossing, carrierAt};
-ghost use Rattle.words.specs.Sets.{mem, memRow, words, span, Lowest};
+ghost use Rattle.words.specs.Sets.{mem, words, span};
+ghost use Rattle.levels.specs.Levels.{Levelled};
 ghost use Rattle.rings.specs.Search.{Shown};
-ghost use Rattle.vacate.specs.Placed.{Placed, Played, CanShift, shifts};
+ghost use Rattle.rings.specs.Ways.{WayFound};
+ghost use Rattle.vacate.specs.Placed.{Placed, Played, MovedOn, CanShift, shifts};
 ghost use Rattle.vacate.specs.Answer.{Vacates};
 
 // The bay was empty; the bay that was filled, with the count of crossings afterwards; or nothing could be done.
@@ -35,6 +38,29 @@ pub fn store(out: &mut [u64], at: usize, number: u64) -> usize
     at + 1
 }
 
+// The carrier at bay a goes to bay b. Its number still stands at a, and the set of empty bays is not touched.
+fn move_on(
+    placement: &mut [u16],
+    standing: &mut [u16],
+    a: Bay,
+    b: Bay,
+    out: &mut [u64],
+    at: usize,
+) -> usize
+    requires { ⌜ (a .0 < length (now standing)) × (b .0 < length (now standing)) × (getD (now standing) (a .0) 0 < length (now placement)) × (at < 2 ^ 63) ⌝ }
+    ensures { λ r. ⌜ MovedOn (a .0) (b .0) (now (placement .entry)) (now (standing .entry)) (now (out .entry)) at (now (placement .exit)) (now (standing .exit)) (now (out .exit)) r ⌝ }
+{
+    let c = standing[a.0 as usize];
+    placement[c as usize] = b.0;
+    standing[b.0 as usize] = c;
+    let crossing = Crossing {
+        carrier: Carrier(c as u32),
+        from: a,
+        to: b,
+    };
+    store(out, at, docket::pack(crossing))
+}
+
 // The carrier at bay a crosses to the empty bay b.
 pub fn cross(
     placement: &mut [u16],
@@ -50,23 +76,19 @@ pub fn cross(
 {
     let from = a.0 as usize;
     let to = b.0 as usize;
-    let c = standing[from];
-    let i = c as usize;
-    placement[i] = b.0;
-    standing[to] = c;
+    let count = move_on(placement, standing, a, b, out, at);
     standing[from] = placement.len() as u16;
     words::remove(empty, to);
     words::add(empty, from);
-    let crossing = Crossing {
-        carrier: Carrier(c as u32),
-        from: a,
-        to: b,
-    };
-    store(out, at, docket::pack(crossing))
+    count
 }
 
-// The carriers on the path move one bay on: the last one first, then the one behind it.
-pub fn shift(
+// Bays of a stretch: the carriers on it are moved in one call, since a call for each bay takes longer than its crossing.
+const STRETCH: usize = 16;
+
+// The carriers on a stretch of the path move one bay on: the last one first, then the one behind it. Only the stretch's two ends
+// change between empty and occupied, so the set is changed once, at the end.
+fn shift_stretch(
     path: &[u16],
     placement: &mut [u16],
     standing: &mut [u16],
@@ -80,30 +102,58 @@ pub fn shift(
     if path.len() < 2 {
         return at;
     }
-    let m = shift(&path[1..], placement, standing, empty, out, at);
-    cross(
-        placement,
-        standing,
-        empty,
-        Bay(path[0]),
-        Bay(path[1]),
-        out,
-        m,
-    )
+    let last = path.len() - 1;
+    let mut count = at;
+    let mut i = last;
+    while 0 < i {
+        let to = path[i];
+        i -= 1;
+        let from = path[i];
+        count = move_on(placement, standing, Bay(from), Bay(to), out, count);
+    }
+    standing[path[0] as usize] = placement.len() as u16;
+    words::remove(empty, path[last] as usize);
+    words::add(empty, path[0] as usize);
+    count
 }
 
-// The lowest bay beside x that is empty and not held; SPAN where there is none.
-fn free_beside(table: &[u64], held: &[u64], x: Bay, empty: &[u64]) -> usize
-    requires { ⌜ (x .0 * words + words ≤ length (now table)) × (length (now held) ≡ words) × (length (now empty) ≡ words) ⌝ }
-    ensures { λ r. ⌜ Lowest (λ b. memRow (now (table .entry)) (x .0) b and (mem (now (empty .entry)) b and not (mem (now (held .entry)) b))) 0 span r ⌝ }
+// The carriers on the path move one bay on. The path is shifted from its end: first the rest of it, which empties the last bay of
+// this stretch.
+pub fn shift(
+    path: &[u16],
+    placement: &mut [u16],
+    standing: &mut [u16],
+    empty: &mut [u64],
+    out: &mut [u64],
+    at: usize,
+) -> usize
+    requires { ⌜ (length (now standing) ≤ span) × (length (now empty) ≡ words) × (at + length (now path) < 2 ^ 63) × Placed (length (now standing)) (now placement) (now standing) (now empty) × CanShift (length (now standing)) (now placement) (now path) ⌝ }
+    ensures { λ r. ⌜ Played (shifts (now (placement .entry)) (now (path .entry))) (length (now (standing .entry))) (now (placement .entry)) (now (placement .exit)) (now (standing .exit)) (now (empty .exit)) (now (out .entry)) at (now (out .exit)) r ⌝ }
 {
-    let mut free = [0u64; words::WORDS];
-    words::keep(&mut free, 0, empty);
-    words::minus(&mut free, held);
-    words::lowest_common(table, x.0 as usize, &free, 0)
+    if path.len() <= STRETCH {
+        return shift_stretch(path, placement, standing, empty, out, at);
+    }
+    let m = shift(&path[STRETCH - 1..], placement, standing, empty, out, at);
+    shift_stretch(&path[..STRETCH], placement, standing, empty, out, m)
 }
 
-// Vacate(x, held), where x is neither empty nor held, by a search.
+// The shortest path from x to the nearest empty bay, through bays not held. A table with levels is that of a crowded yard: there the way is looked up,
+// and searched for ring by ring only where a held bay lies on it.
+fn way_out(table: &[u64], n: usize, held: &[u64], x: Bay, empty: &[u64], path: &mut [u16]) -> Way
+    requires { ⌜ (n ≤ span) × (x .0 < n) × (n * words ≤ length (now table)) × (length (now held) ≡ words) × (length (now empty) ≡ words) × (n ≤ length (now path)) × (mem (now held) (x .0) ≡ false) × Shown n (now table) (now held) × Levelled n (now table) × (mem (now empty) (x .0) ≡ false) ⌝ }
+    ensures { λ r. ⌜ ((s : Shown n (now (table .entry)) (now (held .entry))) (q : ℕ → Bool) → ((b : ℕ) → b < n → mem (now (empty .entry)) b ≡ q b) → WayFound s (x .0) q (now (path .exit)) r) ⌝ }
+{
+    if table.len() < 2 * n * words::WORDS {
+        return ways::way_to_nearest(table, n, held, x, empty, path);
+    }
+    let known = lookup::way(table, n, held, x, empty, path);
+    if let Known::To(e, m) = known {
+        return Way::To(e, m);
+    }
+    rings::way_to_nearest(table, n, held, x, empty, path)
+}
+
+// Vacate(x, held), where x is neither empty nor held, and no empty bay beside it.
 fn fill_nearest(
     table: &[u64],
     held: &[u64],
@@ -111,16 +161,15 @@ fn fill_nearest(
     placement: &mut [u16],
     standing: &mut [u16],
     empty: &mut [u64],
-    rows: &mut [u64],
     out: &mut [u64],
     at: usize,
 ) -> Vacated
-    requires { ⌜ (length (now standing) ≤ span) × (x .0 < length (now standing)) × (length (now standing) * words ≤ length (now table)) × (length (now held) ≡ words) × (length (now empty) ≡ words) × (words ≤ length (now rows)) × (at < 2 ^ 62) × (mem (now empty) (x .0) ≡ false) × (mem (now held) (x .0) ≡ false) × Placed (length (now standing)) (now placement) (now standing) (now empty) × Shown (length (now standing)) (now table) (now held) ⌝ }
+    requires { ⌜ (length (now standing) ≤ span) × (x .0 < length (now standing)) × (length (now standing) * words ≤ length (now table)) × (length (now held) ≡ words) × (length (now empty) ≡ words) × (at < 2 ^ 62) × (mem (now empty) (x .0) ≡ false) × (mem (now held) (x .0) ≡ false) × Placed (length (now standing)) (now placement) (now standing) (now empty) × Shown (length (now standing)) (now table) (now held) × Levelled (length (now standing)) (now table) ⌝ }
     ensures { λ r. ⌜ ((s : Shown (length (now (standing .entry))) (now (table .entry)) (now (held .entry))) → Vacates s (x .0) (now (placement .entry)) (now (standing .entry)) (now (empty .entry)) (now (out .entry)) at (now (placement .exit)) (now (standing .exit)) (now (empty .exit)) (now (out .exit)) r) ⌝ }
 {
     let n = standing.len();
     let mut path = [0u16; words::SPAN];
-    let Way::To(e, m) = rings::way_to_nearest(table, n, held, x, empty, rows, &mut path) else {
+    let Way::To(e, m) = way_out(table, n, held, x, empty, &mut path) else {
         return Vacated::Failed;
     };
     Vacated::Filled(e, shift(&path[..m], placement, standing, empty, out, at))
@@ -134,11 +183,10 @@ pub fn vacate(
     placement: &mut [u16],
     standing: &mut [u16],
     empty: &mut [u64],
-    rows: &mut [u64],
     out: &mut [u64],
     at: usize,
 ) -> Vacated
-    requires { ⌜ (length (now standing) ≤ span) × (x .0 < length (now standing)) × (length (now standing) * words ≤ length (now table)) × (length (now held) ≡ words) × (length (now empty) ≡ words) × (words ≤ length (now rows)) × (at < 2 ^ 62) × Placed (length (now standing)) (now placement) (now standing) (now empty) × Shown (length (now standing)) (now table) (now held) ⌝ }
+    requires { ⌜ (length (now standing) ≤ span) × (x .0 < length (now standing)) × (length (now standing) * words ≤ length (now table)) × (length (now held) ≡ words) × (length (now empty) ≡ words) × (at < 2 ^ 62) × Placed (length (now standing)) (now placement) (now standing) (now empty) × Shown (length (now standing)) (now table) (now held) × Levelled (length (now standing)) (now table) ⌝ }
     ensures { λ r. ⌜ ((s : Shown (length (now (standing .entry))) (now (table .entry)) (now (held .entry))) → Vacates s (x .0) (now (placement .entry)) (now (standing .entry)) (now (empty .entry)) (now (out .entry)) at (now (placement .exit)) (now (standing .exit)) (now (empty .exit)) (now (out .exit)) r) ⌝ }
 {
     let bay = x.0 as usize;
@@ -148,10 +196,10 @@ pub fn vacate(
     if words::is_in(held, bay) {
         return Vacated::Failed;
     }
-    let beside = free_beside(table, held, x, empty);
+    let beside = words::lowest_free(table, bay, empty, held);
     if beside < words::SPAN {
         let e = Bay(beside as u16);
         return Vacated::Filled(e, cross(placement, standing, empty, x, e, out, at));
     }
-    fill_nearest(table, held, x, placement, standing, empty, rows, out, at)
+    fill_nearest(table, held, x, placement, standing, empty, out, at)
 }

@@ -54,7 +54,8 @@ fn bit_of(x: usize, i: usize) -> u64
     0
 }
 
-// Bay x alone is in the set. All words are stored, so that loading them together does not wait for one stored alone.
+// Bay x alone is in the set. Every word is made in turn: so the compiler holds a small set in registers, while one word written by its
+// number keeps it in memory, and loading two words together waits for it.
 pub fn alone(ws: &mut [u64], x: usize)
     requires { ⌜ (length (now ws) ≡ words) × (x < span) ⌝ }
     ensures { λ _. ⌜ ((y : ℕ) → mem (now (ws .exit)) y ≡ eqb y x) ⌝ }
@@ -66,7 +67,7 @@ pub fn alone(ws: &mut [u64], x: usize)
     }
 }
 
-// Bay x joins the set, of which all words are stored.
+// Bay x joins the set, word by word.
 pub fn join(ws: &mut [u64], x: usize)
     requires { ⌜ (length (now ws) ≡ words) × (x < span) ⌝ }
     ensures { λ _. ⌜ ((y : ℕ) → mem (now (ws .exit)) y ≡ mem (now (ws .entry)) y or eqb y x) ⌝ }
@@ -78,7 +79,7 @@ pub fn join(ws: &mut [u64], x: usize)
     }
 }
 
-// Bay x leaves the set and y joins it; all words are stored.
+// Bay x leaves the set and y joins it, word by word.
 pub fn replace(ws: &mut [u64], x: usize, y: usize)
     requires { ⌜ (length (now ws) ≡ words) × (x < span) × (y < span) ⌝ }
     ensures { λ _. ⌜ ((b : ℕ) → mem (now (ws .exit)) b ≡ (mem (now (ws .entry)) b and not (eqb b x)) or eqb b y) ⌝ }
@@ -187,7 +188,7 @@ pub fn lowest_common(s: &[u64], a: usize, t: &[u64], b: usize) -> usize
     SPAN
 }
 
-// Whether row a of s and row b of t have a bay in common. All words are read: that is sooner done than asking at each word.
+// Whether row a of s and row b of t have a bay in common. All words are read, which is sooner done than asking at each of them.
 pub fn meets(s: &[u64], a: usize, t: &[u64], b: usize) -> bool
     requires { ⌜ (a * words + words ≤ length (now s)) × (b * words + words ≤ length (now t)) ⌝ }
     ensures { λ r. ⌜ r ≡ anyBelow (λ x. memRow (now (s .entry)) a x and memRow (now (t .entry)) b x) span ⌝ }

@@ -18,37 +18,38 @@ use Rattle.bring.proofs.bring.Lts as lts
 use Rattle.bring.proofs.bring_one.Reads as bring-one-reads
 
 abbrev Inv-loop : tie.InvT-loop
-Inv-loop table path l m placement₀ standing₀ empty₀ rows₀ out₀ at count₀ i₀ placement standing empty rows out count i = (i ≤ length path) × (count ≤ at + 258 * i) × (length placement ≡ length placement₀) × (length standing ≡ length standing₀) × (length empty ≡ length empty₀)
-    × (length rows ≡ length rows₀) × (length out ≡ length out₀) × ((t : Tabled (length standing₀) table) → Bringing (t .yard) (l .0) (m .0) path (length standing₀) placement₀ out₀ at i placement standing empty out count)
+Inv-loop table path l m placement₀ standing₀ empty₀ out₀ at count₀ i₀ placement standing empty out count i = (i ≤ length path) × (count ≤ at + 258 * i) × (length placement ≡ length placement₀) × (length standing ≡ length standing₀) × (length empty ≡ length empty₀)
+    × (length out ≡ length out₀) × ((t : Tabled (length standing₀) table) → Bringing (t .yard) (l .0) (m .0) path (length standing₀) placement₀ out₀ at i placement standing empty out count)
 
 abbrev μ-loop : tie.MeasureT-loop
-μ-loop table path l m placement₀ standing₀ empty₀ rows₀ out₀ at count₀ i₀ placement standing empty rows out count i = length path - i
+μ-loop table path l m placement₀ standing₀ empty₀ out₀ at count₀ i₀ placement standing empty out count i = length path - i
 
 loop-holds : tie.Need-loop-holds Inv-loop μ-loop
-loop-holds c = (omega arith, omega arith, refl, refl, refl, refl, refl, λ t. bringing-none _ _ _ _ _ _ _ _ _ _ (c .before .before .before .before .before .before .before .pre .0 .placed))
+loop-holds c = (omega arith, omega arith, refl, refl, refl, refl, λ t. bringing-none _ _ _ _ _ _ _ _ _ _ (c .before .before .before .before .before .before .pre .0 .placed))
 
-mul-t16 : tie.Need-mul-t16 Inv-loop μ-loop
-mul-t16 c = search needs
+mul-t15 : tie.Need-mul-t15 Inv-loop μ-loop
+mul-t15 c = search needs
 
-shared-slice-read-t19 : tie.Need-shared-slice-read-t19 Inv-loop μ-loop
-shared-slice-read-t19 c = search needs
+shared-slice-read-t18 : tie.Need-shared-slice-read-t18 Inv-loop μ-loop
+shared-slice-read-t18 c = search needs
 
 bring-one-requires : tie.Need-bring-one-requires Inv-loop μ-loop
 bring-one-requires c κs =
-    let p = c .before .before .before .before .before .before .before .before .before .before .before .before .before .before .before .pre .0 in
-    let z = c .before .before .before .before .before .before .before .before .before .before .before .before .before .before .before .pre .1 in
-    let l = c .before .before .before .before .before .before .before .loop in
+    let p = c .before .before .before .before .before .before .before .before .before .before .before .before .before .pre .0 in
+    let z = c .before .before .before .before .before .before .before .before .before .before .before .before .before .pre .1 in
+    let l = c .before .before .before .before .before .before .loop in
     let v = l .inv in
-    let b = v .7 (p .tabled) in
-    let e : length (l .standing) ≡ length (c .before .before .before .before .before .before .before .before .before .before .before .before .before .before .before .args .standing .now) = v .3 in (
+    let b = v .6 (p .tabled) in
+    let e : length (l .standing) ≡ length (c .before .before .before .before .before .before .before .before .before .before .before .before .before .args .standing .now) = v .3 in (
       record {
         most = omega (arith, p .most, e);
         table-size = rw e (p .table-size);
         empty-size = omega (arith, p .empty-size, v .4);
         placed = rw e (b .played .placed);
         tabled = rw e (p .tabled);
+        levelled = rw e (p .levelled);
       },
-      (omega (arith, z .0, v .2), omega (arith, z .1, v .2), z .2, rw e (z .3 (l .i) (c .before .before .before .before .before .before .loop-test .taken)), omega (arith, z .4, v .5, e), omega (arith, v .1, z .5, c .before .before .before .before .before .before .loop-test .taken)),
+      (omega (arith, z .0, v .2), omega (arith, z .1, v .2), z .2, rw e (z .3 (l .i) (c .before .before .before .before .before .loop-test .taken)), omega (arith, v .1, z .4, c .before .before .before .before .before .loop-test .taken)),
     )
 
 enum-known-one : tie.Need-enum-known-one Inv-loop μ-loop
@@ -74,15 +75,15 @@ same-length-5 c = search needs
 
 returns : tie.Need-returns Inv-loop μ-loop
 returns c =
-    let z = c .before .before .before .before .before .before .before .before .before .before .before .before .before .before .before .before .before .before .before .before .before .before .before .before .before .before .before .before .pre .1 in
-    let l = c .before .before .before .before .before .before .before .before .before .before .before .before .before .before .before .before .before .before .before .before .loop in
+    let z = c .before .before .before .before .before .before .before .before .before .before .before .before .before .before .before .before .before .before .before .before .before .before .before .before .pre .1 in
+    let l = c .before .before .before .before .before .before .before .before .before .before .before .before .before .before .before .before .before .loop in
     let v = l .inv in (
       tt,
       λ t.
-          let kw : length (l .standing) ≡ length (c .before .before .before .before .before .before .before .before .before .before .before .before .before .before .before .before .before .before .before .before .before .before .before .before .before .before .before .before .args .standing .now) = v .3 in
-          let e : c .before .before .before .before .before .before .before .before .before .before .before .before .bring-one .result ≡ Failed = c .enum-told .given .1 in
-          let f = rw kw at (c .before .before .before .before .before .before .before .before .before .before .before .before .bring-one .ensures .1) in
-          tries-none (bringing-stops (v .7 t) (c .before .before .before .before .before .before .before .before .before .before .before .before .before .before .before .before .before .before .before .loop-test .taken) (omega (arith, z .0, v .2)) (omega (arith, z .1, v .2)) (z .2) (bay-low t (z .3 (l .i) (c .before .before .before .before .before .before .before .before .before .before .before .before .before .before .before .before .before .before .before .loop-test .taken))) (rw e at (f t))),
+          let kw : length (l .standing) ≡ length (c .before .before .before .before .before .before .before .before .before .before .before .before .before .before .before .before .before .before .before .before .before .before .before .before .args .standing .now) = v .3 in
+          let e : c .before .before .before .before .before .before .before .before .before .before .bring-one .result ≡ Failed = c .enum-told .given .1 in
+          let f = rw kw at (c .before .before .before .before .before .before .before .before .before .before .bring-one .ensures .1) in
+          tries-none (bringing-stops (v .6 t) (c .before .before .before .before .before .before .before .before .before .before .before .before .before .before .before .before .loop-test .taken) (omega (arith, z .0, v .2)) (omega (arith, z .1, v .2)) (z .2) (bay-low t (z .3 (l .i) (c .before .before .before .before .before .before .before .before .before .before .before .before .before .before .before .before .loop-test .taken))) (rw e at (f t))),
     )
 
 add-i : tie.Need-add-i Inv-loop μ-loop
@@ -93,22 +94,21 @@ loop-less c = search needs
 
 loop-again : tie.Need-loop-again Inv-loop μ-loop
 loop-again c =
-    let z = c .before .before .before .before .before .before .before .before .before .before .before .before .before .before .before .before .before .before .before .before .before .before .before .before .before .before .before .before .before .pre .1 in
-    let l = c .before .before .before .before .before .before .before .before .before .before .before .before .before .before .before .before .before .before .before .before .before .loop in
+    let z = c .before .before .before .before .before .before .before .before .before .before .before .before .before .before .before .before .before .before .before .before .before .before .before .before .before .pre .1 in
+    let l = c .before .before .before .before .before .before .before .before .before .before .before .before .before .before .before .before .before .before .loop in
     let v = l .inv in
-    let kw : length (l .standing) ≡ length (c .before .before .before .before .before .before .before .before .before .before .before .before .before .before .before .before .before .before .before .before .before .before .before .before .before .before .before .before .before .args .standing .now) = v .3 in
-    let k = c .before .before .before .before .before .before .before .before .before .before .before .before .before .bring-one .kept in
-    let e : c .before .before .before .before .before .before .before .before .before .before .before .before .before .bring-one .result ≡ Done (c .before .one .given .0 .0) = c .before .one .given .1 in
-    let few = rw e at (c .before .before .before .before .before .before .before .before .before .before .before .before .before .bring-one .ensures .0) in
-    let f = rw kw at (c .before .before .before .before .before .before .before .before .before .before .before .before .before .bring-one .ensures .1) in (
-      omega (arith, c .before .before .before .before .before .before .before .before .before .before .before .before .before .before .before .before .before .before .before .before .loop-test .taken),
+    let kw : length (l .standing) ≡ length (c .before .before .before .before .before .before .before .before .before .before .before .before .before .before .before .before .before .before .before .before .before .before .before .before .before .args .standing .now) = v .3 in
+    let k = c .before .before .before .before .before .before .before .before .before .before .before .bring-one .kept in
+    let e : c .before .before .before .before .before .before .before .before .before .before .before .bring-one .result ≡ Done (c .before .one .given .0 .0) = c .before .one .given .1 in
+    let few = rw e at (c .before .before .before .before .before .before .before .before .before .before .before .bring-one .ensures .0) in
+    let f = rw kw at (c .before .before .before .before .before .before .before .before .before .before .before .bring-one .ensures .1) in (
+      omega (arith, c .before .before .before .before .before .before .before .before .before .before .before .before .before .before .before .before .before .loop-test .taken),
       omega (arith, few, v .1),
       omega (arith, k .1 .1 .1 .1 .0, v .2),
       omega (arith, k .1 .1 .1 .1 .1 .0, v .3),
       omega (arith, k .1 .1 .1 .1 .1 .1 .0, v .4),
       omega (arith, k .1 .1 .1 .1 .1 .1 .1 .0, v .5),
-      omega (arith, k .1 .1 .1 .1 .1 .1 .1 .1 .0, v .6),
-      λ t. bringing-more (v .7 t) (c .before .before .before .before .before .before .before .before .before .before .before .before .before .before .before .before .before .before .before .before .loop-test .taken) (omega (arith, z .0, v .2)) (omega (arith, z .1, v .2)) (z .2) (bay-low t (z .3 (l .i) (c .before .before .before .before .before .before .before .before .before .before .before .before .before .before .before .before .before .before .before .before .loop-test .taken))) (rw e at (f t)),
+      λ t. bringing-more (v .6 t) (c .before .before .before .before .before .before .before .before .before .before .before .before .before .before .before .before .before .loop-test .taken) (omega (arith, z .0, v .2)) (omega (arith, z .1, v .2)) (z .2) (bay-low t (z .3 (l .i) (c .before .before .before .before .before .before .before .before .before .before .before .before .before .before .before .before .before .loop-test .taken))) (rw e at (f t)),
     )
 
 same-length-6 : tie.Need-same-length-6 Inv-loop μ-loop
@@ -120,14 +120,8 @@ same-length-7 c = search needs
 same-length-8 : tie.Need-same-length-8 Inv-loop μ-loop
 same-length-8 c = search needs
 
-same-length-9 : tie.Need-same-length-9 Inv-loop μ-loop
-same-length-9 c = search needs
-
-same-length-10 : tie.Need-same-length-10 Inv-loop μ-loop
-same-length-10 c = search needs
-
 returns-2 : tie.Need-returns-2 Inv-loop μ-loop
-returns-2 c = (omega (arith, c .before .loop .inv .0, c .before .loop .inv .1), λ t. bringing-all _ _ _ _ _ _ _ _ _ _ _ _ _ _ (c .before .loop .inv .7 t) (c .loop-test .left))
+returns-2 c = (omega (arith, c .before .loop .inv .0, c .before .loop .inv .1), λ t. bringing-all _ _ _ _ _ _ _ _ _ _ _ _ _ _ (c .before .loop .inv .6 t) (c .loop-test .left))
 
 pub bring-spec : {M : Type 1} → statement M
 bring-spec =
@@ -136,8 +130,8 @@ bring-spec =
     Inv-loop
     μ-loop
     loop-holds
-    mul-t16
-    shared-slice-read-t19
+    mul-t15
+    shared-slice-read-t18
     bring-one-requires
     enum-known-one
     enum-told
@@ -145,14 +139,12 @@ bring-spec =
     same-length-2
     same-length-3
     same-length-4
-    same-length-5
     returns
     add-i
     loop-less
     loop-again
+    same-length-5
     same-length-6
     same-length-7
     same-length-8
-    same-length-9
-    same-length-10
     returns-2)

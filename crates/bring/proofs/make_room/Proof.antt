@@ -10,7 +10,7 @@ use Rattle.bring.proofs.counted.Reads as counted-reads
 use Rattle.vacate.proofs.vacate.Reads as vacate-reads
 
 vacate-requires : tie.Need-vacate-requires
-vacate-requires c κs = (search needs, search needs, search needs, search needs, search needs, search needs, search needs, search needs, search needs)
+vacate-requires c κs = search needs
 
 counted-requires : tie.Need-counted-requires
 counted-requires c κs = search needs
@@ -27,11 +27,8 @@ same-length-3 c = search needs
 same-length-4 : tie.Need-same-length-4
 same-length-4 c = search needs
 
-same-length-5 : tie.Need-same-length-5
-same-length-5 c = search needs
-
 returns : tie.Need-returns
-returns c = (room-within (c .before .before .before .before .before .before .before .before .before .before .before .before .before .before .before .before .before .before .before .before .before .before .before .before .pre .0 .most) (c .counted .result) (c .before .before .before .before .before .before .before .before .before .before .before .vacate .ensures (c .before .before .before .before .before .before .before .before .before .before .before .before .before .before .before .before .before .before .before .before .before .before .before .before .pre .1 .4)) (c .counted .ensures), λ s. room-acts (c .counted .result) (c .before .before .before .before .before .before .before .before .before .before .before .vacate .ensures s) (c .counted .ensures))
+returns c = (room-within (c .before .before .before .before .before .before .before .before .before .before .before .before .before .before .before .before .before .before .before .before .pre .0 .most) (c .counted .result) (c .before .before .before .before .before .before .before .before .before .vacate .ensures (c .before .before .before .before .before .before .before .before .before .before .before .before .before .before .before .before .before .before .before .before .pre .1 .3)) (c .counted .ensures), λ s. room-acts (c .counted .result) (c .before .before .before .before .before .before .before .before .before .vacate .ensures s) (c .counted .ensures))
 
 pub make-room-spec : {M : Type 1} → statement M
 make-room-spec =
@@ -43,5 +40,4 @@ make-room-spec =
     same-length-2
     same-length-3
     same-length-4
-    same-length-5
     returns)

@@ -28,23 +28,23 @@ cast-remove c = search needs
 remove-requires : tie.Need-remove-requires
 remove-requires c κs = search needs
 
-slice-aggregate-add : tie.Need-slice-aggregate-add
-slice-aggregate-add c = search needs
+slice-aggregate-alone : tie.Need-slice-aggregate-alone
+slice-aggregate-alone c = search needs
 
-cast-add : tie.Need-cast-add
-cast-add c = search needs
+cast-alone : tie.Need-cast-alone
+cast-alone c = search needs
 
-add-requires : tie.Need-add-requires
-add-requires c κs = search needs
+alone-requires : tie.Need-alone-requires
+alone-requires c κs = search needs
 
-slice-aggregate-add-2 : tie.Need-slice-aggregate-add-2
-slice-aggregate-add-2 c = search needs
+slice-aggregate-join : tie.Need-slice-aggregate-join
+slice-aggregate-join c = search needs
 
-cast-add-2 : tie.Need-cast-add-2
-cast-add-2 c = search needs
+cast-join : tie.Need-cast-join
+cast-join c = search needs
 
-add-requires-2 : tie.Need-add-requires-2
-add-requires-2 c κs = search needs
+join-requires : tie.Need-join-requires
+join-requires c κs = search needs
 
 slice-aggregate-lowest-common : tie.Need-slice-aggregate-lowest-common
 slice-aggregate-lowest-common c = search needs
@@ -97,7 +97,7 @@ keep-second-requires c κs =
     let p = c .before .before .before .before .before .before .before .before .before .before .before .before .before .before .before .before .before .before .before .before .before .before .before .before .before .before .before .before .before .before .before .before .before .before .before .before .before .before .pre .0 in
     let z = c .before .before .before .before .before .before .before .before .before .before .before .before .before .before .before .before .before .before .before .before .before .before .before .before .before .before .before .before .before .before .before .before .before .before .before .before .before .before .pre .1 in
     let i = inside-of (p .tabled) _ _ _ _ (z .0) (c .before .before .before .before .before .before .before .before .before .before .before .before .before .before .before .before .before .before .before .before .before .before .before .before .before .before .before .before .before .before .join-row .ensures) (c .before .before .before .before .before .before .before .before .before .before .before .before .before .before .before .before .before .before .before .before .before .before .before .before .before .before .remove .ensures) in
-    (p, (search needs, search needs, omega arith, c .before .before .before .before .before .before .before .before .before .before .before .before .before .if1 .taken, inside-less i _ _ (c .before .before .before .before .before .before .before .before .before .before .before .remove2 .ensures), omega (arith, z .2), holdsTwo (p .tabled) _ _ _ _ (c .before .before .before .before .before .before .before .before .before .before .before .before .before .before .before .before .before .before .before .before .before .before .add .ensures) (c .before .before .before .before .before .before .before .before .before .before .before .before .before .before .before .before .before .before .add2 .ensures)))
+    (p, (search needs, search needs, omega arith, c .before .before .before .before .before .before .before .before .before .before .before .before .before .if1 .taken, inside-less i _ _ (c .before .before .before .before .before .before .before .before .before .before .before .remove2 .ensures), omega (arith, z .2), holdsTwo (p .tabled) _ _ _ _ (c .before .before .before .before .before .before .before .before .before .before .before .before .before .before .before .before .before .before .before .before .before .before .alone .ensures) (c .before .before .before .before .before .before .before .before .before .before .before .before .before .before .before .before .before .before .join .ensures)))
 
 same-length-2 : tie.Need-same-length-2
 same-length-2 c = search needs
@@ -117,7 +117,7 @@ returns-2 c =
     let z = c .before .before .before .before .before .before .before .before .before .before .before .before .before .before .before .before .before .before .before .before .before .before .before .before .before .before .before .before .before .before .before .before .before .before .before .before .before .before .before .before .before .before .before .before .before .before .before .before .pre .1 in
     let i = inside-of (p .tabled) _ _ _ _ (z .0) (c .before .before .before .before .before .before .before .before .before .before .before .before .before .before .before .before .before .before .before .before .before .before .before .before .before .before .before .before .before .before .before .before .before .before .before .before .before .before .before .before .join-row .ensures) (c .before .before .before .before .before .before .before .before .before .before .before .before .before .before .before .before .before .before .before .before .before .before .before .before .before .before .before .before .before .before .before .before .before .before .before .before .remove .ensures) in
     let hx = lowest-in _ i (c .before .before .before .before .before .before .before .before .before .before .before .before .before .before .before .before .before .before .before .before .before .before .before .before .lowest-common .ensures) (c .before .before .before .before .before .before .before .before .before .before .before .before .before .before .before .before .before .before .before .before .before .before .before .if1 .taken) in
-    (two-more (omega arith) (c .before .before .before .before .before .before .before .before .before .keep-second .ensures .0), λ t. clears-as (clear-one (around-of t _ _ _ _ (p .most) (z .0) (c .before .before .before .before .before .before .before .before .before .before .before .before .before .before .before .before .before .before .before .before .before .before .before .before .before .before .before .before .before .before .before .before .before .before .before .before .before .before .before .before .join-row .ensures) (c .before .before .before .before .before .before .before .before .before .before .before .before .before .before .before .before .before .before .before .before .before .before .before .before .before .before .before .before .before .before .before .before .before .before .before .before .remove .ensures)) (p .most) (p .placed) (c .before .before .before .before .before .before .before .before .before .before .before .before .before .before .before .before .before .before .before .before .before .before .before .before .lowest-common .ensures) hx _ (c .before .before .before .before .before .before .before .before .before .before .before .before .before .before .before .before .before .before .before .before .before .remove2 .ensures) (c .before .before .before .before .before .before .before .before .before .before .before .before .before .before .before .before .before .lowest-common2 .ensures) (c .before .before .before .before .before .before .before .before .before .before .before .before .before .before .before .before .if2 .left)) (c .before .before .before .before .before .before .before .before .before .keep-second .ensures .1 t (holdsTwo t _ _ _ _ (c .before .before .before .before .before .before .before .before .before .before .before .before .before .before .before .before .before .before .before .before .before .before .before .before .before .before .before .before .before .before .before .before .add .ensures) (c .before .before .before .before .before .before .before .before .before .before .before .before .before .before .before .before .before .before .before .before .before .before .before .before .before .before .before .before .add2 .ensures))))
+    (two-more (omega arith) (c .before .before .before .before .before .before .before .before .before .keep-second .ensures .0), λ t. clears-as (clear-one (around-of t _ _ _ _ (p .most) (z .0) (c .before .before .before .before .before .before .before .before .before .before .before .before .before .before .before .before .before .before .before .before .before .before .before .before .before .before .before .before .before .before .before .before .before .before .before .before .before .before .before .before .join-row .ensures) (c .before .before .before .before .before .before .before .before .before .before .before .before .before .before .before .before .before .before .before .before .before .before .before .before .before .before .before .before .before .before .before .before .before .before .before .before .remove .ensures)) (p .most) (p .placed) (c .before .before .before .before .before .before .before .before .before .before .before .before .before .before .before .before .before .before .before .before .before .before .before .before .lowest-common .ensures) hx _ (c .before .before .before .before .before .before .before .before .before .before .before .before .before .before .before .before .before .before .before .before .before .remove2 .ensures) (c .before .before .before .before .before .before .before .before .before .before .before .before .before .before .before .before .before .lowest-common2 .ensures) (c .before .before .before .before .before .before .before .before .before .before .before .before .before .before .before .before .if2 .left)) (c .before .before .before .before .before .before .before .before .before .keep-second .ensures .1 t (holdsTwo t _ _ _ _ (c .before .before .before .before .before .before .before .before .before .before .before .before .before .before .before .before .before .before .before .before .before .before .before .before .before .before .before .before .before .before .before .before .alone .ensures) (c .before .before .before .before .before .before .before .before .before .before .before .before .before .before .before .before .before .before .before .before .before .before .before .before .before .before .before .before .join .ensures))))
 
 slice-aggregate-keep-one : tie.Need-slice-aggregate-keep-one
 slice-aggregate-keep-one c = search needs
@@ -130,7 +130,7 @@ keep-one-requires c κs =
     let p = c .before .before .before .before .before .before .before .before .before .before .before .before .before .before .before .before .before .before .before .before .before .before .before .before .before .before .before .before .before .before .before .pre .0 in
     let z = c .before .before .before .before .before .before .before .before .before .before .before .before .before .before .before .before .before .before .before .before .before .before .before .before .before .before .before .before .before .before .before .pre .1 in
     let i = inside-of (p .tabled) _ _ _ _ (z .0) (c .before .before .before .before .before .before .before .before .before .before .before .before .before .before .before .before .before .before .before .before .before .before .before .join-row .ensures) (c .before .before .before .before .before .before .before .before .before .before .before .before .before .before .before .before .before .before .before .remove .ensures) in
-    (p, (search needs, search needs, omega arith, i, omega (arith, z .2), twoShown (p .tabled) (holdsTwo (p .tabled) _ _ _ _ (c .before .before .before .before .before .before .before .before .before .before .before .before .before .before .before .add .ensures) (c .before .before .before .before .before .before .before .before .before .before .before .add2 .ensures))))
+    (p, (search needs, search needs, omega arith, i, omega (arith, z .2), twoShown (p .tabled) (holdsTwo (p .tabled) _ _ _ _ (c .before .before .before .before .before .before .before .before .before .before .before .before .before .before .before .alone .ensures) (c .before .before .before .before .before .before .before .before .before .before .before .join .ensures))))
 
 enum-known-first : tie.Need-enum-known-first
 enum-known-first c = search needs
@@ -155,7 +155,7 @@ returns-3 c =
     let p = c .before .before .before .before .before .before .before .before .before .before .before .before .before .before .before .before .before .before .before .before .before .before .before .before .before .before .before .before .before .before .before .before .before .before .before .before .before .before .before .before .before .before .pre .0 in
     let z = c .before .before .before .before .before .before .before .before .before .before .before .before .before .before .before .before .before .before .before .before .before .before .before .before .before .before .before .before .before .before .before .before .before .before .before .before .before .before .before .before .before .before .pre .1 in
     let e : c .before .before .before .before .before .before .before .before .before .before .keep-one .result ≡ Nothing = c .enum-told .given .1 in
-    (two-short _ _, λ t. clears-short (rw (clear-none (around-of t _ _ _ _ (p .most) (z .0) (c .before .before .before .before .before .before .before .before .before .before .before .before .before .before .before .before .before .before .before .before .before .before .before .before .before .before .before .before .before .before .before .before .before .before .join-row .ensures) (c .before .before .before .before .before .before .before .before .before .before .before .before .before .before .before .before .before .before .before .before .before .before .before .before .before .before .before .before .before .before .remove .ensures)) (p .most) (p .placed) (c .before .before .before .before .before .before .before .before .before .before .before .before .before .before .before .before .before .before .lowest-common .ensures) (c .before .before .before .before .before .before .before .before .before .before .before .before .before .before .before .before .before .if1 .left)) (first-none _ _ _ _ _ _ (p .most) (rw e at (c .before .before .before .before .before .before .before .before .before .before .keep-one .ensures .1 (twoShown t (holdsTwo t _ _ _ _ (c .before .before .before .before .before .before .before .before .before .before .before .before .before .before .before .before .before .before .before .before .before .before .before .before .before .before .add .ensures) (c .before .before .before .before .before .before .before .before .before .before .before .before .before .before .before .before .before .before .before .before .before .before .add2 .ensures))))))))
+    (two-short _ _, λ t. clears-short (rw (clear-none (around-of t _ _ _ _ (p .most) (z .0) (c .before .before .before .before .before .before .before .before .before .before .before .before .before .before .before .before .before .before .before .before .before .before .before .before .before .before .before .before .before .before .before .before .before .before .join-row .ensures) (c .before .before .before .before .before .before .before .before .before .before .before .before .before .before .before .before .before .before .before .before .before .before .before .before .before .before .before .before .before .before .remove .ensures)) (p .most) (p .placed) (c .before .before .before .before .before .before .before .before .before .before .before .before .before .before .before .before .before .before .lowest-common .ensures) (c .before .before .before .before .before .before .before .before .before .before .before .before .before .before .before .before .before .if1 .left)) (first-none _ _ _ _ _ _ (p .most) (rw e at (c .before .before .before .before .before .before .before .before .before .before .keep-one .ensures .1 (twoShown t (holdsTwo t _ _ _ _ (c .before .before .before .before .before .before .before .before .before .before .before .before .before .before .before .before .before .before .before .before .before .before .before .before .before .before .alone .ensures) (c .before .before .before .before .before .before .before .before .before .before .before .before .before .before .before .before .before .before .before .before .before .before .join .ensures))))))))
 
 slice-aggregate-keep-second-3 : tie.Need-slice-aggregate-keep-second-3
 slice-aggregate-keep-second-3 c = omega (arith, c .before .before .before .before .before .before .before .before .before .before .before .before .before .before .before .before .before .before .before .before .before .before .before .before .before .before .before .before .before .before .before .before .remove .kept .0, c .before .before .before .before .before .before .before .before .before .before .before .before .before .before .before .before .before .before .before .before .before .before .before .before .before .before .before .before .before .before .before .before .before .before .before .before .join-row .kept .0)
@@ -178,12 +178,12 @@ keep-second-requires-2 c κs =
     let z = c .before .before .before .before .before .before .before .before .before .before .before .before .before .before .before .before .before .before .before .before .before .before .before .before .before .before .before .before .before .before .before .before .before .before .before .before .before .before .before .before .before .before .before .before .before .before .before .before .before .before .pre .1 in
     let e : c .before .before .before .before .before .before .before .before .before .before .before .before .before .before .before .before .before .before .keep-one .result ≡ One (c .before .before .before .before .before .before .before .before .first .given .0 .0) (c .before .before .before .before .before .before .before .before .first .given .0 .1 .0) = c .before .before .before .before .before .before .before .before .first .given .1 in
     let few = rw e at (c .before .before .before .before .before .before .before .before .before .before .before .before .before .before .before .before .before .before .keep-one .ensures .0) in
-    let h = holdsTwo (p .tabled) _ _ _ _ (c .before .before .before .before .before .before .before .before .before .before .before .before .before .before .before .before .before .before .before .before .before .before .before .before .before .before .before .before .before .before .before .before .before .before .add .ensures) (c .before .before .before .before .before .before .before .before .before .before .before .before .before .before .before .before .before .before .before .before .before .before .before .before .before .before .before .before .before .before .add2 .ensures) in
+    let h = holdsTwo (p .tabled) _ _ _ _ (c .before .before .before .before .before .before .before .before .before .before .before .before .before .before .before .before .before .before .before .before .before .before .before .before .before .before .before .before .before .before .before .before .before .before .alone .ensures) (c .before .before .before .before .before .before .before .before .before .before .before .before .before .before .before .before .before .before .before .before .before .before .before .before .before .before .before .before .before .before .join .ensures) in
     let o = rw e at (c .before .before .before .before .before .before .before .before .before .before .before .before .before .before .before .before .before .before .keep-one .ensures .1 (twoShown (p .tabled) h)) in
     let i = inside-of (p .tabled) _ _ _ _ (z .0) (c .before .before .before .before .before .before .before .before .before .before .before .before .before .before .before .before .before .before .before .before .before .before .before .before .before .before .before .before .before .before .before .before .before .before .before .before .before .before .before .before .before .before .join-row .ensures) (c .before .before .before .before .before .before .before .before .before .before .before .before .before .before .before .before .before .before .before .before .before .before .before .before .before .before .before .before .before .before .before .before .before .before .before .before .before .before .remove .ensures) in
     let kw : length (c .before .before .before .before .before .before .before .before .before .before .before .before .before .before .before .before .before .before .keep-one .last .1 .1 .1 .1 .1 .0) ≡ length (c .before .before .before .before .before .before .before .before .before .before .before .before .before .before .before .before .before .before .before .before .before .before .before .before .before .before .before .before .before .before .before .before .before .before .before .before .before .before .before .before .before .before .before .before .before .before .before .before .before .before .args .standing .now) = c .before .before .before .before .before .before .before .before .before .before .before .before .before .before .before .before .before .before .keep-one .kept .1 .1 .1 .1 .1 .0 in
     let kf = c .before .before .before .before .before .before .before .before .before .before .before .before .before .before .before .before .before .before .keep-one .kept .1 .1 .1 .1 .1 .1 .0 in
-    (ready-again p _ _ _ kw kf (o .played .placed), (omega (arith, c .before .before .before .before .before .before .before .before .before .before .before .before .before .before .before .before .before .before .before .before .before .before .before .before .before .before .before .before .before .before .before .before .before .before .before .before .before .before .remove .kept .0, c .before .before .before .before .before .before .before .before .before .before .before .before .before .before .before .before .before .before .before .before .before .before .before .before .before .before .before .before .before .before .before .before .before .before .before .before .before .before .before .before .before .before .join-row .kept .0), omega (arith, c .before .before .before .before .before .before .before .before .before .before .before .before .before .before .before .before .before .before .before .before .before .before .before .before .before .before .before .before .before .before .add2 .kept .0, c .before .before .before .before .before .before .before .before .before .before .before .before .before .before .before .before .before .before .before .before .before .before .before .before .before .before .before .before .before .before .before .before .before .before .add .kept .0), omega (arith, o .low, kw), few .0, rw kw i, omega (arith, few .1, z .2), h))
+    (ready-again p _ _ _ kw kf (o .played .placed), (omega (arith, c .before .before .before .before .before .before .before .before .before .before .before .before .before .before .before .before .before .before .before .before .before .before .before .before .before .before .before .before .before .before .before .before .before .before .before .before .before .before .remove .kept .0, c .before .before .before .before .before .before .before .before .before .before .before .before .before .before .before .before .before .before .before .before .before .before .before .before .before .before .before .before .before .before .before .before .before .before .before .before .before .before .before .before .before .before .join-row .kept .0), omega (arith, c .before .before .before .before .before .before .before .before .before .before .before .before .before .before .before .before .before .before .before .before .before .before .before .before .before .before .before .before .before .before .join .kept .0, c .before .before .before .before .before .before .before .before .before .before .before .before .before .before .before .before .before .before .before .before .before .before .before .before .before .before .before .before .before .before .before .before .before .before .alone .kept .0), omega (arith, o .low, kw), few .0, rw kw i, omega (arith, few .1, z .2), h))
 
 same-length-10 : tie.Need-same-length-10
 same-length-10 c = search needs
@@ -206,7 +206,7 @@ returns-4 c =
     let kw : length (c .before .before .before .before .before .before .before .before .before .before .before .before .before .before .before .before .before .before .before .before .before .before .before .before .before .before .before .before .keep-one .last .1 .1 .1 .1 .1 .0) ≡ length (c .before .before .before .before .before .before .before .before .before .before .before .before .before .before .before .before .before .before .before .before .before .before .before .before .before .before .before .before .before .before .before .before .before .before .before .before .before .before .before .before .before .before .before .before .before .before .before .before .before .before .before .before .before .before .before .before .before .before .before .before .args .standing .now) = c .before .before .before .before .before .before .before .before .before .before .before .before .before .before .before .before .before .before .before .before .before .before .before .before .before .before .before .before .keep-one .kept .1 .1 .1 .1 .1 .0 in (
       two-more (few .1) (c .before .before .before .before .before .before .before .before .before .keep-second2 .ensures .0),
       λ t.
-          let h = holdsTwo t _ _ _ _ (c .before .before .before .before .before .before .before .before .before .before .before .before .before .before .before .before .before .before .before .before .before .before .before .before .before .before .before .before .before .before .before .before .before .before .before .before .before .before .before .before .before .before .before .before .add .ensures) (c .before .before .before .before .before .before .before .before .before .before .before .before .before .before .before .before .before .before .before .before .before .before .before .before .before .before .before .before .before .before .before .before .before .before .before .before .before .before .before .before .add2 .ensures) in
+          let h = holdsTwo t _ _ _ _ (c .before .before .before .before .before .before .before .before .before .before .before .before .before .before .before .before .before .before .before .before .before .before .before .before .before .before .before .before .before .before .before .before .before .before .before .before .before .before .before .before .before .before .before .before .alone .ensures) (c .before .before .before .before .before .before .before .before .before .before .before .before .before .before .before .before .before .before .before .before .before .before .before .before .before .before .before .before .before .before .before .before .before .before .before .before .before .before .before .before .join .ensures) in
           let o = rw e at (c .before .before .before .before .before .before .before .before .before .before .before .before .before .before .before .before .before .before .before .before .before .before .before .before .before .before .before .before .keep-one .ensures .1 (twoShown t h)) in
           let s = rw kw at (c .before .before .before .before .before .before .before .before .before .keep-second2 .ensures .1) in
           clears-as (clear-none (around-of t _ _ _ _ (p .most) (z .0) (c .before .before .before .before .before .before .before .before .before .before .before .before .before .before .before .before .before .before .before .before .before .before .before .before .before .before .before .before .before .before .before .before .before .before .before .before .before .before .before .before .before .before .before .before .before .before .before .before .before .before .before .before .join-row .ensures) (c .before .before .before .before .before .before .before .before .before .before .before .before .before .before .before .before .before .before .before .before .before .before .before .before .before .before .before .before .before .before .before .before .before .before .before .before .before .before .before .before .before .before .before .before .before .before .before .before .remove .ensures)) (p .most) (p .placed) (c .before .before .before .before .before .before .before .before .before .before .before .before .before .before .before .before .before .before .before .before .before .before .before .before .before .before .before .before .before .before .before .before .before .before .before .before .lowest-common .ensures) (c .before .before .before .before .before .before .before .before .before .before .before .before .before .before .before .before .before .before .before .before .before .before .before .before .before .before .before .before .before .before .before .before .before .before .before .if1 .left))
@@ -223,12 +223,12 @@ clear-spec =
     slice-aggregate-remove
     cast-remove
     remove-requires
-    slice-aggregate-add
-    cast-add
-    add-requires
-    slice-aggregate-add-2
-    cast-add-2
-    add-requires-2
+    slice-aggregate-alone
+    cast-alone
+    alone-requires
+    slice-aggregate-join
+    cast-join
+    join-requires
     slice-aggregate-lowest-common
     lowest-common-requires
     slice-aggregate-remove-2

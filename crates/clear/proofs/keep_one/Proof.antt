@@ -18,34 +18,31 @@ use Rattle.clear.proofs.keep_one.Statement.{statement}
 use Rattle.clear.proofs.keep_one.Tie as tie
 
 abbrev Inv-loop : tie.InvT-loop
-Inv-loop table others a held placement₀ standing₀ empty₀ out₀ at rows₀ x₀ placement standing empty out rows x =
+Inv-loop table others a held placement₀ standing₀ empty₀ out₀ at x₀ placement standing empty out x =
     (x ≤ span) × (a ≤ x) × (x < span → mem others x ≡ true) × (length placement ≡ length placement₀) × (length standing ≡ length standing₀) × (length empty ≡ length empty₀) × (length out ≡ length out₀)
-    × (length rows ≡ 128) × Unchanged placement₀ standing₀ empty₀ out₀ placement standing empty out × ((v : Shown (length standing₀) table held) → Stuck (v .yard) (v .bays) others a x placement₀)
+    × Unchanged placement₀ standing₀ empty₀ out₀ placement standing empty out × ((v : Shown (length standing₀) table held) → Stuck (v .yard) (v .bays) others a x placement₀)
 
 abbrev μ-loop : tie.MeasureT-loop
-μ-loop table others a held placement₀ standing₀ empty₀ out₀ at rows₀ x₀ placement standing empty out rows x =
+μ-loop table others a held placement₀ standing₀ empty₀ out₀ at x₀ placement standing empty out x =
     span - x
 
 next-from-requires : tie.Need-next-from-requires Inv-loop μ-loop
 next-from-requires c κs = search needs
 
 loop-holds : tie.Need-loop-holds Inv-loop μ-loop
-loop-holds c = let l = c .next-from .ensures in (l .upto, l .from, l .hit, refl, refl, refl, refl, refl, record { same-placement = refl; same-standing = refl; same-empty = refl; same-list = refl }, λ v. stuck-none _ _ _ _ _ _ l)
+loop-holds c = let l = c .next-from .ensures in (l .upto, l .from, l .hit, refl, refl, refl, refl, record { same-placement = refl; same-standing = refl; same-empty = refl; same-list = refl }, λ v. stuck-none _ _ _ _ _ _ l)
 
-cast-t16 : tie.Need-cast-t16 Inv-loop μ-loop
-cast-t16 c = search needs
-
-slice-aggregate-make-room : tie.Need-slice-aggregate-make-room Inv-loop μ-loop
-slice-aggregate-make-room c = search needs
+cast-t15 : tie.Need-cast-t15 Inv-loop μ-loop
+cast-t15 c = search needs
 
 make-room-requires : tie.Need-make-room-requires Inv-loop μ-loop
 make-room-requires c κs =
-    let p = c .before .before .before .before .before .before .before .before .before .before .before .before .before .before .before .pre .0 in
-    let z = c .before .before .before .before .before .before .before .before .before .before .before .before .before .before .before .pre .1 in
-    let v = c .before .before .before .before .before .before .loop .inv in
-    let s = v .8 in
+    let p = c .before .before .before .before .before .before .before .before .before .before .before .before .before .before .pre .0 in
+    let z = c .before .before .before .before .before .before .before .before .before .before .before .before .before .before .pre .1 in
+    let v = c .before .before .before .before .before .loop .inv in
+    let s = v .7 in
     let e = v .4 in
-    (ready-again p _ _ _ e (v .5) (rw (s .same-standing, s .same-placement, s .same-empty) (p .placed)), (rw e (z .3 .low _ (c .before .before .before .before .before .loop-test .taken) (v .2 (c .before .before .before .before .before .loop-test .taken))), z .1, omega (arith, p .most, e, v .7), z .4, rw e (z .5)))
+    (ready-again p _ _ _ e (v .5) (rw (s .same-standing, s .same-placement, s .same-empty) (p .placed)), (rw e (z .3 .low _ (c .before .before .before .before .loop-test .taken) (v .2 (c .before .before .before .before .loop-test .taken))), z .1, z .4, rw e (z .5)))
 
 enum-known-vacated : tie.Need-enum-known-vacated Inv-loop μ-loop
 enum-known-vacated c = search needs
@@ -64,15 +61,15 @@ same-length-4 c = search needs
 
 returns : tie.Need-returns Inv-loop μ-loop
 returns c =
-    let z = c .before .before .before .before .before .before .before .before .before .before .before .before .before .before .before .before .before .before .before .before .before .before .before .before .before .before .before .before .pre .1 in
-    let l = c .before .before .before .before .before .before .before .before .before .before .before .before .before .before .before .before .before .before .before .loop in
+    let z = c .before .before .before .before .before .before .before .before .before .before .before .before .before .before .before .before .before .before .before .before .before .before .before .before .before .before .pre .1 in
+    let l = c .before .before .before .before .before .before .before .before .before .before .before .before .before .before .before .before .before .loop in
     let v = l .inv in
-    let t = c .before .before .before .before .before .before .before .before .before .before .before .before .before .before .before .before .before .before .loop-test .taken in
-    let kw : length (l .standing) ≡ length (c .before .before .before .before .before .before .before .before .before .before .before .before .before .before .before .before .before .before .before .before .before .before .before .before .before .before .before .before .args .standing .now) = v .4 in
-    let e : c .before .before .before .before .before .before .before .before .before .before .before .before .make-room .result ≡ Done (c .before .vacated .given .0 .0) = c .before .vacated .given .1 in
-    let few = rw e at (c .before .before .before .before .before .before .before .before .before .before .before .before .make-room .ensures .0) in
-    let f = rw kw at (c .before .before .before .before .before .before .before .before .before .before .before .before .make-room .ensures .1) in
-    ((t, few), λ w. keeps-here (v .1) (z .3 .low _ t (v .2 t)) (v .2 t) (v .9 w) (v .8) (rw e at (f w)))
+    let t = c .before .before .before .before .before .before .before .before .before .before .before .before .before .before .before .before .loop-test .taken in
+    let kw : length (l .standing) ≡ length (c .before .before .before .before .before .before .before .before .before .before .before .before .before .before .before .before .before .before .before .before .before .before .before .before .before .before .args .standing .now) = v .4 in
+    let e : c .before .before .before .before .before .before .before .before .before .before .before .make-room .result ≡ Done (c .before .vacated .given .0 .0) = c .before .vacated .given .1 in
+    let few = rw e at (c .before .before .before .before .before .before .before .before .before .before .before .make-room .ensures .0) in
+    let f = rw kw at (c .before .before .before .before .before .before .before .before .before .before .before .make-room .ensures .1) in
+    ((t, few), λ w. keeps-here (v .1) (z .3 .low _ t (v .2 t)) (v .2 t) (v .8 w) (v .7) (rw e at (f w)))
 
 enum-told : tie.Need-enum-told Inv-loop μ-loop
 enum-told c = search needs
@@ -88,14 +85,14 @@ loop-less c = search needs
 
 loop-again : tie.Need-loop-again Inv-loop μ-loop
 loop-again c =
-    let z = c .before .before .before .before .before .before .before .before .before .before .before .before .before .before .before .before .before .before .before .before .before .before .before .before .before .before .before .before .pre .1 in
-    let l = c .before .before .before .before .before .before .before .before .before .before .before .before .before .before .before .before .before .before .before .loop in
+    let z = c .before .before .before .before .before .before .before .before .before .before .before .before .before .before .before .before .before .before .before .before .before .before .before .before .before .before .pre .1 in
+    let l = c .before .before .before .before .before .before .before .before .before .before .before .before .before .before .before .before .before .loop in
     let v = l .inv in
-    let t = c .before .before .before .before .before .before .before .before .before .before .before .before .before .before .before .before .before .before .loop-test .taken in
-    let kw : length (l .standing) ≡ length (c .before .before .before .before .before .before .before .before .before .before .before .before .before .before .before .before .before .before .before .before .before .before .before .before .before .before .before .before .args .standing .now) = v .4 in
-    let k = c .before .before .before .before .before .before .before .before .before .before .before .before .make-room .kept in
-    let e : c .before .before .before .before .before .before .before .before .before .before .before .before .make-room .result ≡ Failed = c .before .enum-told .given .1 in
-    let f = rw kw at (c .before .before .before .before .before .before .before .before .before .before .before .before .make-room .ensures .1) in
+    let t = c .before .before .before .before .before .before .before .before .before .before .before .before .before .before .before .before .loop-test .taken in
+    let kw : length (l .standing) ≡ length (c .before .before .before .before .before .before .before .before .before .before .before .before .before .before .before .before .before .before .before .before .before .before .before .before .before .before .args .standing .now) = v .4 in
+    let k = c .before .before .before .before .before .before .before .before .before .before .before .make-room .kept in
+    let e : c .before .before .before .before .before .before .before .before .before .before .before .make-room .result ≡ Failed = c .before .enum-told .given .1 in
+    let f = rw kw at (c .before .before .before .before .before .before .before .before .before .before .before .make-room .ensures .1) in
     let n = c .next-from2 .ensures in (
       n .upto,
       omega (arith, n .from, v .1),
@@ -103,10 +100,9 @@ loop-again c =
       omega (arith, k .1 .1 .1 .0, v .3),
       omega (arith, k .1 .1 .1 .1 .0, v .4),
       omega (arith, k .1 .1 .1 .1 .1 .0, v .5),
-      omega (arith, k .1 .1 .1 .1 .1 .1 .1 .0, v .6),
-      search needs,
-      same-again (v .8) (rw e at (f (z .5))),
-      λ w. stuck-more _ _ _ _ _ _ _ (v .9 w) (rw (v .8 .same-placement) at (acted-failed (rw e at (f w)))) n,
+      omega (arith, k .1 .1 .1 .1 .1 .1 .0, v .6),
+      same-again (v .7) (rw e at (f (z .5))),
+      λ w. stuck-more _ _ _ _ _ _ _ (v .8 w) (rw (v .7 .same-placement) at (acted-failed (rw e at (f w)))) n,
     )
 
 same-length-5 : tie.Need-same-length-5 Inv-loop μ-loop
@@ -122,7 +118,7 @@ same-length-8 : tie.Need-same-length-8 Inv-loop μ-loop
 same-length-8 c = search needs
 
 returns-2 : tie.Need-returns-2 Inv-loop μ-loop
-returns-2 c = (tt, λ v y h k m. c .before .loop .inv .9 v y h (omega (arith, c .loop-test .left)) m)
+returns-2 c = (tt, λ v y h k m. c .before .loop .inv .8 v y h (omega (arith, c .loop-test .left)) m)
 
 pub keep-one-spec : {M : Type 1} → statement M
 keep-one-spec =
@@ -132,8 +128,7 @@ keep-one-spec =
     μ-loop
     next-from-requires
     loop-holds
-    cast-t16
-    slice-aggregate-make-room
+    cast-t15
     make-room-requires
     enum-known-vacated
     same-length

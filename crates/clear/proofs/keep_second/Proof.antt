@@ -9,17 +9,17 @@ use Rattle.clear.specs.declared.Kept.the-variants.{One}
 use Rattle.clear.proofs.keep_second.Statement.{statement}
 use Rattle.clear.proofs.keep_second.Tie as tie
 
-cast-add : tie.Need-cast-add
-cast-add c = search needs
+cast-join : tie.Need-cast-join
+cast-join c = search needs
 
-add-requires : tie.Need-add-requires
-add-requires c κs = search needs
+join-requires : tie.Need-join-requires
+join-requires c κs = search needs
 
 keep-one-requires : tie.Need-keep-one-requires
 keep-one-requires c κs =
     let p = c .before .before .before .before .before .before .before .before .before .before .before .before .before .before .before .before .before .pre .0 in
     let z = c .before .before .before .before .before .before .before .before .before .before .before .before .before .before .before .before .before .pre .1 in
-    (p, (z .0, search needs, omega (arith, p .most, z .2), z .4, z .5, heldShown (p .tabled) (z .6) _ (c .before .before .before .before .before .before .before .add .ensures)))
+    (p, (z .0, search needs, omega (arith, p .most, z .2), z .4, z .5, heldShown (p .tabled) (z .6) _ (c .before .before .before .before .before .before .before .join .ensures)))
 
 enum-known-second : tie.Need-enum-known-second
 enum-known-second c = search needs
@@ -47,7 +47,7 @@ returns c =
     let p = c .before .before .before .before .before .before .before .before .before .before .before .before .before .before .before .before .before .before .before .before .before .before .before .before .before .before .before .before .pre .0 in
     let z = c .before .before .before .before .before .before .before .before .before .before .before .before .before .before .before .before .before .before .before .before .before .before .before .before .before .before .before .before .pre .1 in
     let e : c .before .before .before .before .before .before .before .before .before .before .keep-one .result ≡ Nothing = c .enum-told .given .1 in
-    (two-short _ _, λ t h. clears-short (second-short _ _ _ _ _ _ _ _ (z .2) (p .most) (rw e at (c .before .before .before .before .before .before .before .before .before .before .keep-one .ensures .1 (heldShown t h _ (c .before .before .before .before .before .before .before .before .before .before .before .before .before .before .before .before .before .before .add .ensures))))))
+    (two-short _ _, λ t h. clears-short (second-short _ _ _ _ _ _ _ _ (z .2) (p .most) (rw e at (c .before .before .before .before .before .before .before .before .before .before .keep-one .ensures .1 (heldShown t h _ (c .before .before .before .before .before .before .before .before .before .before .before .before .before .before .before .before .before .before .join .ensures))))))
 
 same-length-6 : tie.Need-same-length-6
 same-length-6 c = search needs
@@ -69,14 +69,14 @@ returns-2 c =
     let z = c .before .before .before .before .before .before .before .before .before .before .before .before .before .before .before .before .before .before .before .before .before .before .before .before .before .before .before .before .before .pre .1 in
     let e : c .before .before .before .before .before .before .before .before .before .before .before .keep-one .result ≡ One (c .before .second .given .0 .0) (c .before .second .given .0 .1 .0) = c .before .second .given .1 in
     let few = rw e at (c .before .before .before .before .before .before .before .before .before .before .before .keep-one .ensures .0) in
-    (two-both (z .3) (few .0) (few .1), λ t h. second-both (rw e at (c .before .before .before .before .before .before .before .before .before .before .before .keep-one .ensures .1 (heldShown t h _ (c .before .before .before .before .before .before .before .before .before .before .before .before .before .before .before .before .before .before .before .add .ensures)))))
+    (two-both (z .3) (few .0) (few .1), λ t h. second-both (rw e at (c .before .before .before .before .before .before .before .before .before .before .before .keep-one .ensures .1 (heldShown t h _ (c .before .before .before .before .before .before .before .before .before .before .before .before .before .before .before .before .before .before .before .join .ensures)))))
 
 pub keep-second-spec : {M : Type 1} → statement M
 keep-second-spec =
     tie.close
     (tie.spec
-    cast-add
-    add-requires
+    cast-join
+    join-requires
     keep-one-requires
     enum-known-second
     enum-told

@@ -6,6 +6,9 @@ use borrow.Author.Needs.{needs}
 use Rattle.rings.proofs.path_between.Statement.{statement}
 use Rattle.rings.proofs.path_between.Tie as tie
 
+slice-aggregate-path-near : tie.Need-slice-aggregate-path-near
+slice-aggregate-path-near c = search needs
+
 path-near-requires : tie.Need-path-near-requires
 path-near-requires c κs = search needs
 
@@ -18,8 +21,8 @@ enum-told c = search needs
 enum-told-2 : tie.Need-enum-told-2
 enum-told-2 c = search needs
 
-slice-aggregate-path-near : tie.Need-slice-aggregate-path-near
-slice-aggregate-path-near c = search needs
+slice-aggregate-path-near-2 : tie.Need-slice-aggregate-path-near-2
+slice-aggregate-path-near-2 c = search needs
 
 path-near-requires-2 : tie.Need-path-near-requires-2
 path-near-requires-2 c κs = search needs
@@ -30,47 +33,40 @@ path-of-requires c κs = search needs
 same-length : tie.Need-same-length
 same-length c = search needs
 
+returns : tie.Need-returns
+returns c = λ s. c .before .before .before .before .before .before .path-near .ensures s .found _ _ (c .before .near .given .1)
+
 same-length-2 : tie.Need-same-length-2
 same-length-2 c = search needs
 
-returns : tie.Need-returns
-returns c = λ s. c .before .before .before .before .before .before .before .path-near .ensures s .found _ _ (c .before .near .given .1)
+returns-2 : tie.Need-returns-2
+returns-2 c = λ s. c .before .before .before .before .before .path-near .ensures s .nowhere (c .enum-told .given .1)
 
 same-length-3 : tie.Need-same-length-3
 same-length-3 c = search needs
 
-same-length-4 : tie.Need-same-length-4
-same-length-4 c = search needs
-
-returns-2 : tie.Need-returns-2
-returns-2 c = λ s. c .before .before .before .before .before .before .path-near .ensures s .nowhere (c .enum-told .given .1)
-
-same-length-5 : tie.Need-same-length-5
-same-length-5 c = search needs
-
-same-length-6 : tie.Need-same-length-6
-same-length-6 c = search needs
-
 returns-3 : tie.Need-returns-3
-returns-3 c = λ s. let n = c .before .before .before .before .path-near2 .ensures s in rw (c .path-of .ensures) (path-reached s _ n (λ k. let h = n .few k in absurd (omega (arith, h, c .before .before .before .before .before .before .before .before .before .before .before .before .before .before .before .before .before .before .before .before .pre .0))))
+returns-3 c =
+    λ s.
+    let n = c .before .before .before .before .path-near2 .ensures s in
+    let most = c .before .before .before .before .before .before .before .before .before .before .before .before .before .before .before .before .before .before .pre .0 in
+    rw (c .path-of .ensures) (path-reached s _ n (λ k. let h = n .few k in absurd (omega (arith, h, most))))
 
 pub path-between-spec : {M : Type 1} → statement M
 path-between-spec =
     tie.close
     (tie.spec
+    slice-aggregate-path-near
     path-near-requires
     enum-known-near
     enum-told
     enum-told-2
-    slice-aggregate-path-near
+    slice-aggregate-path-near-2
     path-near-requires-2
     path-of-requires
     same-length
-    same-length-2
     returns
-    same-length-3
-    same-length-4
+    same-length-2
     returns-2
-    same-length-5
-    same-length-6
+    same-length-3
     returns-3)

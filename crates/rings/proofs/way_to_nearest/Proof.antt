@@ -6,6 +6,9 @@ use borrow.Author.Needs.{needs}
 use Rattle.rings.proofs.way_to_nearest.Statement.{statement}
 use Rattle.rings.proofs.way_to_nearest.Tie as tie
 
+slice-aggregate-way-near : tie.Need-slice-aggregate-way-near
+slice-aggregate-way-near c = search needs
+
 way-near-requires : tie.Need-way-near-requires
 way-near-requires c κs = search needs
 
@@ -18,11 +21,13 @@ enum-told c = search needs
 enum-told-2 : tie.Need-enum-told-2
 enum-told-2 c = search needs
 
-slice-aggregate-way-near : tie.Need-slice-aggregate-way-near
-slice-aggregate-way-near c = search needs
+slice-aggregate-way-near-2 : tie.Need-slice-aggregate-way-near-2
+slice-aggregate-way-near-2 c = search needs
 
 way-near-requires-2 : tie.Need-way-near-requires-2
-way-near-requires-2 c κs = let p = c .before .before .before .before .before .before .before .before .before .before .before .before .before .before .before .before .pre in (p .0, p .1, p .2, p .3, p .4, search needs, omega (arith, p .6, c .before .before .before .before .before .before .before .before .way-near .kept .1 .1 .1 .1 .1 .1 .0), p .7, p .8)
+way-near-requires-2 c κs =
+    let p = c .before .before .before .before .before .before .before .before .before .before .before .before .before .before .pre in
+    (p .0, p .1, p .2, p .3, p .4, search needs, omega (arith, p .5, c .before .before .before .before .before .before .before .way-near .kept .1 .1 .1 .1 .1 .1 .0), p .6, p .7)
 
 way-of-requires : tie.Need-way-of-requires
 way-of-requires c κs = search needs
@@ -30,47 +35,40 @@ way-of-requires c κs = search needs
 same-length : tie.Need-same-length
 same-length c = search needs
 
+returns : tie.Need-returns
+returns c = λ s q w. c .before .before .before .before .before .before .way-near .ensures s q w .found _ _ (c .before .near .given .1)
+
 same-length-2 : tie.Need-same-length-2
 same-length-2 c = search needs
 
-returns : tie.Need-returns
-returns c = λ s q w. c .before .before .before .before .before .before .before .way-near .ensures s q w .found _ _ (c .before .near .given .1)
+returns-2 : tie.Need-returns-2
+returns-2 c = λ s q w. c .before .before .before .before .before .way-near .ensures s q w .nowhere (c .enum-told .given .1)
 
 same-length-3 : tie.Need-same-length-3
 same-length-3 c = search needs
 
-same-length-4 : tie.Need-same-length-4
-same-length-4 c = search needs
-
-returns-2 : tie.Need-returns-2
-returns-2 c = λ s q w. c .before .before .before .before .before .before .way-near .ensures s q w .nowhere (c .enum-told .given .1)
-
-same-length-5 : tie.Need-same-length-5
-same-length-5 c = search needs
-
-same-length-6 : tie.Need-same-length-6
-same-length-6 c = search needs
-
 returns-3 : tie.Need-returns-3
-returns-3 c = λ s q w. let n = c .before .before .before .before .way-near2 .ensures s q w in rw (c .way-of .ensures) (way-reached s _ n (λ k. let h = n .few k in absurd (omega (arith, h, c .before .before .before .before .before .before .before .before .before .before .before .before .before .before .before .before .before .before .before .before .before .pre .0))))
+returns-3 c =
+    λ s q w.
+    let n = c .before .before .before .before .way-near2 .ensures s q w in
+    let most = c .before .before .before .before .before .before .before .before .before .before .before .before .before .before .before .before .before .before .before .pre .0 in
+    rw (c .way-of .ensures) (way-reached s _ n (λ k. let h = n .few k in absurd (omega (arith, h, most))))
 
 pub way-to-nearest-spec : {M : Type 1} → statement M
 way-to-nearest-spec =
     tie.close
     (tie.spec
+    slice-aggregate-way-near
     way-near-requires
     enum-known-near
     enum-told
     enum-told-2
-    slice-aggregate-way-near
+    slice-aggregate-way-near-2
     way-near-requires-2
     way-of-requires
     same-length
-    same-length-2
     returns
-    same-length-3
-    same-length-4
+    same-length-2
     returns-2
-    same-length-5
-    same-length-6
+    same-length-3
     returns-3)

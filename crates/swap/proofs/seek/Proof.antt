@@ -6,6 +6,7 @@ use Prim.Native.Nat.{_≤_, _<_, _-_}
 use native.Mathlib.Omega.{arith}
 use lib.ListN.{length}
 use borrow.Author.Needs.{needs}
+use Rattle.paper.specs.Basics.{_or_}
 use Rattle.paper.specs.Yard.{bayOf}
 use Rattle.words.specs.Sets.{mem, words, span}
 use Rattle.words.proofs.Sets.{zeros, mem-zeros}
@@ -47,27 +48,27 @@ cast-u c =
     let hu = p .placed .inside (a .r .0) (z .0) in
     omega (arith, hu, p .most)
 
-slice-aggregate-add : tie.Need-slice-aggregate-add Inv-loop μ-loop Inv-nearest μ-nearest
-slice-aggregate-add c = search needs
+slice-aggregate-alone : tie.Need-slice-aggregate-alone Inv-loop μ-loop Inv-nearest μ-nearest
+slice-aggregate-alone c = search needs
 
-add-requires : tie.Need-add-requires Inv-loop μ-loop Inv-nearest μ-nearest
-add-requires c κs =
+alone-requires : tie.Need-alone-requires Inv-loop μ-loop Inv-nearest μ-nearest
+alone-requires c κs =
     let p = c .before .before .before .before .before .before .before .before .pre .0 in
     let z = c .before .before .before .before .before .before .before .before .pre .1 in
     let a = c .before .before .before .before .before .before .before .before .args in
     let hu = p .placed .inside (a .r .0) (z .0) in
-    omega (arith, hu, p .most)
+    (omega arith, omega (arith, hu, p .most))
 
-slice-aggregate-add-2 : tie.Need-slice-aggregate-add-2 Inv-loop μ-loop Inv-nearest μ-nearest
-slice-aggregate-add-2 c = search needs
+slice-aggregate-alone-2 : tie.Need-slice-aggregate-alone-2 Inv-loop μ-loop Inv-nearest μ-nearest
+slice-aggregate-alone-2 c = search needs
 
-add-requires-2 : tie.Need-add-requires-2 Inv-loop μ-loop Inv-nearest μ-nearest
-add-requires-2 c κs =
+alone-requires-2 : tie.Need-alone-requires-2 Inv-loop μ-loop Inv-nearest μ-nearest
+alone-requires-2 c κs =
     let p = c .before .before .before .before .before .before .before .before .before .before .before .pre .0 in
     let z = c .before .before .before .before .before .before .before .before .before .before .before .pre .1 in
     let a = c .before .before .before .before .before .before .before .before .before .before .before .args in
     let hu = p .placed .inside (a .r .0) (z .0) in
-    omega (arith, hu, p .most)
+    (omega arith, omega (arith, hu, p .most))
 
 nearest-holds : tie.Need-nearest-holds Inv-loop μ-loop Inv-nearest μ-nearest
 nearest-holds c =
@@ -75,7 +76,7 @@ nearest-holds c =
     let z = c .before .before .before .before .before .before .before .before .before .before .before .before .before .pre .1 in
     let a = c .before .before .before .before .before .before .before .before .before .before .before .before .before .args in
     let hu = p .placed .inside (a .r .0) (z .0) in
-    (refl, search needs, search needs, omega arith, λ t h. widening-first (freeShown t) _ (zeros words) (zeros words) hu (λ b l. refl) (c .before .before .before .before .add .ensures) (mem-zeros words) (c .before .add2 .ensures), λ t b. sought-first t _ _ _)
+    (refl, search needs, search needs, omega arith, λ t h. widening-first (freeShown t) _ (zeros words) hu (λ b l. refl) (λ b. c .before .before .before .before .alone .ensures b ∙ (unfold _or_ in rw (mem-zeros words b))) (c .before .alone2 .ensures), λ t b. sought-first t _ _ _)
 
 slice-aggregate-next-from :
     tie.Need-slice-aggregate-next-from Inv-loop μ-loop Inv-nearest μ-nearest
@@ -223,10 +224,10 @@ seek-spec =
     mul-u
     shared-slice-read-u
     cast-u
-    slice-aggregate-add
-    add-requires
-    slice-aggregate-add-2
-    add-requires-2
+    slice-aggregate-alone
+    alone-requires
+    slice-aggregate-alone-2
+    alone-requires-2
     nearest-holds
     slice-aggregate-next-from
     next-from-requires

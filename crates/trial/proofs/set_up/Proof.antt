@@ -12,14 +12,11 @@ use Rattle.bring.specs.declared.Tried.the-variants.{Failed}
 use Rattle.trial.proofs.set_up.Statement.{statement}
 use Rattle.trial.proofs.set_up.Tie as tie
 
-slice-aggregate-bring : tie.Need-slice-aggregate-bring
-slice-aggregate-bring c = search needs
-
 bring-requires : tie.Need-bring-requires
 bring-requires c κs =
-    let p = c .before .before .before .before .before .before .before .before .before .before .before .pre .0 in
-    let z = c .before .before .before .before .before .before .before .before .before .before .before .pre .1 in
-    (p, (z .0, z .1, z .2, z .4, omega (arith, p .most), omega (arith, z .5, z .6)))
+    let p = c .before .before .before .before .before .before .before .before .before .before .pre .0 in
+    let z = c .before .before .before .before .before .before .before .before .before .before .pre .1 in
+    (p, (z .0, z .1, z .2, z .4, omega (arith, z .5, z .6)))
 
 enum-known-brought : tie.Need-enum-known-brought
 enum-known-brought c = search needs
@@ -41,29 +38,29 @@ same-length-4 c = search needs
 
 returns : tie.Need-returns
 returns c =
-    let e : c .before .before .before .before .before .before .before .before .before .before .before .bring .result ≡ Failed = c .enum-told .given .1 in
-    (two-short _ _, λ t. not-brought (tried-failed (rw e at (c .before .before .before .before .before .before .before .before .before .before .before .bring .ensures .1 t))))
+    let e : c .before .before .before .before .before .before .before .before .before .before .bring .result ≡ Failed = c .enum-told .given .1 in
+    (two-short _ _, λ t. not-brought (tried-failed (rw e at (c .before .before .before .before .before .before .before .before .before .before .bring .ensures .1 t))))
 
 cast-follower : tie.Need-cast-follower
 cast-follower c = search needs
 
-mul-t26 : tie.Need-mul-t26
-mul-t26 c = search needs
+mul-t23 : tie.Need-mul-t23
+mul-t23 c = search needs
 
-slice-read-t28 : tie.Need-slice-read-t28
-slice-read-t28 c = search needs
+slice-read-t25 : tie.Need-slice-read-t25
+slice-read-t25 c = search needs
 
 clear-requires : tie.Need-clear-requires
 clear-requires c κs =
-    let p = c .before .before .before .before .before .before .before .before .before .before .before .before .before .before .before .before .before .before .before .before .before .before .before .before .before .before .before .before .before .before .pre .0 in
-    let z = c .before .before .before .before .before .before .before .before .before .before .before .before .before .before .before .before .before .before .before .before .before .before .before .before .before .before .before .before .before .before .pre .1 in
-    let e : c .before .before .before .before .before .before .before .before .before .before .before .before .before .before .before .before .before .before .bring .result ≡ Done (c .before .before .before .before .before .before .before .brought .given .0 .0) = c .before .before .before .before .before .before .before .brought .given .1 in
-    let few = rw e at (c .before .before .before .before .before .before .before .before .before .before .before .before .before .before .before .before .before .before .bring .ensures .0) in
-    let d = tried-done (rw e at (c .before .before .before .before .before .before .before .before .before .before .before .before .before .before .before .before .before .before .bring .ensures .1 (p .tabled))) in
-    let kp : length (c .before .before .before .before .before .before .before .before .before .before .before .before .before .before .before .before .before .before .bring .last .1 .1 .1 .1 .0) ≡ length (c .before .before .before .before .before .before .before .before .before .before .before .before .before .before .before .before .before .before .before .before .before .before .before .before .before .before .before .before .before .before .args .placement .now) = c .before .before .before .before .before .before .before .before .before .before .before .before .before .before .before .before .before .before .bring .kept .1 .1 .1 .1 .0 in
-    let kw : length (c .before .before .before .before .before .before .before .before .before .before .before .before .before .before .before .before .before .before .bring .last .1 .1 .1 .1 .1 .0) ≡ length (c .before .before .before .before .before .before .before .before .before .before .before .before .before .before .before .before .before .before .before .before .before .before .before .before .before .before .before .before .before .before .args .standing .now) = c .before .before .before .before .before .before .before .before .before .before .before .before .before .before .before .before .before .before .bring .kept .1 .1 .1 .1 .1 .0 in
-    let kf = c .before .before .before .before .before .before .before .before .before .before .before .before .before .before .before .before .before .before .bring .kept .1 .1 .1 .1 .1 .1 .0 in
-    (ready-again p _ _ _ kw kf (d .2 .placed), (omega (arith, z .3, kw), rw kw (d .2 .placed .inside (c .before .before .before .before .before .before .before .before .before .before .before .before .before .before .before .before .before .before .before .before .before .before .before .before .before .before .before .before .before .before .args .m .0) (rw kp (z .1))), omega (arith, few, z .5, z .6)))
+    let p = c .before .before .before .before .before .before .before .before .before .before .before .before .before .before .before .before .before .before .before .before .before .before .before .before .before .before .before .before .pre .0 in
+    let z = c .before .before .before .before .before .before .before .before .before .before .before .before .before .before .before .before .before .before .before .before .before .before .before .before .before .before .before .before .pre .1 in
+    let e : c .before .before .before .before .before .before .before .before .before .before .before .before .before .before .before .before .before .bring .result ≡ Done (c .before .before .before .before .before .before .before .brought .given .0 .0) = c .before .before .before .before .before .before .before .brought .given .1 in
+    let few = rw e at (c .before .before .before .before .before .before .before .before .before .before .before .before .before .before .before .before .before .bring .ensures .0) in
+    let d = tried-done (rw e at (c .before .before .before .before .before .before .before .before .before .before .before .before .before .before .before .before .before .bring .ensures .1 (p .tabled))) in
+    let kp : length (c .before .before .before .before .before .before .before .before .before .before .before .before .before .before .before .before .before .bring .last .1 .1 .1 .1 .0) ≡ length (c .before .before .before .before .before .before .before .before .before .before .before .before .before .before .before .before .before .before .before .before .before .before .before .before .before .before .before .before .args .placement .now) = c .before .before .before .before .before .before .before .before .before .before .before .before .before .before .before .before .before .bring .kept .1 .1 .1 .1 .0 in
+    let kw : length (c .before .before .before .before .before .before .before .before .before .before .before .before .before .before .before .before .before .bring .last .1 .1 .1 .1 .1 .0) ≡ length (c .before .before .before .before .before .before .before .before .before .before .before .before .before .before .before .before .before .before .before .before .before .before .before .before .before .before .before .before .args .standing .now) = c .before .before .before .before .before .before .before .before .before .before .before .before .before .before .before .before .before .bring .kept .1 .1 .1 .1 .1 .0 in
+    let kf = c .before .before .before .before .before .before .before .before .before .before .before .before .before .before .before .before .before .bring .kept .1 .1 .1 .1 .1 .1 .0 in
+    (ready-again p _ _ _ kw kf (d .2 .placed), (omega (arith, z .3, kw), rw kw (d .2 .placed .inside (c .before .before .before .before .before .before .before .before .before .before .before .before .before .before .before .before .before .before .before .before .before .before .before .before .before .before .before .before .args .m .0) (rw kp (z .1))), omega (arith, few, z .5, z .6)))
 
 same-length-5 : tie.Need-same-length-5
 same-length-5 c = search needs
@@ -79,18 +76,17 @@ same-length-8 c = search needs
 
 returns-2 : tie.Need-returns-2
 returns-2 c =
-    let p = c .before .before .before .before .before .before .before .before .before .before .before .before .before .before .before .before .before .before .before .before .before .before .before .before .before .before .before .before .before .before .before .before .before .before .before .before .before .before .before .pre .0 in
-    let z = c .before .before .before .before .before .before .before .before .before .before .before .before .before .before .before .before .before .before .before .before .before .before .before .before .before .before .before .before .before .before .before .before .before .before .before .before .before .before .before .pre .1 in
-    let e : c .before .before .before .before .before .before .before .before .before .before .before .before .before .before .before .before .before .before .before .before .before .before .before .before .before .before .before .bring .result ≡ Done (c .before .before .before .before .before .before .before .before .before .before .before .before .before .before .before .before .brought .given .0 .0) = c .before .before .before .before .before .before .before .before .before .before .before .before .before .before .before .before .brought .given .1 in
-    let few = rw e at (c .before .before .before .before .before .before .before .before .before .before .before .before .before .before .before .before .before .before .before .before .before .before .before .before .before .before .before .bring .ensures .0) in
-    let kw : length (c .before .before .before .before .before .before .before .before .before .before .before .before .before .before .before .before .before .before .before .before .before .before .before .before .before .before .before .bring .last .1 .1 .1 .1 .1 .0) ≡ length (c .before .before .before .before .before .before .before .before .before .before .before .before .before .before .before .before .before .before .before .before .before .before .before .before .before .before .before .before .before .before .before .before .before .before .before .before .before .before .before .args .standing .now) = c .before .before .before .before .before .before .before .before .before .before .before .before .before .before .before .before .before .before .before .before .before .before .before .before .before .before .before .bring .kept .1 .1 .1 .1 .1 .0 in
-    (two-far (omega (arith, few, z .5)) (c .before .before .before .before .before .before .before .before .clear .ensures .0), λ t. set-up-all (rw e at (c .before .before .before .before .before .before .before .before .before .before .before .before .before .before .before .before .before .before .before .before .before .before .before .before .before .before .before .bring .ensures .1 t)) (rw kw at (c .before .before .before .before .before .before .before .before .clear .ensures .1) t))
+    let p = c .before .before .before .before .before .before .before .before .before .before .before .before .before .before .before .before .before .before .before .before .before .before .before .before .before .before .before .before .before .before .before .before .before .before .before .before .before .pre .0 in
+    let z = c .before .before .before .before .before .before .before .before .before .before .before .before .before .before .before .before .before .before .before .before .before .before .before .before .before .before .before .before .before .before .before .before .before .before .before .before .before .pre .1 in
+    let e : c .before .before .before .before .before .before .before .before .before .before .before .before .before .before .before .before .before .before .before .before .before .before .before .before .before .before .bring .result ≡ Done (c .before .before .before .before .before .before .before .before .before .before .before .before .before .before .before .before .brought .given .0 .0) = c .before .before .before .before .before .before .before .before .before .before .before .before .before .before .before .before .brought .given .1 in
+    let few = rw e at (c .before .before .before .before .before .before .before .before .before .before .before .before .before .before .before .before .before .before .before .before .before .before .before .before .before .before .bring .ensures .0) in
+    let kw : length (c .before .before .before .before .before .before .before .before .before .before .before .before .before .before .before .before .before .before .before .before .before .before .before .before .before .before .bring .last .1 .1 .1 .1 .1 .0) ≡ length (c .before .before .before .before .before .before .before .before .before .before .before .before .before .before .before .before .before .before .before .before .before .before .before .before .before .before .before .before .before .before .before .before .before .before .before .before .before .args .standing .now) = c .before .before .before .before .before .before .before .before .before .before .before .before .before .before .before .before .before .before .before .before .before .before .before .before .before .before .bring .kept .1 .1 .1 .1 .1 .0 in
+    (two-far (omega (arith, few, z .5)) (c .before .before .before .before .before .before .before .before .clear .ensures .0), λ t. set-up-all (rw e at (c .before .before .before .before .before .before .before .before .before .before .before .before .before .before .before .before .before .before .before .before .before .before .before .before .before .before .bring .ensures .1 t)) (rw kw at (c .before .before .before .before .before .before .before .before .clear .ensures .1) t))
 
 pub set-up-spec : {M : Type 1} → statement M
 set-up-spec =
     tie.close
     (tie.spec
-    slice-aggregate-bring
     bring-requires
     enum-known-brought
     enum-told
@@ -100,8 +96,8 @@ set-up-spec =
     same-length-4
     returns
     cast-follower
-    mul-t26
-    slice-read-t28
+    mul-t23
+    slice-read-t25
     clear-requires
     same-length-5
     same-length-6

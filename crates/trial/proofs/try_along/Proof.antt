@@ -13,11 +13,11 @@ use Rattle.trial.proofs.try_along.Tie as tie
 cast-carrier : tie.Need-cast-carrier
 cast-carrier c = search needs
 
-mul-t17 : tie.Need-mul-t17
-mul-t17 c = search needs
+mul-t16 : tie.Need-mul-t16
+mul-t16 c = search needs
 
-shared-slice-read-t19 : tie.Need-shared-slice-read-t19
-shared-slice-read-t19 c = search needs
+shared-slice-read-t18 : tie.Need-shared-slice-read-t18
+shared-slice-read-t18 c = search needs
 
 slice-aggregate-path-between : tie.Need-slice-aggregate-path-between
 slice-aggregate-path-between c = search needs
@@ -25,14 +25,11 @@ slice-aggregate-path-between c = search needs
 slice-aggregate-path-between-2 : tie.Need-slice-aggregate-path-between-2
 slice-aggregate-path-between-2 c = search needs
 
-slice-aggregate-path-between-3 : tie.Need-slice-aggregate-path-between-3
-slice-aggregate-path-between-3 c = search needs
-
 path-between-requires : tie.Need-path-between-requires
 path-between-requires c κs =
-    let p = c .before .before .before .before .before .before .before .before .before .before .pre .0 in
-    let z = c .before .before .before .before .before .before .before .before .before .before .pre .1 in
-    (p .most, p .placed .inside (c .before .before .before .before .before .before .before .before .before .before .args .r .0) (z .0), z .3, omega (arith, p .table-size), refl, omega (arith, p .most), omega (arith, p .most), freeShown (p .tabled))
+    let p = c .before .before .before .before .before .before .before .before .before .pre .0 in
+    let z = c .before .before .before .before .before .before .before .before .before .pre .1 in
+    (p .most, p .placed .inside (c .before .before .before .before .before .before .before .before .before .args .r .0) (z .0), z .3, omega (arith, p .table-size), refl, omega (arith, p .most), freeShown (p .tabled))
 
 enum-known-k : tie.Need-enum-known-k
 enum-known-k c = search needs
@@ -41,30 +38,30 @@ enum-told : tie.Need-enum-told
 enum-told c = search needs
 
 returns : tie.Need-returns
-returns c = (tt, λ t near. path-missing near ((rw (c .enum-told .given .1) at (c .before .before .before .before .path-between .ensures (freeShown t))) .same))
+returns c = (tt, λ t near. path-missing near ((rw (c .enum-told .given .1) at (c .before .before .before .path-between .ensures (freeShown t))) .same))
 
 array-share-prefix-path : tie.Need-array-share-prefix-path
 array-share-prefix-path c =
-    let p = c .before .before .before .before .before .before .before .before .before .before .before .before .before .before .before .before .pre .0 in
-    let f = rw (c .before .k .given .1) at (c .before .before .before .before .before .path-between .ensures (freeShown (p .tabled))) in
-    let kept : length (c .before .before .before .before .before .path-between .last .1 .1 .1 .1 .1 .1 .0) ≡ span = c .before .before .before .before .before .path-between .kept .1 .1 .1 .1 .1 .1 .0 in
+    let p = c .before .before .before .before .before .before .before .before .before .before .before .before .before .before .pre .0 in
+    let f = rw (c .before .k .given .1) at (c .before .before .before .before .path-between .ensures (freeShown (p .tabled))) in
+    let kept : length (c .before .before .before .before .path-between .last .1 .1 .1 .1 .1 .0) ≡ span = c .before .before .before .before .path-between .kept .1 .1 .1 .1 .1 .0 in
     omega (arith, f .fits, p .most, kept)
 
 slice-aggregate-try-on : tie.Need-slice-aggregate-try-on
 slice-aggregate-try-on c =
-    let p = c .before .before .before .before .before .before .before .before .before .before .before .before .before .before .before .before .before .pre .0 in
-    let f = rw (c .before .before .k .given .1) at (c .before .before .before .before .before .before .path-between .ensures (freeShown (p .tabled))) in
-    let kept : length (c .before .before .before .before .before .before .path-between .last .1 .1 .1 .1 .1 .1 .0) ≡ span = c .before .before .before .before .before .before .path-between .kept .1 .1 .1 .1 .1 .1 .0 in
+    let p = c .before .before .before .before .before .before .before .before .before .before .before .before .before .before .before .pre .0 in
+    let f = rw (c .before .before .k .given .1) at (c .before .before .before .before .before .path-between .ensures (freeShown (p .tabled))) in
+    let kept : length (c .before .before .before .before .before .path-between .last .1 .1 .1 .1 .1 .0) ≡ span = c .before .before .before .before .before .path-between .kept .1 .1 .1 .1 .1 .0 in
     sym (length-take-le _ _ (omega (arith, f .fits, p .most, kept)))
 
 try-on-requires : tie.Need-try-on-requires
 try-on-requires c κs =
-    let p = c .before .before .before .before .before .before .before .before .before .before .before .before .before .before .before .before .before .before .pre .0 in
-    let z = c .before .before .before .before .before .before .before .before .before .before .before .before .before .before .before .before .before .before .pre .1 in
-    let f = rw (c .before .before .before .k .given .1) at (c .before .before .before .before .before .before .before .path-between .ensures (freeShown (p .tabled))) in
-    let kept : length (c .before .before .before .before .before .before .before .path-between .last .1 .1 .1 .1 .1 .1 .0) ≡ span = c .before .before .before .before .before .before .before .path-between .kept .1 .1 .1 .1 .1 .1 .0 in
-    let len : length (take (c .before .before .before .k .given .0 .0) (c .before .before .before .before .before .before .before .path-between .last .1 .1 .1 .1 .1 .1 .0)) ≡ c .before .before .before .k .given .0 .0 = length-take-le _ _ (omega (arith, f .fits, p .most, kept)) in
-    let q = path-found (p .tabled) _ _ _ (p .placed .inside (c .before .before .before .before .before .before .before .before .before .before .before .before .before .before .before .before .before .before .args .r .0) (z .0)) (z .3) (f .same) in
+    let p = c .before .before .before .before .before .before .before .before .before .before .before .before .before .before .before .before .pre .0 in
+    let z = c .before .before .before .before .before .before .before .before .before .before .before .before .before .before .before .before .pre .1 in
+    let f = rw (c .before .before .before .k .given .1) at (c .before .before .before .before .before .before .path-between .ensures (freeShown (p .tabled))) in
+    let kept : length (c .before .before .before .before .before .before .path-between .last .1 .1 .1 .1 .1 .0) ≡ span = c .before .before .before .before .before .before .path-between .kept .1 .1 .1 .1 .1 .0 in
+    let len : length (take (c .before .before .before .k .given .0 .0) (c .before .before .before .before .before .before .path-between .last .1 .1 .1 .1 .1 .0)) ≡ c .before .before .before .k .given .0 .0 = length-take-le _ _ (omega (arith, f .fits, p .most, kept)) in
+    let q = path-found (p .tabled) _ _ _ (p .placed .inside (c .before .before .before .before .before .before .before .before .before .before .before .before .before .before .before .before .args .r .0) (z .0)) (z .3) (f .same) in
     (p, (z .0, z .1, z .2, z .3, q .2, omega (arith, len, f .fits, p .most), z .4, q .1))
 
 same-length : tie.Need-same-length
@@ -72,10 +69,10 @@ same-length c = search needs
 
 returns-2 : tie.Need-returns-2
 returns-2 c =
-    let p = c .before .before .before .before .before .before .before .before .before .before .before .before .before .before .before .before .before .before .before .before .before .pre .0 in
-    let z = c .before .before .before .before .before .before .before .before .before .before .before .before .before .before .before .before .before .before .before .before .before .pre .1 in (
+    let p = c .before .before .before .before .before .before .before .before .before .before .before .before .before .before .before .before .before .before .before .pre .0 in
+    let z = c .before .before .before .before .before .before .before .before .before .before .before .before .before .before .before .before .before .before .before .pre .1 in (
       c .before .before .try-on .ensures .0,
-      λ t near. c .before .before .try-on .ensures .1 t near (path-found t _ _ _ (p .placed .inside (c .before .before .before .before .before .before .before .before .before .before .before .before .before .before .before .before .before .before .before .before .before .args .r .0) (z .0)) (z .3) ((rw (c .before .before .before .before .before .before .k .given .1) at (c .before .before .before .before .before .before .before .before .before .before .path-between .ensures (freeShown t))) .same) .0),
+      λ t near. c .before .before .try-on .ensures .1 t near (path-found t _ _ _ (p .placed .inside (c .before .before .before .before .before .before .before .before .before .before .before .before .before .before .before .before .before .before .before .args .r .0) (z .0)) (z .3) ((rw (c .before .before .before .before .before .before .k .given .1) at (c .before .before .before .before .before .before .before .before .before .path-between .ensures (freeShown t))) .same) .0),
     )
 
 pub try-along-spec : {M : Type 1} → statement M
@@ -83,11 +80,10 @@ try-along-spec =
     tie.close
     (tie.spec
     cast-carrier
-    mul-t17
-    shared-slice-read-t19
+    mul-t16
+    shared-slice-read-t18
     slice-aggregate-path-between
     slice-aggregate-path-between-2
-    slice-aggregate-path-between-3
     path-between-requires
     enum-known-k
     enum-told

@@ -19,7 +19,7 @@ same-length : tie.Need-same-length
 same-length c = search needs
 
 returns : tie.Need-returns
-returns c = let p = c .before .before .before .before .before .before .before .before .before .before .before .pre in λ s. vacates-empty s (p .0) _ (p .1) (p .7) _ _ (sym (c .if1 .taken) ∙ c .before .is-in .ensures)
+returns c = let p = c .before .before .before .before .before .before .before .before .before .before .pre in λ s. vacates-empty s (p .0) _ (p .1) (p .6) _ _ (sym (c .if1 .taken) ∙ c .before .is-in .ensures)
 
 is-in-requires-2 : tie.Need-is-in-requires-2
 is-in-requires-2 c κs = search needs
@@ -28,24 +28,24 @@ same-length-2 : tie.Need-same-length-2
 same-length-2 c = search needs
 
 returns-2 : tie.Need-returns-2
-returns-2 c = let p = c .before .before .before .before .before .before .before .before .before .before .before .before .before .pre in λ s. vacates-held s (p .0) _ (p .1) (p .7) _ _ (sym (c .before .before .if1 .left) ∙ c .before .before .before .is-in .ensures) (sym (c .if2 .taken) ∙ c .before .is-in2 .ensures)
+returns-2 c = let p = c .before .before .before .before .before .before .before .before .before .before .before .before .pre in λ s. vacates-held s (p .0) _ (p .1) (p .6) _ _ (sym (c .before .before .if1 .left) ∙ c .before .before .before .is-in .ensures) (sym (c .if2 .taken) ∙ c .before .is-in2 .ensures)
 
-free-beside-requires : tie.Need-free-beside-requires
-free-beside-requires c κs = search needs
+lowest-free-requires : tie.Need-lowest-free-requires
+lowest-free-requires c κs = search needs
 
-cast-t20 : tie.Need-cast-t20
-cast-t20 c = search needs
+cast-t19 : tie.Need-cast-t19
+cast-t19 c = search needs
 
 cross-requires : tie.Need-cross-requires
 cross-requires c κs =
-    let p = c .before .before .before .before .before .before .before .before .before .before .before .before .before .before .before .before .before .before .before .before .pre in
-    let out = c .before .before .before .before .before .before .before .before .before .before .before .before .before .before .before .before .before .before .before .before .args .out .now in
-    let at = c .before .before .before .before .before .before .before .before .before .before .before .before .before .before .before .before .before .before .before .before .args .at in
+    let p = c .before .before .before .before .before .before .before .before .before .before .before .before .before .before .before .before .before .before .before .pre in
+    let out = c .before .before .before .before .before .before .before .before .before .before .before .before .before .before .before .before .before .before .before .args .out .now in
+    let at = c .before .before .before .before .before .before .before .before .before .before .before .before .before .before .before .before .before .before .before .args .at in
     let full = sym (c .before .before .before .before .before .before .before .before .before .if1 .left) ∙ c .before .before .before .before .before .before .before .before .before .before .is-in .ensures in
     let unheld = sym (c .before .before .before .before .before .before .before .if2 .left) ∙ c .before .before .before .before .before .before .before .before .is-in2 .ensures in
-    let low = c .before .before .before .before .before .free-beside .ensures in
-    let there : c .before .before .before .before .before .free-beside .result < span = c .before .before .before .before .if3 .taken in
-    (p .1, inside-e (p .8) (p .0) _ (p .1) (p .7) out at full unheld _ low there, p .0, p .4, omega (arith, p .6), full-in (p .8) (p .0) _ (p .1) (p .7) out at full unheld _ low there, empty-e (p .8) (p .0) _ (p .1) (p .7) out at full unheld _ low there, p .7)
+    let low = c .before .before .before .before .before .lowest-free .ensures in
+    let there : c .before .before .before .before .before .lowest-free .result < span = c .before .before .before .before .if3 .taken in
+    (p .1, inside-e (p .7) (p .0) _ (p .1) (p .6) out at full unheld _ low there, p .0, p .4, omega (arith, p .5), full-in (p .7) (p .0) _ (p .1) (p .6) out at full unheld _ low there, empty-e (p .7) (p .0) _ (p .1) (p .6) out at full unheld _ low there, p .6)
 
 same-length-3 : tie.Need-same-length-3
 same-length-3 c = search needs
@@ -61,15 +61,15 @@ same-length-6 c = search needs
 
 returns-3 : tie.Need-returns-3
 returns-3 c =
-    let p = c .before .before .before .before .before .before .before .before .before .before .before .before .before .before .before .before .before .before .before .before .before .before .before .before .before .before .before .before .before .pre in
+    let p = c .before .before .before .before .before .before .before .before .before .before .before .before .before .before .before .before .before .before .before .before .before .before .before .before .before .before .before .before .pre in
     let full = sym (c .before .before .before .before .before .before .before .before .before .before .before .before .before .before .before .before .before .before .if1 .left) ∙ c .before .before .before .before .before .before .before .before .before .before .before .before .before .before .before .before .before .before .before .is-in .ensures in
     let unheld = sym (c .before .before .before .before .before .before .before .before .before .before .before .before .before .before .before .before .if2 .left) ∙ c .before .before .before .before .before .before .before .before .before .before .before .before .before .before .before .before .before .is-in2 .ensures in
-    λ s. vacates-beside s (p .0) _ (p .1) (p .7) _ _ full unheld _ (c .before .before .before .before .before .before .before .before .before .before .before .before .before .before .free-beside .ensures) (c .before .before .before .before .before .before .before .before .before .before .before .before .before .if3 .taken) _ _ _ _ _ _ refl refl (c .before .before .before .before .before .before .before .before .cross .ensures)
+    λ s. vacates-beside s (p .0) _ (p .1) (p .6) _ _ full unheld _ (c .before .before .before .before .before .before .before .before .before .before .before .before .before .before .lowest-free .ensures) (c .before .before .before .before .before .before .before .before .before .before .before .before .before .if3 .taken) _ _ _ _ _ _ refl refl (c .before .before .before .before .before .before .before .before .cross .ensures)
 
 fill-nearest-requires : tie.Need-fill-nearest-requires
 fill-nearest-requires c κs =
-    let p = c .before .before .before .before .before .before .before .before .before .before .before .before .before .before .before .before .before .before .before .before .before .pre in
-    (p .0, p .1, p .2, p .3, p .4, p .5, p .6, sym (c .before .before .before .before .before .before .before .before .before .before .before .is-in .ensures) ∙ c .before .before .before .before .before .before .before .before .before .before .if1 .left, sym (c .before .before .before .before .before .before .before .before .before .is-in2 .ensures) ∙ c .before .before .before .before .before .before .before .before .if2 .left, p .7, p .8)
+    let p = c .before .before .before .before .before .before .before .before .before .before .before .before .before .before .before .before .before .before .before .pre in
+    (p .0, p .1, p .2, p .3, p .4, p .5, sym (c .before .before .before .before .before .before .before .before .before .before .is-in .ensures) ∙ c .before .before .before .before .before .before .before .before .before .if1 .left, sym (c .before .before .before .before .before .before .before .before .is-in2 .ensures) ∙ c .before .before .before .before .before .before .before .if2 .left, p .6, p .7, p .8)
 
 same-length-7 : tie.Need-same-length-7
 same-length-7 c = search needs
@@ -82,9 +82,6 @@ same-length-9 c = search needs
 
 same-length-10 : tie.Need-same-length-10
 same-length-10 c = search needs
-
-same-length-11 : tie.Need-same-length-11
-same-length-11 c = search needs
 
 returns-4 : tie.Need-returns-4
 returns-4 c = search needs
@@ -100,8 +97,8 @@ vacate-spec =
     is-in-requires-2
     same-length-2
     returns-2
-    free-beside-requires
-    cast-t20
+    lowest-free-requires
+    cast-t19
     cross-requires
     same-length-3
     same-length-4
@@ -113,5 +110,4 @@ vacate-spec =
     same-length-8
     same-length-9
     same-length-10
-    same-length-11
     returns-4)

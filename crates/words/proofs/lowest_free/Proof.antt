@@ -1,7 +1,7 @@
 -- No bay of the words passed is free; the first word that has a free one has the lowest at its trailing zeros.
 use mathlib.Core.Path.{_≡_}
 use mathlib.Core.Bool.{false, not}
-use Prim.Native.Nat.{ℕ, _+_, _-_, _*_, _^_, _≤_, _<_}
+use Prim.Native.Nat.{ℕ, _+_, _-_, _*_, _≤_, _<_}
 use native.Mathlib.Omega.{arith}
 use lib.Bits.{and-lt}
 use borrow.Author.Needs.{needs}

@@ -1,0 +1,62 @@
+-- `vacate::way_out` meets its contract. What is looked up and what is searched for is the same way.
+-- Assumes nothing.
+use borrow.Author.Needs.{needs}
+use Rattle.vacate.proofs.way_out.Statement.{statement}
+use Rattle.vacate.proofs.way_out.Tie as tie
+
+mul-if1 : tie.Need-mul-if1
+mul-if1 c = search needs
+
+mul-if1-2 : tie.Need-mul-if1-2
+mul-if1-2 c = search needs
+
+way-to-nearest-requires : tie.Need-way-to-nearest-requires
+way-to-nearest-requires c κs = search needs
+
+same-length : tie.Need-same-length
+same-length c = search needs
+
+returns : tie.Need-returns
+returns c = search needs
+
+way-requires : tie.Need-way-requires
+way-requires c κs = search needs
+
+enum-known-known : tie.Need-enum-known-known
+enum-known-known c = search needs
+
+same-length-2 : tie.Need-same-length-2
+same-length-2 c = search needs
+
+returns-2 : tie.Need-returns-2
+returns-2 c = λ s q w. c .before .before .before .before .before .way .ensures s q w _ _ (c .before .known .given .1)
+
+enum-told : tie.Need-enum-told
+enum-told c = search needs
+
+way-to-nearest-requires-2 : tie.Need-way-to-nearest-requires-2
+way-to-nearest-requires-2 c κs = search needs
+
+same-length-3 : tie.Need-same-length-3
+same-length-3 c = search needs
+
+returns-3 : tie.Need-returns-3
+returns-3 c = search needs
+
+pub way-out-spec : {M : Type 1} → statement M
+way-out-spec =
+    tie.close
+    (tie.spec
+    mul-if1
+    mul-if1-2
+    way-to-nearest-requires
+    same-length
+    returns
+    way-requires
+    enum-known-known
+    same-length-2
+    returns-2
+    enum-told
+    way-to-nearest-requires-2
+    same-length-3
+    returns-3)
