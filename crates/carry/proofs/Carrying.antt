@@ -9,9 +9,10 @@ use native.Mathlib.Omega.{arith}
 use native.Mathlib.Numerals.{add-one}
 use lib.ListN.{length, drop, take}
 use lib.Dec.{eqb}
+use lib.Seq.{take-suc}
 use borrow.Author.Tests.{eqb-false, eqb-true}
 use mathlib.Core.Logic.{inl, inr, ⊎-elim}
-use Rattle.paper.specs.Basics.{elem}
+use Rattle.paper.specs.Basics.{_or_, elem}
 use Rattle.paper.specs.Path.{Route, nearestFirst, shortestPath, pathBetween}
 use Rattle.paper.specs.Procedure.{step, Outcome, planned, stuck, orStuck, onward, _next_, go, wayHome, carry, carryFrom, procedure}
 use Rattle.paper.specs.Yard.{Bay, Carrier, Yard, Placement, bayOf, Crossing, after}
@@ -20,17 +21,18 @@ use Rattle.paper.proofs.Carrying.{Gone, go-goes, carry-carries}
 use Rattle.paper.proofs.Members.{nothing-in-nil, out-cons}
 use Rattle.paper.proofs.Shortest.{Shortest, shortest-path}
 use Rattle.paper.proofs.Swapping.{Chain}
-use Rattle.paper.proofs.Tests.{by-cases, by-option, never-some, some-same, some-when}
+use Rattle.paper.proofs.Tests.{by-cases, by-option, never, never-some, some-same, some-when}
 use Rattle.go.specs.Going.{planOf, Linked}
-use Rattle.words.specs.Sets.{span}
+use Rattle.words.specs.Sets.{mem, span}
+use Rattle.rings.proofs.Searching.{elem-append, elem-one}
 use Rattle.home.specs.Homing.{Settled, AtMost, Stages, Homeward}
 use Rattle.vacate.specs.Placed.{Placed, Played}
 use Rattle.vacate.proofs.Playing.{played-none, played-then}
 use Rattle.bring.specs.Acting.{Tabled}
 use Rattle.trial.proofs.Copying.{part, in-bays}
-use Rattle.step.specs.Asking.{Loopless}
+use Rattle.step.specs.Asking.{Loopless, BaysBelow}
 use Rattle.home.proofs.Homing.{stages-done, stages-stuck}
-use Rattle.carry.specs.Carrying.{Goals, HomeBelow, EndsAt, OnPath, Reaching}
+use Rattle.carry.specs.Carrying.{Goals, HomeBelow, EndsAt, OnPath, Reaching, Settles}
 use Rattle.home.specs.declared.Staged.the-variants.{Planned}
 use Rattle.home.specs.declared.Staged.{Staged}
 use Rattle.home.specs.declared.Staged.the-variants.{Stuck}
@@ -72,6 +74,22 @@ part-home path u ahead e = rw e (part-between u ahead)
 
 pub at-most-more : {at j m k : ℕ} {z : Staged} → m + k ≤ at + j → AtMost m k z → AtMost at j z
 at-most-more h a = record { few = λ b e. let f = a .few b e in omega arith }
+
+-- ## The bays of the finished carriers
+
+-- r is finished, and its bay joins
+pub bays-more : {p settled settled′ : List ℕ} (r : Carrier) → r < length p → BaysBelow r p settled → length settled′ ≡ length settled
+    → ((y : ℕ) → mem settled′ y ≡ mem settled y or eqb y (bayOf p r)) → BaysBelow (r + 1) p settled′
+bays-more {p} r h s same joins = record {
+  size = same ∙ s .size;
+  bays = λ b. joins b ∙ rw (s .bays b, add-one, take-suc p r 0 h, elem-append, elem-one);
+}
+
+pub settles : {finished : ℕ} {p settled : List ℕ} {z : Staged} → BaysBelow finished p settled → Settles finished p settled z
+settles s = record { below = λ m e. s }
+
+pub settles-stuck : {finished : ℕ} {p settled : List ℕ} {c : Named} → Settles finished p settled (Stuck c)
+settles-stuck = record { below = λ m e. never (cc) }
 
 -- ## Outcomes
 

@@ -10,7 +10,10 @@ use Rattle.paper.specs.Procedure.{Outcome, carry, procedure}
 use Rattle.paper.specs.Yard.{Bay, Carrier, Yard, Placement, bayOf}
 use Rattle.paper.proofs.Playing.{Apart}
 use Rattle.bring.specs.Acting.{Tabled}
+use Rattle.step.specs.Asking.{BaysBelow}
 use Rattle.go.specs.Going.{Linked}
+use Rattle.home.specs.declared.Staged.the-variants.{Planned}
+use Rattle.home.specs.declared.Staged.{Staged}
 
 pub record Goals (n : ℕ) (goals p : List ℕ) : Type 0 where
   pub many : length goals ≡ length p
@@ -38,6 +41,10 @@ pub record OnPath (n : ℕ) (table : List ℕ) (u v : Bay) (path : List Bay) : T
 pub record Reaching (n : ℕ) (table : List ℕ) : Type 0 where
   pub tabled : Tabled n table
   pub reached : (a b : ℕ) → a < n → b < n → In a (nearestFirst (tabled .yard) [] b)
+
+-- where it is planned the set has the bays of the carriers below `finished`
+pub record Settles (finished : ℕ) (p settled : List ℕ) (z : Staged) : Type 0 where
+  pub below : (m : ℕ) → z ≡ Planned m → BaysBelow finished p settled
 
 -- (the code's carry has the same name)
 abbrev pub carries : Yard → Placement → Carrier → Placement → Outcome

@@ -5,18 +5,17 @@ use docket::Carrier;
 use home::Staged;
 use rings::Path;
 ghost use mathlib.Core.Path.{_≡_};
-ghost use mathlib.Core.List.{List, []};
-ghost use Prim.Native.Nat.{ℕ, _+_, _*_, _^_, _≤_, _<_};
+ghost use mathlib.Core.List.{[]};
+ghost use Prim.Native.Nat.{_+_, _^_, _≤_, _<_};
 ghost use lib.ListN.{length, getD};
 ghost use Rattle.paper.specs.Yard.{bayOf};
 ghost use Rattle.paper.specs.Path.{shortestPath};
-ghost use Rattle.paper.proofs.Playing.{Apart};
 ghost use Rattle.bring.specs.Acting.{Tabled, Ready};
-ghost use Rattle.step.specs.Asking.{Loopless};
+ghost use Rattle.step.specs.Asking.{Loopless, BaysBelow};
 ghost use Rattle.home.specs.Homing.{Owners, AtMost, Stages};
-ghost use Rattle.carry.specs.Carrying.{Goals, OnPath, Reaching, HomeBelow, carries, procedures};
+ghost use Rattle.carry.specs.Carrying.{Goals, OnPath, Reaching, HomeBelow, Settles, carries, procedures};
 
-// Carrier r goes the path, whose first bay is its own, then those that it displaced go home.
+// Carrier r goes the path, whose first bay is its own, then those that it displaced go home. At its goal r is finished, and its bay settled.
 fn carry_along(
     table: &[u64],
     goals: &[u16],
@@ -26,24 +25,37 @@ fn carry_along(
     placement: &mut [u16],
     standing: &mut [u16],
     empty: &mut [u64],
+    settled: &mut [u64],
     out: &mut [u64],
     at: usize,
 ) -> Staged
     requires { ⌜ Ready (now table) (now placement) (now standing) (now empty) ⌝ }
-    requires { ⌜ (r .0 < length (now placement)) × Goals (length (now standing)) (now goals) (now placement) × Loopless (length (now standing)) (now table) × HomeBelow (r .0) (now goals) (now placement) × (length (now path) ≤ 256) × OnPath (length (now standing)) (now table) (getD (now placement) (r .0) 0) (getD (now goals) (r .0) 0) (now path) × (at < 2 ^ 59) × Owners (length (now standing)) (now goals) (now owner) ⌝ }
-    ensures { λ z. ⌜ (AtMost at 80000000 z) × ((t : Tabled (length (now (standing .entry))) (now (table .entry))) → now (path .entry) ≡ shortestPath (t .yard) [] (bayOf (now (placement .entry)) (r .0)) (bayOf (now (goals .entry)) (r .0)) → Stages (carries (t .yard) (now (goals .entry)) (r .0) (now (placement .entry))) (length (now (standing .entry))) (now (placement .entry)) (now (out .entry)) at (now (placement .exit)) (now (standing .exit)) (now (empty .exit)) (now (out .exit)) z) ⌝ }
+    requires { ⌜ (r .0 < length (now placement)) × Goals (length (now standing)) (now goals) (now placement) × Loopless (length (now standing)) (now table) × HomeBelow (r .0) (now goals) (now placement) × (length (now path) ≤ 256) × OnPath (length (now standing)) (now table) (getD (now placement) (r .0) 0) (getD (now goals) (r .0) 0) (now path) × (at < 2 ^ 59) × Owners (length (now standing)) (now goals) (now owner) × BaysBelow (r .0) (now placement) (now settled) ⌝ }
+    ensures { λ z. ⌜ (AtMost at 80000000 z) × ((t : Tabled (length (now (standing .entry))) (now (table .entry))) → now (path .entry) ≡ shortestPath (t .yard) [] (bayOf (now (placement .entry)) (r .0)) (bayOf (now (goals .entry)) (r .0)) → Stages (carries (t .yard) (now (goals .entry)) (r .0) (now (placement .entry))) (length (now (standing .entry))) (now (placement .entry)) (now (out .entry)) at (now (placement .exit)) (now (standing .exit)) (now (empty .exit)) (now (out .exit)) z) × Settles (r .0 + 1) (now (placement .exit)) (now (settled .exit)) z ⌝ }
 {
     if path.len() < 1 {
         return Staged::Stuck(r);
     }
-    let gone = go::go(table, &path[1..], r, placement, standing, empty, out, at);
+    let gone = go::go(
+        table,
+        &path[1..],
+        r,
+        placement,
+        standing,
+        empty,
+        settled,
+        out,
+        at,
+    );
     let Tried::Done(m) = gone else {
         return Staged::Stuck(r);
     };
+    let own = r.0 as usize;
+    words::add(settled, placement[own] as usize);
     if path.len() < 3 {
         return Staged::Planned(m);
     }
-    let finished = r.0 as usize + 1;
+    let finished = own + 1;
     let last = path.len() - 1;
     home::way_home(
         table,
@@ -54,6 +66,7 @@ fn carry_along(
         placement,
         standing,
         empty,
+        settled,
         out,
         m,
     )
@@ -68,21 +81,21 @@ fn carry(
     placement: &mut [u16],
     standing: &mut [u16],
     empty: &mut [u64],
+    settled: &mut [u64],
     out: &mut [u64],
     at: usize,
 ) -> Staged
     requires { ⌜ Ready (now table) (now placement) (now standing) (now empty) ⌝ }
-    requires { ⌜ (r .0 < length (now placement)) × Goals (length (now standing)) (now goals) (now placement) × Loopless (length (now standing)) (now table) × HomeBelow (r .0) (now goals) (now placement) × Reaching (length (now standing)) (now table) × (at < 2 ^ 59) × Owners (length (now standing)) (now goals) (now owner) ⌝ }
-    ensures { λ z. ⌜ (AtMost at 80000000 z) × ((t : Tabled (length (now (standing .entry))) (now (table .entry))) → Stages (carries (t .yard) (now (goals .entry)) (r .0) (now (placement .entry))) (length (now (standing .entry))) (now (placement .entry)) (now (out .entry)) at (now (placement .exit)) (now (standing .exit)) (now (empty .exit)) (now (out .exit)) z) ⌝ }
+    requires { ⌜ (r .0 < length (now placement)) × Goals (length (now standing)) (now goals) (now placement) × Loopless (length (now standing)) (now table) × HomeBelow (r .0) (now goals) (now placement) × Reaching (length (now standing)) (now table) × (at < 2 ^ 59) × Owners (length (now standing)) (now goals) (now owner) × BaysBelow (r .0) (now placement) (now settled) ⌝ }
+    ensures { λ z. ⌜ (AtMost at 80000000 z) × ((t : Tabled (length (now (standing .entry))) (now (table .entry))) → Stages (carries (t .yard) (now (goals .entry)) (r .0) (now (placement .entry))) (length (now (standing .entry))) (now (placement .entry)) (now (out .entry)) at (now (placement .exit)) (now (standing .exit)) (now (empty .exit)) (now (out .exit)) z) × Settles (r .0 + 1) (now (placement .exit)) (now (settled .exit)) z ⌝ }
 {
     let own = r.0 as usize;
     let n = standing.len();
     let none = [0u64; words::WORDS];
-    let mut rows = [0u64; rings::NEAR];
     let mut path = [0u16; words::SPAN];
     let u = Bay(placement[own]);
     let v = Bay(goals[own]);
-    let Path::First(k) = rings::path_between(table, n, &none, u, v, &mut rows, &mut path) else {
+    let Path::First(k) = ways::path_between(table, n, &none, u, v, &mut path) else {
         return Staged::Stuck(r);
     };
     carry_along(
@@ -94,6 +107,7 @@ fn carry(
         placement,
         standing,
         empty,
+        settled,
         out,
         at,
     )
@@ -107,11 +121,12 @@ pub fn carry_all(
     placement: &mut [u16],
     standing: &mut [u16],
     empty: &mut [u64],
+    settled: &mut [u64],
     out: &mut [u64],
 ) -> Staged
     requires { ⌜ Ready (now table) (now placement) (now standing) (now empty) ⌝ }
-    requires { ⌜ Goals (length (now standing)) (now goals) (now placement) × Loopless (length (now standing)) (now table) × Reaching (length (now standing)) (now table) × Owners (length (now standing)) (now goals) (now owner) ⌝ }
-    ensures { λ z. ⌜ ((t : Tabled (length (now (standing .entry))) (now (table .entry))) → Stages (procedures (t .yard) (now (goals .entry)) (now (placement .entry))) (length (now (standing .entry))) (now (placement .entry)) (now (out .entry)) 0 (now (placement .exit)) (now (standing .exit)) (now (empty .exit)) (now (out .exit)) z) ⌝ }
+    requires { ⌜ Goals (length (now standing)) (now goals) (now placement) × Loopless (length (now standing)) (now table) × Reaching (length (now standing)) (now table) × Owners (length (now standing)) (now goals) (now owner) × BaysBelow 0 (now placement) (now settled) ⌝ }
+    ensures { λ z. ⌜ ((t : Tabled (length (now (standing .entry))) (now (table .entry))) → Stages (procedures (t .yard) (now (goals .entry)) (now (placement .entry))) (length (now (standing .entry))) (now (placement .entry)) (now (out .entry)) 0 (now (placement .exit)) (now (standing .exit)) (now (empty .exit)) (now (out .exit)) z) × Settles (length (now (goals .entry))) (now (placement .exit)) (now (settled .exit)) z ⌝ }
 {
     let mut count = 0;
     let mut r = 0;
@@ -125,6 +140,7 @@ pub fn carry_all(
             placement,
             standing,
             empty,
+            settled,
             out,
             count,
         );

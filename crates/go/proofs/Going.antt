@@ -11,16 +11,13 @@ use lib.ListN.{length, getD, drop, drop-of-length-le}
 use lib.Seq.{drop-cons}
 use Rattle.paper.specs.Procedure.{step, Outcome, planned, stuck, orStuck, onward, _next_, go}
 use Rattle.paper.specs.Yard.{Bay, Carrier, Yard, Placement, bayOf, Crossing, after}
-use Rattle.step.proofs.Stepping.{sound-of, railed}
-use Rattle.paper.proofs.Carrying.{Stepped, step-steps}
-use Rattle.paper.proofs.Playing.{Good}
+use Rattle.step.proofs.Settling.{stepped-of}
 use Rattle.go.specs.Going.{planOf, Linked}
 use Rattle.words.specs.Sets.{span, memRow}
 use Rattle.vacate.specs.Placed.{Placed, Played}
 use Rattle.vacate.proofs.Playing.{played-none, played-then}
 use Rattle.bring.specs.Acting.{Tabled, Acts, Tries}
 use Rattle.bring.proofs.Acting.{tries-some, acted-done, acted-failed}
-use Rattle.trial.proofs.Copying.{in-bays}
 use Rattle.step.specs.Asking.{Loopless}
 use Rattle.bring.specs.declared.Tried.the-variants.{Done}
 use Rattle.bring.specs.declared.Tried.the-variants.{Failed}
@@ -96,12 +93,5 @@ linked-here n table u ahead i h l = rw add-one (rw (drop-cons ahead i 0) at l)
 
 module _ {n : ℕ} {table : List ℕ} (t : Tabled n table) (most : n ≤ span) (loopless : Loopless n table) (finished : ℕ) (r : Carrier) (w : Bay) (p : Placement)
     {standing empty : List ℕ} (k : Placed n p standing empty) (hr : r < length p) (hf : finished ≤ length p) (hw : w < n) (rail : memRow table (bayOf p r) w ≡ true) where
-  good-of : Good (t .yard) p
-  good-of = record { apart = k .apart; inside = λ c h. in-bays t (k .inside c h) }
-
-  -- what the paper says of the step
-  pub stepped-of : (xs : List Crossing) → step (t .yard) finished r w p ≡ some xs → Stepped (t .yard) (sound-of t most loopless) finished r w p xs
-  stepped-of xs e = step-steps (t .yard) (sound-of t most loopless) finished r w p good-of hr hf (railed t most loopless finished r w p k hr hw rail) xs e
-
   pub arrived : {out : List ℕ} {at b : ℕ} {p′ standing′ empty′ out′ : List ℕ} → Acts (step (t .yard) finished r w p) n p standing empty out at p′ standing′ empty′ out′ (Done b) → bayOf p′ r ≡ w
-  arrived a = let s = acted-done a in rw (s .2 .moved) (stepped-of (s .0) (s .1) .arrives)
+  arrived a = let s = acted-done a in rw (s .2 .moved) (stepped-of t most loopless finished r w p k hr hf hw rail (s .0) (s .1) .arrives)

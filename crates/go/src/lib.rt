@@ -2,15 +2,14 @@
 use bring::Tried;
 use docket::Bay;
 use docket::Carrier;
-ghost use mathlib.Core.Path.{_≡_};
 ghost use mathlib.Core.List.{List};
-ghost use Prim.Native.Nat.{ℕ, _+_, _*_, _^_, _≤_, _<_};
+ghost use Prim.Native.Nat.{ℕ, _+_, _*_, _^_, _<_};
 ghost use lib.ListN.{length, getD};
 ghost use Rattle.bring.specs.Acting.{Tabled, Ready, Within, Tries};
-ghost use Rattle.step.specs.Asking.{Loopless};
+ghost use Rattle.step.specs.Asking.{Loopless, BaysBelow};
 ghost use Rattle.go.specs.Going.{Linked, goes};
 
-// Carrier r steps through the bays ahead; the carriers below r are finished.
+// Carrier r steps through the bays ahead; the carriers below r are finished, and their bays are the settled ones.
 pub fn go(
     table: &[u64],
     ahead: &[u16],
@@ -18,12 +17,13 @@ pub fn go(
     placement: &mut [u16],
     standing: &mut [u16],
     empty: &mut [u64],
+    settled: &mut [u64],
     out: &mut [u64],
     at: usize,
 ) -> Tried
     requires { ⌜ Ready (now table) (now placement) (now standing) (now empty) ⌝ }
-    requires { ⌜ (r .0 < length (now placement)) × Linked (length (now standing)) (now table) (getD (now placement) (r .0) 0) (now ahead) × Loopless (length (now standing)) (now table) × (at + 150000 * length (now ahead) < 2 ^ 60) ⌝ }
-    ensures { λ z. ⌜ (Within at (150000 * length (now (ahead .entry))) z) × ((t : Tabled (length (now (standing .entry))) (now (table .entry))) (goals : List ℕ) → Tries (goes (t .yard) goals (r .0) (now (ahead .entry)) (now (placement .entry))) (length (now (standing .entry))) (now (placement .entry)) (now (out .entry)) at (now (placement .exit)) (now (standing .exit)) (now (empty .exit)) (now (out .exit)) z) ⌝ }
+    requires { ⌜ (r .0 < length (now placement)) × Linked (length (now standing)) (now table) (getD (now placement) (r .0) 0) (now ahead) × Loopless (length (now standing)) (now table) × (at + 150000 * length (now ahead) < 2 ^ 60) × BaysBelow (r .0) (now placement) (now settled) ⌝ }
+    ensures { λ z. ⌜ (Within at (150000 * length (now (ahead .entry))) z) × ((t : Tabled (length (now (standing .entry))) (now (table .entry))) (goals : List ℕ) → Tries (goes (t .yard) goals (r .0) (now (ahead .entry)) (now (placement .entry))) (length (now (standing .entry))) (now (placement .entry)) (now (out .entry)) at (now (placement .exit)) (now (standing .exit)) (now (empty .exit)) (now (out .exit)) z) × BaysBelow (r .0) (now (placement .exit)) (now (settled .exit)) ⌝ }
 {
     let finished = r.0 as usize;
     let mut count = at;
@@ -38,6 +38,7 @@ pub fn go(
             placement,
             standing,
             empty,
+            settled,
             out,
             count,
         );

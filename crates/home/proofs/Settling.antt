@@ -25,7 +25,7 @@ use Rattle.vacate.specs.Placed.{Placed}
 use Rattle.bring.specs.Acting.{Tabled}
 use Rattle.step.specs.Asking.{Loopless}
 use Rattle.go.specs.Going.{Linked}
-use Rattle.go.proofs.Going.{stepped-of}
+use Rattle.step.proofs.Settling.{stepped-of}
 
 pub pair-linked : (n : ℕ) (table : List ℕ) (u : Bay) (l : List Bay) (a b : Bay) → Linked n table u l → Pair u l a b → memRow table a b ≡ true
 pair-linked n table u [] a b ch h = absurd h

@@ -3,15 +3,12 @@ use bring::Tried;
 use docket::Bay;
 use docket::Carrier;
 ghost use mathlib.Core.Path.{_≡_};
-ghost use mathlib.Core.Bool.{true};
-ghost use mathlib.Core.List.{List};
-ghost use Prim.Native.Nat.{ℕ, _+_, _*_, _^_, _≤_, _<_};
+ghost use Prim.Native.Nat.{_+_, _*_, _^_, _≤_, _<_};
 ghost use lib.ListN.{length, getD, take};
 ghost use Rattle.paper.specs.Yard.{carrierAt};
 ghost use Rattle.paper.proofs.Playing.{Apart};
-ghost use Rattle.words.specs.Sets.{memRow};
 ghost use Rattle.bring.specs.Acting.{Tabled, Ready};
-ghost use Rattle.step.specs.Asking.{Loopless};
+ghost use Rattle.step.specs.Asking.{Loopless, BaysBelow};
 ghost use Rattle.home.specs.Homing.{Owners, AtMost, Stages, Due, Homeward, homes, waysHome};
 
 // The count of crossings afterwards, or the carrier that could not step.
@@ -42,12 +39,13 @@ fn home_at(
     placement: &mut [u16],
     standing: &mut [u16],
     empty: &mut [u64],
+    settled: &mut [u64],
     out: &mut [u64],
     at: usize,
 ) -> Staged
     requires { ⌜ Ready (now table) (now placement) (now standing) (now empty) ⌝ }
-    requires { ⌜ (finished ≤ length (now goals)) × (length (now goals) ≡ length (now placement)) × (v .0 < length (now standing)) × Loopless (length (now standing)) (now table) × (at < 2 ^ 60) × Due (now table) (now goals) finished (v .0) (now placement) × Owners (length (now standing)) (now goals) (now owner) ⌝ }
-    ensures { λ z. ⌜ (AtMost at 150000 z) × ((t : Tabled (length (now (standing .entry))) (now (table .entry))) → Stages (homes (t .yard) (now (goals .entry)) finished (v .0) (now (placement .entry))) (length (now (standing .entry))) (now (placement .entry)) (now (out .entry)) at (now (placement .exit)) (now (standing .exit)) (now (empty .exit)) (now (out .exit)) z) ⌝ }
+    requires { ⌜ (finished ≤ length (now goals)) × (length (now goals) ≡ length (now placement)) × (v .0 < length (now standing)) × Loopless (length (now standing)) (now table) × (at < 2 ^ 60) × Due (now table) (now goals) finished (v .0) (now placement) × Owners (length (now standing)) (now goals) (now owner) × BaysBelow finished (now placement) (now settled) ⌝ }
+    ensures { λ z. ⌜ (AtMost at 150000 z) × ((t : Tabled (length (now (standing .entry))) (now (table .entry))) → Stages (homes (t .yard) (now (goals .entry)) finished (v .0) (now (placement .entry))) (length (now (standing .entry))) (now (placement .entry)) (now (out .entry)) at (now (placement .exit)) (now (standing .exit)) (now (empty .exit)) (now (out .exit)) z) × BaysBelow finished (now (placement .exit)) (now (settled .exit)) ⌝ }
 {
     let c = bound_for(goals, owner, finished, v);
     if finished <= c {
@@ -57,14 +55,25 @@ fn home_at(
         return Staged::Planned(at);
     }
     let f = Carrier(c as u32);
-    let one = step::step(table, finished, f, v, placement, standing, empty, out, at);
+    let one = step::step(
+        table,
+        finished,
+        f,
+        v,
+        placement,
+        standing,
+        empty,
+        settled,
+        out,
+        at,
+    );
     let Tried::Done(m) = one else {
         return Staged::Stuck(f);
     };
     Staged::Planned(m)
 }
 
-// The bays of the path one after the other, the last of them first.
+// The bays of the path one after the other, the last of them first. The settled bays are those of the finished carriers.
 pub fn way_home(
     table: &[u64],
     goals: &[u16],
@@ -74,12 +83,13 @@ pub fn way_home(
     placement: &mut [u16],
     standing: &mut [u16],
     empty: &mut [u64],
+    settled: &mut [u64],
     out: &mut [u64],
     at: usize,
 ) -> Staged
     requires { ⌜ Ready (now table) (now placement) (now standing) (now empty) ⌝ }
-    requires { ⌜ (finished ≤ length (now goals)) × (length (now goals) ≡ length (now placement)) × Apart (now goals) × Loopless (length (now standing)) (now table) × (at + 150000 * length (now bays) < 2 ^ 60) × Homeward (length (now standing)) (now table) (now goals) finished (now bays) (now placement) × Owners (length (now standing)) (now goals) (now owner) ⌝ }
-    ensures { λ z. ⌜ (AtMost at (150000 * length (now (bays .entry))) z) × ((t : Tabled (length (now (standing .entry))) (now (table .entry))) → Stages (waysHome (t .yard) (now (goals .entry)) finished (now (bays .entry)) (now (placement .entry))) (length (now (standing .entry))) (now (placement .entry)) (now (out .entry)) at (now (placement .exit)) (now (standing .exit)) (now (empty .exit)) (now (out .exit)) z) ⌝ }
+    requires { ⌜ (finished ≤ length (now goals)) × (length (now goals) ≡ length (now placement)) × Apart (now goals) × Loopless (length (now standing)) (now table) × (at + 150000 * length (now bays) < 2 ^ 60) × Homeward (length (now standing)) (now table) (now goals) finished (now bays) (now placement) × Owners (length (now standing)) (now goals) (now owner) × BaysBelow finished (now placement) (now settled) ⌝ }
+    ensures { λ z. ⌜ (AtMost at (150000 * length (now (bays .entry))) z) × ((t : Tabled (length (now (standing .entry))) (now (table .entry))) → Stages (waysHome (t .yard) (now (goals .entry)) finished (now (bays .entry)) (now (placement .entry))) (length (now (standing .entry))) (now (placement .entry)) (now (out .entry)) at (now (placement .exit)) (now (standing .exit)) (now (empty .exit)) (now (out .exit)) z) × BaysBelow finished (now (placement .exit)) (now (settled .exit)) ⌝ }
 {
     let mut count = at;
     let mut i = bays.len();
@@ -95,6 +105,7 @@ pub fn way_home(
             placement,
             standing,
             empty,
+            settled,
             out,
             count,
         );

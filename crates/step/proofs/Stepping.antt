@@ -3,31 +3,30 @@
 -- Assumes nothing.
 use mathlib.Core.Path.{_≡_, sym, _∙_, refl}
 use mathlib.Core.Bool.{true, false}
-use mathlib.Core.List.{List, [], _∷_, _++_}
+use mathlib.Core.List.{List, [], _∷_}
 use mathlib.Core.Option.{none, some}
-use Prim.Native.Nat.{ℕ, _≤_, _<_, _+_}
+use Prim.Native.Nat.{ℕ, _≤_, _<_}
 use native.Mathlib.Omega.{arith}
-use native.Mathlib.Numerals.{add-one}
 use lib.ListN.{length, getD, take, length-take}
 use lib.Dec.{eqb}
-use lib.Seq.{take-suc, getD-take}
+use lib.Seq.{getD-take}
 use borrow.Author.Tests.{not-true}
 use Rattle.paper.specs.Basics.{_or_, elem, In, Out}
 use Rattle.paper.specs.Procedure.{_then_, cross, vacate, holding, swap, step}
 use Rattle.paper.specs.Yard.{Bay, Carrier, Placement, bayOf, carrierAt, Crossing, crossing, after, joined}
 use Rattle.paper.proofs.Members.{In-head, In-tail, in-count}
 use Rattle.paper.proofs.Playing.{Sound, after-length, placeOf-bay, placeOf-there, bay-in}
-use Rattle.paper.proofs.Tests.{by-cases, not-both, never-some}
+use Rattle.paper.proofs.Tests.{by-cases, not-both, never-some, or-right}
 use Rattle.paper.proofs.Vacating.{Vacated, vacate-vacates, vacate-empty}
-use Rattle.words.specs.Sets.{mem, span, memRow}
+use Rattle.words.specs.Sets.{mem, span, memRow, Kept}
+use Rattle.words.proofs.Sets.{row-zero, or-false}
 use Rattle.swap.specs.Seeking.{Beside}
 use Rattle.rings.specs.Search.{Shown}
-use Rattle.rings.proofs.Searching.{elem-append, elem-one}
 use Rattle.vacate.specs.Placed.{Placed, Played}
 use Rattle.vacate.proofs.Playing.{played-none, played-then, carrier-is, carrier-none}
 use Rattle.bring.specs.Acting.{Tabled, Acts}
 use Rattle.bring.proofs.Acting.{acts-some}
-use Rattle.step.specs.Asking.{Loopless}
+use Rattle.step.specs.Asking.{Loopless, BaysBelow}
 use Rattle.bring.specs.declared.Tried.the-variants.{Done}
 use Rattle.bring.specs.declared.Tried.{Tried}
 
@@ -39,20 +38,17 @@ sound-of {n} t most l = record {
 
 -- ## What is held
 
--- the bay that r holds, and those of the carriers below c
-pub hold-none : (p h₀ h₁ : List ℕ) (r : Carrier) → ((y : ℕ) → mem h₀ y ≡ false) → ((y : ℕ) → mem h₁ y ≡ mem h₀ y or eqb y (bayOf p r)) → (b : ℕ) → mem h₁ b ≡ elem b (bayOf p r ∷ take 0 p)
-unfolding _or_
-hold-none p h₀ h₁ r f g b = g b ∙ rw (f b) (sym (elem-one b (bayOf p r)))
+-- a copy of the finished carriers' bays, with r's own
+pub own-held : {finished : ℕ} {p settled h₀ h₁ : List ℕ} (held : List ℕ) (r : Carrier) → BaysBelow finished p settled → Kept h₀ 0 settled h₁
+    → ((y : ℕ) → mem held y ≡ mem h₁ y or eqb y (bayOf p r)) → (b : ℕ) → b < span → mem held b ≡ elem b (holding finished r p)
+unfolding elem
+own-held {finished} {p} {h₁ = h₁} held r s k f b h =
+    let copied : mem h₁ b ≡ elem b (take finished p) = sym (row-zero h₁ b) ∙ k .row b h ∙ s .bays b in
+    f b ∙ rw copied (by-cases (eqb b (bayOf p r)) (λ e. rw e (or-right (elem b (take finished p)) true refl)) (λ e. rw e (or-false (elem b (take finished p)) false refl)))
 
-pub elem-snoc : (b x : ℕ) (l : List ℕ) → elem b (l ++ (x ∷ [])) ≡ elem b l or eqb b x
-elem-snoc b x l = elem-append b l (x ∷ []) ∙ rw elem-one
-
-pub hold-more : (p h h′ : List ℕ) (r : Carrier) (c : ℕ) → c < length p → ((b : ℕ) → mem h b ≡ elem b (bayOf p r ∷ take c p)) → ((y : ℕ) → mem h′ y ≡ mem h y or eqb y (bayOf p c))
-    → (b : ℕ) → mem h′ b ≡ elem b (bayOf p r ∷ take (c + 1) p)
-hold-more p h h′ r c k f g b = g b ∙ rw (f b, add-one, take-suc p c 0 k) (sym (elem-snoc b (bayOf p c) (bayOf p r ∷ take c p)))
-
-abbrev pub heldBy : {n : ℕ} {table held : List ℕ} (t : Tabled n table) (finished : ℕ) (r : Carrier) (p : Placement) → ((b : ℕ) → mem held b ≡ elem b (holding finished r p)) → Shown n table held
-heldBy t finished r p f = record { yard = t .yard; bays = holding finished r p; joins = t .joins; holds = λ b h. f b }
+abbrev pub heldBy : {n finished : ℕ} {table p settled h₀ h₁ held : List ℕ} (t : Tabled n table) (r : Carrier) → BaysBelow finished p settled → Kept h₀ 0 settled h₁
+    → ((y : ℕ) → mem held y ≡ mem h₁ y or eqb y (bayOf p r)) → Shown n table held
+heldBy {finished = finished} {p = p} {held = held} t r s k f = record { yard = t .yard; bays = holding finished r p; joins = t .joins; holds = own-held held r s k f }
 
 -- ## The step
 

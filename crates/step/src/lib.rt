@@ -4,32 +4,19 @@ use docket::Bay;
 use docket::Carrier;
 ghost use mathlib.Core.Path.{_≡_};
 ghost use mathlib.Core.Bool.{true, false};
-ghost use Prim.Native.Nat.{ℕ, _+_, _*_, _^_, _≤_, _<_};
+ghost use Prim.Native.Nat.{ℕ, _^_, _≤_, _<_};
 ghost use lib.ListN.{length, getD};
-ghost use Rattle.paper.specs.Basics.{_and_, elem};
-ghost use Rattle.paper.specs.Procedure.{holding};
+ghost use Rattle.paper.specs.Basics.{_and_};
+ghost use Rattle.paper.specs.Procedure.{trade};
 ghost use Rattle.words.specs.Sets.{mem, memRow, words, span, Lowest};
 ghost use Rattle.bring.specs.Acting.{Tabled, Ready, Within, Acts};
-ghost use Rattle.step.specs.Asking.{Loopless, steps};
+ghost use Rattle.step.specs.Asking.{Loopless, BaysBelow, steps};
 
-// What a step of r holds: its own bay, and those of the finished carriers.
-fn hold(placement: &[u16], finished: usize, r: Carrier, held: &mut [u64])
-    requires { ⌜ (r .0 < length (now placement)) × (finished ≤ length (now placement)) × (length (now held) ≡ words) × ((c : ℕ) → c < length (now placement) → getD (now placement) c 0 < span) ⌝ }
-    ensures { λ _. ⌜ ((b : ℕ) → mem (now (held .exit)) b ≡ elem b (holding finished (r .0) (now (placement .entry)))) ⌝ }
-{
-    let own = r.0 as usize;
-    words::clear(held);
-    words::add(held, placement[own] as usize);
-    let mut c = 0;
-    while c < finished {
-        words::add(held, placement[c] as usize);
-        c += 1;
-    }
-}
-
-// The step where a carrier may stand at w: it is vacated, then r crosses; or else r is swapped with the carrier there.
+// The step where a carrier may stand at w: it is vacated, then r crosses; or else r is swapped with the carrier there. Held are r's own bay and
+// those of the finished carriers.
 fn make_way(
     table: &[u64],
+    settled: &[u64],
     finished: usize,
     r: Carrier,
     w: Bay,
@@ -40,29 +27,19 @@ fn make_way(
     at: usize,
 ) -> Tried
     requires { ⌜ Ready (now table) (now placement) (now standing) (now empty) ⌝ }
-    requires { ⌜ (r .0 < length (now placement)) × (finished ≤ length (now placement)) × (w .0 < length (now standing)) × (memRow (now table) (getD (now placement) (r .0) 0) (w .0) ≡ true) × Loopless (length (now standing)) (now table) × (at < 2 ^ 60) ⌝ }
+    requires { ⌜ (r .0 < length (now placement)) × (finished ≤ length (now placement)) × (w .0 < length (now standing)) × (memRow (now table) (getD (now placement) (r .0) 0) (w .0) ≡ true) × Loopless (length (now standing)) (now table) × (at < 2 ^ 60) × BaysBelow finished (now placement) (now settled) ⌝ }
     ensures { λ z. ⌜ (Within at 150000 z) × ((t : Tabled (length (now (standing .entry))) (now (table .entry))) → Acts (steps (t .yard) finished (r .0) (w .0) (now (placement .entry))) (length (now (standing .entry))) (now (placement .entry)) (now (standing .entry)) (now (empty .entry)) (now (out .entry)) at (now (placement .exit)) (now (standing .exit)) (now (empty .exit)) (now (out .exit)) z) ⌝ }
 {
+    let own = r.0 as usize;
     let mut held = [0u64; words::WORDS];
-    let mut rows = [0u64; rings::NEAR];
-    hold(placement, finished, r, &mut held);
-    let vacated = bring::make_room(
-        table,
-        &held,
-        w,
-        placement,
-        standing,
-        empty,
-        &mut rows,
-        out,
-        at,
-    );
+    words::keep(&mut held, 0, settled);
+    words::add(&mut held, placement[own] as usize);
+    let vacated = bring::make_room(table, &held, w, placement, standing, empty, out, at);
     let Tried::Done(a) = vacated else {
         let bay = w.0 as usize;
         let s = Carrier(standing[bay] as u32);
         return swap::swap(table, r, s, placement, standing, empty, out, at);
     };
-    let own = r.0 as usize;
     let u = Bay(placement[own]);
     Tried::Done(vacate::cross(placement, standing, empty, u, w, out, a))
 }
@@ -92,8 +69,9 @@ fn step_aside(
 
 // One step of r to w: it is vacated, then r crosses; or else r is swapped with the carrier there. Vacating an empty bay moves
 // nothing, and a finished carrier's bay is held: both want no search. Nor does a bay that an empty one is beside.
-pub fn step(
+fn step_to(
     table: &[u64],
+    settled: &[u64],
     finished: usize,
     r: Carrier,
     w: Bay,
@@ -104,7 +82,7 @@ pub fn step(
     at: usize,
 ) -> Tried
     requires { ⌜ Ready (now table) (now placement) (now standing) (now empty) ⌝ }
-    requires { ⌜ (r .0 < length (now placement)) × (finished ≤ length (now placement)) × (w .0 < length (now standing)) × (memRow (now table) (getD (now placement) (r .0) 0) (w .0) ≡ true) × Loopless (length (now standing)) (now table) × (at < 2 ^ 60) ⌝ }
+    requires { ⌜ (r .0 < length (now placement)) × (finished ≤ length (now placement)) × (w .0 < length (now standing)) × (memRow (now table) (getD (now placement) (r .0) 0) (w .0) ≡ true) × Loopless (length (now standing)) (now table) × (at < 2 ^ 60) × BaysBelow finished (now placement) (now settled) ⌝ }
     ensures { λ z. ⌜ (Within at 150000 z) × ((t : Tabled (length (now (standing .entry))) (now (table .entry))) → Acts (steps (t .yard) finished (r .0) (w .0) (now (placement .entry))) (length (now (standing .entry))) (now (placement .entry)) (now (standing .entry)) (now (empty .entry)) (now (out .entry)) at (now (placement .exit)) (now (standing .exit)) (now (empty .exit)) (now (out .exit)) z) ⌝ }
 {
     let bay = w.0 as usize;
@@ -142,5 +120,74 @@ pub fn step(
             at,
         );
     }
-    make_way(table, finished, r, w, placement, standing, empty, out, at)
+    make_way(
+        table,
+        settled,
+        finished,
+        r,
+        w,
+        placement,
+        standing,
+        empty,
+        out,
+        at,
+    )
+}
+
+// The set after whoever stood at u and at w have traded bays: if one of the two was in it, that one leaves and the other joins.
+fn settle(settled: &mut [u64], u: Bay, w: Bay)
+    requires { ⌜ (length (now settled) ≡ words) × (u .0 < span) × (w .0 < span) ⌝ }
+    ensures { λ _. ⌜ ((b : ℕ) → mem (now (settled .exit)) b ≡ mem (now (settled .entry)) (trade (u .0) (w .0) b)) ⌝ }
+{
+    let from = u.0 as usize;
+    let to = w.0 as usize;
+    let left = words::is_in(settled, from);
+    if words::is_in(settled, to) {
+        if left {
+            return;
+        }
+        words::replace(settled, to, from);
+        return;
+    }
+    if left {
+        words::replace(settled, from, to);
+    }
+}
+
+// One step of r to w, and the bays of the finished carriers after it: r or one of them may have left its bay for another's.
+pub fn step(
+    table: &[u64],
+    finished: usize,
+    r: Carrier,
+    w: Bay,
+    placement: &mut [u16],
+    standing: &mut [u16],
+    empty: &mut [u64],
+    settled: &mut [u64],
+    out: &mut [u64],
+    at: usize,
+) -> Tried
+    requires { ⌜ Ready (now table) (now placement) (now standing) (now empty) ⌝ }
+    requires { ⌜ (r .0 < length (now placement)) × (finished ≤ length (now placement)) × (w .0 < length (now standing)) × (memRow (now table) (getD (now placement) (r .0) 0) (w .0) ≡ true) × Loopless (length (now standing)) (now table) × (at < 2 ^ 60) × BaysBelow finished (now placement) (now settled) ⌝ }
+    ensures { λ z. ⌜ (Within at 150000 z) × ((t : Tabled (length (now (standing .entry))) (now (table .entry))) → Acts (steps (t .yard) finished (r .0) (w .0) (now (placement .entry))) (length (now (standing .entry))) (now (placement .entry)) (now (standing .entry)) (now (empty .entry)) (now (out .entry)) at (now (placement .exit)) (now (standing .exit)) (now (empty .exit)) (now (out .exit)) z) × BaysBelow finished (now (placement .exit)) (now (settled .exit)) ⌝ }
+{
+    let own = r.0 as usize;
+    let u = Bay(placement[own]);
+    let stepped = step_to(
+        table,
+        settled,
+        finished,
+        r,
+        w,
+        placement,
+        standing,
+        empty,
+        out,
+        at,
+    );
+    let Tried::Done(m) = stepped else {
+        return Tried::Failed;
+    };
+    settle(settled, u, w);
+    Tried::Done(m)
 }

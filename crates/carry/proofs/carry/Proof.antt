@@ -32,14 +32,11 @@ slice-aggregate-path-between c = search needs
 slice-aggregate-path-between-2 : tie.Need-slice-aggregate-path-between-2
 slice-aggregate-path-between-2 c = search needs
 
-slice-aggregate-path-between-3 : tie.Need-slice-aggregate-path-between-3
-slice-aggregate-path-between-3 c = search needs
-
 path-between-requires : tie.Need-path-between-requires
 path-between-requires c κs =
     let p = c .before .before .before .before .before .before .before .before .before .before .before .before .before .pre .0 in
     let z = c .before .before .before .before .before .before .before .before .before .before .before .before .before .pre .1 in
-    (p .most, p .placed .inside (c .before .before .before .before .before .before .before .before .before .before .before .before .before .args .r .0) (z .0), z .1 .inside (c .before .before .before .before .before .before .before .before .before .before .before .before .before .args .r .0) (omega (arith, z .0, z .1 .many)), omega (arith, p .table-size), refl, omega (arith, p .most), omega (arith, p .most), freeShown (p .tabled))
+    (p .most, p .placed .inside (c .before .before .before .before .before .before .before .before .before .before .before .before .before .args .r .0) (z .0), z .1 .inside (c .before .before .before .before .before .before .before .before .before .before .before .before .before .args .r .0) (omega (arith, z .0, z .1 .many)), omega (arith, p .table-size), refl, omega (arith, p .most), freeShown (p .tabled))
 
 enum-known-k : tie.Need-enum-known-k
 enum-known-k c = search needs
@@ -49,33 +46,33 @@ enum-told c = search needs
 
 returns : tie.Need-returns
 returns c =
-    let p = c .before .before .before .before .before .before .before .before .before .before .before .before .before .before .before .before .before .before .pre .0 in
-    let z = c .before .before .before .before .before .before .before .before .before .before .before .before .before .before .before .before .before .before .pre .1 in
+    let p = c .before .before .before .before .before .before .before .before .before .before .before .before .before .before .before .before .before .pre .0 in
+    let z = c .before .before .before .before .before .before .before .before .before .before .before .before .before .before .before .before .before .pre .1 in
     let w = z .4 in
-    never-apart w _ _ (p .placed .inside (c .before .before .before .before .before .before .before .before .before .before .before .before .before .before .before .before .before .before .args .r .0) (z .0)) (z .1 .inside (c .before .before .before .before .before .before .before .before .before .before .before .before .before .before .before .before .before .before .args .r .0) (omega (arith, z .0, z .1 .many))) ((rw (c .enum-told .given .1) at (c .before .before .before .before .path-between .ensures (freeShown (w .tabled)))) .same)
+    never-apart w _ _ (p .placed .inside (c .before .before .before .before .before .before .before .before .before .before .before .before .before .before .before .before .before .args .r .0) (z .0)) (z .1 .inside (c .before .before .before .before .before .before .before .before .before .before .before .before .before .before .before .before .before .args .r .0) (omega (arith, z .0, z .1 .many))) ((rw (c .enum-told .given .1) at (c .before .before .before .path-between .ensures (freeShown (w .tabled)))) .same)
 
 array-share-prefix-path : tie.Need-array-share-prefix-path
 array-share-prefix-path c =
-    let p = c .before .before .before .before .before .before .before .before .before .before .before .before .before .before .before .before .before .before .before .pre .0 in
-    let f = rw (c .before .k .given .1) at (c .before .before .before .before .before .path-between .ensures (freeShown (p .tabled))) in
-    let kept : length (c .before .before .before .before .before .path-between .last .1 .1 .1 .1 .1 .1 .0) ≡ span = c .before .before .before .before .before .path-between .kept .1 .1 .1 .1 .1 .1 .0 in
+    let p = c .before .before .before .before .before .before .before .before .before .before .before .before .before .before .before .before .before .before .pre .0 in
+    let f = rw (c .before .k .given .1) at (c .before .before .before .before .path-between .ensures (freeShown (p .tabled))) in
+    let kept : length (c .before .before .before .before .path-between .last .1 .1 .1 .1 .1 .0) ≡ span = c .before .before .before .before .path-between .kept .1 .1 .1 .1 .1 .0 in
     omega (arith, f .fits, p .most, kept)
 
 slice-aggregate-carry-along : tie.Need-slice-aggregate-carry-along
 slice-aggregate-carry-along c =
-    let p = c .before .before .before .before .before .before .before .before .before .before .before .before .before .before .before .before .before .before .before .before .pre .0 in
-    let f = rw (c .before .before .k .given .1) at (c .before .before .before .before .before .before .path-between .ensures (freeShown (p .tabled))) in
-    let kept : length (c .before .before .before .before .before .before .path-between .last .1 .1 .1 .1 .1 .1 .0) ≡ span = c .before .before .before .before .before .before .path-between .kept .1 .1 .1 .1 .1 .1 .0 in
+    let p = c .before .before .before .before .before .before .before .before .before .before .before .before .before .before .before .before .before .before .before .pre .0 in
+    let f = rw (c .before .before .k .given .1) at (c .before .before .before .before .before .path-between .ensures (freeShown (p .tabled))) in
+    let kept : length (c .before .before .before .before .before .path-between .last .1 .1 .1 .1 .1 .0) ≡ span = c .before .before .before .before .before .path-between .kept .1 .1 .1 .1 .1 .0 in
     sym (length-take-le _ _ (omega (arith, f .fits, p .most, kept)))
 
 carry-along-requires : tie.Need-carry-along-requires
 carry-along-requires c κs =
     let p = c .before .before .before .before .before .before .before .before .before .before .before .before .before .before .before .before .before .before .before .before .before .before .before .before .pre .0 in
     let z = c .before .before .before .before .before .before .before .before .before .before .before .before .before .before .before .before .before .before .before .before .before .before .before .before .pre .1 in
-    let f = rw (c .before .before .before .before .before .before .k .given .1) at (c .before .before .before .before .before .before .before .before .before .before .path-between .ensures (freeShown (p .tabled))) in
-    let kept : length (c .before .before .before .before .before .before .before .before .before .before .path-between .last .1 .1 .1 .1 .1 .1 .0) ≡ span = c .before .before .before .before .before .before .before .before .before .before .path-between .kept .1 .1 .1 .1 .1 .1 .0 in
-    let len : length (take (c .before .before .before .before .before .before .k .given .0 .0) (c .before .before .before .before .before .before .before .before .before .before .path-between .last .1 .1 .1 .1 .1 .1 .0)) ≡ c .before .before .before .before .before .before .k .given .0 .0 = length-take-le _ _ (omega (arith, f .fits, p .most, kept)) in
-    (p, (z .0, z .1, z .2, z .3, omega (arith, len, f .fits, p .most), on-path (p .tabled) (p .most) _ _ _ (p .placed .inside (c .before .before .before .before .before .before .before .before .before .before .before .before .before .before .before .before .before .before .before .before .before .before .before .before .args .r .0) (z .0)) (z .1 .inside (c .before .before .before .before .before .before .before .before .before .before .before .before .before .before .before .before .before .before .before .before .before .before .before .before .args .r .0) (omega (arith, z .0, z .1 .many))) (f .same), z .5, z .6))
+    let f = rw (c .before .before .before .before .before .before .before .k .given .1) at (c .before .before .before .before .before .before .before .before .before .before .path-between .ensures (freeShown (p .tabled))) in
+    let kept : length (c .before .before .before .before .before .before .before .before .before .before .path-between .last .1 .1 .1 .1 .1 .0) ≡ span = c .before .before .before .before .before .before .before .before .before .before .path-between .kept .1 .1 .1 .1 .1 .0 in
+    let len : length (take (c .before .before .before .before .before .before .before .k .given .0 .0) (c .before .before .before .before .before .before .before .before .before .before .path-between .last .1 .1 .1 .1 .1 .0)) ≡ c .before .before .before .before .before .before .before .k .given .0 .0 = length-take-le _ _ (omega (arith, f .fits, p .most, kept)) in
+    (p, (z .0, z .1, z .2, z .3, omega (arith, len, f .fits, p .most), on-path (p .tabled) (p .most) _ _ _ (p .placed .inside (c .before .before .before .before .before .before .before .before .before .before .before .before .before .before .before .before .before .before .before .before .before .before .before .before .args .r .0) (z .0)) (z .1 .inside (c .before .before .before .before .before .before .before .before .before .before .before .before .before .before .before .before .before .before .before .before .before .before .before .before .args .r .0) (omega (arith, z .0, z .1 .many))) (f .same), z .5, z .6, z .7))
 
 same-length : tie.Need-same-length
 same-length c = search needs
@@ -89,12 +86,16 @@ same-length-3 c = search needs
 same-length-4 : tie.Need-same-length-4
 same-length-4 c = search needs
 
+same-length-5 : tie.Need-same-length-5
+same-length-5 c = search needs
+
 returns-2 : tie.Need-returns-2
 returns-2 c =
-    let p = c .before .before .before .before .before .before .before .before .before .before .before .before .before .before .before .before .before .before .before .before .before .before .before .before .before .before .before .before .before .before .before .before .before .pre .0 in
-    let z = c .before .before .before .before .before .before .before .before .before .before .before .before .before .before .before .before .before .before .before .before .before .before .before .before .before .before .before .before .before .before .before .before .before .pre .1 in (
-      c .before .before .before .before .before .before .before .before .carry-along .ensures .0,
-      λ t. c .before .before .before .before .before .before .before .before .carry-along .ensures .1 t (path-found t _ _ _ (p .placed .inside (c .before .before .before .before .before .before .before .before .before .before .before .before .before .before .before .before .before .before .before .before .before .before .before .before .before .before .before .before .before .before .before .before .before .args .r .0) (z .0)) (z .1 .inside (c .before .before .before .before .before .before .before .before .before .before .before .before .before .before .before .before .before .before .before .before .before .before .before .before .before .before .before .before .before .before .before .before .before .args .r .0) (omega (arith, z .0, z .1 .many))) ((rw (c .before .before .before .before .before .before .before .before .before .before .before .before .before .before .before .k .given .1) at (c .before .before .before .before .before .before .before .before .before .before .before .before .before .before .before .before .before .before .before .path-between .ensures (freeShown t))) .same) .0),
+    let p = c .before .before .before .before .before .before .before .before .before .before .before .before .before .before .before .before .before .before .before .before .before .before .before .before .before .before .before .before .before .before .before .before .before .before .before .pre .0 in
+    let z = c .before .before .before .before .before .before .before .before .before .before .before .before .before .before .before .before .before .before .before .before .before .before .before .before .before .before .before .before .before .before .before .before .before .before .before .pre .1 in (
+      c .before .before .before .before .before .before .before .before .before .before .carry-along .ensures .0,
+      λ t. c .before .before .before .before .before .before .before .before .before .before .carry-along .ensures .1 t (path-found t _ _ _ (p .placed .inside (c .before .before .before .before .before .before .before .before .before .before .before .before .before .before .before .before .before .before .before .before .before .before .before .before .before .before .before .before .before .before .before .before .before .before .before .args .r .0) (z .0)) (z .1 .inside (c .before .before .before .before .before .before .before .before .before .before .before .before .before .before .before .before .before .before .before .before .before .before .before .before .before .before .before .before .before .before .before .before .before .before .before .args .r .0) (omega (arith, z .0, z .1 .many))) ((rw (c .before .before .before .before .before .before .before .before .before .before .before .before .before .before .before .before .before .before .k .given .1) at (c .before .before .before .before .before .before .before .before .before .before .before .before .before .before .before .before .before .before .before .before .before .path-between .ensures (freeShown t))) .same) .0),
+      c .before .before .before .before .before .before .before .before .before .before .carry-along .ensures .2,
     )
 
 pub carry-spec : {M : Type 1} → statement M
@@ -108,7 +109,6 @@ carry-spec =
     shared-slice-read-t20
     slice-aggregate-path-between
     slice-aggregate-path-between-2
-    slice-aggregate-path-between-3
     path-between-requires
     enum-known-k
     enum-told
@@ -120,4 +120,5 @@ carry-spec =
     same-length-2
     same-length-3
     same-length-4
+    same-length-5
     returns-2)

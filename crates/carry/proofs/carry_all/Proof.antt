@@ -7,48 +7,51 @@ use lib.ListN.{length}
 use borrow.Author.Needs.{needs}
 use Rattle.paper.specs.Text.{count}
 use Rattle.bring.specs.Acting.{Tabled}
+use Rattle.step.specs.Asking.{BaysBelow}
 use Rattle.home.proofs.Homing.{stages-stuck}
 use Rattle.carry.specs.Carrying.{Goals, HomeBelow}
-use Rattle.carry.proofs.Carrying.{Served, served-none, served-more, served-stuck, served-all, home-more}
+use Rattle.carry.proofs.Carrying.{settles, settles-stuck, Served, served-none, served-more, served-stuck, served-all, home-more}
 use Rattle.home.specs.declared.Staged.the-variants.{Planned}
 use Rattle.home.specs.declared.Staged.the-variants.{Stuck}
 use Rattle.carry.proofs.carry_all.Statement.{statement}
 use Rattle.carry.proofs.carry_all.Tie as tie
 
 abbrev Inv-loop : tie.InvT-loop
-Inv-loop table goals owner placement₀ standing₀ empty₀ out₀ count₀ r₀ placement standing empty out count r =
+Inv-loop table goals owner placement₀ standing₀ empty₀ settled₀ out₀ count₀ r₀ placement standing empty settled out count r =
     (r ≤ length goals) × (count ≤ 80000000 * r) × (length placement ≡ length placement₀) × (length standing ≡ length standing₀) × (length empty ≡ length empty₀) × (length out ≡ length out₀)
     × HomeBelow r goals placement × ((t : Tabled (length standing₀) table) → Served (t .yard) goals (length standing₀) placement₀ out₀ r placement standing empty out count)
+    × (length settled ≡ length settled₀) × BaysBelow r placement settled
 
 abbrev μ-loop : tie.MeasureT-loop
-μ-loop table goals owner placement₀ standing₀ empty₀ out₀ count₀ r₀ placement standing empty out count r =
+μ-loop table goals owner placement₀ standing₀ empty₀ settled₀ out₀ count₀ r₀ placement standing empty settled out count r =
     length goals - r
 
 loop-holds : tie.Need-loop-holds Inv-loop μ-loop
-loop-holds c = (omega arith, omega arith, refl, refl, refl, refl, record { home = λ i h. absurd (omega arith) }, λ t. served-none _ _ _ _ _ _ _ (c .before .before .before .before .before .before .before .pre .0 .placed))
+loop-holds c = (omega arith, omega arith, refl, refl, refl, refl, record { home = λ i h. absurd (omega arith) }, λ t. served-none _ _ _ _ _ _ _ (c .before .before .before .before .before .before .before .before .pre .0 .placed), refl, c .before .before .before .before .before .before .before .before .pre .1 .4)
 
-cast-t15 : tie.Need-cast-t15 Inv-loop μ-loop
-cast-t15 c =
-    let p = c .before .before .before .before .before .before .before .before .before .pre .0 in
-    let z = c .before .before .before .before .before .before .before .before .before .pre .1 in
+cast-t16 : tie.Need-cast-t16 Inv-loop μ-loop
+cast-t16 c =
+    let p = c .before .before .before .before .before .before .before .before .before .before .pre .0 in
+    let z = c .before .before .before .before .before .before .before .before .before .before .pre .1 in
     omega (arith, c .loop-test .taken, z .0 .many, p .placed .few, p .most)
 
 carry-requires : tie.Need-carry-requires Inv-loop μ-loop
 carry-requires c κs =
-    let p = c .before .before .before .before .before .before .before .before .before .before .before .before .before .pre .0 in
-    let z = c .before .before .before .before .before .before .before .before .before .before .before .before .before .pre .1 in
-    let l = c .before .before .before .before .before .loop in
+    let p = c .before .before .before .before .before .before .before .before .before .before .before .before .before .before .before .pre .0 in
+    let z = c .before .before .before .before .before .before .before .before .before .before .before .before .before .before .before .pre .1 in
+    let l = c .before .before .before .before .before .before .loop in
     let v = l .inv in
     let b = v .7 (p .tabled) in
-    let e : length (l .standing) ≡ length (c .before .before .before .before .before .before .before .before .before .before .before .before .before .args .standing .now) = v .3 in (
+    let e : length (l .standing) ≡ length (c .before .before .before .before .before .before .before .before .before .before .before .before .before .before .before .args .standing .now) = v .3 in (
       record {
         most = omega (arith, p .most, e);
         table-size = rw e (p .table-size);
         empty-size = omega (arith, p .empty-size, v .4);
         placed = rw e (b .played .placed);
         tabled = rw e (p .tabled);
+        levelled = rw e (p .levelled);
       },
-      (omega (arith, c .before .before .before .before .loop-test .taken, v .2, z .0 .many), record { many = omega (arith, v .2, z .0 .many); apart = z .0 .apart; inside = rw e (z .0 .inside) }, rw e (z .1), v .6, rw e (z .2), omega (arith, v .1, c .before .before .before .before .loop-test .taken, z .0 .many, p .placed .few, p .most), rw e (z .3)),
+      (omega (arith, c .before .before .before .before .before .loop-test .taken, v .2, z .0 .many), record { many = omega (arith, v .2, z .0 .many); apart = z .0 .apart; inside = rw e (z .0 .inside) }, rw e (z .1), v .6, rw e (z .2), omega (arith, v .1, c .before .before .before .before .before .loop-test .taken, z .0 .many, p .placed .few, p .most), rw e (z .3), v .9),
     )
 
 enum-known-carried : tie.Need-enum-known-carried Inv-loop μ-loop
@@ -69,14 +72,17 @@ same-length-3 c = search needs
 same-length-4 : tie.Need-same-length-4 Inv-loop μ-loop
 same-length-4 c = search needs
 
+same-length-5 : tie.Need-same-length-5 Inv-loop μ-loop
+same-length-5 c = search needs
+
 returns : tie.Need-returns Inv-loop μ-loop
 returns c =
-    let l = c .before .before .before .before .before .before .before .before .before .before .before .before .before .before .before .before .loop in
+    let l = c .before .before .before .before .before .before .before .before .before .before .before .before .before .before .before .before .before .before .before .loop in
     let v = l .inv in
-    let kw : length (l .standing) ≡ length (c .before .before .before .before .before .before .before .before .before .before .before .before .before .before .before .before .before .before .before .before .before .before .before .before .args .standing .now) = v .3 in
-    let e : c .before .before .before .before .before .before .before .before .before .before .carry .result ≡ Stuck (c .enum-told .given .0 .0) = c .enum-told .given .1 in
-    let f = rw kw at (c .before .before .before .before .before .before .before .before .before .before .carry .ensures .1) in
-    rw e (λ t. stages-stuck (served-stuck (v .7 t) (c .before .before .before .before .before .before .before .before .before .before .before .before .before .before .before .loop-test .taken) (rw e at (f t))))
+    let kw : length (l .standing) ≡ length (c .before .before .before .before .before .before .before .before .before .before .before .before .before .before .before .before .before .before .before .before .before .before .before .before .before .before .before .before .args .standing .now) = v .3 in
+    let e : c .before .before .before .before .before .before .before .before .before .before .before .before .carry .result ≡ Stuck (c .enum-told .given .0 .0) = c .enum-told .given .1 in
+    let f = rw kw at (c .before .before .before .before .before .before .before .before .before .before .before .before .carry .ensures .1) in
+    rw e (λ t. stages-stuck (served-stuck (v .7 t) (c .before .before .before .before .before .before .before .before .before .before .before .before .before .before .before .before .before .before .loop-test .taken) (rw e at (f t))), settles-stuck)
 
 add-r : tie.Need-add-r Inv-loop μ-loop
 add-r c = search needs
@@ -86,30 +92,29 @@ loop-less c = search needs
 
 loop-again : tie.Need-loop-again Inv-loop μ-loop
 loop-again c =
-    let p = c .before .before .before .before .before .before .before .before .before .before .before .before .before .before .before .before .before .before .before .before .before .before .before .before .before .pre .0 in
-    let z = c .before .before .before .before .before .before .before .before .before .before .before .before .before .before .before .before .before .before .before .before .before .before .before .before .before .pre .1 in
-    let l = c .before .before .before .before .before .before .before .before .before .before .before .before .before .before .before .before .before .loop in
+    let p = c .before .before .before .before .before .before .before .before .before .before .before .before .before .before .before .before .before .before .before .before .before .before .before .before .before .before .before .before .before .pre .0 in
+    let z = c .before .before .before .before .before .before .before .before .before .before .before .before .before .before .before .before .before .before .before .before .before .before .before .before .before .before .before .before .before .pre .1 in
+    let l = c .before .before .before .before .before .before .before .before .before .before .before .before .before .before .before .before .before .before .before .before .loop in
     let v = l .inv in
     let b = v .7 (p .tabled) in
-    let k = c .before .before .before .before .before .before .before .before .before .before .before .carry .kept in
-    let kw : length (l .standing) ≡ length (c .before .before .before .before .before .before .before .before .before .before .before .before .before .before .before .before .before .before .before .before .before .before .before .before .before .args .standing .now) = v .3 in
-    let e : c .before .before .before .before .before .before .before .before .before .before .before .carry .result ≡ Planned (c .before .carried .given .0 .0) = c .before .carried .given .1 in
-    let few = c .before .before .before .before .before .before .before .before .before .before .before .carry .ensures .0 .few _ e in
-    let f = rw kw at (c .before .before .before .before .before .before .before .before .before .before .before .carry .ensures .1) in
-    let g : Goals (length (c .before .before .before .before .before .before .before .before .before .before .before .before .before .before .before .before .before .before .before .before .before .before .before .before .before .args .standing .now)) (c .before .before .before .before .before .before .before .before .before .before .before .before .before .before .before .before .before .before .before .before .before .before .before .before .before .args .goals .now) (l .placement) = record { many = omega (arith, v .2, z .0 .many); apart = z .0 .apart; inside = z .0 .inside } in
-    let hr : l .r < length (l .placement) = omega (arith, c .before .before .before .before .before .before .before .before .before .before .before .before .before .before .before .before .loop-test .taken, v .2, z .0 .many) in (
-      omega (arith, c .before .before .before .before .before .before .before .before .before .before .before .before .before .before .before .before .loop-test .taken),
+    let k = c .before .before .before .before .before .before .before .before .before .before .before .before .before .carry .kept in
+    let kw : length (l .standing) ≡ length (c .before .before .before .before .before .before .before .before .before .before .before .before .before .before .before .before .before .before .before .before .before .before .before .before .before .before .before .before .before .args .standing .now) = v .3 in
+    let e : c .before .before .before .before .before .before .before .before .before .before .before .before .before .carry .result ≡ Planned (c .before .carried .given .0 .0) = c .before .carried .given .1 in
+    let few = c .before .before .before .before .before .before .before .before .before .before .before .before .before .carry .ensures .0 .few _ e in
+    let f = rw kw at (c .before .before .before .before .before .before .before .before .before .before .before .before .before .carry .ensures .1) in
+    let g : Goals (length (c .before .before .before .before .before .before .before .before .before .before .before .before .before .before .before .before .before .before .before .before .before .before .before .before .before .before .before .before .before .args .standing .now)) (c .before .before .before .before .before .before .before .before .before .before .before .before .before .before .before .before .before .before .before .before .before .before .before .before .before .before .before .before .before .args .goals .now) (l .placement) = record { many = omega (arith, v .2, z .0 .many); apart = z .0 .apart; inside = z .0 .inside } in
+    let hr : l .r < length (l .placement) = omega (arith, c .before .before .before .before .before .before .before .before .before .before .before .before .before .before .before .before .before .before .before .loop-test .taken, v .2, z .0 .many) in (
+      omega (arith, c .before .before .before .before .before .before .before .before .before .before .before .before .before .before .before .before .before .before .before .loop-test .taken),
       omega (arith, few, v .1),
       omega (arith, k .1 .1 .1 .1 .0, v .2),
       omega (arith, k .1 .1 .1 .1 .1 .0, v .3),
       omega (arith, k .1 .1 .1 .1 .1 .1 .0, v .4),
-      omega (arith, k .1 .1 .1 .1 .1 .1 .1 .0, v .5),
-      home-more (z .2) (p .most) (z .1) (c .before .before .before .before .before .before .before .before .before .before .before .before .before .before .before .before .before .before .before .before .before .before .before .before .before .args .goals .now) (l .r) (l .placement) (b .played .placed) g hr (v .6) (rw e at (f (z .2 .tabled))),
-      λ t. served-more (v .7 t) (c .before .before .before .before .before .before .before .before .before .before .before .before .before .before .before .before .loop-test .taken) (rw e at (f t)),
+      omega (arith, k .1 .1 .1 .1 .1 .1 .1 .1 .0, v .5),
+      home-more (z .2) (p .most) (z .1) (c .before .before .before .before .before .before .before .before .before .before .before .before .before .before .before .before .before .before .before .before .before .before .before .before .before .before .before .before .before .args .goals .now) (l .r) (l .placement) (b .played .placed) g hr (v .6) (rw e at (f (z .2 .tabled))),
+      λ t. served-more (v .7 t) (c .before .before .before .before .before .before .before .before .before .before .before .before .before .before .before .before .before .before .before .loop-test .taken) (rw e at (f t)),
+      omega (arith, k .1 .1 .1 .1 .1 .1 .1 .0, v .8),
+      c .before .before .before .before .before .before .before .before .before .before .before .before .before .carry .ensures .2 .below _ e,
     )
-
-same-length-5 : tie.Need-same-length-5 Inv-loop μ-loop
-same-length-5 c = search needs
 
 same-length-6 : tie.Need-same-length-6 Inv-loop μ-loop
 same-length-6 c = search needs
@@ -120,8 +125,17 @@ same-length-7 c = search needs
 same-length-8 : tie.Need-same-length-8 Inv-loop μ-loop
 same-length-8 c = search needs
 
+same-length-9 : tie.Need-same-length-9 Inv-loop μ-loop
+same-length-9 c = search needs
+
+same-length-10 : tie.Need-same-length-10 Inv-loop μ-loop
+same-length-10 c = search needs
+
 returns-2 : tie.Need-returns-2 Inv-loop μ-loop
-returns-2 c = λ t. served-all (c .before .loop .inv .7 t) (c .loop-test .left)
+returns-2 c =
+    let v = c .before .loop .inv in
+    let all : c .before .loop .r ≡ length (c .before .before .before .before .before .before .before .before .before .before .args .goals .now) = omega (arith, v .0, c .loop-test .left) in
+    (λ t. served-all (v .7 t) (c .loop-test .left), settles (rw all at (v .9)))
 
 pub carry-all-spec : {M : Type 1} → statement M
 carry-all-spec =
@@ -130,7 +144,7 @@ carry-all-spec =
     Inv-loop
     μ-loop
     loop-holds
-    cast-t15
+    cast-t16
     carry-requires
     enum-known-carried
     enum-told
@@ -138,12 +152,14 @@ carry-all-spec =
     same-length-2
     same-length-3
     same-length-4
+    same-length-5
     returns
     add-r
     loop-less
     loop-again
-    same-length-5
     same-length-6
     same-length-7
     same-length-8
+    same-length-9
+    same-length-10
     returns-2)

@@ -8,7 +8,7 @@ use Rattle.bring.proofs.Acting.{tried-done, tried-failed}
 use Rattle.clear.proofs.Clearing.{ready-again}
 use Rattle.trial.proofs.Copying.{part-long}
 use Rattle.home.proofs.Homing.{at-most, at-most-stuck}
-use Rattle.carry.proofs.Carrying.{drop-last-long, part-ahead, part-home, at-most-more, homeward, carried-stuck, carried-short, carried-home}
+use Rattle.carry.proofs.Carrying.{drop-last-long, part-ahead, part-home, at-most-more, bays-more, settles, settles-stuck, homeward, carried-stuck, carried-short, carried-home}
 use Rattle.bring.specs.declared.Tried.the-variants.{Done}
 use Rattle.bring.specs.declared.Tried.the-variants.{Failed}
 use Rattle.carry.proofs.carry_along.Statement.{statement}
@@ -16,7 +16,7 @@ use Rattle.carry.proofs.carry_along.Tie as tie
 
 returns : tie.Need-returns
 returns c =
-    let z = c .before .before .before .before .before .before .before .before .before .pre .1 in
+    let z = c .before .before .before .before .before .before .before .before .before .before .pre .1 in
     let l = ap length (z .5 .starts) in
     let never-so : ⊥ = omega (arith, l, c .if1 .taken) in
     absurd never-so
@@ -32,10 +32,10 @@ part-go-end c = search needs
 
 go-requires : tie.Need-go-requires
 go-requires c κs =
-    let p = c .before .before .before .before .before .before .before .before .before .before .before .before .before .before .pre .0 in
-    let z = c .before .before .before .before .before .before .before .before .before .before .before .before .before .before .pre .1 in
-    let s = part-ahead (c .before .before .before .before .before .before .before .before .before .before .before .before .before .before .args .path .now) _ (z .5 .ahead) (z .5 .starts) in
-    (p, (z .0, rw s (z .5 .linked), z .2, omega (arith, z .4, z .6, part-long (c .before .before .before .before .before .before .before .before .before .before .before .before .before .before .args .path .now) 1)))
+    let p = c .before .before .before .before .before .before .before .before .before .before .before .before .before .before .before .before .pre .0 in
+    let z = c .before .before .before .before .before .before .before .before .before .before .before .before .before .before .before .before .pre .1 in
+    let s = part-ahead (c .before .before .before .before .before .before .before .before .before .before .before .before .before .before .before .before .args .path .now) _ (z .5 .ahead) (z .5 .starts) in
+    (p, (z .0, rw s (z .5 .linked), z .2, omega (arith, z .4, z .6, part-long (c .before .before .before .before .before .before .before .before .before .before .before .before .before .before .before .before .args .path .now) 1), z .8))
 
 enum-known-gone : tie.Need-enum-known-gone
 enum-known-gone c = search needs
@@ -55,17 +55,48 @@ same-length-3 c = search needs
 same-length-4 : tie.Need-same-length-4
 same-length-4 c = search needs
 
-returns-2 : tie.Need-returns-2
-returns-2 c =
-    let p = c .before .before .before .before .before .before .before .before .before .before .before .before .before .before .before .before .before .before .before .before .before .before .before .before .before .pre .0 in
-    let z = c .before .before .before .before .before .before .before .before .before .before .before .before .before .before .before .before .before .before .before .before .before .before .before .before .before .pre .1 in
-    let s = part-ahead (c .before .before .before .before .before .before .before .before .before .before .before .before .before .before .before .before .before .before .before .before .before .before .before .before .before .args .path .now) _ (z .5 .ahead) (z .5 .starts) in
-    let e : c .before .before .before .before .before .before .before .before .before .before .go .result ≡ Failed = c .enum-told .given .1 in
-    let f = rw s at (c .before .before .before .before .before .before .before .before .before .before .go .ensures .1) in
-    (at-most-stuck, λ t short. carried-stuck t (p .most) (z .2) (c .before .before .before .before .before .before .before .before .before .before .before .before .before .before .before .before .before .before .before .before .before .before .before .before .before .args .goals .now) (c .before .before .before .before .before .before .before .before .before .before .before .before .before .before .before .before .before .before .before .before .before .before .before .before .before .args .r .0) (c .before .before .before .before .before .before .before .before .before .before .before .before .before .before .before .before .before .before .before .before .before .before .before .before .before .args .placement .now) (p .placed) (z .1) (z .0) (z .3) (c .before .before .before .before .before .before .before .before .before .before .before .before .before .before .before .before .before .before .before .before .before .before .before .before .before .args .path .now) (z .5) short refl (tried-failed (rw e at (f t (c .before .before .before .before .before .before .before .before .before .before .before .before .before .before .before .before .before .before .before .before .before .before .before .before .before .args .goals .now)))))
-
 same-length-5 : tie.Need-same-length-5
 same-length-5 c = search needs
+
+returns-2 : tie.Need-returns-2
+returns-2 c =
+    let p = c .before .before .before .before .before .before .before .before .before .before .before .before .before .before .before .before .before .before .before .before .before .before .before .before .before .before .before .before .before .pre .0 in
+    let z = c .before .before .before .before .before .before .before .before .before .before .before .before .before .before .before .before .before .before .before .before .before .before .before .before .before .before .before .before .before .pre .1 in
+    let s = part-ahead (c .before .before .before .before .before .before .before .before .before .before .before .before .before .before .before .before .before .before .before .before .before .before .before .before .before .before .before .before .before .args .path .now) _ (z .5 .ahead) (z .5 .starts) in
+    let e : c .before .before .before .before .before .before .before .before .before .before .before .before .go .result ≡ Failed = c .enum-told .given .1 in
+    let f = rw s at (c .before .before .before .before .before .before .before .before .before .before .before .before .go .ensures .1) in
+    (at-most-stuck, λ t short. carried-stuck t (p .most) (z .2) (c .before .before .before .before .before .before .before .before .before .before .before .before .before .before .before .before .before .before .before .before .before .before .before .before .before .before .before .before .before .args .goals .now) (c .before .before .before .before .before .before .before .before .before .before .before .before .before .before .before .before .before .before .before .before .before .before .before .before .before .before .before .before .before .args .r .0) (c .before .before .before .before .before .before .before .before .before .before .before .before .before .before .before .before .before .before .before .before .before .before .before .before .before .before .before .before .before .args .placement .now) (p .placed) (z .1) (z .0) (z .3) (c .before .before .before .before .before .before .before .before .before .before .before .before .before .before .before .before .before .before .before .before .before .before .before .before .before .before .before .before .before .args .path .now) (z .5) short refl (tried-failed (rw e at (f t (c .before .before .before .before .before .before .before .before .before .before .before .before .before .before .before .before .before .before .before .before .before .before .before .before .before .before .before .before .before .args .goals .now)))), settles-stuck)
+
+cast-own : tie.Need-cast-own
+cast-own c = search needs
+
+mul-add : tie.Need-mul-add
+mul-add c = search needs
+
+slice-read-add : tie.Need-slice-read-add
+slice-read-add c = omega (arith, c .before .before .before .before .before .before .before .before .before .before .before .before .before .before .before .before .before .before .before .before .before .before .before .before .before .before .before .before .before .before .before .before .before .pre .1 .0, c .before .before .before .before .before .before .before .before .before .before .before .before .before .before .before .before .go .kept .1 .1 .1 .0)
+
+cast-add : tie.Need-cast-add
+cast-add c =
+    let p = c .before .before .before .before .before .before .before .before .before .before .before .before .before .before .before .before .before .before .before .before .before .before .before .before .before .before .before .before .before .before .before .before .before .pre .0 in
+    let z = c .before .before .before .before .before .before .before .before .before .before .before .before .before .before .before .before .before .before .before .before .before .before .before .before .before .before .before .before .before .before .before .before .before .pre .1 in
+    let s = part-ahead (c .before .before .before .before .before .before .before .before .before .before .before .before .before .before .before .before .before .before .before .before .before .before .before .before .before .before .before .before .before .before .before .before .before .args .path .now) _ (z .5 .ahead) (z .5 .starts) in
+    let e : c .before .before .before .before .before .before .before .before .before .before .before .before .before .before .before .before .go .result ≡ Done (c .before .before .before .before .gone .given .0 .0) = c .before .before .before .before .gone .given .1 in
+    let f = rw s at (c .before .before .before .before .before .before .before .before .before .before .before .before .before .before .before .before .go .ensures .1) in
+    let d = tried-done (rw e at (f (p .tabled) (c .before .before .before .before .before .before .before .before .before .before .before .before .before .before .before .before .before .before .before .before .before .before .before .before .before .before .before .before .before .before .before .before .before .args .goals .now))) in
+    let kp : length (c .before .before .before .before .before .before .before .before .before .before .before .before .before .before .before .before .go .last .1 .1 .1 .0) ≡ length (c .before .before .before .before .before .before .before .before .before .before .before .before .before .before .before .before .before .before .before .before .before .before .before .before .before .before .before .before .before .before .before .before .before .args .placement .now) = c .before .before .before .before .before .before .before .before .before .before .before .before .before .before .before .before .go .kept .1 .1 .1 .0 in
+    omega (arith, d .2 .placed .inside (c .before .before .before .before .before .before .before .before .before .before .before .before .before .before .before .before .before .before .before .before .before .before .before .before .before .before .before .before .before .before .before .before .before .args .r .0) (omega (arith, z .0, kp)), p .most)
+
+add-requires : tie.Need-add-requires
+add-requires c κs =
+    let p = c .before .before .before .before .before .before .before .before .before .before .before .before .before .before .before .before .before .before .before .before .before .before .before .before .before .before .before .before .before .before .before .before .before .pre .0 in
+    let z = c .before .before .before .before .before .before .before .before .before .before .before .before .before .before .before .before .before .before .before .before .before .before .before .before .before .before .before .before .before .before .before .before .before .pre .1 in
+    let s = part-ahead (c .before .before .before .before .before .before .before .before .before .before .before .before .before .before .before .before .before .before .before .before .before .before .before .before .before .before .before .before .before .before .before .before .before .args .path .now) _ (z .5 .ahead) (z .5 .starts) in
+    let e : c .before .before .before .before .before .before .before .before .before .before .before .before .before .before .before .before .go .result ≡ Done (c .before .before .before .before .gone .given .0 .0) = c .before .before .before .before .gone .given .1 in
+    let f = rw s at (c .before .before .before .before .before .before .before .before .before .before .before .before .before .before .before .before .go .ensures .1) in
+    let d = tried-done (rw e at (f (p .tabled) (c .before .before .before .before .before .before .before .before .before .before .before .before .before .before .before .before .before .before .before .before .before .before .before .before .before .before .before .before .before .before .before .before .before .args .goals .now))) in
+    let kp : length (c .before .before .before .before .before .before .before .before .before .before .before .before .before .before .before .before .go .last .1 .1 .1 .0) ≡ length (c .before .before .before .before .before .before .before .before .before .before .before .before .before .before .before .before .before .before .before .before .before .before .before .before .before .before .before .before .before .before .before .before .before .args .placement .now) = c .before .before .before .before .before .before .before .before .before .before .before .before .before .before .before .before .go .kept .1 .1 .1 .0 in
+    omega (arith, d .2 .placed .inside (c .before .before .before .before .before .before .before .before .before .before .before .before .before .before .before .before .before .before .before .before .before .before .before .before .before .before .before .before .before .before .before .before .before .args .r .0) (omega (arith, z .0, kp)), p .most, c .before .before .before .before .before .before .before .before .before .before .before .before .before .before .before .before .go .ensures .2 .size)
 
 same-length-6 : tie.Need-same-length-6
 same-length-6 c = search needs
@@ -76,23 +107,29 @@ same-length-7 c = search needs
 same-length-8 : tie.Need-same-length-8
 same-length-8 c = search needs
 
+same-length-9 : tie.Need-same-length-9
+same-length-9 c = search needs
+
+same-length-10 : tie.Need-same-length-10
+same-length-10 c = search needs
+
 returns-3 : tie.Need-returns-3
 returns-3 c =
-    let p = c .before .before .before .before .before .before .before .before .before .before .before .before .before .before .before .before .before .before .before .before .before .before .before .before .before .before .before .pre .0 in
-    let z = c .before .before .before .before .before .before .before .before .before .before .before .before .before .before .before .before .before .before .before .before .before .before .before .before .before .before .before .pre .1 in
-    let s = part-ahead (c .before .before .before .before .before .before .before .before .before .before .before .before .before .before .before .before .before .before .before .before .before .before .before .before .before .before .before .args .path .now) _ (z .5 .ahead) (z .5 .starts) in
-    let e : c .before .before .before .before .before .before .before .before .before .before .before .before .go .result ≡ Done (c .before .before .gone .given .0 .0) = c .before .before .gone .given .1 in
-    let few = rw e at (c .before .before .before .before .before .before .before .before .before .before .before .before .go .ensures .0) in
-    let f = rw s at (c .before .before .before .before .before .before .before .before .before .before .before .before .go .ensures .1) in
+    let p = c .before .before .before .before .before .before .before .before .before .before .before .before .before .before .before .before .before .before .before .before .before .before .before .before .before .before .before .before .before .before .before .before .before .before .before .before .before .pre .0 in
+    let z = c .before .before .before .before .before .before .before .before .before .before .before .before .before .before .before .before .before .before .before .before .before .before .before .before .before .before .before .before .before .before .before .before .before .before .before .before .before .pre .1 in
+    let s = part-ahead (c .before .before .before .before .before .before .before .before .before .before .before .before .before .before .before .before .before .before .before .before .before .before .before .before .before .before .before .before .before .before .before .before .before .before .before .before .before .args .path .now) _ (z .5 .ahead) (z .5 .starts) in
+    let e : c .before .before .before .before .before .before .before .before .before .before .before .before .before .before .before .before .before .before .before .before .go .result ≡ Done (c .before .before .before .before .before .before .before .before .gone .given .0 .0) = c .before .before .before .before .before .before .before .before .gone .given .1 in
+    let few = rw e at (c .before .before .before .before .before .before .before .before .before .before .before .before .before .before .before .before .before .before .before .before .go .ensures .0) in
+    let f = rw s at (c .before .before .before .before .before .before .before .before .before .before .before .before .before .before .before .before .before .before .before .before .go .ensures .1) in
+    let kp : length (c .before .before .before .before .before .before .before .before .before .before .before .before .before .before .before .before .before .before .before .before .go .last .1 .1 .1 .0) ≡ length (c .before .before .before .before .before .before .before .before .before .before .before .before .before .before .before .before .before .before .before .before .before .before .before .before .before .before .before .before .before .before .before .before .before .before .before .before .before .args .placement .now) = c .before .before .before .before .before .before .before .before .before .before .before .before .before .before .before .before .before .before .before .before .go .kept .1 .1 .1 .0 in
+    let more = bays-more (c .before .before .before .before .before .before .before .before .before .before .before .before .before .before .before .before .before .before .before .before .before .before .before .before .before .before .before .before .before .before .before .before .before .before .before .before .before .args .r .0) (omega (arith, z .0, kp)) (c .before .before .before .before .before .before .before .before .before .before .before .before .before .before .before .before .before .before .before .before .go .ensures .2) (c .before .before .before .add .kept .0) (c .before .before .before .add .ensures) in
     let l = ap length (z .5 .starts) in (
-      at-most (omega (arith, few, z .4, part-long (c .before .before .before .before .before .before .before .before .before .before .before .before .before .before .before .before .before .before .before .before .before .before .before .before .before .before .before .args .path .now) 1)),
+      at-most (omega (arith, few, z .4, part-long (c .before .before .before .before .before .before .before .before .before .before .before .before .before .before .before .before .before .before .before .before .before .before .before .before .before .before .before .before .before .before .before .before .before .before .before .before .before .args .path .now) 1)),
       λ t short.
-          let d = tried-done (rw e at (f t (c .before .before .before .before .before .before .before .before .before .before .before .before .before .before .before .before .before .before .before .before .before .before .before .before .before .before .before .args .goals .now))) in
-          carried-short t (p .most) (z .2) (c .before .before .before .before .before .before .before .before .before .before .before .before .before .before .before .before .before .before .before .before .before .before .before .before .before .before .before .args .goals .now) (c .before .before .before .before .before .before .before .before .before .before .before .before .before .before .before .before .before .before .before .before .before .before .before .before .before .before .before .args .r .0) (c .before .before .before .before .before .before .before .before .before .before .before .before .before .before .before .before .before .before .before .before .before .before .before .before .before .before .before .args .placement .now) (p .placed) (z .1) (z .0) (z .3) (c .before .before .before .before .before .before .before .before .before .before .before .before .before .before .before .before .before .before .before .before .before .before .before .before .before .before .before .args .path .now) (z .5) short (d .0) (d .1) (omega (arith, l, c .if2 .taken)) (d .2),
+          let d = tried-done (rw e at (f t (c .before .before .before .before .before .before .before .before .before .before .before .before .before .before .before .before .before .before .before .before .before .before .before .before .before .before .before .before .before .before .before .before .before .before .before .before .before .args .goals .now))) in
+          carried-short t (p .most) (z .2) (c .before .before .before .before .before .before .before .before .before .before .before .before .before .before .before .before .before .before .before .before .before .before .before .before .before .before .before .before .before .before .before .before .before .before .before .before .before .args .goals .now) (c .before .before .before .before .before .before .before .before .before .before .before .before .before .before .before .before .before .before .before .before .before .before .before .before .before .before .before .before .before .before .before .before .before .before .before .before .before .args .r .0) (c .before .before .before .before .before .before .before .before .before .before .before .before .before .before .before .before .before .before .before .before .before .before .before .before .before .before .before .before .before .before .before .before .before .before .before .before .before .args .placement .now) (p .placed) (z .1) (z .0) (z .3) (c .before .before .before .before .before .before .before .before .before .before .before .before .before .before .before .before .before .before .before .before .before .before .before .before .before .before .before .before .before .before .before .before .before .before .before .before .before .args .path .now) (z .5) short (d .0) (d .1) (omega (arith, l, c .if2 .taken)) (d .2),
+      settles more,
     )
-
-cast-finished : tie.Need-cast-finished
-cast-finished c = search needs
 
 add-finished : tie.Need-add-finished
 add-finished c = search needs
@@ -111,27 +148,22 @@ part-way-home-end c = search needs
 
 way-home-requires : tie.Need-way-home-requires
 way-home-requires c κs =
-    let p = c .before .before .before .before .before .before .before .before .before .before .before .before .before .before .before .before .before .before .before .before .before .before .before .before .before .before .before .before .before .before .before .before .before .pre .0 in
-    let z = c .before .before .before .before .before .before .before .before .before .before .before .before .before .before .before .before .before .before .before .before .before .before .before .before .before .before .before .before .before .before .before .before .before .pre .1 in
+    let p = c .before .before .before .before .before .before .before .before .before .before .before .before .before .before .before .before .before .before .before .before .before .before .before .before .before .before .before .before .before .before .before .before .before .before .before .before .before .before .before .before .before .before .before .pre .0 in
+    let z = c .before .before .before .before .before .before .before .before .before .before .before .before .before .before .before .before .before .before .before .before .before .before .before .before .before .before .before .before .before .before .before .before .before .before .before .before .before .before .before .before .before .before .before .pre .1 in
     let g = z .1 in
-    let s = part-ahead (c .before .before .before .before .before .before .before .before .before .before .before .before .before .before .before .before .before .before .before .before .before .before .before .before .before .before .before .before .before .before .before .before .before .args .path .now) _ (z .5 .ahead) (z .5 .starts) in
-    let s2 = part-home (c .before .before .before .before .before .before .before .before .before .before .before .before .before .before .before .before .before .before .before .before .before .before .before .before .before .before .before .before .before .before .before .before .before .args .path .now) _ (z .5 .ahead) (z .5 .starts) in
-    let e : c .before .before .before .before .before .before .before .before .before .before .before .before .before .before .before .before .before .before .go .result ≡ Done (c .before .before .before .before .before .before .before .before .gone .given .0 .0) = c .before .before .before .before .before .before .before .before .gone .given .1 in
-    let few = rw e at (c .before .before .before .before .before .before .before .before .before .before .before .before .before .before .before .before .before .before .go .ensures .0) in
-    let f = rw s at (c .before .before .before .before .before .before .before .before .before .before .before .before .before .before .before .before .before .before .go .ensures .1) in
-    let d = tried-done (rw e at (f (p .tabled) (c .before .before .before .before .before .before .before .before .before .before .before .before .before .before .before .before .before .before .before .before .before .before .before .before .before .before .before .before .before .before .before .before .before .args .goals .now))) in
+    let s = part-ahead (c .before .before .before .before .before .before .before .before .before .before .before .before .before .before .before .before .before .before .before .before .before .before .before .before .before .before .before .before .before .before .before .before .before .before .before .before .before .before .before .before .before .before .before .args .path .now) _ (z .5 .ahead) (z .5 .starts) in
+    let s2 = part-home (c .before .before .before .before .before .before .before .before .before .before .before .before .before .before .before .before .before .before .before .before .before .before .before .before .before .before .before .before .before .before .before .before .before .before .before .before .before .before .before .before .before .before .before .args .path .now) _ (z .5 .ahead) (z .5 .starts) in
+    let e : c .before .before .before .before .before .before .before .before .before .before .before .before .before .before .before .before .before .before .before .before .before .before .before .before .before .before .go .result ≡ Done (c .before .before .before .before .before .before .before .before .before .before .before .before .before .before .gone .given .0 .0) = c .before .before .before .before .before .before .before .before .before .before .before .before .before .before .gone .given .1 in
+    let few = rw e at (c .before .before .before .before .before .before .before .before .before .before .before .before .before .before .before .before .before .before .before .before .before .before .before .before .before .before .go .ensures .0) in
+    let f = rw s at (c .before .before .before .before .before .before .before .before .before .before .before .before .before .before .before .before .before .before .before .before .before .before .before .before .before .before .go .ensures .1) in
+    let d = tried-done (rw e at (f (p .tabled) (c .before .before .before .before .before .before .before .before .before .before .before .before .before .before .before .before .before .before .before .before .before .before .before .before .before .before .before .before .before .before .before .before .before .before .before .before .before .before .before .before .before .before .before .args .goals .now))) in
     let l = ap length (z .5 .starts) in
-    let kp : length (c .before .before .before .before .before .before .before .before .before .before .before .before .before .before .before .before .before .before .go .last .1 .1 .1 .0) ≡ length (c .before .before .before .before .before .before .before .before .before .before .before .before .before .before .before .before .before .before .before .before .before .before .before .before .before .before .before .before .before .before .before .before .before .args .placement .now) = c .before .before .before .before .before .before .before .before .before .before .before .before .before .before .before .before .before .before .go .kept .1 .1 .1 .0 in
-    let kw : length (c .before .before .before .before .before .before .before .before .before .before .before .before .before .before .before .before .before .before .go .last .1 .1 .1 .1 .0) ≡ length (c .before .before .before .before .before .before .before .before .before .before .before .before .before .before .before .before .before .before .before .before .before .before .before .before .before .before .before .before .before .before .before .before .before .args .standing .now) = c .before .before .before .before .before .before .before .before .before .before .before .before .before .before .before .before .before .before .go .kept .1 .1 .1 .1 .0 in
-    let kf : length (c .before .before .before .before .before .before .before .before .before .before .before .before .before .before .before .before .before .before .go .last .1 .1 .1 .1 .1 .0) ≡ length (c .before .before .before .before .before .before .before .before .before .before .before .before .before .before .before .before .before .before .before .before .before .before .before .before .before .before .before .before .before .before .before .before .before .args .empty .now) = c .before .before .before .before .before .before .before .before .before .before .before .before .before .before .before .before .before .before .go .kept .1 .1 .1 .1 .1 .0 in
-    let h = homeward (p .tabled) (p .most) (z .2) (c .before .before .before .before .before .before .before .before .before .before .before .before .before .before .before .before .before .before .before .before .before .before .before .before .before .before .before .before .before .before .before .before .before .args .goals .now) (c .before .before .before .before .before .before .before .before .before .before .before .before .before .before .before .before .before .before .before .before .before .before .before .before .before .before .before .before .before .before .before .before .before .args .r .0) (c .before .before .before .before .before .before .before .before .before .before .before .before .before .before .before .before .before .before .before .before .before .before .before .before .before .before .before .before .before .before .before .before .before .args .placement .now) (p .placed) (z .1) (z .0) (z .3) (c .before .before .before .before .before .before .before .before .before .before .before .before .before .before .before .before .before .before .before .before .before .before .before .before .before .before .before .before .before .before .before .before .before .args .path .now) (z .5) (d .0) (d .1) _ (d .2 .moved) (omega (arith, l, c .before .before .before .before .before .before .if2 .left)) in
-    (ready-again p _ _ _ kw kf (d .2 .placed), (omega (arith, z .0, g .many), omega (arith, kp, g .many), g .apart, rw kw (z .2), omega (arith, few, z .4, z .6, part-long (c .before .before .before .before .before .before .before .before .before .before .before .before .before .before .before .before .before .before .before .before .before .before .before .before .before .before .before .before .before .before .before .before .before .args .path .now) 1, ap length s2, ap length s, drop-last-long (z .5 .ahead)), rw (kw, s2) h, rw kw (z .7)))
-
-same-length-9 : tie.Need-same-length-9
-same-length-9 c = search needs
-
-same-length-10 : tie.Need-same-length-10
-same-length-10 c = search needs
+    let kp : length (c .before .before .before .before .before .before .before .before .before .before .before .before .before .before .before .before .before .before .before .before .before .before .before .before .before .before .go .last .1 .1 .1 .0) ≡ length (c .before .before .before .before .before .before .before .before .before .before .before .before .before .before .before .before .before .before .before .before .before .before .before .before .before .before .before .before .before .before .before .before .before .before .before .before .before .before .before .before .before .before .before .args .placement .now) = c .before .before .before .before .before .before .before .before .before .before .before .before .before .before .before .before .before .before .before .before .before .before .before .before .before .before .go .kept .1 .1 .1 .0 in
+    let more = bays-more (c .before .before .before .before .before .before .before .before .before .before .before .before .before .before .before .before .before .before .before .before .before .before .before .before .before .before .before .before .before .before .before .before .before .before .before .before .before .before .before .before .before .before .before .args .r .0) (omega (arith, z .0, kp)) (c .before .before .before .before .before .before .before .before .before .before .before .before .before .before .before .before .before .before .before .before .before .before .before .before .before .before .go .ensures .2) (c .before .before .before .before .before .before .before .before .before .add .kept .0) (c .before .before .before .before .before .before .before .before .before .add .ensures) in
+    let kw : length (c .before .before .before .before .before .before .before .before .before .before .before .before .before .before .before .before .before .before .before .before .before .before .before .before .before .before .go .last .1 .1 .1 .1 .0) ≡ length (c .before .before .before .before .before .before .before .before .before .before .before .before .before .before .before .before .before .before .before .before .before .before .before .before .before .before .before .before .before .before .before .before .before .before .before .before .before .before .before .before .before .before .before .args .standing .now) = c .before .before .before .before .before .before .before .before .before .before .before .before .before .before .before .before .before .before .before .before .before .before .before .before .before .before .go .kept .1 .1 .1 .1 .0 in
+    let kf : length (c .before .before .before .before .before .before .before .before .before .before .before .before .before .before .before .before .before .before .before .before .before .before .before .before .before .before .go .last .1 .1 .1 .1 .1 .0) ≡ length (c .before .before .before .before .before .before .before .before .before .before .before .before .before .before .before .before .before .before .before .before .before .before .before .before .before .before .before .before .before .before .before .before .before .before .before .before .before .before .before .before .before .before .before .args .empty .now) = c .before .before .before .before .before .before .before .before .before .before .before .before .before .before .before .before .before .before .before .before .before .before .before .before .before .before .go .kept .1 .1 .1 .1 .1 .0 in
+    let h = homeward (p .tabled) (p .most) (z .2) (c .before .before .before .before .before .before .before .before .before .before .before .before .before .before .before .before .before .before .before .before .before .before .before .before .before .before .before .before .before .before .before .before .before .before .before .before .before .before .before .before .before .before .before .args .goals .now) (c .before .before .before .before .before .before .before .before .before .before .before .before .before .before .before .before .before .before .before .before .before .before .before .before .before .before .before .before .before .before .before .before .before .before .before .before .before .before .before .before .before .before .before .args .r .0) (c .before .before .before .before .before .before .before .before .before .before .before .before .before .before .before .before .before .before .before .before .before .before .before .before .before .before .before .before .before .before .before .before .before .before .before .before .before .before .before .before .before .before .before .args .placement .now) (p .placed) (z .1) (z .0) (z .3) (c .before .before .before .before .before .before .before .before .before .before .before .before .before .before .before .before .before .before .before .before .before .before .before .before .before .before .before .before .before .before .before .before .before .before .before .before .before .before .before .before .before .before .before .args .path .now) (z .5) (d .0) (d .1) _ (d .2 .moved) (omega (arith, l, c .before .before .before .before .before .before .if2 .left)) in
+    (ready-again p _ _ _ kw kf (d .2 .placed), (omega (arith, z .0, g .many), omega (arith, kp, g .many), g .apart, rw kw (z .2), omega (arith, few, z .4, z .6, part-long (c .before .before .before .before .before .before .before .before .before .before .before .before .before .before .before .before .before .before .before .before .before .before .before .before .before .before .before .before .before .before .before .before .before .before .before .before .before .before .before .before .before .before .before .args .path .now) 1, ap length s2, ap length s, drop-last-long (z .5 .ahead)), rw (kw, s2) h, rw kw (z .7), more))
 
 same-length-11 : tie.Need-same-length-11
 same-length-11 c = search needs
@@ -139,22 +171,32 @@ same-length-11 c = search needs
 same-length-12 : tie.Need-same-length-12
 same-length-12 c = search needs
 
+same-length-13 : tie.Need-same-length-13
+same-length-13 c = search needs
+
+same-length-14 : tie.Need-same-length-14
+same-length-14 c = search needs
+
+same-length-15 : tie.Need-same-length-15
+same-length-15 c = search needs
+
 returns-4 : tie.Need-returns-4
 returns-4 c =
-    let p = c .before .before .before .before .before .before .before .before .before .before .before .before .before .before .before .before .before .before .before .before .before .before .before .before .before .before .before .before .before .before .before .before .before .before .before .before .before .before .before .before .before .before .pre .0 in
-    let z = c .before .before .before .before .before .before .before .before .before .before .before .before .before .before .before .before .before .before .before .before .before .before .before .before .before .before .before .before .before .before .before .before .before .before .before .before .before .before .before .before .before .before .pre .1 in
-    let s = part-ahead (c .before .before .before .before .before .before .before .before .before .before .before .before .before .before .before .before .before .before .before .before .before .before .before .before .before .before .before .before .before .before .before .before .before .before .before .before .before .before .before .before .before .before .args .path .now) _ (z .5 .ahead) (z .5 .starts) in
-    let s2 = part-home (c .before .before .before .before .before .before .before .before .before .before .before .before .before .before .before .before .before .before .before .before .before .before .before .before .before .before .before .before .before .before .before .before .before .before .before .before .before .before .before .before .before .before .args .path .now) _ (z .5 .ahead) (z .5 .starts) in
-    let e : c .before .before .before .before .before .before .before .before .before .before .before .before .before .before .before .before .before .before .before .before .before .before .before .before .before .before .before .go .result ≡ Done (c .before .before .before .before .before .before .before .before .before .before .before .before .before .before .before .before .before .gone .given .0 .0) = c .before .before .before .before .before .before .before .before .before .before .before .before .before .before .before .before .before .gone .given .1 in
-    let few = rw e at (c .before .before .before .before .before .before .before .before .before .before .before .before .before .before .before .before .before .before .before .before .before .before .before .before .before .before .before .go .ensures .0) in
-    let f = rw s at (c .before .before .before .before .before .before .before .before .before .before .before .before .before .before .before .before .before .before .before .before .before .before .before .before .before .before .before .go .ensures .1) in
+    let p = c .before .before .before .before .before .before .before .before .before .before .before .before .before .before .before .before .before .before .before .before .before .before .before .before .before .before .before .before .before .before .before .before .before .before .before .before .before .before .before .before .before .before .before .before .before .before .before .before .before .before .before .before .before .before .pre .0 in
+    let z = c .before .before .before .before .before .before .before .before .before .before .before .before .before .before .before .before .before .before .before .before .before .before .before .before .before .before .before .before .before .before .before .before .before .before .before .before .before .before .before .before .before .before .before .before .before .before .before .before .before .before .before .before .before .before .pre .1 in
+    let s = part-ahead (c .before .before .before .before .before .before .before .before .before .before .before .before .before .before .before .before .before .before .before .before .before .before .before .before .before .before .before .before .before .before .before .before .before .before .before .before .before .before .before .before .before .before .before .before .before .before .before .before .before .before .before .before .before .before .args .path .now) _ (z .5 .ahead) (z .5 .starts) in
+    let s2 = part-home (c .before .before .before .before .before .before .before .before .before .before .before .before .before .before .before .before .before .before .before .before .before .before .before .before .before .before .before .before .before .before .before .before .before .before .before .before .before .before .before .before .before .before .before .before .before .before .before .before .before .before .before .before .before .before .args .path .now) _ (z .5 .ahead) (z .5 .starts) in
+    let e : c .before .before .before .before .before .before .before .before .before .before .before .before .before .before .before .before .before .before .before .before .before .before .before .before .before .before .before .before .before .before .before .before .before .before .before .before .before .go .result ≡ Done (c .before .before .before .before .before .before .before .before .before .before .before .before .before .before .before .before .before .before .before .before .before .before .before .before .before .gone .given .0 .0) = c .before .before .before .before .before .before .before .before .before .before .before .before .before .before .before .before .before .before .before .before .before .before .before .before .before .gone .given .1 in
+    let few = rw e at (c .before .before .before .before .before .before .before .before .before .before .before .before .before .before .before .before .before .before .before .before .before .before .before .before .before .before .before .before .before .before .before .before .before .before .before .before .before .go .ensures .0) in
+    let f = rw s at (c .before .before .before .before .before .before .before .before .before .before .before .before .before .before .before .before .before .before .before .before .before .before .before .before .before .before .before .before .before .before .before .before .before .before .before .before .before .go .ensures .1) in
     let l = ap length (z .5 .starts) in
-    let kw : length (c .before .before .before .before .before .before .before .before .before .before .before .before .before .before .before .before .before .before .before .before .before .before .before .before .before .before .before .go .last .1 .1 .1 .1 .0) ≡ length (c .before .before .before .before .before .before .before .before .before .before .before .before .before .before .before .before .before .before .before .before .before .before .before .before .before .before .before .before .before .before .before .before .before .before .before .before .before .before .before .before .before .before .args .standing .now) = c .before .before .before .before .before .before .before .before .before .before .before .before .before .before .before .before .before .before .before .before .before .before .before .before .before .before .before .go .kept .1 .1 .1 .1 .0 in
-    let h = rw (kw, s2) at (c .before .before .before .before .before .before .before .before .way-home .ensures .1) in (
-      at-most-more (omega (arith, few, z .4, part-long (c .before .before .before .before .before .before .before .before .before .before .before .before .before .before .before .before .before .before .before .before .before .before .before .before .before .before .before .before .before .before .before .before .before .before .before .before .before .before .before .before .before .before .args .path .now) 1, ap length s2, ap length s, drop-last-long (z .5 .ahead), l)) (c .before .before .before .before .before .before .before .before .way-home .ensures .0),
+    let kw : length (c .before .before .before .before .before .before .before .before .before .before .before .before .before .before .before .before .before .before .before .before .before .before .before .before .before .before .before .before .before .before .before .before .before .before .before .before .before .go .last .1 .1 .1 .1 .0) ≡ length (c .before .before .before .before .before .before .before .before .before .before .before .before .before .before .before .before .before .before .before .before .before .before .before .before .before .before .before .before .before .before .before .before .before .before .before .before .before .before .before .before .before .before .before .before .before .before .before .before .before .before .before .before .before .before .args .standing .now) = c .before .before .before .before .before .before .before .before .before .before .before .before .before .before .before .before .before .before .before .before .before .before .before .before .before .before .before .before .before .before .before .before .before .before .before .before .before .go .kept .1 .1 .1 .1 .0 in
+    let h = rw (kw, s2) at (c .before .before .before .before .before .before .before .before .before .before .way-home .ensures .1) in (
+      at-most-more (omega (arith, few, z .4, part-long (c .before .before .before .before .before .before .before .before .before .before .before .before .before .before .before .before .before .before .before .before .before .before .before .before .before .before .before .before .before .before .before .before .before .before .before .before .before .before .before .before .before .before .before .before .before .before .before .before .before .before .before .before .before .before .args .path .now) 1, ap length s2, ap length s, drop-last-long (z .5 .ahead), l)) (c .before .before .before .before .before .before .before .before .before .before .way-home .ensures .0),
       λ t short.
-          let d = tried-done (rw e at (f t (c .before .before .before .before .before .before .before .before .before .before .before .before .before .before .before .before .before .before .before .before .before .before .before .before .before .before .before .before .before .before .before .before .before .before .before .before .before .before .before .before .before .before .args .goals .now))) in
-          carried-home t (p .most) (z .2) (c .before .before .before .before .before .before .before .before .before .before .before .before .before .before .before .before .before .before .before .before .before .before .before .before .before .before .before .before .before .before .before .before .before .before .before .before .before .before .before .before .before .before .args .goals .now) (c .before .before .before .before .before .before .before .before .before .before .before .before .before .before .before .before .before .before .before .before .before .before .before .before .before .before .before .before .before .before .before .before .before .before .before .before .before .before .before .before .before .before .args .r .0) (c .before .before .before .before .before .before .before .before .before .before .before .before .before .before .before .before .before .before .before .before .before .before .before .before .before .before .before .before .before .before .before .before .before .before .before .before .before .before .before .before .before .before .args .placement .now) (p .placed) (z .1) (z .0) (z .3) (c .before .before .before .before .before .before .before .before .before .before .before .before .before .before .before .before .before .before .before .before .before .before .before .before .before .before .before .before .before .before .before .before .before .before .before .before .before .before .before .before .before .before .args .path .now) (z .5) short (d .0) (d .1) (d .2) (h t),
+          let d = tried-done (rw e at (f t (c .before .before .before .before .before .before .before .before .before .before .before .before .before .before .before .before .before .before .before .before .before .before .before .before .before .before .before .before .before .before .before .before .before .before .before .before .before .before .before .before .before .before .before .before .before .before .before .before .before .before .before .before .before .before .args .goals .now))) in
+          carried-home t (p .most) (z .2) (c .before .before .before .before .before .before .before .before .before .before .before .before .before .before .before .before .before .before .before .before .before .before .before .before .before .before .before .before .before .before .before .before .before .before .before .before .before .before .before .before .before .before .before .before .before .before .before .before .before .before .before .before .before .before .args .goals .now) (c .before .before .before .before .before .before .before .before .before .before .before .before .before .before .before .before .before .before .before .before .before .before .before .before .before .before .before .before .before .before .before .before .before .before .before .before .before .before .before .before .before .before .before .before .before .before .before .before .before .before .before .before .before .before .args .r .0) (c .before .before .before .before .before .before .before .before .before .before .before .before .before .before .before .before .before .before .before .before .before .before .before .before .before .before .before .before .before .before .before .before .before .before .before .before .before .before .before .before .before .before .before .before .before .before .before .before .before .before .before .before .before .before .args .placement .now) (p .placed) (z .1) (z .0) (z .3) (c .before .before .before .before .before .before .before .before .before .before .before .before .before .before .before .before .before .before .before .before .before .before .before .before .before .before .before .before .before .before .before .before .before .before .before .before .before .before .before .before .before .before .before .before .before .before .before .before .before .before .before .before .before .before .args .path .now) (z .5) short (d .0) (d .1) (d .2) (h t),
+      settles (c .before .before .before .before .before .before .before .before .before .before .way-home .ensures .2),
     )
 
 pub carry-along-spec : {M : Type 1} → statement M
@@ -172,21 +214,28 @@ carry-along-spec =
     same-length-2
     same-length-3
     same-length-4
-    returns-2
     same-length-5
+    returns-2
+    cast-own
+    mul-add
+    slice-read-add
+    cast-add
+    add-requires
     same-length-6
     same-length-7
     same-length-8
+    same-length-9
+    same-length-10
     returns-3
-    cast-finished
     add-finished
     sub-last
     sub-way-home
     part-way-home-start
     part-way-home-end
     way-home-requires
-    same-length-9
-    same-length-10
     same-length-11
     same-length-12
+    same-length-13
+    same-length-14
+    same-length-15
     returns-4)

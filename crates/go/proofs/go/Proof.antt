@@ -9,6 +9,7 @@ use borrow.Author.Needs.{needs}
 use Rattle.paper.specs.Text.{count}
 use Rattle.bring.specs.Acting.{Tabled}
 use Rattle.bring.proofs.Acting.{tries-none}
+use Rattle.step.specs.Asking.{BaysBelow}
 use Rattle.go.specs.Going.{Linked}
 use Rattle.go.proofs.Going.{Going, going-none, going-all, going-more, going-stops, linked-here, arrived}
 use Rattle.bring.specs.declared.Tried.the-variants.{Done}
@@ -17,44 +18,46 @@ use Rattle.go.proofs.go.Statement.{statement}
 use Rattle.go.proofs.go.Tie as tie
 
 abbrev Inv-loop : tie.InvT-loop
-Inv-loop table ahead r placement₀ standing₀ empty₀ out₀ at finished count₀ i₀ placement standing empty out count i =
+Inv-loop table ahead r placement₀ standing₀ empty₀ settled₀ out₀ at finished count₀ i₀ placement standing empty settled out count i =
     (i ≤ length ahead) × (count ≤ at + 150000 * i) × (length placement ≡ length placement₀) × (length standing ≡ length standing₀) × (length empty ≡ length empty₀) × (length out ≡ length out₀)
     × Linked (length standing₀) table (getD placement (r .0) 0) (drop i ahead)
     × ((t : Tabled (length standing₀) table) (goals : List ℕ) → Going (t .yard) goals (r .0) ahead (length standing₀) placement₀ out₀ at i placement standing empty out count)
+    × (length settled ≡ length settled₀) × BaysBelow (r .0) placement settled
 
 abbrev μ-loop : tie.MeasureT-loop
-μ-loop table ahead r placement₀ standing₀ empty₀ out₀ at finished count₀ i₀ placement standing empty out count i =
+μ-loop table ahead r placement₀ standing₀ empty₀ settled₀ out₀ at finished count₀ i₀ placement standing empty settled out count i =
     length ahead - i
 
 cast-finished : tie.Need-cast-finished Inv-loop μ-loop
 cast-finished c = search needs
 
 loop-holds : tie.Need-loop-holds Inv-loop μ-loop
-loop-holds c = (omega arith, omega arith, refl, refl, refl, refl, c .before .before .before .before .before .before .before .pre .1 .1, λ t goals. going-none _ _ _ _ _ _ _ _ _ _ (c .before .before .before .before .before .before .before .pre .0 .placed))
+loop-holds c = (omega arith, omega arith, refl, refl, refl, refl, c .before .before .before .before .before .before .before .before .pre .1 .1, λ t goals. going-none _ _ _ _ _ _ _ _ _ _ (c .before .before .before .before .before .before .before .before .pre .0 .placed), refl, c .before .before .before .before .before .before .before .before .pre .1 .4)
 
-mul-t15 : tie.Need-mul-t15 Inv-loop μ-loop
-mul-t15 c = search needs
+mul-t16 : tie.Need-mul-t16 Inv-loop μ-loop
+mul-t16 c = search needs
 
-shared-slice-read-t18 : tie.Need-shared-slice-read-t18 Inv-loop μ-loop
-shared-slice-read-t18 c = search needs
+shared-slice-read-t19 : tie.Need-shared-slice-read-t19 Inv-loop μ-loop
+shared-slice-read-t19 c = search needs
 
 step-requires : tie.Need-step-requires Inv-loop μ-loop
 step-requires c κs =
-    let p = c .before .before .before .before .before .before .before .before .before .before .before .before .before .before .pre .0 in
-    let z = c .before .before .before .before .before .before .before .before .before .before .before .before .before .before .pre .1 in
-    let l = c .before .before .before .before .before .before .loop in
+    let p = c .before .before .before .before .before .before .before .before .before .before .before .before .before .before .before .before .pre .0 in
+    let z = c .before .before .before .before .before .before .before .before .before .before .before .before .before .before .before .before .pre .1 in
+    let l = c .before .before .before .before .before .before .before .loop in
     let v = l .inv in
     let b = v .7 (p .tabled) [] in
-    let h = linked-here (length (c .before .before .before .before .before .before .before .before .before .before .before .before .before .before .args .standing .now)) (c .before .before .before .before .before .before .before .before .before .before .before .before .before .before .args .table .now) (getD (l .placement) (c .before .before .before .before .before .before .before .before .before .before .before .before .before .before .args .r .0) 0) (c .before .before .before .before .before .before .before .before .before .before .before .before .before .before .args .ahead .now) (l .i) (c .before .before .before .before .before .loop-test .taken) (v .6) in
-    let e : length (l .standing) ≡ length (c .before .before .before .before .before .before .before .before .before .before .before .before .before .before .args .standing .now) = v .3 in (
+    let h = linked-here (length (c .before .before .before .before .before .before .before .before .before .before .before .before .before .before .before .before .args .standing .now)) (c .before .before .before .before .before .before .before .before .before .before .before .before .before .before .before .before .args .table .now) (getD (l .placement) (c .before .before .before .before .before .before .before .before .before .before .before .before .before .before .before .before .args .r .0) 0) (c .before .before .before .before .before .before .before .before .before .before .before .before .before .before .before .before .args .ahead .now) (l .i) (c .before .before .before .before .before .before .loop-test .taken) (v .6) in
+    let e : length (l .standing) ≡ length (c .before .before .before .before .before .before .before .before .before .before .before .before .before .before .before .before .args .standing .now) = v .3 in (
       record {
         most = omega (arith, p .most, e);
         table-size = rw e (p .table-size);
         empty-size = omega (arith, p .empty-size, v .4);
         placed = rw e (b .played .placed);
         tabled = rw e (p .tabled);
+        levelled = rw e (p .levelled);
       },
-      (omega (arith, z .0, v .2), omega (arith, z .0, v .2), rw e (h .0), h .1, rw e (z .2), omega (arith, v .1, z .3, c .before .before .before .before .before .loop-test .taken)),
+      (omega (arith, z .0, v .2), omega (arith, z .0, v .2), rw e (h .0), h .1, rw e (z .2), omega (arith, v .1, z .3, c .before .before .before .before .before .before .loop-test .taken), v .9),
     )
 
 enum-known-one : tie.Need-enum-known-one Inv-loop μ-loop
@@ -75,16 +78,20 @@ same-length-3 c = search needs
 same-length-4 : tie.Need-same-length-4 Inv-loop μ-loop
 same-length-4 c = search needs
 
+same-length-5 : tie.Need-same-length-5 Inv-loop μ-loop
+same-length-5 c = search needs
+
 returns : tie.Need-returns Inv-loop μ-loop
 returns c =
-    let l = c .before .before .before .before .before .before .before .before .before .before .before .before .before .before .before .before .before .loop in
+    let l = c .before .before .before .before .before .before .before .before .before .before .before .before .before .before .before .before .before .before .before .before .loop in
     let v = l .inv in (
       tt,
       λ t goals.
-          let kw : length (l .standing) ≡ length (c .before .before .before .before .before .before .before .before .before .before .before .before .before .before .before .before .before .before .before .before .before .before .before .before .before .args .standing .now) = v .3 in
-          let e : c .before .before .before .before .before .before .before .before .before .before .step .result ≡ Failed = c .enum-told .given .1 in
-          let f = rw kw at (c .before .before .before .before .before .before .before .before .before .before .step .ensures .1) in
-          tries-none (going-stops (v .7 t goals) (c .before .before .before .before .before .before .before .before .before .before .before .before .before .before .before .before .loop-test .taken) (rw e at (f t))),
+          let kw : length (l .standing) ≡ length (c .before .before .before .before .before .before .before .before .before .before .before .before .before .before .before .before .before .before .before .before .before .before .before .before .before .before .before .before .before .args .standing .now) = v .3 in
+          let e : c .before .before .before .before .before .before .before .before .before .before .before .before .step .result ≡ Failed = c .enum-told .given .1 in
+          let f = rw kw at (c .before .before .before .before .before .before .before .before .before .before .before .before .step .ensures .1) in
+          tries-none (going-stops (v .7 t goals) (c .before .before .before .before .before .before .before .before .before .before .before .before .before .before .before .before .before .before .before .loop-test .taken) (rw e at (f t))),
+      c .before .before .before .before .before .before .before .before .before .before .before .before .step .ensures .2,
     )
 
 add-i : tie.Need-add-i Inv-loop μ-loop
@@ -95,31 +102,30 @@ loop-less c = search needs
 
 loop-again : tie.Need-loop-again Inv-loop μ-loop
 loop-again c =
-    let p = c .before .before .before .before .before .before .before .before .before .before .before .before .before .before .before .before .before .before .before .before .before .before .before .before .before .before .pre .0 in
-    let z = c .before .before .before .before .before .before .before .before .before .before .before .before .before .before .before .before .before .before .before .before .before .before .before .before .before .before .pre .1 in
-    let l = c .before .before .before .before .before .before .before .before .before .before .before .before .before .before .before .before .before .before .loop in
+    let p = c .before .before .before .before .before .before .before .before .before .before .before .before .before .before .before .before .before .before .before .before .before .before .before .before .before .before .before .before .before .before .pre .0 in
+    let z = c .before .before .before .before .before .before .before .before .before .before .before .before .before .before .before .before .before .before .before .before .before .before .before .before .before .before .before .before .before .before .pre .1 in
+    let l = c .before .before .before .before .before .before .before .before .before .before .before .before .before .before .before .before .before .before .before .before .before .loop in
     let v = l .inv in
     let b = v .7 (p .tabled) [] in
-    let h = linked-here (length (c .before .before .before .before .before .before .before .before .before .before .before .before .before .before .before .before .before .before .before .before .before .before .before .before .before .before .args .standing .now)) (c .before .before .before .before .before .before .before .before .before .before .before .before .before .before .before .before .before .before .before .before .before .before .before .before .before .before .args .table .now) (getD (l .placement) (c .before .before .before .before .before .before .before .before .before .before .before .before .before .before .before .before .before .before .before .before .before .before .before .before .before .before .args .r .0) 0) (c .before .before .before .before .before .before .before .before .before .before .before .before .before .before .before .before .before .before .before .before .before .before .before .before .before .before .args .ahead .now) (l .i) (c .before .before .before .before .before .before .before .before .before .before .before .before .before .before .before .before .before .loop-test .taken) (v .6) in
-    let kw : length (l .standing) ≡ length (c .before .before .before .before .before .before .before .before .before .before .before .before .before .before .before .before .before .before .before .before .before .before .before .before .before .before .args .standing .now) = v .3 in
-    let k = c .before .before .before .before .before .before .before .before .before .before .before .step .kept in
-    let e : c .before .before .before .before .before .before .before .before .before .before .before .step .result ≡ Done (c .before .one .given .0 .0) = c .before .one .given .1 in
-    let few = rw e at (c .before .before .before .before .before .before .before .before .before .before .before .step .ensures .0) in
-    let f = rw kw at (c .before .before .before .before .before .before .before .before .before .before .before .step .ensures .1) in
-    let hr : c .before .before .before .before .before .before .before .before .before .before .before .before .before .before .before .before .before .before .before .before .before .before .before .before .before .before .args .r .0 < length (l .placement) = omega (arith, z .0, v .2) in
-    let hf : c .before .before .before .before .before .before .before .before .before .before .before .before .before .before .before .before .before .before .before .before .before .before .before .before .before .before .args .r .0 ≤ length (l .placement) = omega (arith, z .0, v .2) in (
-      omega (arith, c .before .before .before .before .before .before .before .before .before .before .before .before .before .before .before .before .before .loop-test .taken),
+    let h = linked-here (length (c .before .before .before .before .before .before .before .before .before .before .before .before .before .before .before .before .before .before .before .before .before .before .before .before .before .before .before .before .before .before .args .standing .now)) (c .before .before .before .before .before .before .before .before .before .before .before .before .before .before .before .before .before .before .before .before .before .before .before .before .before .before .before .before .before .before .args .table .now) (getD (l .placement) (c .before .before .before .before .before .before .before .before .before .before .before .before .before .before .before .before .before .before .before .before .before .before .before .before .before .before .before .before .before .before .args .r .0) 0) (c .before .before .before .before .before .before .before .before .before .before .before .before .before .before .before .before .before .before .before .before .before .before .before .before .before .before .before .before .before .before .args .ahead .now) (l .i) (c .before .before .before .before .before .before .before .before .before .before .before .before .before .before .before .before .before .before .before .before .loop-test .taken) (v .6) in
+    let kw : length (l .standing) ≡ length (c .before .before .before .before .before .before .before .before .before .before .before .before .before .before .before .before .before .before .before .before .before .before .before .before .before .before .before .before .before .before .args .standing .now) = v .3 in
+    let k = c .before .before .before .before .before .before .before .before .before .before .before .before .before .step .kept in
+    let e : c .before .before .before .before .before .before .before .before .before .before .before .before .before .step .result ≡ Done (c .before .one .given .0 .0) = c .before .one .given .1 in
+    let few = rw e at (c .before .before .before .before .before .before .before .before .before .before .before .before .before .step .ensures .0) in
+    let f = rw kw at (c .before .before .before .before .before .before .before .before .before .before .before .before .before .step .ensures .1) in
+    let hr : c .before .before .before .before .before .before .before .before .before .before .before .before .before .before .before .before .before .before .before .before .before .before .before .before .before .before .before .before .before .before .args .r .0 < length (l .placement) = omega (arith, z .0, v .2) in
+    let hf : c .before .before .before .before .before .before .before .before .before .before .before .before .before .before .before .before .before .before .before .before .before .before .before .before .before .before .before .before .before .before .args .r .0 ≤ length (l .placement) = omega (arith, z .0, v .2) in (
+      omega (arith, c .before .before .before .before .before .before .before .before .before .before .before .before .before .before .before .before .before .before .before .before .loop-test .taken),
       omega (arith, few, v .1),
       omega (arith, k .1 .1 .1 .1 .0, v .2),
       omega (arith, k .1 .1 .1 .1 .1 .0, v .3),
       omega (arith, k .1 .1 .1 .1 .1 .1 .0, v .4),
-      omega (arith, k .1 .1 .1 .1 .1 .1 .1 .0, v .5),
-      rw (arrived (p .tabled) (p .most) (z .2) (c .before .before .before .before .before .before .before .before .before .before .before .before .before .before .before .before .before .before .before .before .before .before .before .before .before .before .args .r .0) (c .before .before .before .before .before .before .before .before .before .before .before .before .before .before .before .before .before .before .before .before .before .before .before .before .before .before .args .r .0) (getD (c .before .before .before .before .before .before .before .before .before .before .before .before .before .before .before .before .before .before .before .before .before .before .before .before .before .before .args .ahead .now) (l .i) 0) (l .placement) (b .played .placed) hr hf (h .0) (h .1) (rw e at (f (p .tabled)))) (h .2),
-      λ t goals. going-more (v .7 t goals) (c .before .before .before .before .before .before .before .before .before .before .before .before .before .before .before .before .before .loop-test .taken) (rw e at (f t)),
+      omega (arith, k .1 .1 .1 .1 .1 .1 .1 .1 .0, v .5),
+      rw (arrived (p .tabled) (p .most) (z .2) (c .before .before .before .before .before .before .before .before .before .before .before .before .before .before .before .before .before .before .before .before .before .before .before .before .before .before .before .before .before .before .args .r .0) (c .before .before .before .before .before .before .before .before .before .before .before .before .before .before .before .before .before .before .before .before .before .before .before .before .before .before .before .before .before .before .args .r .0) (getD (c .before .before .before .before .before .before .before .before .before .before .before .before .before .before .before .before .before .before .before .before .before .before .before .before .before .before .before .before .before .before .args .ahead .now) (l .i) 0) (l .placement) (b .played .placed) hr hf (h .0) (h .1) (rw e at (f (p .tabled)))) (h .2),
+      λ t goals. going-more (v .7 t goals) (c .before .before .before .before .before .before .before .before .before .before .before .before .before .before .before .before .before .before .before .before .loop-test .taken) (rw e at (f t)),
+      omega (arith, k .1 .1 .1 .1 .1 .1 .1 .0, v .8),
+      c .before .before .before .before .before .before .before .before .before .before .before .before .before .step .ensures .2,
     )
-
-same-length-5 : tie.Need-same-length-5 Inv-loop μ-loop
-same-length-5 c = search needs
 
 same-length-6 : tie.Need-same-length-6 Inv-loop μ-loop
 same-length-6 c = search needs
@@ -130,8 +136,14 @@ same-length-7 c = search needs
 same-length-8 : tie.Need-same-length-8 Inv-loop μ-loop
 same-length-8 c = search needs
 
+same-length-9 : tie.Need-same-length-9 Inv-loop μ-loop
+same-length-9 c = search needs
+
+same-length-10 : tie.Need-same-length-10 Inv-loop μ-loop
+same-length-10 c = search needs
+
 returns-2 : tie.Need-returns-2 Inv-loop μ-loop
-returns-2 c = (omega (arith, c .before .loop .inv .0, c .before .loop .inv .1), λ t goals. going-all _ _ _ _ _ _ _ _ _ _ _ _ _ _ (c .before .loop .inv .7 t goals) (c .loop-test .left))
+returns-2 c = (omega (arith, c .before .loop .inv .0, c .before .loop .inv .1), λ t goals. going-all _ _ _ _ _ _ _ _ _ _ _ _ _ _ (c .before .loop .inv .7 t goals) (c .loop-test .left), c .before .loop .inv .9)
 
 pub go-spec : {M : Type 1} → statement M
 go-spec =
@@ -141,8 +153,8 @@ go-spec =
     μ-loop
     cast-finished
     loop-holds
-    mul-t15
-    shared-slice-read-t18
+    mul-t16
+    shared-slice-read-t19
     step-requires
     enum-known-one
     enum-told
@@ -150,12 +162,14 @@ go-spec =
     same-length-2
     same-length-3
     same-length-4
+    same-length-5
     returns
     add-i
     loop-less
     loop-again
-    same-length-5
     same-length-6
     same-length-7
     same-length-8
+    same-length-9
+    same-length-10
     returns-2)

@@ -11,33 +11,33 @@ use Rattle.home.proofs.home_at.Tie as tie
 
 bound-for-requires : tie.Need-bound-for-requires
 bound-for-requires c κs =
-    let z = c .before .before .before .before .before .before .before .pre .1 in
-    (z .0, omega (arith, z .2, z .6 .many), z .6 .whose (c .before .before .before .before .before .before .before .args .v .0) (z .2))
+    let z = c .before .before .before .before .before .before .before .before .pre .1 in
+    (z .0, omega (arith, z .2, z .6 .many), z .6 .whose (c .before .before .before .before .before .before .before .before .args .v .0) (z .2))
 
 returns : tie.Need-returns
-returns c = (at-most (omega arith), λ t. stages-none (home-absent _ _ _ _ _ _ (c .before .bound-for .ensures) (c .if1 .taken)) (c .before .before .before .before .before .before .before .before .before .pre .0 .placed))
+returns c = (at-most (omega arith), λ t. stages-none (home-absent _ _ _ _ _ _ (c .before .bound-for .ensures) (c .if1 .taken)) (c .before .before .before .before .before .before .before .before .before .before .pre .0 .placed), c .before .before .before .before .before .before .before .before .before .before .pre .1 .7)
 
 mul-if2 : tie.Need-mul-if2
 mul-if2 c = search needs
 
 slice-read-if2 : tie.Need-slice-read-if2
-slice-read-if2 c = omega (arith, c .before .if1 .left, c .before .before .before .before .before .before .before .before .before .before .pre .1 .0, c .before .before .before .before .before .before .before .before .before .before .pre .1 .1)
+slice-read-if2 c = omega (arith, c .before .if1 .left, c .before .before .before .before .before .before .before .before .before .before .before .pre .1 .0, c .before .before .before .before .before .before .before .before .before .before .before .pre .1 .1)
 
 returns-2 : tie.Need-returns-2
-returns-2 c = (at-most (omega arith), λ t. stages-none (home-there _ _ _ _ _ _ (c .before .before .before .before .bound-for .ensures) (c .before .before .before .if1 .left) (c .if2 .taken)) (c .before .before .before .before .before .before .before .before .before .before .before .before .pre .0 .placed))
+returns-2 c = (at-most (omega arith), λ t. stages-none (home-there _ _ _ _ _ _ (c .before .before .before .before .bound-for .ensures) (c .before .before .before .if1 .left) (c .if2 .taken)) (c .before .before .before .before .before .before .before .before .before .before .before .before .before .pre .0 .placed), c .before .before .before .before .before .before .before .before .before .before .before .before .before .pre .1 .7)
 
-cast-t19 : tie.Need-cast-t19
-cast-t19 c =
-    let p = c .before .before .before .before .before .before .before .before .before .before .before .before .pre .0 in
-    let z = c .before .before .before .before .before .before .before .before .before .before .before .before .pre .1 in
+cast-t20 : tie.Need-cast-t20
+cast-t20 c =
+    let p = c .before .before .before .before .before .before .before .before .before .before .before .before .before .pre .0 in
+    let z = c .before .before .before .before .before .before .before .before .before .before .before .before .before .pre .1 in
     omega (arith, c .before .before .before .if1 .left, z .0, z .1, p .placed .few, p .most)
 
 step-requires : tie.Need-step-requires
 step-requires c κs =
-    let p = c .before .before .before .before .before .before .before .before .before .before .before .before .before .before .before .before .pre .0 in
-    let z = c .before .before .before .before .before .before .before .before .before .before .before .before .before .before .before .before .pre .1 in
-    let rail = (rw (← (c .before .before .before .before .before .before .before .before .bound-for .ensures)) at (z .5 .beside)) (c .before .before .before .before .before .before .before .if1 .left) (c .before .before .before .before .if2 .left) in
-    (p, (omega (arith, c .before .before .before .before .before .before .before .if1 .left, z .0, z .1), omega (arith, z .0, z .1), z .2, rail, z .3, z .4))
+    let p = c .before .before .before .before .before .before .before .before .before .before .before .before .before .before .before .before .before .before .pre .0 in
+    let z = c .before .before .before .before .before .before .before .before .before .before .before .before .before .before .before .before .before .before .pre .1 in
+    let rail = (rw (← (c .before .before .before .before .before .before .before .before .before .bound-for .ensures)) at (z .5 .beside)) (c .before .before .before .before .before .before .before .before .if1 .left) (c .before .before .before .before .before .if2 .left) in
+    (p, (omega (arith, c .before .before .before .before .before .before .before .before .if1 .left, z .0, z .1), omega (arith, z .0, z .1), z .2, rail, z .3, z .4, z .7))
 
 enum-known-one : tie.Need-enum-known-one
 enum-known-one c = search needs
@@ -57,13 +57,13 @@ same-length-3 c = search needs
 same-length-4 : tie.Need-same-length-4
 same-length-4 c = search needs
 
-returns-3 : tie.Need-returns-3
-returns-3 c =
-    let e : c .before .before .before .before .before .before .before .before .before .before .step .result ≡ Failed = c .enum-told .given .1 in
-    (at-most-stuck, λ t. home-stuck _ _ _ _ _ _ (c .before .before .before .before .before .before .before .before .before .before .before .before .before .before .before .before .before .before .before .bound-for .ensures) (c .before .before .before .before .before .before .before .before .before .before .before .before .before .before .before .before .before .before .if1 .left) refl (c .before .before .before .before .before .before .before .before .before .before .before .before .before .before .before .if2 .left) (rw e at (c .before .before .before .before .before .before .before .before .before .before .step .ensures .1 t)))
-
 same-length-5 : tie.Need-same-length-5
 same-length-5 c = search needs
+
+returns-3 : tie.Need-returns-3
+returns-3 c =
+    let e : c .before .before .before .before .before .before .before .before .before .before .before .before .step .result ≡ Failed = c .enum-told .given .1 in
+    (at-most-stuck, λ t. home-stuck _ _ _ _ _ _ (c .before .before .before .before .before .before .before .before .before .before .before .before .before .before .before .before .before .before .before .before .before .before .bound-for .ensures) (c .before .before .before .before .before .before .before .before .before .before .before .before .before .before .before .before .before .before .before .before .before .if1 .left) refl (c .before .before .before .before .before .before .before .before .before .before .before .before .before .before .before .before .before .before .if2 .left) (rw e at (c .before .before .before .before .before .before .before .before .before .before .before .before .step .ensures .1 t)), c .before .before .before .before .before .before .before .before .before .before .before .before .step .ensures .2)
 
 same-length-6 : tie.Need-same-length-6
 same-length-6 c = search needs
@@ -74,11 +74,17 @@ same-length-7 c = search needs
 same-length-8 : tie.Need-same-length-8
 same-length-8 c = search needs
 
+same-length-9 : tie.Need-same-length-9
+same-length-9 c = search needs
+
+same-length-10 : tie.Need-same-length-10
+same-length-10 c = search needs
+
 returns-4 : tie.Need-returns-4
 returns-4 c =
-    let e : c .before .before .before .before .before .before .before .before .before .before .before .step .result ≡ Done (c .before .one .given .0 .0) = c .before .one .given .1 in
-    let few = rw e at (c .before .before .before .before .before .before .before .before .before .before .before .step .ensures .0) in
-    (at-most few, λ t. home-steps _ _ _ _ _ _ (c .before .before .before .before .before .before .before .before .before .before .before .before .before .before .before .before .before .before .before .before .bound-for .ensures) (c .before .before .before .before .before .before .before .before .before .before .before .before .before .before .before .before .before .before .before .if1 .left) (c .before .before .before .before .before .before .before .before .before .before .before .before .before .before .before .before .if2 .left) (rw e at (c .before .before .before .before .before .before .before .before .before .before .before .step .ensures .1 t)))
+    let e : c .before .before .before .before .before .before .before .before .before .before .before .before .before .step .result ≡ Done (c .before .one .given .0 .0) = c .before .one .given .1 in
+    let few = rw e at (c .before .before .before .before .before .before .before .before .before .before .before .before .before .step .ensures .0) in
+    (at-most few, λ t. home-steps _ _ _ _ _ _ (c .before .before .before .before .before .before .before .before .before .before .before .before .before .before .before .before .before .before .before .before .before .before .before .bound-for .ensures) (c .before .before .before .before .before .before .before .before .before .before .before .before .before .before .before .before .before .before .before .before .before .before .if1 .left) (c .before .before .before .before .before .before .before .before .before .before .before .before .before .before .before .before .before .before .before .if2 .left) (rw e at (c .before .before .before .before .before .before .before .before .before .before .before .before .before .step .ensures .1 t)), c .before .before .before .before .before .before .before .before .before .before .before .before .before .step .ensures .2)
 
 pub home-at-spec : {M : Type 1} → statement M
 home-at-spec =
@@ -89,7 +95,7 @@ home-at-spec =
     mul-if2
     slice-read-if2
     returns-2
-    cast-t19
+    cast-t20
     step-requires
     enum-known-one
     enum-told
@@ -97,9 +103,11 @@ home-at-spec =
     same-length-2
     same-length-3
     same-length-4
-    returns-3
     same-length-5
+    returns-3
     same-length-6
     same-length-7
     same-length-8
+    same-length-9
+    same-length-10
     returns-4)

@@ -1,0 +1,130 @@
+-- A step trades the bays u, where r stood, and w among the finished carriers: r is at w, and one of them that stood there is at u. So the set of their
+-- bays afterwards is the set before with u and w traded.
+-- Assumes nothing.
+use mathlib.Core.Path.{_≡_, sym, ap, _∙_, refl}
+use mathlib.Core.Bool.{Bool, true, false, not}
+use mathlib.Core.List.{List}
+use mathlib.Core.Logic.{⊎-elim}
+use mathlib.Core.Option.{some}
+use Prim.Native.Nat.{ℕ, _≤_, _<_}
+use native.Mathlib.Omega.{arith}
+use lib.Dec.{eqb}
+use lib.ListN.{length, take, length-take}
+use lib.Seq.{getD-take}
+use borrow.Author.Tests.{eqb-true, eqb-false, eq-eqb, ne-eqb}
+use Rattle.paper.specs.Basics.{_and_, _or_, elem, In}
+use Rattle.paper.specs.Procedure.{trade, step}
+use Rattle.paper.specs.Yard.{Bay, Carrier, Yard, Placement, bayOf, carrierAt, Crossing, after}
+use Rattle.paper.proofs.Carrying.{Stepped, step-steps, plan-good}
+use Rattle.paper.proofs.Playing.{Good, Sound, after-length, placeOf-bay, placeOf-there, bay-in}
+use Rattle.paper.proofs.Tests.{by-cases, not-both}
+use Rattle.paper.proofs.Trading.{trade-first, trade-second, trade-other, trade-twice, which}
+use Rattle.words.specs.Sets.{mem, memRow, span}
+use Rattle.words.proofs.Besides.{equal-tests}
+use Rattle.vacate.specs.Placed.{Placed}
+use Rattle.trial.proofs.Copying.{in-bays}
+use Rattle.bring.specs.Acting.{Tabled, Acts}
+use Rattle.bring.specs.declared.Tried.the-variants.{Done}
+use Rattle.bring.proofs.Acting.{acted-done}
+use Rattle.step.specs.Asking.{Loopless, BaysBelow}
+use Rattle.step.proofs.Stepping.{sound-of, railed}
+
+-- ## Two bays traded in a set
+
+module _ (f : ℕ → Bool) (u w : Bay) where
+  -- both are in it, or neither is
+  pub traded-alike : f u ≡ f w → (b : Bay) → f b ≡ f (trade u w b)
+  traded-alike e b =
+      which u w b
+      (λ q. rw (q, trade-first u w) e)
+      (λ q. rw (q, trade-second u w) (sym e))
+      (λ n m. rw (trade-other u w b n m))
+
+  -- u is in it and w is not: u leaves and w joins
+  pub traded-one : f u ≡ true → f w ≡ false → (b : Bay) → (f b and not (eqb b u)) or eqb b w ≡ f (trade u w b)
+  unfolding _and_ _or_
+  traded-one hu hw b =
+      which u w b
+      (λ q. rw (q, trade-first u w, hu, eq-eqb u u refl, hw) (ne-eqb u w (λ e. not-both hu (rw (← e) at hw))))
+      (λ q. rw (q, trade-second u w, hu, hw, eq-eqb w w refl))
+      (λ n m. rw (trade-other u w b n m, n, m) (plain (f b)))
+    where
+      plain : (a : Bool) → (a and true) or false ≡ a
+      plain true = refl
+      plain false = refl
+
+pub trade-turned : (u w b : Bay) → trade u w b ≡ trade w u b
+trade-turned u w b =
+    which u w b
+    (λ q. rw (q, trade-first u w, trade-second w u))
+    (λ q. rw (q, trade-second u w, trade-first w u))
+    (λ n m. rw (trade-other u w b n m, trade-other w u b m n))
+
+-- ## The bays of the carriers below
+
+module _ (finished : ℕ) (p : Placement) (hf : finished ≤ length p) where
+  below-in : (c : Carrier) → c < finished → In (bayOf p c) (take finished p)
+  below-in c h = rw (getD-take finished p c 0 h) at (bay-in (take finished p) c (rw length-take (omega arith)))
+
+  in-below : (b : Bay) → In b (take finished p) → (c : Carrier) × (c < finished) × (bayOf p c ≡ b)
+  in-below b i =
+      let c = carrierAt (take finished p) b in
+      let h : c < finished = let j = rw length-take at (placeOf-there (take finished p) b i) in omega arith in
+      (c, h, sym (getD-take finished p c 0 h) ∙ placeOf-bay (take finished p) b i)
+
+-- ## After a step
+
+module _ (Y : Yard) (sound : Sound Y) (finished : ℕ) (r : Carrier) (w : Bay) (p : Placement) (good : Good Y p) (hr : r < length p) (hf : finished ≤ length p)
+    (xs : List Crossing) (s : Stepped Y sound finished r w p xs) where
+  good-after : Good Y (after p xs)
+  good-after = plan-good Y sound p xs good (s .legal)
+
+  -- nobody but r is at w afterwards
+  left-w : (c : Carrier) → c < finished → eqb c r ≡ false → bayOf (after p xs) c ≡ bayOf p c → eqb (bayOf p c) w ≡ false
+  left-w c h n e =
+      ne-eqb (bayOf p c) w
+      (λ q. eqb-false c r n (good-after .apart c r (rw after-length (omega arith)) (rw after-length hr) (e ∙ q ∙ sym (s .arrives))))
+
+  each-moves : (c : Carrier) → c < finished → bayOf (after p xs) c ≡ trade (bayOf p r) w (bayOf p c)
+  each-moves c h =
+      by-cases (eqb c r)
+      (λ e. rw (eqb-true c r e) (s .arrives ∙ sym (trade-first (bayOf p r) w)))
+      (λ n.
+      ⊎-elim
+      (λ e.
+      let other : eqb (bayOf p c) (bayOf p r) ≡ false = ne-eqb (bayOf p c) (bayOf p r) (λ q. eqb-false c r n (good .apart c r (omega arith) hr q)) in
+      e ∙ sym (trade-other (bayOf p r) w (bayOf p c) other (left-w c h n e)))
+      (λ e. e .1 ∙ sym (rw (e .0) (trade-second (bayOf p r) w)))
+      (s .others c h n))
+
+  pub bays-traded : (b : Bay) → elem b (take finished (after p xs)) ≡ elem (trade (bayOf p r) w b) (take finished p)
+  bays-traded b =
+      let hf′ : finished ≤ length (after p xs) = rw after-length hf in
+      equal-tests _ _
+      (λ i.
+      let k = in-below finished (after p xs) hf′ b i in
+      let e : bayOf p (k .0) ≡ trade (bayOf p r) w b = sym (trade-twice (bayOf p r) w (bayOf p (k .0))) ∙ ap (trade (bayOf p r) w) (sym (each-moves (k .0) (k .1)) ∙ k .2) in
+      rw e at (below-in finished p hf (k .0) (k .1)))
+      (λ i.
+      let k = in-below finished p hf (trade (bayOf p r) w b) i in
+      let e : bayOf (after p xs) (k .0) ≡ b = each-moves (k .0) (k .1) ∙ ap (trade (bayOf p r) w) (k .2) ∙ trade-twice (bayOf p r) w b in
+      rw e at (below-in finished (after p xs) hf′ (k .0) (k .1)))
+
+module _ {n : ℕ} {table : List ℕ} (t : Tabled n table) (most : n ≤ span) (loopless : Loopless n table) (finished : ℕ) (r : Carrier) (w : Bay) (p : Placement)
+    {standing empty : List ℕ} (k : Placed n p standing empty) (hr : r < length p) (hf : finished ≤ length p) (hw : w < n) (rail : memRow table (bayOf p r) w ≡ true) where
+  good-of : Good (t .yard) p
+  good-of = record { apart = k .apart; inside = λ c h. in-bays t (k .inside c h) }
+
+  -- what the paper says of the step
+  pub stepped-of : (xs : List Crossing) → step (t .yard) finished r w p ≡ some xs → Stepped (t .yard) (sound-of t most loopless) finished r w p xs
+  stepped-of xs e = step-steps (t .yard) (sound-of t most loopless) finished r w p good-of hr hf (railed t most loopless finished r w p k hr hw rail) xs e
+
+  pub settled-after : {out : List ℕ} {at b : ℕ} {p′ standing′ empty′ out′ settled settled′ : List ℕ} → Acts (step (t .yard) finished r w p) n p standing empty out at p′ standing′ empty′ out′ (Done b)
+      → BaysBelow finished p settled → length settled′ ≡ length settled → ((b : Bay) → mem settled′ b ≡ mem settled (trade (bayOf p r) w b)) → BaysBelow finished p′ settled′
+  settled-after a s same traded =
+      let d = acted-done a in
+      record {
+        size = same ∙ s .size;
+        bays = λ b. traded b ∙ s .bays (trade (bayOf p r) w b)
+            ∙ rw (d .2 .moved) (sym (bays-traded (t .yard) (sound-of t most loopless) finished r w p good-of hr hf (d .0) (stepped-of (d .0) (d .1)) b));
+      }
