@@ -1,17 +1,20 @@
 -- A placement put down at the bays of the start is ready to be carried from, and what was carried is the whole procedure.
 -- Assumes nothing.
-use mathlib.Core.Path.{_≡_, _∙_, sym, ap}
+use mathlib.Core.Path.{_≡_, _∙_, ap}
 use mathlib.Core.List.{List, _++_, append-nil}
 use Prim.Native.Nat.{ℕ, _≤_, _*_}
 use native.Mathlib.Omega.{arith}
 use lib.ListN.{length, take, drop, replicate, length-replicate, drop-of-length-le}
 use lib.Seq.{length-take-le}
 use Rattle.paper.specs.Procedure.{Outcome}
+use Rattle.paper.specs.Basics.{elem}
 use Rattle.words.specs.Sets.{words, span}
+use Rattle.words.proofs.Sets.{mem-zeros}
+use Rattle.levels.specs.Levels.{Levelled}
 use Rattle.vacate.specs.Placed.{Placed}
 use Rattle.bring.specs.Acting.{Ready}
+use Rattle.step.specs.Asking.{BaysBelow}
 use Rattle.home.specs.Homing.{Owners, Stages}
-use Rattle.carry.specs.Carrying.{Goals}
 use Rattle.home.specs.declared.Staged.{Staged}
 use Rattle.play.specs.Playing.{Admitted, Plays}
 
@@ -23,14 +26,20 @@ places k h = length-take-le k (replicate span 0) (rw (length-replicate {A = ℕ}
 pub all-copied : (to from to′ : List ℕ) → length to ≡ length from → to′ ≡ from ++ drop (length from) to → to′ ≡ from
 all-copied to from to′ h e = e ∙ ap (λ l. from ++ l) (drop-of-length-le to {i = length from} (omega arith)) ∙ append-nil from
 
-pub ready-of : {table : List ℕ} (s g p standing empty : List ℕ) → Admitted (length standing) table s g → length standing * words ≤ length table → p ≡ s → length empty ≡ words → Placed (length standing) s standing empty → Ready table p standing empty
-ready-of s g p standing empty a l e m placed = rw e (record {
+pub ready-of : {table : List ℕ} (s g p standing empty : List ℕ) → Admitted (length standing) table s g → length standing * words ≤ length table → Levelled (length standing) table → p ≡ s → length empty ≡ words → Placed (length standing) s standing empty → Ready table p standing empty
+ready-of s g p standing empty a l v e m placed = rw e (record {
   most = a .most;
   table-size = l;
   empty-size = m;
   placed = placed;
   tabled = a .reaching .tabled;
+  levelled = v;
 })
+
+-- nobody is finished yet
+pub none-settled : (s : List ℕ) → BaysBelow 0 s (replicate words 0)
+unfolding elem
+none-settled s = record { size = length-replicate {A = ℕ} words 0; bays = λ b. mem-zeros words b }
 
 -- whose goal a bay is, is who would stand there
 pub owners-of : {n m : ℕ} {goals owner spare : List ℕ} → m ≡ n → length owner ≡ m → Placed m goals owner spare → Owners n goals owner

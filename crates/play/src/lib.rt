@@ -1,35 +1,102 @@
-// The procedure played from a start, by carriers' bays alone: who stands where is worked out here.
+// The procedure played from a start, by carriers' bays alone: who stands where is worked out here, and in crowded yards the levels above
+// the rails.
 use home::Staged;
 use words::SPAN;
 use words::WORDS;
 use yard::Yard;
 ghost use mathlib.Core.Path.{_≡_};
-ghost use Prim.Native.Nat.{ℕ, _≤_, _*_};
+ghost use Prim.Native.Nat.{_≤_, _<_, _*_};
 ghost use lib.ListN.{length};
-ghost use Rattle.words.specs.Sets.{words, span};
+ghost use Rattle.words.specs.Sets.{words};
+ghost use Rattle.levels.specs.Levels.{Levelled};
 ghost use Rattle.bring.specs.Acting.{Tabled};
+ghost use Rattle.step.specs.Asking.{BaysBelow};
 ghost use Rattle.carry.specs.Carrying.{procedures};
 ghost use Rattle.play.specs.Playing.{Admitted, Plays};
 
-// The same in lent room: a place for each carrier, and one for each bay. Whose goal a bay is, is worked out as who stands there.
+// Fewer carriers than this are soon planned, and levels do not pay for themselves.
+const MANY: usize = 128;
+
+// Nor do they where more bays than this are empty, and vacating has not far to go.
+const CROWDED: usize = 20;
+
+// Words of 32 levels for any yard.
+const WIDE: usize = 32 * Yard::TABLE;
+
+// In lent room: a place for each carrier, and one for each bay. Whose goal a bay is, is worked out as who stands there. Nobody is finished yet, so no bay
+// is settled.
 fn play_on(
-    table: &[u64; Yard::TABLE],
+    table: &[u64],
     start: &[u16],
     goal: &[u16],
     placement: &mut [u16],
     standing: &mut [u16],
     empty: &mut [u64],
+    settled: &mut [u64],
     owner: &mut [u16],
     spare: &mut [u64],
     out: &mut [u64],
 ) -> Staged
-    requires { ⌜ Admitted (length (now standing)) (now table) (now start) (now goal) × (length (now empty) ≡ words) × (length (now placement) ≡ length (now start)) × (length (now owner) ≡ length (now standing)) × (length (now spare) ≡ words) ⌝ }
+    requires { ⌜ Admitted (length (now standing)) (now table) (now start) (now goal) × (length (now empty) ≡ words) × (length (now placement) ≡ length (now start)) × (length (now owner) ≡ length (now standing)) × (length (now spare) ≡ words) × BaysBelow 0 (now start) (now settled) × (length (now standing) * words ≤ length (now table)) × Levelled (length (now standing)) (now table) ⌝ }
     ensures { λ z. ⌜ ((t : Tabled (length (now (standing .entry))) (now (table .entry))) → Plays (procedures (t .yard) (now (goal .entry)) (now (start .entry))) (now (out .entry)) (now (out .exit)) z) ⌝ }
 {
     copies::shorts(placement, start);
     placing::place(start, standing, empty);
     placing::place(goal, owner, spare);
-    carry::carry_all(table, goal, owner, placement, standing, empty, out)
+    carry::carry_all(table, goal, owner, placement, standing, empty, settled, out)
+}
+
+// On a table that may go on above its rails.
+fn play_in(table: &[u64], n: usize, start: &[u16], goal: &[u16], out: &mut [u64]) -> Staged
+    requires { ⌜ Admitted n (now table) (now start) (now goal) × (n * words ≤ length (now table)) × Levelled n (now table) ⌝ }
+    ensures { λ z. ⌜ ((t : Tabled n (now (table .entry))) → Plays (procedures (t .yard) (now (goal .entry)) (now (start .entry))) (now (out .entry)) (now (out .exit)) z) ⌝ }
+{
+    let carriers = start.len();
+    let mut placement = [0u16; SPAN];
+    let mut standing = [0u16; SPAN];
+    let mut empty = [0u64; WORDS];
+    let mut settled = [0u64; WORDS];
+    let mut owner = [0u16; SPAN];
+    let mut spare = [0u64; WORDS];
+    play_on(
+        table,
+        start,
+        goal,
+        &mut placement[..carriers],
+        &mut standing[..n],
+        &mut empty,
+        &mut settled,
+        &mut owner[..n],
+        &mut spare,
+        out,
+    )
+}
+
+// By the rails alone.
+fn play_by_rails(table: &[u64], n: usize, start: &[u16], goal: &[u16], out: &mut [u64]) -> Staged
+    requires { ⌜ Admitted n (now table) (now start) (now goal) × (n * words ≤ length (now table)) ⌝ }
+    ensures { λ z. ⌜ ((t : Tabled n (now (table .entry))) → Plays (procedures (t .yard) (now (goal .entry)) (now (start .entry))) (now (out .entry)) (now (out .exit)) z) ⌝ }
+{
+    let rails = n * WORDS;
+    play_in(&table[..rails], n, start, goal, out)
+}
+
+// With levels above the rails. The large array stands here only, since clearing it takes time.
+fn play_by_levels(
+    table: &[u64; Yard::TABLE],
+    n: usize,
+    start: &[u16],
+    goal: &[u16],
+    out: &mut [u64],
+) -> Staged
+    requires { ⌜ Admitted n (now table) (now start) (now goal) × (0 < n) ⌝ }
+    ensures { λ z. ⌜ ((t : Tabled n (now (table .entry))) → Plays (procedures (t .yard) (now (goal .entry)) (now (start .entry))) (now (out .entry)) (now (out .exit)) z) ⌝ }
+{
+    let mut wide = [0u64; WIDE];
+    copies::longs(&mut wide, table);
+    let levels = levels::raise(n, &mut wide);
+    let size = levels * n * WORDS;
+    play_in(&wide[..size], n, start, goal, out)
 }
 
 // The crossings of the procedure, counted, and stored where the list has room; or the carrier that could not step.
@@ -44,20 +111,11 @@ pub fn play(
     ensures { λ z. ⌜ ((t : Tabled n (now (table .entry))) → Plays (procedures (t .yard) (now (goal .entry)) (now (start .entry))) (now (out .entry)) (now (out .exit)) z) ⌝ }
 {
     let carriers = start.len();
-    let mut placement = [0u16; SPAN];
-    let mut standing = [0u16; SPAN];
-    let mut empty = [0u64; WORDS];
-    let mut owner = [0u16; SPAN];
-    let mut spare = [0u64; WORDS];
-    play_on(
-        table,
-        start,
-        goal,
-        &mut placement[..carriers],
-        &mut standing[..n],
-        &mut empty,
-        &mut owner[..n],
-        &mut spare,
-        out,
-    )
+    if carriers < MANY {
+        return play_by_rails(table, n, start, goal, out);
+    }
+    if carriers + CROWDED < n {
+        return play_by_rails(table, n, start, goal, out);
+    }
+    play_by_levels(table, n, start, goal, out)
 }

@@ -2,7 +2,7 @@
 use mathlib.Core.Path.{_≡_, sym, ap, _∙_}
 use mathlib.Core.List.{List}
 use mathlib.Core.Option.{none}
-use Prim.Native.Nat.{ℕ, _≤_, _<_}
+use Prim.Native.Nat.{ℕ, _*_, _≤_, _<_}
 use native.Mathlib.Omega.{arith}
 use lib.ListN.{length, take}
 use lib.Seq.{length-take-le}
@@ -18,6 +18,8 @@ use Rattle.yard.specs.Opening.{Opens, openedOf}
 use Rattle.yard.specs.declared.Yard.{Yard}
 use Rattle.yard.specs.declared.Opened.{Opened}
 use Rattle.yard.specs.declared.Opened.the-variants.{Open}
+use Rattle.levels.specs.Levels.{Levelled}
+use Rattle.levels.proofs.Levels.{row-take, only-rails}
 use Rattle.rings.specs.Search.{Shown}
 use Rattle.rings.proofs.Searching.{shown-any}
 
@@ -46,3 +48,28 @@ module _ {n : ℕ} {ends : List Bay} {s g : Placement} {lent : ℕ} {o : Opened}
       × Shown (length (take (y .bays) standing)) table held
   ready standing most h hx l =
       rw (length-take-le (y .bays) standing h) (most, hx, l, opened-few, opened-apart, opened-inside, shown-any opened-table l)
+
+-- ---- the rails alone
+
+module _ (n : ℕ) (table : List ℕ) (room : n * words ≤ length table) where
+  rails-size : length (take (n * words) table) ≡ n * words
+  rails-size = length-take-le (n * words) table room
+
+  pub rails-room : n * words ≤ length (take (n * words) table)
+  rails-room = omega (arith, rails-size)
+
+  -- they show the same yard
+  pub shown-rails : {held : List ℕ} → Shown n table held → Shown n (take (n * words) table) held
+  shown-rails s = record {
+    yard = s .yard;
+    bays = s .bays;
+    joins = record {
+      bays = s .joins .bays;
+      same = λ a b h k. row-take table (n * words) a b (omega arith) k ∙ s .joins .same a b h k;
+      inside = s .joins .inside;
+    };
+    holds = s .holds;
+  }
+
+  pub levelled-rails : 0 < n → Levelled n (take (n * words) table)
+  levelled-rails h = only-rails n (take (n * words) table) h (omega (arith, rails-size))

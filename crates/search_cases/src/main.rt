@@ -9,13 +9,14 @@ use words::SPAN;
 use words::WORDS;
 use yard::Opened;
 use yard::Yard;
-ghost use Prim.Native.Nat.{ℕ, _≤_, _<_};
+ghost use Prim.Native.Nat.{ℕ, _*_, _≤_, _<_};
 ghost use mathlib.Core.Path.{_≡_};
 ghost use lib.ListN.{length};
 ghost use Rattle.paper.specs.Yard.{bayOf};
 ghost use Rattle.paper.proofs.Playing.{Apart};
 ghost use Rattle.words.specs.Sets.{words, span};
 ghost use Rattle.rings.specs.Search.{Shown};
+ghost use Rattle.vacate.specs.Placed.{Placed};
 
 // Whether a case agreed, and the place after it.
 struct Outcome {
@@ -69,10 +70,8 @@ fn gather(bays: &[u16], set: &mut [u64])
 fn path_is(n: usize, table: &[u64; Yard::TABLE], held: &[u64], u: u16, v: u16, want: &[u16]) -> bool
     requires { ⌜ (n ≤ span) × (u < n) × (v < n) × (length (now held) ≡ words) × Shown n (now table) (now held) ⌝ }
 {
-    let mut rows = [0u64; Yard::TABLE];
     let mut path = [0u16; SPAN];
-    let Path::First(m) = rings::path_between(table, n, held, Bay(u), Bay(v), &mut rows, &mut path)
-    else {
+    let Path::First(m) = rings::path_between(table, n, held, Bay(u), Bay(v), &mut path) else {
         return want.len() == 0;
     };
     same16(&path[..m], want)
@@ -159,6 +158,22 @@ fn paths_agreeing(text: &[u8]) -> u64 {
     agree
 }
 
+// Vacates x. The table that is lent ends with the rails, so that no levels are asked of it.
+fn vacated_by_rails(
+    table: &[u64],
+    held: &[u64],
+    x: Bay,
+    placement: &mut [u16],
+    standing: &mut [u16],
+    empty: &mut [u64],
+    out: &mut [u64],
+) -> Vacated
+    requires { ⌜ (length (now standing) ≤ span) × (x .0 < length (now standing)) × (length (now standing) * words ≤ length (now table)) × (length (now held) ≡ words) × (length (now empty) ≡ words) × Placed (length (now standing)) (now placement) (now standing) (now empty) × Shown (length (now standing)) (now table) (now held) ⌝ }
+{
+    let rails = standing.len() * WORDS;
+    vacate::vacate(&table[..rails], held, x, placement, standing, empty, out, 0)
+}
+
 // Places the carriers and vacates x.
 fn vacated(
     table: &[u64; Yard::TABLE],
@@ -171,19 +186,8 @@ fn vacated(
     requires { ⌜ (length (now standing) ≤ span) × (x < length (now standing)) × (length (now held) ≡ words) × (length (now placement) ≤ length (now standing)) × Apart (now placement) × ((c : ℕ) → c < length (now placement) → bayOf (now placement) c < length (now standing)) × Shown (length (now standing)) (now table) (now held) ⌝ }
 {
     let mut empty = [0u64; WORDS];
-    let mut rows = [0u64; Yard::TABLE];
     placing::place(placement, standing, &mut empty);
-    match vacate::vacate(
-        table,
-        held,
-        Bay(x),
-        placement,
-        standing,
-        &mut empty,
-        &mut rows,
-        out,
-        0,
-    ) {
+    match vacated_by_rails(table, held, Bay(x), placement, standing, &mut empty, out) {
         Vacated::Empty => Code(0, 0),
         Vacated::Filled(_, m) => Code(1, m),
         Vacated::Failed => Code(2, 0),

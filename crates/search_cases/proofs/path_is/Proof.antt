@@ -15,9 +15,6 @@ use Rattle.search_cases.proofs.same16.Reads as same16-reads
 slice-aggregate-path-between : tie.Need-slice-aggregate-path-between
 slice-aggregate-path-between c = search needs
 
-slice-aggregate-path-between-2 : tie.Need-slice-aggregate-path-between-2
-slice-aggregate-path-between-2 c = search needs
-
 path-between-requires : tie.Need-path-between-requires
 path-between-requires c κs = search needs
 
@@ -31,10 +28,10 @@ returns : tie.Need-returns
 returns c = search needs
 
 array-share-prefix-path : tie.Need-array-share-prefix-path
-array-share-prefix-path c = let t = rw (c .before .m .given .1) at (c .before .before .before .before .before .path-between .ensures (c .before .before .before .before .before .before .before .before .before .before .before .pre .4)) in let kept : length (c .before .before .before .before .before .path-between .last .1 .1 .1 .1 .1 .1 .0) ≡ span = c .before .before .before .before .before .path-between .kept .1 .1 .1 .1 .1 .1 .0 in omega (arith, t .fits, c .before .before .before .before .before .before .before .before .before .before .before .pre .0, kept)
+array-share-prefix-path c = let t = rw (c .before .m .given .1) at (c .before .before .before .before .path-between .ensures (c .before .before .before .before .before .before .before .before .before .pre .4)) in let kept : length (c .before .before .before .before .path-between .last .1 .1 .1 .1 .1 .0) ≡ span = c .before .before .before .before .path-between .kept .1 .1 .1 .1 .1 .0 in omega (arith, t .fits, c .before .before .before .before .before .before .before .before .before .pre .0, kept)
 
 slice-aggregate-same16 : tie.Need-slice-aggregate-same16
-slice-aggregate-same16 c = let t = rw (c .before .before .m .given .1) at (c .before .before .before .before .before .before .path-between .ensures (c .before .before .before .before .before .before .before .before .before .before .before .before .pre .4)) in let kept : length (c .before .before .before .before .before .before .path-between .last .1 .1 .1 .1 .1 .1 .0) ≡ span = c .before .before .before .before .before .before .path-between .kept .1 .1 .1 .1 .1 .1 .0 in sym (length-take-le _ _ (omega (arith, t .fits, c .before .before .before .before .before .before .before .before .before .before .before .before .pre .0, kept)))
+slice-aggregate-same16 c = let t = rw (c .before .before .m .given .1) at (c .before .before .before .before .before .path-between .ensures (c .before .before .before .before .before .before .before .before .before .before .pre .4)) in let kept : length (c .before .before .before .before .before .path-between .last .1 .1 .1 .1 .1 .0) ≡ span = c .before .before .before .before .before .path-between .kept .1 .1 .1 .1 .1 .0 in sym (length-take-le _ _ (omega (arith, t .fits, c .before .before .before .before .before .before .before .before .before .before .pre .0, kept)))
 
 same16-requires : tie.Need-same16-requires
 same16-requires c κs = search needs
@@ -47,7 +44,6 @@ path-is-spec =
     tie.close
     (tie.spec
     slice-aggregate-path-between
-    slice-aggregate-path-between-2
     path-between-requires
     enum-known-m
     enum-told

@@ -6,8 +6,6 @@ use lib.ListN.{length}
 use borrow.Author.Needs.{needs}
 use Rattle.search_cases.proofs.vacated.Statement.{statement}
 use Rattle.search_cases.proofs.vacated.Tie as tie
-use Rattle.search_cases.proofs.vacated.Reads as reads
-use Rattle.search_cases.proofs.vacated.Lts as lts
 
 slice-aggregate-place : tie.Need-slice-aggregate-place
 slice-aggregate-place c = search needs
@@ -15,14 +13,14 @@ slice-aggregate-place c = search needs
 place-requires : tie.Need-place-requires
 place-requires c κs = search needs
 
-slice-aggregate-vacate : tie.Need-slice-aggregate-vacate
-slice-aggregate-vacate c = search needs
+slice-aggregate-vacated-by-rails : tie.Need-slice-aggregate-vacated-by-rails
+slice-aggregate-vacated-by-rails c = search needs
 
-slice-aggregate-vacate-2 : tie.Need-slice-aggregate-vacate-2
-slice-aggregate-vacate-2 c = search needs
-
-vacate-requires : tie.Need-vacate-requires
-vacate-requires c κs = let p = c .before .before .before .before .before .before .before .before .before .before .before .before .before .before .before .before .before .pre in let e : length (c .before .before .before .before .before .before .before .before .before .place .last .1 .0) ≡ length (c .before .before .before .before .before .before .before .before .before .before .before .before .before .before .before .before .before .args .standing .now) = c .before .before .before .before .before .before .before .before .before .place .kept .1 .0 in (omega (arith, p .0, e), omega (arith, p .1, e), omega (arith, p .0, e), p .2, search needs, omega (arith, p .0, e), omega arith, rw e (c .before .before .before .before .before .before .before .before .before .place .ensures), rw e (p .6))
+vacated-by-rails-requires : tie.Need-vacated-by-rails-requires
+vacated-by-rails-requires c κs =
+    let p = c .before .before .before .before .before .before .before .before .before .before .before .before .before .before .before .before .pre in
+    let e : length (c .before .before .before .before .before .before .before .before .place .last .1 .0) ≡ length (c .before .before .before .before .before .before .before .before .before .before .before .before .before .before .before .before .args .standing .now) = c .before .before .before .before .before .before .before .before .place .kept .1 .0 in
+    (omega (arith, p .0, e), omega (arith, p .1, e), omega (arith, p .0, e), p .2, search needs, rw e (c .before .before .before .before .before .before .before .before .place .ensures), rw e (p .6))
 
 enum-told : tie.Need-enum-told
 enum-told c = search needs
@@ -75,9 +73,8 @@ vacated-spec =
     (tie.spec
     slice-aggregate-place
     place-requires
-    slice-aggregate-vacate
-    slice-aggregate-vacate-2
-    vacate-requires
+    slice-aggregate-vacated-by-rails
+    vacated-by-rails-requires
     enum-told
     enum-known-m
     enum-told-2

@@ -1,0 +1,65 @@
+-- `play::play_in` meets its contract. There are no more carriers and bays than places in the working arrays.
+-- Assumes nothing.
+use mathlib.Core.Path.{refl, sym}
+use native.Mathlib.Omega.{arith}
+use Rattle.play.proofs.Playing.{places, none-settled}
+use borrow.Author.Needs.{needs}
+use Rattle.play.proofs.play_in.Statement.{statement}
+use Rattle.play.proofs.play_in.Tie as tie
+
+array-borrow-prefix-placement : tie.Need-array-borrow-prefix-placement
+array-borrow-prefix-placement c = search needs
+
+slice-aggregate-play-on : tie.Need-slice-aggregate-play-on
+slice-aggregate-play-on c = sym (places _ (omega (arith, c .before .before .before .before .before .pre .0 .few, c .before .before .before .before .before .pre .0 .most)))
+
+array-borrow-prefix-standing : tie.Need-array-borrow-prefix-standing
+array-borrow-prefix-standing c = search needs
+
+slice-aggregate-play-on-2 : tie.Need-slice-aggregate-play-on-2
+slice-aggregate-play-on-2 c = sym (places _ (c .before .before .before .before .before .before .pre .0 .most))
+
+slice-aggregate-play-on-3 : tie.Need-slice-aggregate-play-on-3
+slice-aggregate-play-on-3 c = search needs
+
+slice-aggregate-play-on-4 : tie.Need-slice-aggregate-play-on-4
+slice-aggregate-play-on-4 c = search needs
+
+array-borrow-prefix-owner : tie.Need-array-borrow-prefix-owner
+array-borrow-prefix-owner c = search needs
+
+slice-aggregate-play-on-5 : tie.Need-slice-aggregate-play-on-5
+slice-aggregate-play-on-5 c = sym (places _ (c .before .before .before .before .before .before .before .before .before .pre .0 .most))
+
+slice-aggregate-play-on-6 : tie.Need-slice-aggregate-play-on-6
+slice-aggregate-play-on-6 c = search needs
+
+play-on-requires : tie.Need-play-on-requires
+play-on-requires c κs =
+    let pre = c .before .before .before .before .before .before .before .before .before .before .before .pre in
+    let a = pre .0 in
+    let e = places (c .before .before .before .before .before .before .before .before .before .before .before .args .n) (a .most) in
+    (rw e a, refl, places _ (omega (arith, a .few, a .most)), refl, refl, none-settled (c .before .before .before .before .before .before .before .before .before .before .before .args .start .now), rw e (pre .1), rw e (pre .2))
+
+same-length : tie.Need-same-length
+same-length c = search needs
+
+returns : tie.Need-returns
+returns c = rw (places (c .before .before .before .before .before .before .before .before .before .before .before .before .before .before .before .before .before .before .before .before .args .n) (c .before .before .before .before .before .before .before .before .before .before .before .before .before .before .before .before .before .before .before .before .pre .0 .most)) at (c .before .before .before .before .before .before .before .before .play-on .ensures)
+
+pub play-in-spec : {M : Type 1} → statement M
+play-in-spec =
+    tie.close
+    (tie.spec
+    array-borrow-prefix-placement
+    slice-aggregate-play-on
+    array-borrow-prefix-standing
+    slice-aggregate-play-on-2
+    slice-aggregate-play-on-3
+    slice-aggregate-play-on-4
+    array-borrow-prefix-owner
+    slice-aggregate-play-on-5
+    slice-aggregate-play-on-6
+    play-on-requires
+    same-length
+    returns)
