@@ -12,7 +12,7 @@
  *   sejjekoru_open and sejjekoru_report_billed, `*value`) overlaps no other argument.
  *
  * Nothing is kept between calls and nothing is allocated: threads may call at the same time, each with its own of what may be written. Of the calling
- * thread's stack sejjekoru_plan takes some 600 KiB (measured, for any yard), sejjekoru_shorten some 340 KiB (measured, on 65,536 crossings),
+ * thread's stack sejjekoru_plan takes some 800 KiB (measured, for any yard), sejjekoru_shorten some 340 KiB (measured, on 65,536 crossings),
  * sejjekoru_agrees and sejjekoru_report_billed some 35 KiB (measured), the others less than 20 KiB.
  */
 #ifndef SEJJEKORU_H
