@@ -1,4 +1,4 @@
-// Levels above the rails: level after level, the table gets for each bay the bays that are one rail further away.
+// Levels above the rails: level after level, the table gets for each bay the bays at most so many rails away, one more at each level.
 use words::WORDS;
 ghost use mathlib.Core.Path.{_≡_};
 ghost use mathlib.Core.Bool.{true};
