@@ -6,7 +6,7 @@ use mathlib.Core.Option.{Option, none, some}
 use Prim.Native.Nat.{ℕ, _≤_, _+_}
 use native.Mathlib.Omega.{arith}
 use lib.ListN.{length}
-use Rattle.bring.specs.Acting.{countOf, Within, Acts, Tries}
+use Rattle.bring.specs.Acting.{countOf, Within, Acts, Tries, Proceeds}
 use Rattle.paper.specs.Yard.{Bay, Crossing}
 use Rattle.paper.proofs.Tests.{by-option, never-some, some-same, none-from, never}
 use Rattle.words.specs.Sets.{span}
@@ -40,6 +40,12 @@ module _ {o : Option (List Crossing)} {n : ℕ} {p out : List ℕ} {at : ℕ} {p
 
   pub tried-failed : Tries o n p out at p′ standing′ empty′ out′ Failed → o ≡ none
   tried-failed h = by-option o (λ e. e) (λ xs e. let z = h .succeeds xs e .done in never (cc))
+
+  pub proceeds-none : o ≡ none → p′ ≡ p → Proceeds o n p out at p′ standing′ empty′ out′ Failed
+  proceeds-none e u = record { tries = tries-none e; still = λ d. u }
+
+  pub proceeds-some : {m : ℕ} {xs : List Crossing} → o ≡ some xs → Played xs n p p′ standing′ empty′ out at out′ m → Proceeds o n p out at p′ standing′ empty′ out′ (Done m)
+  proceeds-some e s = record { tries = tries-some e s; still = λ d. never (cc) }
 
 module _ {o : Option (List Crossing)} {n : ℕ} {p standing empty out : List ℕ} {at : ℕ} {p′ standing′ empty′ out′ : List ℕ} where
   pub acts-none : o ≡ none → Unchanged p standing empty out p′ standing′ empty′ out′ → Acts o n p standing empty out at p′ standing′ empty′ out′ Failed

@@ -54,6 +54,11 @@ pub record Tries (o : Option (List Crossing)) (n : ℕ) (p out : List ℕ) (at :
   pub fails : o ≡ none → r ≡ Failed
   pub succeeds : (xs : List Crossing) → o ≡ some xs → Succeeded xs n p p′ standing′ empty′ out at out′ r
 
+-- The same where nobody has moved if it fails. What was tried may be left in the list then.
+pub record Proceeds (o : Option (List Crossing)) (n : ℕ) (p out : List ℕ) (at : ℕ) (p′ standing′ empty′ out′ : List ℕ) (r : Tried) : Type 0 where
+  pub tries : Tries o n p out at p′ standing′ empty′ out′ r
+  pub still : r ≡ Failed → p′ ≡ p
+
 -- (the code's functions have the same names)
 abbrev pub vacates : Yard → List Bay → Bay → Placement → Option (List Crossing)
 vacates Y held x p = vacate Y held x p

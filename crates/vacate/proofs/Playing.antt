@@ -3,13 +3,13 @@
 -- Assumes nothing.
 use mathlib.Core.Path.{_≡_, refl, sym, ap, _∙_}
 use mathlib.Core.Bool.{Bool, true, false, not}
-use mathlib.Core.List.{List, [], _∷_, _++_, map, map-append}
+use mathlib.Core.List.{List, [], _∷_, _++_, map, map-append, append-nil, append-assoc}
 use Prim.Native.Nat.{ℕ, suc, _+_, _≤_, _<_}
 use native.Mathlib.Decide.{ℕ-discrete}
 use native.Mathlib.Omega.{arith}
 use lib.Dec.{eqb}
-use lib.ListN.{length, getD, set, length-set, length-append, length-map}
-use lib.Seq.{getD-set-same, getD-set-other, sets}
+use lib.ListN.{length, getD, set, take, length-set, length-append, length-map}
+use lib.Seq.{getD-set-same, getD-set-other, sets, length-sets, sets-eq, take-at, length-take-le}
 use borrow.Author.Tests.{eq-eqb, ne-eqb}
 use Rattle.paper.specs.Basics.{_and_, _or_, any, elem, placeOf, In, Out}
 use Rattle.paper.specs.Yard.{Bay, Carrier, Yard, Placement, Crossing, crossing, bayOf, carrierAt, isEmpty, move, after, joined, pack}
@@ -17,7 +17,7 @@ use Rattle.paper.proofs.Tests.{by-cases, not-both}
 use Rattle.paper.proofs.Members.{Out-head, Out-tail}
 use Rattle.paper.proofs.Playing.{Apart, Legal, after-append, placeOf-bay, placeOf-there, bay-in, move-self, move-other, move-apart, move-empties, move-out}
 use Rattle.words.specs.Sets.{mem}
-use Rattle.vacate.specs.Placed.{Placed, Played, MovedOn, Unchanged}
+use Rattle.vacate.specs.Placed.{Placed, Stored, Played, MovedOn, Unchanged}
 
 pub sets-append : (l : List ℕ) (i : ℕ) (xs ys : List ℕ) → sets l i (xs ++ ys) ≡ sets (sets l i xs) (i + length xs) ys
 sets-append l i [] ys = let e : i ≡ i + 0 = omega arith in ap (λ (k : ℕ). sets l k ys) e
@@ -25,12 +25,37 @@ sets-append l i (x ∷ xs) ys =
     let e : suc i + length xs ≡ i + suc (length xs) = omega arith in
     sets-append (set l i x) (suc i) xs ys ∙ ap (λ (k : ℕ). sets (sets (set l i x) (suc i) xs) k ys) e
 
+-- ## Stored numbers
+
+pub stored-none : (out : List ℕ) (at : ℕ) → Stored [] out at out
+stored-none out at = record { long = refl; front = λ h. let z : at + 0 ≡ at = omega arith in rw z (sym (append-nil (take at out))) }
+
+-- numbers set in the list are stored
+pub stored-exact : {vs out out′ : List ℕ} {at : ℕ} → out′ ≡ sets out at vs → Stored vs out at out′
+stored-exact {vs} {out} {out′} {at} e = record {
+  long = ap length e ∙ length-sets out at vs;
+  front = λ h.
+      let size : length (take at out ++ vs) ≡ at + length vs = rw (length-append, length-take-le at out (omega arith)) in
+      rw (e, sets-eq vs out at h) (take-at (take at out ++ vs) _ (at + length vs) size);
+}
+
+-- one list of numbers after another
+pub stored-then : {vs ws out out₁ out′ : List ℕ} {at m : ℕ} → m ≡ at + length vs → Stored vs out at out₁ → Stored ws out₁ m out′ → Stored (vs ++ ws) out at out′
+stored-then {vs} {ws} {out} {out₁} {out′} {at} {m} e a b = record {
+  long = b .long ∙ a .long;
+  front = λ h.
+      let all : at + length (vs ++ ws) ≡ m + length ws = rw length-append (omega arith) in
+      rw (all, b .front (omega (arith, a .long)), e, a .front (omega arith), append-assoc);
+}
+
+-- ## Crossings
+
 -- nothing played
 pub played-none : (n : ℕ) (p standing empty out : List ℕ) (at : ℕ) → Placed n p standing empty → Played [] n p p standing empty out at out at
 unfolding after
-played-none n p standing empty out at k = record { moved = refl; placed = k; stored = refl; counted = omega arith }
+played-none n p standing empty out at k = record { moved = refl; placed = k; stored = stored-none out at; counted = omega arith }
 
--- Played, but for the lists that go with the placement
+-- Played, but for the lists that go with the placement; each number is set in the list
 pub record Told (xs : List Crossing) (p p′ out : List ℕ) (at : ℕ) (out′ : List ℕ) (r : ℕ) : Type 0 where
   pub moved : p′ ≡ after p xs
   pub stored : out′ ≡ sets out at (map pack xs)
@@ -47,11 +72,12 @@ told-then {xs} {ys} {p} {out = out} {at = at} a b = record {
 
 pub played-then : {n : ℕ} {xs ys : List Crossing} {p q p′ standing standing′ empty empty′ out out₁ out′ : List ℕ} {at m r : ℕ}
     → Played xs n p q standing empty out at out₁ m → Played ys n q p′ standing′ empty′ out₁ m out′ r → Played (xs ++ ys) n p p′ standing′ empty′ out at out′ r
-played-then {xs = xs} {ys = ys} {p = p} {q = q} {p′ = p′} {out = out} {out₁ = out₁} {out′ = out′} {at = at} {m = m} {r = r} a b =
-    let first : Told xs p q out at out₁ m = record { moved = a .moved; stored = a .stored; counted = a .counted } in
-    let second : Told ys q p′ out₁ m out′ r = record { moved = b .moved; stored = b .stored; counted = b .counted } in
-    let t = told-then first second in
-    record { moved = t .moved; placed = b .placed; stored = t .stored; counted = t .counted }
+played-then {xs = xs} {ys = ys} {p = p} a b = record {
+  moved = b .moved ∙ ap (λ (q : List ℕ). after q ys) (a .moved) ∙ sym (after-append p xs ys);
+  placed = b .placed;
+  stored = rw map-append (stored-then (a .counted ∙ rw length-map) (a .stored) (b .stored));
+  counted = b .counted ∙ rw (a .counted, length-append) (omega arith);
+}
 
 pub unchanged : (p standing empty out : List ℕ) → Unchanged p standing empty out p standing empty out
 unchanged p standing empty out = record { same-placement = refl; same-standing = refl; same-empty = refl; same-list = refl }
@@ -186,6 +212,6 @@ module _ {p standing out : List ℕ} {a b : Bay} {at : ℕ} {p′ standing₁ ou
       record {
         moved = m .moved ∙ rw (k .stands a ha);
         placed = rw (moved-length, m .moved, m .shown) (placed-of stands emptied);
-        stored = m .stored ∙ rw (k .stands a ha);
+        stored = stored-exact (m .stored ∙ rw (k .stands a ha));
         counted = m .counted;
       }

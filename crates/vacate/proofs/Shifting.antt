@@ -19,7 +19,7 @@ use Rattle.paper.proofs.Playing.{Apart, after-append, after-length, placeOf-bay
 use Rattle.paper.proofs.Vacating.{plan-apart, shift-shifts, shift-cons, shift-one}
 use Rattle.words.specs.Sets.{mem}
 use Rattle.vacate.specs.Placed.{Placed, Played, MovedOn, CanShift}
-use Rattle.vacate.proofs.Playing.{Told, told-then, Stood, stood, placed-of, played-none}
+use Rattle.vacate.proofs.Playing.{Told, told-then, Stood, stood, placed-of, played-none, stored-exact}
 use Rattle.vacate.proofs.Playing.{neither, carrier-is, carrier-none, crossed-empty, crossed-stood}
 
 pub shift-none : (n : ℕ) (p standing empty out path : List ℕ) (at : ℕ) → length path < 2 → Placed n p standing empty
@@ -238,6 +238,6 @@ shifting-all {n} {p} (a ∷ l) s {q} h k w f =
     record {
       moved = w .told .moved;
       placed = rw long (placed-of (w .stands) (λ z hz. f z ∙ rw (last, k .empties z hz, w .told .moved) (sym (shift-empty a l s z))));
-      stored = w .told .stored;
+      stored = stored-exact (w .told .stored);
       counted = w .told .counted;
     }

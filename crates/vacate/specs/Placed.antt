@@ -2,11 +2,10 @@
 -- it, counted, and stored where there is room.
 -- Assumes nothing.
 use mathlib.Core.Path.{_≡_}
-use mathlib.Core.List.{List, map}
+use mathlib.Core.List.{List, _++_, map}
 use mathlib.Core.Option.{Option, none, some}
 use Prim.Native.Nat.{ℕ, _+_, _≤_, _<_}
-use lib.ListN.{length, getD, set}
-use lib.Seq.{sets}
+use lib.ListN.{length, getD, set, take}
 use Rattle.paper.specs.Basics.{In}
 use Rattle.paper.specs.Yard.{Bay, Yard, Placement, Crossing, crossing, carrierAt, bayOf, isEmpty, after, pack}
 use Rattle.paper.specs.Procedure.{shift}
@@ -23,11 +22,17 @@ pub record Placed (n : ℕ) (p standing empty : List ℕ) : Type 0 where
   pub stands : (b : ℕ) → b < n → getD standing b 0 ≡ carrierAt p b
   pub empties : (b : ℕ) → b < n → mem empty b ≡ isEmpty p b
 
--- The crossings xs were played on p, counted from `at` on, and each stored at its count where the list is so long.
+-- Where there is room for them all, the numbers stand in the list from `at` on, and what stood before is as it was. Nothing is said of what stands
+-- behind them.
+pub record Stored (vs out : List ℕ) (at : ℕ) (out′ : List ℕ) : Type 0 where
+  pub long : length out′ ≡ length out
+  pub front : at + length vs ≤ length out → take (at + length vs) out′ ≡ take at out ++ vs
+
+-- The crossings xs were played on p, counted from `at` on, and stored where there is room for them all.
 pub record Played (xs : List Crossing) (n : ℕ) (p p′ standing′ empty′ out : List ℕ) (at : ℕ) (out′ : List ℕ) (r : ℕ) : Type 0 where
   pub moved : p′ ≡ after p xs
   pub placed : Placed n p′ standing′ empty′
-  pub stored : out′ ≡ sets out at (map pack xs)
+  pub stored : Stored (map pack xs) out at out′
   pub counted : r ≡ at + length xs
 
 -- The carrier that is shown at a has b for its bay, is shown at b too, and its crossing is stored where the list is so long.
