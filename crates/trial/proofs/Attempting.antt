@@ -7,8 +7,8 @@ use mathlib.Core.List.{List, [], _∷_, _++_, map, map-append}
 use mathlib.Core.Option.{Option, none, some}
 use Prim.Native.Nat.{ℕ, suc, _≤_, _<_, _-_, _+_, zero, _^_, max, min}
 use native.Mathlib.Omega.{arith}
-use lib.ListN.{length, getD, length-map, set, length-set, length-append, List·getD-map, length-reverse}
-use lib.Seq.{getD-set-same, getD-set-other, sets, length-sets}
+use lib.ListN.{length, getD, take, length-map, set, length-append, List·getD-map, length-reverse}
+use lib.Seq.{getD-set-other, sets, length-sets, getD-take, getD-append-add, length-take-le}
 use borrow.Author.Tests.{ne-eqb}
 use Rattle.paper.specs.Procedure.{exchange, undo, Cleared, bring, clear, finish, trialLed}
 use Rattle.paper.specs.Yard.{Bay, Carrier, Yard, Placement, bayOf, Crossing, crossing, pack, move, after, joined, legalPlan}
@@ -19,13 +19,13 @@ use Rattle.paper.proofs.Tests.{never-some}
 use Rattle.paper.proofs.Vacating.{plan-apart}
 use Rattle.words.specs.Sets.{span}
 use Rattle.yard.specs.Table.{Table}
-use Rattle.vacate.specs.Placed.{Placed, Played}
-use Rattle.vacate.proofs.Playing.{sets-append, played-then}
+use Rattle.vacate.specs.Placed.{Placed, Stored, Played}
+use Rattle.vacate.proofs.Playing.{sets-append, played-then, stored-exact, stored-then}
 use Rattle.bring.specs.Acting.{Tries}
 use Rattle.bring.specs.Turning.{Small, Holds, numbers}
 use Rattle.bring.proofs.Acting.{tried-done}
 use Rattle.clear.specs.Keeping.{Clears}
-use Rattle.trial.specs.Trying.{Noted, Prepared, SetsUp, Wrote, Led}
+use Rattle.trial.specs.Trying.{Noted, Listed, Prepared, SetsUp, Wrote, Led}
 use Rattle.bring.specs.declared.Tried.the-variants.{Done}
 use Rattle.bring.specs.declared.Tried.the-variants.{Failed}
 use Rattle.clear.specs.declared.Two.the-variants.{Short}
@@ -74,7 +74,7 @@ set-up-all t c = let d = tried-done t in set-up-with (d .0) (d .1) (d .2 .moved)
 pub wrote-none : {o : Option (List Crossing)} {out : List ℕ} {at : ℕ} {out′ : List ℕ} → o ≡ none → Wrote o out at out′ Failed
 wrote-none e = record { fails = λ d. refl; succeeds = λ xs d. never-some xs (sym e ∙ d) }
 
-pub wrote-some : {o : Option (List Crossing)} {out : List ℕ} {at : ℕ} {out′ : List ℕ} {m : ℕ} {xs : List Crossing} → o ≡ some xs → Noted xs out at out′ m → Wrote o out at out′ (Done m)
+pub wrote-some : {o : Option (List Crossing)} {out : List ℕ} {at : ℕ} {out′ : List ℕ} {m : ℕ} {xs : List Crossing} → o ≡ some xs → Listed xs out at out′ m → Wrote o out at out′ (Done m)
 wrote-some {out = out} {at = at} {out′ = out′} {m = m} {xs = xs} e w = record {
   fails = λ d. never-some xs (sym d ∙ e);
   succeeds = λ ys d. let same : xs ≡ ys = let z = sym e ∙ d in cc in (m, refl, rw same at w);
@@ -94,14 +94,12 @@ sets-before : (l : List ℕ) (i : ℕ) (vs : List ℕ) (k : ℕ) → k < i → g
 sets-before l i [] k h = refl
 sets-before l i (v ∷ vs) k h = sets-before (set l i v) (suc i) vs k (omega arith) ∙ getD-set-other l i k v 0 (λ e. omega arith)
 
-sets-at : (l : List ℕ) (i : ℕ) (vs : List ℕ) (j : ℕ) → j < length vs → i + j < length l → getD (sets l i vs) (i + j) 0 ≡ getD vs j 0
-sets-at l i [] j h k = absurd (omega arith)
-sets-at l i (v ∷ vs) zero h k =
-    let e : i + zero ≡ i = omega arith in
-    rw e (sets-before (set l i v) (suc i) vs i (omega arith) ∙ getD-set-same l i v 0 (omega arith))
-sets-at l i (v ∷ vs) (suc j) h k =
-    let e : i + suc j ≡ suc i + j = omega arith in
-    rw e (sets-at (set l i v) (suc i) vs j (omega arith) (rw length-set (omega arith)))
+-- what is stored is read back
+stored-at : {vs out out′ : List ℕ} {at : ℕ} → Stored vs out at out′ → at + length vs ≤ length out → (j : ℕ) → j < length vs → getD out′ (at + j) 0 ≡ getD vs j 0
+stored-at {vs} {out} {out′} {at} k fits j h =
+    let size : length (take at out) ≡ at = length-take-le at out (omega arith) in
+    sym (getD-take (at + length vs) out′ (at + j) 0 (omega arith)) ∙ ap (λ (o : List ℕ). getD o (at + j) 0) (k .front fits)
+    ∙ (rw size at (getD-append-add (take at out) vs j 0))
 
 pub length-exchange : (L M v b x y : ℕ) → length (exchange L M v b x y) ≡ 6
 unfolding exchange
@@ -140,15 +138,15 @@ module _ {Y : Yard} {L M : Carrier} {v : Bay} {path : List Bay} {n : ℕ} {p sta
 
     module _ {out₂ out₃ : List ℕ} {d : ℕ} (ex : Noted (exchange L M v (bayOf p′ M) (min x y) (max x y)) out₁ c out₂ d)
         (un : (xs : List Crossing) → Small xs → Holds out₂ at xs → length xs ≡ c - at → out₃ ≡ sets out₂ d (numbers L M xs)) where
-      holds : Holds out₂ at done
+      abbrev traded : List Crossing
+      traded = exchange L M v (bayOf p′ M) (min x y) (max x y)
+
+      holds : at + length (map pack done) ≤ length out → Holds out₂ at done
       unfolding pack
-      holds = record {
+      holds fits = record {
         at = λ j h l.
-            let long : length out₂ ≡ length out₁ = ap length (ex .stored) ∙ length-sets out₁ c (map pack (exchange L M v (bayOf p′ M) (min x y) (max x y))) in
-            let long₁ : length out₁ ≡ length out = ap length (w .played .stored) ∙ length-sets out at (map pack done) in
-            ap (λ (o : List ℕ). getD o (at + j) 0) (ex .stored) ∙ sets-before out₁ c (map pack (exchange L M v (bayOf p′ M) (min x y) (max x y))) (at + j) (omega (arith, counted-from))
-            ∙ ap (λ (o : List ℕ). getD o (at + j) 0) (w .played .stored) ∙ sets-at out at (map pack done) j (rw length-map h) (omega arith)
-            ∙ List·getD-map pack done j (crossing 0 0 0);
+            ap (λ (o : List ℕ). getD o (at + j) 0) (ex .stored) ∙ sets-before out₁ c (map pack traded) (at + j) (omega (arith, counted-from))
+            ∙ stored-at (w .played .stored) fits j (rw length-map h) ∙ List·getD-map pack done j (crossing 0 0 0);
       }
 
       small : Small done
@@ -157,17 +155,29 @@ module _ {Y : Yard} {L M : Carrier} {v : Bay} {path : List Bay} {n : ℕ} {p sta
         to-low = λ j. legal-small Y n (shown .inside) most p done legal j .1;
       }
 
-      last : Noted (undo L M done) out₂ d out₃ (d + (c - at))
-      last = record {
-        stored = un done small holds (omega (arith, counted-from));
-        counted = rw length-undo (omega (arith, counted-from));
-      }
+      set-up-and-traded : Stored (map pack done ++ map pack traded) out at out₂
+      set-up-and-traded = stored-then (counted-from ∙ rw length-map) (w .played .stored) (stored-exact (ex .stored))
 
-      answer : trialLed Y L M v path p ≡ some (done ++ exchange L M v (bayOf p′ M) (min x y) (max x y) ++ undo L M done)
+      -- undo reads what bring and clear stored, where there was room for all of it
+      undone : at + length (map pack done) ≤ length out → Stored (map pack done ++ map pack traded ++ numbers L M done) out at out₃
+      undone fits =
+          let ends : d ≡ at + length (map pack done ++ map pack traded) =
+          omega (arith, ex .counted, counted-from, length-append (map pack done) (map pack traded), length-map done pack, length-map traded pack) in
+          stored-then ends set-up-and-traded (stored-exact (un done small (holds fits) (omega (arith, counted-from))))
+
+      abbrev whole : List Crossing
+      whole = done ++ traded ++ undo L M done
+
+      numbered : map pack whole ≡ map pack done ++ map pack traded ++ numbers L M done
+      numbered = map-append pack (done ++ traded) (undo L M done) ∙ ap (λ (l : List ℕ). l ++ numbers L M done) (map-append pack done traded)
+
+      answer : trialLed Y L M v path p ≡ some whole
       unfolding trialLed finish
       answer = rw (w .made, w .kept, same-bay)
 
-      pub attempted : Wrote (trialLed Y L M v path p) out at out₃ (Done (d + (c - at)))
-      attempted =
-          let first : Noted done out at out₁ c = record { stored = w .played .stored; counted = w .played .counted } in
-          wrote-some answer (noted-then (noted-then first ex) last)
+      pub attempted : length out₃ ≡ length out₂ → Wrote (trialLed Y L M v path p) out at out₃ (Done (d + (c - at)))
+      attempted long =
+          wrote-some answer (record {
+            stored = rw numbered (record { long = long ∙ set-up-and-traded .long; front = λ h. undone (omega (arith, h, length-append (map pack done ++ map pack traded) (numbers L M done), length-append (map pack done) (map pack traded))) .front h });
+            counted = omega (arith, ex .counted, counted-from, length-append (done ++ traded) (undo L M done), length-append done traded, length-undo L M done);
+          })

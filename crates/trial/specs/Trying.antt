@@ -13,7 +13,7 @@ use Rattle.paper.specs.Procedure.{exchange, bring, clear, trialLed, trial}
 use Rattle.paper.specs.Yard.{Bay, Carrier, Yard, Placement, bayOf, Crossing, pack, after, joined}
 use Rattle.paper.proofs.Playing.{Sound}
 use Rattle.paper.proofs.Swapping.{Chain}
-use Rattle.vacate.specs.Placed.{Played}
+use Rattle.vacate.specs.Placed.{Stored, Played}
 use Rattle.clear.specs.declared.Two.the-variants.{Both}
 use Rattle.bring.specs.declared.Tried.the-variants.{Done}
 use Rattle.bring.specs.declared.Tried.the-variants.{Failed}
@@ -22,9 +22,14 @@ use Rattle.bring.specs.declared.Tried.{Tried}
 use Rattle.clear.specs.declared.Two.{Two}
 use Rattle.docket.specs.declared.Bay.{Bay as Numbered}
 
--- the crossings were counted from `at` on, and stored where there is room
+-- the crossings were counted from `at` on, and each stored at its count where the list is so long
 pub record Noted (xs : List Crossing) (out : List ℕ) (at : ℕ) (out′ : List ℕ) (r : ℕ) : Type 0 where
   pub stored : out′ ≡ sets out at (map pack xs)
+  pub counted : r ≡ at + length xs
+
+-- they were stored where there is room for them all
+pub record Listed (xs : List Crossing) (out : List ℕ) (at : ℕ) (out′ : List ℕ) (r : ℕ) : Type 0 where
+  pub stored : Stored (map pack xs) out at out′
   pub counted : r ≡ at + length xs
 
 -- (the code's functions have the same names)
@@ -55,7 +60,7 @@ pub record SetsUp (Y : Yard) (L M : Carrier) (v : Bay) (path : List Bay) (n : �
 -- as the paper's trial: counted and stored, or failed with nothing said of the list
 pub record Wrote (o : Option (List Crossing)) (out : List ℕ) (at : ℕ) (out′ : List ℕ) (r : Tried) : Type 0 where
   pub fails : o ≡ none → r ≡ Failed
-  pub succeeds : (xs : List Crossing) → o ≡ some xs → (m : ℕ) × (r ≡ Done m) × Noted xs out at out′ m
+  pub succeeds : (xs : List Crossing) → o ≡ some xs → (m : ℕ) × (r ≡ Done m) × Listed xs out at out′ m
 
 -- the path leads the leader to v, and the follower is beside it
 pub record Led (Y : Yard) (L M : Carrier) (v : Bay) (path : List Bay) (p : Placement) : Type 0 where

@@ -97,7 +97,7 @@ returns-2 c =
       λ t led.
           let q = c .before .before .before .before .before .before .before .before .before .before .before .before .before .before .before .before .before .before .before .before .before .before .before .set-up .ensures .1 t .both _ _ _ (c .before .before .before .before .before .before .before .before .before .before .before .before .before .ready .given .1) in
           let ex = rw (c .before .before .before .before .before .before .before .before .lower .ensures, c .before .before .before .before .before .before .before .higher .ensures) at (c .before .before .before .before .before .before .exchange .ensures) in
-          attempted q (p .placed) (z .0) (z .1) (z .2) _ (t .joins) (p .most) led ex (c .before .before .undo .ensures),
+          attempted q (p .placed) (z .0) (z .1) (z .2) _ (t .joins) (p .most) led ex (c .before .before .undo .ensures) (c .before .before .undo .kept .0),
     )
 
 pub attempt-on-spec : {M : Type 1} → statement M
