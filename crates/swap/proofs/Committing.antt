@@ -1,20 +1,20 @@
 -- The winner's trial trades the two carriers and leaves all others in place, so the end state is written by trading the two entries.
 -- Assumes nothing.
-use mathlib.Core.Path.{_≡_, sym, _∙_, ap}
+use mathlib.Core.Path.{_≡_, refl, sym, _∙_, ap}
 use mathlib.Core.Bool.{true, false, not}
-use mathlib.Core.List.{List, []}
+use mathlib.Core.List.{List, [], _++_, map}
 use mathlib.Core.Option.{none, some}
-use Prim.Native.Nat.{ℕ, _+_, _≤_, _<_}
+use Prim.Native.Nat.{ℕ, min, _+_, _-_, _≤_, _<_}
 use native.Mathlib.Omega.{arith}
-use lib.ListN.{length, getD, set, length-set}
+use lib.ListN.{length, getD, set, take, drop, length-set, length-take, length-drop, length-map}
 use native.Mathlib.Decide.{ℕ-discrete}
 use lib.Dec.{eqb}
-use lib.Seq.{getD-set-same, getD-set-other}
+use lib.Seq.{getD-set-same, getD-set-other, length-take-le, take-append-le, take-append-add}
 use borrow.Author.Tests.{ne-eqb}
 use Rattle.paper.specs.Basics.{find, elem, placeOf, upTo, In}
 use Rattle.paper.specs.Path.{nearestFirst}
 use Rattle.paper.specs.Procedure.{trade, trial, swap}
-use Rattle.paper.specs.Yard.{Bay, Carrier, Crossing, bayOf}
+use Rattle.paper.specs.Yard.{Bay, Carrier, Crossing, bayOf, pack}
 use Rattle.paper.proofs.Members.{find-passes, find-in, nothing-in-nil, count-high, in-count}
 use Rattle.paper.proofs.Playing.{Apart, placeOf-bay, placeOf-there, bay-in}
 use Rattle.paper.proofs.Rings.{walk-free, reached-walk, reached-sym}
@@ -23,12 +23,12 @@ use Rattle.paper.proofs.Tests.{by-cases, by-option, not-both, and-right}
 use Rattle.paper.proofs.Trading.{traded, traded-length, trade-first, trade-second, trade-other, trade-twice, trade-there, traded-bay}
 use Rattle.paper.proofs.Vacating.{plan-apart}
 use Rattle.docket.specs.Reading.{isSome}
-use Rattle.swap.specs.Seeking.{Beside, standingTraded, fitting, Logged, Written}
+use Rattle.swap.specs.Seeking.{Beside, standingTraded, fitting, Logged}
 use Rattle.words.proofs.Besides.{equal-tests}
-use Rattle.vacate.specs.Placed.{Placed}
-use Rattle.vacate.proofs.Playing.{unchanged, carrier-is, carrier-none}
-use Rattle.bring.specs.Acting.{Tabled, Acts}
-use Rattle.bring.proofs.Acting.{acts-none, acts-some}
+use Rattle.vacate.specs.Placed.{Placed, Stored}
+use Rattle.vacate.proofs.Playing.{carrier-is, carrier-none}
+use Rattle.bring.specs.Acting.{Tabled, Proceeds}
+use Rattle.bring.proofs.Acting.{proceeds-none, proceeds-some}
 use Rattle.trial.specs.Trying.{Near}
 use Rattle.swap.proofs.Seeking.{swap-found, near-of}
 use Rattle.bring.specs.declared.Tried.the-variants.{Done}
@@ -107,17 +107,38 @@ module _ {n : ℕ} {table : List ℕ} (t : Tabled n table) {p standing empty : L
     unfolding fitting
     some-trial = and-right _ _ (find-passes (fitting (t .yard) r s p) (nearestFirst (t .yard) [] (bayOf p r)) (sym found))
 
-    pub committed : {out : List ℕ} {at : ℕ} {out′ log : List ℕ} {m : ℕ} (p′ standing′ : List ℕ) → p′ ≡ traded r s p → standing′ ≡ standingTraded r s p standing
-        → ((xs : List Crossing) → trial (t .yard) r s v p ≡ some xs → Logged xs log m) → Written (t .yard) r s v p log m out at out′
-        → Acts (swap (t .yard) r s p) n p standing empty out at p′ standing′ empty out′ (Done (at + m))
-    committed {at = at} {m = m} p′ standing′ e d l w =
+    -- what was lent of the list, from where it goes on or its end, holds the trial afterwards
+    log-stored : {out log : List ℕ} {at from m : ℕ} (rest : List ℕ) (xs : List Crossing) → from ≡ min at (length out) → length log ≡ length (take (length out - from) (drop from out))
+        → length (take from out ++ (log ++ rest)) ≡ length out → Logged xs log m → Stored (map pack xs) out at (take from out ++ (log ++ rest))
+    log-stored {out} {log} {at} {from} {m} rest xs e lent long l = record {
+      long = long;
+      front = λ h.
+          let same : from ≡ at = omega arith in
+          let size : length (take at out) ≡ at = length-take-le at out (omega arith) in
+          let many : length (map pack xs) ≡ m = length-map xs pack ∙ sym (l .counted) in
+          let fits : m ≤ length log = omega (arith, lent, length-take (length out - from) (drop from out), length-drop from out) in
+          let whole = take-append-add (take at out) (log ++ rest) (length (map pack xs)) in
+          rw same ((rw size at whole) ∙ ap (λ (v : List ℕ). take at out ++ v) (rw many (take-append-le m log rest fits ∙ l .stored fits)));
+    }
+
+    pub committed : {out log : List ℕ} {at from m : ℕ} (rest p′ standing′ : List ℕ) → p′ ≡ traded r s p → standing′ ≡ standingTraded r s p standing
+        → from ≡ min at (length out) → (length log ≡ length (take (length out - from) (drop from out))) × (length (take from out ++ (log ++ rest)) ≡ length out)
+        → ((xs : List Crossing) → trial (t .yard) r s v p ≡ some xs → Logged xs log m)
+        → Proceeds (swap (t .yard) r s p) n p out at p′ standing′ empty (take from out ++ (log ++ rest)) (Done (at + m))
+    committed {at = at} {m = m} rest p′ standing′ e d at-end size l =
         by-option (trial (t .yard) r s v p)
         (λ f. not-both some-trial (rw f))
         (λ xs f.
         let made : swap (t .yard) r s p ≡ some xs = is-trial ∙ f in
         let tr = swap-trades (t .yard) (b .sound) r s (ne-eqb r s (λ y. differ (sym y))) p (k .apart) hr hs (b .beside) xs home made in
         let apart : Apart (traded r s p) = rw (tr .1) at (plan-apart (t .yard) p xs (k .apart) (tr .0)) in
-        acts-some made (record { moved = e ∙ sym (tr .1); placed = rw (e, d) (placed-traded k r s hr hs differ apart (omega arith)); stored = w .stored xs f (l xs f); counted = ap (λ (j : ℕ). at + j) (l xs f .counted) }))
+        proceeds-some made (record {
+          moved = e ∙ sym (tr .1);
+          placed = rw (e, d) (placed-traded k r s hr hs differ apart (omega arith));
+          stored = log-stored rest xs at-end (size .0) (size .1) (l xs f);
+          counted = ap (λ (j : ℕ). at + j) (l xs f .counted);
+        }))
 
-  pub not-found : {out : List ℕ} {at : ℕ} → none ≡ find (fitting (t .yard) r s p) (nearestFirst (t .yard) [] (bayOf p r)) → Acts (swap (t .yard) r s p) n p standing empty out at p standing empty out Failed
-  not-found {out} f = acts-none (swap-found (t .yard) r s p ∙ rw (← f)) (unchanged p standing empty out)
+  pub not-found : {out out′ : List ℕ} {at : ℕ} → none ≡ find (fitting (t .yard) r s p) (nearestFirst (t .yard) [] (bayOf p r))
+      → Proceeds (swap (t .yard) r s p) n p out at p standing empty out′ Failed
+  not-found f = proceeds-none (swap-found (t .yard) r s p ∙ rw (← f)) refl

@@ -7,9 +7,7 @@ use mathlib.Core.List.{List, [], _∷_, map}
 use mathlib.Core.Option.{Option, none, some}
 use Prim.Native.Nat.{ℕ, suc, _≤_, _<_, _-_, _+_, zero}
 use native.Mathlib.Omega.{arith}
-use native.Mathlib.Numerals.{add-one}
-use lib.ListN.{length, getD, set, take, length-map}
-use lib.Seq.{sets, sets-eq, length-sets, length-take-le, take-all, take-append-le, take-length, take-suc}
+use lib.ListN.{length, getD, length-map}
 use lib.Dec.{leb, ltb}
 use native.Mathlib.Decide.{ℕ-discrete, decLt}
 use borrow.Author.Tests.{le-leb, lt-ltb, le-ltb}
@@ -24,10 +22,9 @@ use Rattle.paper.proofs.Shortest.{Rising, find-lowest, rings-rise}
 use Rattle.paper.proofs.Tests.{by-cases, by-option, not-both, and-right, and-both, never}
 use Rattle.docket.specs.Reading.{isSome}
 use Rattle.words.specs.Sets.{mem, words, span, memRow, Lowest}
-use Rattle.swap.specs.Seeking.{Beside, fitting, TriedAt, Written}
+use Rattle.swap.specs.Seeking.{Beside, fitting, TriedAt}
 use Rattle.words.proofs.Sets.{zeros, mem-zeros}
 use Rattle.rings.proofs.Searching.{in-yard, ring-none}
-use Rattle.vacate.proofs.Playing.{sets-append}
 use Rattle.bring.specs.Acting.{Tabled}
 use Rattle.bring.specs.declared.Tried.{Tried}
 use Rattle.trial.specs.Trying.{Wrote, Near}
@@ -71,9 +68,6 @@ fitting-failed Y r s v p w = by-cases (junction Y v and isSome (trial Y r s v p)
 
 -- ## The log
 
-log-front : (vs log : List ℕ) → length vs ≤ length log → take (length vs) (sets log 0 vs) ≡ vs
-log-front vs log h = let k : length vs ≤ length vs = omega arith in rw (sets-eq vs log 0 (omega arith), take-append-le) (take-length vs)
-
 -- what the trial leaves in the log that it was lent
 pub tried-at : (Y : Yard) (r s : Carrier) (v : Bay) (p : List ℕ) {log log′ : List ℕ} {z : Tried} → junction Y v ≡ true → Wrote (trial Y r s v p) log 0 log′ z → TriedAt Y r s v p log′ z
 tried-at Y r s v p {log} {log′} j w = record {
@@ -86,28 +80,14 @@ tried-at Y r s v p {log} {log′} j w = record {
       record {
         counted = omega (arith, q .2 .counted);
         stored = λ l.
-            let room : length (map pack xs) ≤ length log = omega (arith, ap length (q .2 .stored), length-sets log 0 (map pack xs)) in
-            rw (long, q .2 .stored) (log-front (map pack xs) log room);
+            let room : 0 + length (map pack xs) ≤ length log = omega (arith, q .2 .stored .long) in
+            let all : 0 + length (map pack xs) ≡ m = omega arith in
+            rw all at (q .2 .stored .front room);
       };
 }
 
 pub tried-not : (Y : Yard) (r s : Carrier) (v : Bay) (p log : List ℕ) → junction Y v ≡ false → TriedAt Y r s v p log Failed
 tried-not Y r s v p log j = record { fails = λ e. fitting-not Y r s p v j; fits = λ m e. never (cc); logged = λ m e. never (cc) }
-
-pub put-more : (out₀ out ns : List ℕ) (at i : ℕ) → i < length ns → out ≡ sets out₀ at (take i ns) → set out (at + i) (getD ns i 0) ≡ sets out₀ at (take (i + 1) ns)
-put-more out₀ out ns at i h e =
-    let tl : length (take i ns) ≡ i = length-take-le i ns (omega arith) in
-    rw (add-one, take-suc ns i 0 h, sets-append, tl, ← e)
-
-pub put-end : (out₀ out ns : List ℕ) (at i : ℕ) → length ns ≤ i → out ≡ sets out₀ at (take i ns) → out ≡ sets out₀ at ns
-put-end out₀ out ns at i h e = e ∙ ap (sets out₀ at) (take-all i ns h)
-
-module _ {Y : Yard} {r s : Carrier} {v : Bay} {p log : List ℕ} {m : ℕ} {out : List ℕ} {at : ℕ} {out′ : List ℕ} where
-  pub written-log : m ≤ length log → out′ ≡ sets out at (take m log) → Written Y r s v p log m out at out′
-  written-log h e = record { stored = λ xs t l. e ∙ ap (sets out at) (l .stored h) }
-
-  pub written-again : {z : Tried} → Wrote (trial Y r s v p) out at out′ z → Written Y r s v p log m out at out′
-  written-again w = record { stored = λ xs t l. w .succeeds xs t .2 .stored }
 
 -- ## Junctions
 

@@ -6,7 +6,6 @@ use mathlib.Core.List.{List, map}
 use mathlib.Core.Option.{Option, none, some}
 use Prim.Native.Nat.{ℕ, _≤_}
 use lib.ListN.{length, getD, set, take}
-use lib.Seq.{sets}
 use Rattle.paper.specs.Basics.{_and_}
 use Rattle.paper.specs.Procedure.{trial, swap}
 use Rattle.paper.specs.Yard.{Bay, Carrier, Yard, Placement, bayOf, Crossing, pack, joined, junction}
@@ -59,10 +58,6 @@ pub record TriedAt (Y : Yard) (r s : Carrier) (v : Bay) (p : Placement) (log : L
 abbrev pub LoggedAt : Yard → Carrier → Carrier → Placement → List ℕ → Junction → Type 0
 LoggedAt Y r s p log (At v m) = (xs : List Crossing) → trial Y r s (v .0) p ≡ some xs → Logged xs log m
 LoggedAt Y r s p log Missing = Unit {0}
-
--- what was logged is written
-pub record Written (Y : Yard) (r s : Carrier) (v : Bay) (p : Placement) (log : List ℕ) (m : ℕ) (out : List ℕ) (at : ℕ) (out′ : List ℕ) : Type 0 where
-  pub stored : (xs : List Crossing) → trial Y r s v p ≡ some xs → Logged xs log m → out′ ≡ sets out at (map pack xs)
 
 -- r and s stand side by side in a sound yard
 pub record Beside (Y : Yard) (r s : Carrier) (p : Placement) : Type 0 where

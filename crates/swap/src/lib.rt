@@ -4,16 +4,15 @@ use docket::Bay;
 use docket::Carrier;
 ghost use mathlib.Core.Path.{_≡_};
 ghost use mathlib.Core.List.{List, []};
-ghost use Prim.Native.Nat.{ℕ, _+_, _*_, _^_, _≤_, _<_};
+ghost use Prim.Native.Nat.{ℕ, min, _*_, _^_, _≤_, _<_};
 ghost use lib.ListN.{length, getD};
-ghost use lib.Seq.{sets};
 ghost use Rattle.paper.specs.Basics.{find};
 ghost use Rattle.paper.specs.Yard.{bayOf};
 ghost use Rattle.paper.specs.Path.{nearestFirst};
 ghost use Rattle.words.specs.Sets.{words, span};
-ghost use Rattle.bring.specs.Acting.{Tabled, Ready, Within, Acts};
+ghost use Rattle.bring.specs.Acting.{Tabled, Ready, Within, Proceeds};
 ghost use Rattle.trial.specs.Trying.{Near};
-ghost use Rattle.swap.specs.Seeking.{junctions, junctionAt, fitting, TriedAt, Counted, LoggedAt, Written, Beside, placementTraded, standingTraded, SideBySide, swaps};
+ghost use Rattle.swap.specs.Seeking.{junctions, junctionAt, fitting, TriedAt, Counted, LoggedAt, Beside, placementTraded, standingTraded, SideBySide, swaps};
 
 // The junction of a swap and how many crossings its trial has, or that there is none.
 pub enum Junction {
@@ -118,44 +117,17 @@ fn trade(placement: &mut [u16], standing: &mut [u16], r: Carrier, s: Carrier)
     standing[b] = r.0 as u16;
 }
 
-// The numbers go to the list from place `at` on, as far as it is so long.
-fn put_all(out: &mut [u64], at: usize, numbers: &[u64])
-    requires { ⌜ (at < 2 ^ 60) × (length (now numbers) ≤ 256) ⌝ }
-    ensures { λ _. ⌜ now (out .exit) ≡ sets (now (out .entry)) at (now (numbers .entry)) ⌝ }
+// The place where the list goes on, or its end.
+fn place_in(out: &[u64], at: usize) -> usize
+    ensures { λ r. ⌜ r ≡ min at (length (now (out .entry))) ⌝ }
 {
-    let mut i = 0;
-    while i < numbers.len() {
-        bring::put(out, at + i, numbers[i]);
-        i += 1;
+    if at < out.len() {
+        return at;
     }
+    out.len()
 }
 
-// The crossings of the trial at v go to the list: copied where the log holds them all, else played again.
-fn write(
-    table: &[u64],
-    v: Bay,
-    r: Carrier,
-    s: Carrier,
-    placement: &[u16],
-    standing: &[u16],
-    empty: &[u64],
-    log: &[u64],
-    m: usize,
-    out: &mut [u64],
-    at: usize,
-)
-    requires { ⌜ Ready (now table) (now placement) (now standing) (now empty) ⌝ }
-    requires { ⌜ (r .0 < length (now placement)) × (s .0 < length (now placement)) × (s .0 ≡ r .0 → ⊥) × (v .0 < length (now standing)) × (at < 2 ^ 60) × (length (now log) ≡ 128) ⌝ }
-    ensures { λ _. ⌜ ((t : Tabled (length (now (standing .entry))) (now (table .entry))) → Near (t .yard) (r .0) (s .0) (v .0) (now (placement .entry)) → Written (t .yard) (r .0) (s .0) (v .0) (now (placement .entry)) (now (log .entry)) m (now (out .entry)) at (now (out .exit))) ⌝ }
-{
-    if m <= log.len() {
-        put_all(out, at, &log[..m]);
-        return;
-    }
-    trial::try_at(table, v, r, s, placement, standing, empty, out, at);
-}
-
-// Swap of r with its neighbour s.
+// Swap of r with its neighbour s. Trials go to the list itself, from where it goes on; the one that succeeds stays there.
 pub fn swap(
     table: &[u64],
     r: Carrier,
@@ -168,14 +140,13 @@ pub fn swap(
 ) -> Tried
     requires { ⌜ Ready (now table) (now placement) (now standing) (now empty) ⌝ }
     requires { ⌜ (r .0 < length (now placement)) × (s .0 < length (now placement)) × (s .0 ≡ r .0 → ⊥) × (at < 2 ^ 60) × SideBySide (length (now standing)) (now table) (r .0) (s .0) (now placement) ⌝ }
-    ensures { λ z. ⌜ (Within at 150000 z) × ((t : Tabled (length (now (standing .entry))) (now (table .entry))) → Beside (t .yard) (r .0) (s .0) (now (placement .entry)) → Acts (swaps (t .yard) (r .0) (s .0) (now (placement .entry))) (length (now (standing .entry))) (now (placement .entry)) (now (standing .entry)) (now (empty .entry)) (now (out .entry)) at (now (placement .exit)) (now (standing .exit)) (now (empty .entry)) (now (out .exit)) z) ⌝ }
+    ensures { λ z. ⌜ (Within at 150000 z) × ((t : Tabled (length (now (standing .entry))) (now (table .entry))) → Beside (t .yard) (r .0) (s .0) (now (placement .entry)) → Proceeds (swaps (t .yard) (r .0) (s .0) (now (placement .entry))) (length (now (standing .entry))) (now (placement .entry)) (now (out .entry)) at (now (placement .exit)) (now (standing .exit)) (now (empty .entry)) (now (out .exit)) z) ⌝ }
 {
-    let mut log = [0u64; 128];
-    let found = seek(table, r, s, placement, standing, empty, &mut log);
-    let Junction::At(v, m) = found else {
+    let from = place_in(out, at);
+    let found = seek(table, r, s, placement, standing, empty, &mut out[from..]);
+    let Junction::At(_, m) = found else {
         return Tried::Failed;
     };
-    write(table, v, r, s, placement, standing, empty, &log, m, out, at);
     trade(placement, standing, r, s);
     Tried::Done(at + m)
 }
