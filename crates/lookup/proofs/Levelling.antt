@@ -1,8 +1,9 @@
 -- Level by level: a bay stands in level j for x exactly if a walk of one to j + 1 rails leads from x to it, with no bay held. So of the bays beside one
--- that is j + 2 rails from e, those in level j for e are exactly the ones that are a rail nearer.
+-- that is j + 2 rails from e, those in level j for e are exactly the ones that are a rail nearer; and a bay that is so with held bays too is one of
+-- them.
 -- Assumes nothing.
 use mathlib.Core.Path.{_≡_, refl, sym, ap, _∙_}
-use mathlib.Core.Bool.{Bool, true, false}
+use mathlib.Core.Bool.{Bool, true, false, not}
 use mathlib.Core.List.{List, [], _∷_}
 use Prim.Native.Nat.{ℕ, zero, suc, _+_, _*_, _≤_, _<_}
 use native.Mathlib.Decide.{ℕ-discrete, decLt}
@@ -10,16 +11,17 @@ use native.Mathlib.Nat.{add-mul, mul-le-mul-left, mul-le-mul-right}
 use native.Mathlib.Numerals.{add-one}
 use native.Mathlib.Omega.{arith}
 use lib.ListN.{length}
-use Rattle.paper.specs.Basics.{_and_, _or_, upTo, In}
+use borrow.Author.Tests.{not-true}
+use Rattle.paper.specs.Basics.{_and_, _or_, elem, upTo, In}
 use Rattle.paper.specs.Yard.{Bay, Yard, joined}
 use Rattle.paper.specs.Path.{Free, rings}
 use Rattle.paper.proofs.Tests.{not-both, and-left, and-right, and-both, or-left, or-right, or-cases}
 use Rattle.paper.proofs.Members.{in-count, count-high, nothing-in-nil, lowest-least}
 use Rattle.paper.proofs.Rings.{joined-sym, Walk, here, on, walk-cons, walk-free, ring-walk, walk-ring, rings-apart}
-use Rattle.paper.proofs.Rings.{reached-walk, in-ring, ringsFrom-length}
+use Rattle.paper.proofs.Rings.{reached-walk, in-ring, ring-free, ringsFrom-length}
 use Rattle.paper.proofs.Reach.{enough}
 use Rattle.paper.proofs.Shortest.{Next}
-use Rattle.words.specs.Sets.{memRow, words, span, anyBelow, Lowest}
+use Rattle.words.specs.Sets.{mem, memRow, words, span, anyBelow, Lowest}
 use Rattle.words.proofs.Besides.{anyBelow-some, anyBelow-of}
 use Rattle.yard.specs.Table.{Table}
 use Rattle.rings.specs.Search.{around}
@@ -53,6 +55,11 @@ walk-first Y {b = b} (on r rail free) f g =
     walk-first Y r
     (λ z same. g 0 b (ap suc z) (rw same rail) free here)
     (λ k y z first y-free w. g (suc k) y (ap suc z) first y-free (on w rail free))
+
+-- held bays only take walks away
+pub walk-plain : (Y : Yard) (bays : List Bay) {x b : Bay} {i : ℕ} → Walk Y bays x i b → Walk Y [] x i b
+walk-plain Y bays here = here
+walk-plain Y bays {b = b} (on r rail free) = on (walk-plain Y bays r) rail (free .0, nothing-in-nil b)
 
 module _ {Y : Yard} {n : ℕ} {table : List ℕ} (t : Table Y n table) (most : n ≤ span) where
   pub free-inside : (b : Bay) → b < n → Free Y [] b
@@ -123,13 +130,17 @@ module _ {Y : Yard} {n : ℕ} {table : List ℕ} (t : Table Y n table) (most : n
           let r = reached-walk Y [] e u (enough Y [] e (free-inside e he) (f .walk)) in
           omega (arith, t .bays, r .1, f .least (r .0) (r .2))
 
-      -- it is ring d
-      pub far-ring : {d : ℕ} {u : Bay} → Far d u → In u (around Y [] e d)
-      far-ring {d} {u} f =
-          let r = walk-ring Y [] (Y .bays) e (f .walk) (rw (t .bays) (far-short f)) in
-          let k : d ≤ r .0 = f .least (r .0) (ring-walk Y [] (Y .bays) e (r .0) u (r .2)) in
+      -- where a walk as short meets no held bay, it is ring d with these
+      pub held-ring : (bays : List Bay) {d : ℕ} {u : Bay} → Far d u → Walk Y bays e d u → In u (around Y bays e d)
+      held-ring bays {d} {u} f w =
+          let r = walk-ring Y bays (Y .bays) e w (rw (t .bays) (far-short f)) in
+          let k : d ≤ r .0 = f .least (r .0) (walk-plain Y bays (ring-walk Y bays (Y .bays) e (r .0) u (r .2))) in
           let same : r .0 ≡ d = omega (arith, r .1) in
           rw same at (r .2)
+
+      -- it is ring d
+      pub far-ring : {d : ℕ} {u : Bay} → Far d u → In u (around Y [] e d)
+      far-ring f = held-ring [] f (f .walk)
 
       pub ring-far : {d : ℕ} {u : Bay} → In u (around Y [] e d) → Far d u
       ring-far {d} {u} i = record {
@@ -143,28 +154,35 @@ module _ {Y : Yard} {n : ℕ} {table : List ℕ} (t : Table Y n table) (most : n
         ];
       }
 
-      -- The lowest bay beside u that stands in level k for e is the path's next bay, where u is k + 2 rails from e.
-      pub next-bay : (k u r : ℕ) → (k + 1) * n * words ≤ length table → u < n → In u (around Y [] e (suc (suc k))) → (s : Next Y [] e (suc k) u)
-          → Lowest (λ b. memRow table u b and memRow table (k * n + e) b) 0 span r → (s .bay ≡ r) × In r (around Y [] e (suc k))
-      next-bay k u r fits hu i s l =
-          let f = ring-far i in
-          let walk : Walk Y [] e (suc k) (s .bay) = ring-walk Y [] (Y .bays) e (suc k) (s .bay) (s .nearer) in
-          let hb : s .bay < n = inside (s .bay) (walk-free Y [] (free-inside e he) walk .0) in
-          let one : memRow table u (s .bay) ≡ true = t .same u (s .bay) hu (omega arith) ∙ s .rail in
-          let two : memRow table (k * n + e) (s .bay) ≡ true = walk-level k e (s .bay) fits he walk (omega arith) (omega arith) in
-          let r-low : r ≤ s .bay = elim (decLt (s .bay) r) [
-            | yes m ↦ not-both (and-both _ _ one two) (l .before (s .bay) (omega arith) m)
-            | no m ↦ omega arith
-          ] in
-          let hit : memRow table u r and memRow table (k * n + e) r ≡ true = l .hit (omega arith) in
-          let rail : joined Y u r ≡ true = sym (t .same u r hu (omega arith)) ∙ and-left _ _ hit in
-          let w = level-walk k e r fits he (omega arith) (and-right _ _ hit) in
-          let no-nearer : (m : ℕ) → Walk Y [] e m r → suc k ≤ m =
-          λ m v. let h = f .least (suc m) (on v (joined-sym Y u r rail) (free-inside u hu)) in omega arith in
-          let same : w .0 ≡ suc k = omega (arith, w .2, no-nearer (w .0) (w .3)) in
-          let r-in : In r (around Y [] e (suc k)) = far-ring (record { walk = rw same at (w .3); least = no-nearer }) in
-          let b-low : s .bay ≤ r = lowest-least (joined Y u) (around Y [] e (suc k)) (s .found) r r-in rail in
-          (omega arith, r-in)
+      -- Where u is k + 2 rails from e, r is the lowest bay beside u that stands in level k for e and is not held.
+      module _ (held : List ℕ) (k u r : ℕ) (fits : (k + 1) * n * words ≤ length table) (hu : u < n) (i : In u (around Y [] e (suc (suc k))))
+          (low : Lowest (λ b. memRow table u b and (memRow table (k * n + e) b and not (mem held b))) 0 span r) where
+        -- it is one rail nearer with no bay held
+        pub next-near : r < span → (joined Y u r ≡ true) × (mem held r ≡ false) × In r (around Y [] e (suc k))
+        next-near h =
+            let hit = low .hit h in
+            let rail : joined Y u r ≡ true = sym (t .same u r hu h) ∙ and-left _ _ hit in
+            let w = level-walk k e r fits he h (and-left _ _ (and-right _ _ hit)) in
+            let no-nearer : (m : ℕ) → Walk Y [] e m r → suc k ≤ m =
+            λ m v. let z = ring-far i .least (suc m) (on v (joined-sym Y u r rail) (free-inside u hu)) in omega arith in
+            let same : w .0 ≡ suc k = omega (arith, w .2, no-nearer (w .0) (w .3)) in
+            (rail, not-true (mem held r) (and-right _ _ (and-right _ _ hit)), far-ring (record { walk = rw same at (w .3); least = no-nearer }))
+
+        -- and where it is so with the held bays, it is the next bay of the path that meets none of them
+        pub next-bay : (bays : List Bay) → ((b : ℕ) → b < span → mem held b ≡ elem b bays) → (s : Next Y bays e (suc k) u) → joined Y u r ≡ true
+            → In r (around Y bays e (suc k)) → s .bay ≡ r
+        next-bay bays holds s rail r-in =
+            let walk : Walk Y bays e (suc k) (s .bay) = ring-walk Y bays (Y .bays) e (suc k) (s .bay) (s .nearer) in
+            let free : Free Y bays (s .bay) = ring-free Y bays (Y .bays) [] (e ∷ []) k (s .bay) (s .nearer) .0 in
+            let hb : s .bay < span = omega (arith, inside (s .bay) (free .0)) in
+            let one : memRow table u (s .bay) ≡ true = t .same u (s .bay) hu hb ∙ s .rail in
+            let two : memRow table (k * n + e) (s .bay) ≡ true = walk-level k e (s .bay) fits he (walk-plain Y bays walk) (omega arith) (omega arith) in
+            let three : not (mem held (s .bay)) ≡ true = ap not (holds (s .bay) hb ∙ free .1) in
+            let b-low : s .bay ≤ r = lowest-least (joined Y u) (around Y bays e (suc k)) (s .found) r r-in rail in
+            elim (decLt (s .bay) r) [
+              | yes m ↦ not-both (and-both _ _ one (and-both _ _ two three)) (low .before (s .bay) (omega arith) m)
+              | no m ↦ omega arith
+            ]
 
 -- ## The first level that has one of the bays
 

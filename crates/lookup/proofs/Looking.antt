@@ -1,5 +1,5 @@
--- Held bays only take ways away. So the shortest path with no bay held is the shortest one with them, if it meets none; and then no wanted bay is
--- nearer than its end, nor as near and lower.
+-- Held bays only take ways away. So if a path that meets none of them is as short as the shortest with no bay held, no wanted bay is nearer than its
+-- end, nor as near and lower.
 -- Assumes nothing.
 use mathlib.Core.Path.{_≡_, refl, sym, ap, _∙_}
 use mathlib.Core.Bool.{Bool, true, false, not}
@@ -12,12 +12,12 @@ use lib.ListN.{length, take}
 use borrow.Author.Tests.{not-true}
 use Rattle.paper.specs.Basics.{_and_, find, filter, elem, upTo, In, Out}
 use Rattle.paper.specs.Yard.{Bay, Yard, isEmpty}
-use Rattle.paper.specs.Path.{Free, Route, Way, rings, nearestFirst, shortestPath}
+use Rattle.paper.specs.Path.{Free, Way, rings, nearestFirst, shortestPath}
 use Rattle.paper.proofs.Tests.{by-cases, not-both, and-left, and-right, and-both, some-same, never}
-use Rattle.paper.proofs.Members.{In-head, In-tail, in-filter, filter-passes, in-count, nothing-in-nil}
+use Rattle.paper.proofs.Members.{In-head, In-tail, in-filter, filter-passes, in-count}
 use Rattle.paper.proofs.Rings.{Walk, walk-free, reached-walk, in-concat}
 use Rattle.paper.proofs.Nearest.{Nearest, nearest-exactly, nearest-first}
-use Rattle.paper.proofs.Shortest.{Shortest, shortest-one, shortest-path, way-reached, route-walk, inward-length}
+use Rattle.paper.proofs.Shortest.{around-free, shortest-path, route-walk, inward-length}
 use Rattle.words.specs.Sets.{mem, memRow, words, span, Lowest, Kept}
 use Rattle.words.proofs.Sets.{row-zero}
 use Rattle.words.proofs.Besides.{equal-tests, anyBelow-some, anyBelow-of}
@@ -29,55 +29,19 @@ use Rattle.docket.specs.declared.Bay.{Bay as Held}
 use Rattle.levels.specs.Levels.{Levelled}
 use Rattle.lookup.specs.Told.{FirstLevel, Distant, Led, Told}
 use Rattle.lookup.specs.declared.Known.the-variants.{To, Unknown}
-use Rattle.lookup.proofs.Levelling.{fewer-fit, walk-first, free-inside, inside, level-walk, walk-level, Far, far-short, far-ring}
+use Rattle.lookup.proofs.Levelling.{fewer-fit, walk-first, walk-plain, free-inside, inside, level-walk, walk-level, Far, far-short, far-ring}
 
 -- ## Held bays take ways away
 
-module _ (Y : Yard) (held : List Bay) where
-  route-plain : (u : Bay) (l : List Bay) (v : Bay) → Route Y held u l v → Route Y [] u l v
-  route-plain u [] v r = r
-  route-plain u (x ∷ l) v r = (r .0, (r .1 .0, nothing-in-nil x), route-plain x l v (r .2))
+module _ (Y : Yard) (held : List Bay) {u v : Bay} {l : List Bay} (w : Way Y held u l v) where
+  way-held : Walk Y held u (length (w .rest)) v
+  way-held = route-walk Y held u (w .rest) v (w .route)
 
-  way-plain : {u v : Bay} {l : List Bay} → Way Y held u l v → Way Y [] u l v
-  way-plain {u} {v} w = record {
-    rest = w .rest;
-    starts = w .starts;
-    free = (w .free .0, nothing-in-nil u);
-    route = route-plain u (w .rest) v (w .route);
-  }
+  way-walk : Walk Y [] u (length (w .rest)) v
+  way-walk = walk-plain Y held way-held
 
-  way-walk : {u v : Bay} {l : List Bay} (w : Way Y held u l v) → Walk Y [] u (length (w .rest)) v
-  way-walk {u} {v} w = route-walk Y [] u (w .rest) v (route-plain u (w .rest) v (w .route))
-
-  way-free : {u v : Bay} {l : List Bay} → Way Y held u l v → Free Y held v
-  way-free {u} {v} w = walk-free Y held (w .free) (route-walk Y held u (w .rest) v (w .route))
-
-  route-held : (u : Bay) (l : List Bay) (v : Bay) → Route Y [] u l v → ((b : Bay) → Free Y [] b → In b l → Out b held) → Route Y held u l v
-  route-held u [] v r f = r
-  route-held u (x ∷ l) v r f =
-      (r .0, (r .1 .0, f x (r .1) (In-head x l)), route-held x l v (r .2) (λ b k i. f b k (In-tail b x l i)))
-
-  -- a shortest path with no bay held, which meets none of these
-  shortest-held : (u v : Bay) (l : List Bay) → Shortest Y [] u v l → ((b : Bay) → Free Y [] b → In b l → Out b held) → Shortest Y held u v l
-  shortest-held u v l s f =
-      let w = s .way in
-      let on : (b : Bay) → Free Y [] b → In b (u ∷ w .rest) → Out b held = rw (w .starts) at f in
-      record {
-        way = record {
-          rest = w .rest;
-          starts = w .starts;
-          free = (w .free .0, on u (w .free) (In-head u (w .rest)));
-          route = route-held u (w .rest) v (w .route) (λ b k i. on b k (In-tail b u (w .rest) i));
-        };
-        once = s .once;
-        fewest = λ m k. s .fewest m (way-plain k);
-        lowest = λ m k e. s .lowest m (way-plain k) e;
-      }
-
-  shortest-is : (u v : Bay) (l : List Bay) → Shortest Y held u v l → l ≡ shortestPath Y held u v
-  shortest-is u v l s =
-      shortest-one Y held u v l (shortestPath Y held u v) s
-      (shortest-path Y held u v (s .way .free) (way-free (s .way)) (way-reached Y held u v l (s .way)))
+  way-free : Free Y held v
+  way-free = walk-free Y held (w .free) way-held
 
 -- ## Any test of bays is whether they are empty
 
@@ -156,7 +120,7 @@ module _ {n : ℕ} {table held : List ℕ} (s : Shown n table held) {x : Bay} {w
   end-chosen : mem (g .bays) e ≡ true
   end-chosen = sym (row-zero (g .bays) e) ∙ and-right _ _ (g .lowest .hit end-found)
 
-  pub end-unheld : mem held e ≡ false
+  end-unheld : mem held e ≡ false
   end-unheld = not-true (mem held e) (and-right _ _ (sym (g .free e end-found) ∙ end-chosen))
 
   x-free : Free Y [] x
@@ -197,22 +161,27 @@ module _ {n : ℕ} {table held : List ℕ} (s : Shown n table held) {x : Bay} {w
   pub start-apart : In x (around Y [] e (j + 1))
   start-apart = start-far Y [] x e (j + 1) x-free end-in
 
-  abbrev pub distant : Distant n table x e (j + 1)
-  distant = record { yard = s .yard; joins = s .joins; levels = g .levels; home = end-inside; far = start-apart }
+  abbrev pub distant : Distant n table held x e (j + 1)
+  distant = record { shown = s; levels = g .levels; home = end-inside; far = start-apart }
 
-  module _ (room : List ℕ) (led : Led distant held room) where
+  module _ (room : List ℕ) (led : Led distant room) where
     abbrev path : List Bay
     path = take (j + 1 + 1) room
 
     path-length : length path ≡ j + 2
-    path-length = ap length (led .path) ∙ inward-length Y (rings Y [] e) (j + 1) x ∙ omega arith
+    path-length = ap length (led .path) ∙ inward-length Y (rings Y (s .bays) e) (j + 1) x ∙ omega arith
 
-    path-shortest : Shortest Y (s .bays) x e path
-    path-shortest =
-        shortest-held Y (s .bays) x e path
-        (rw (led .path ∙ sym (shortest-far Y [] x e (j + 1) x-free end-in))
-        (shortest-path Y [] x e x-free end-free (in-concat Y x (rings Y [] e) (j + 1) start-apart)))
-        (λ b f i. sym (s .holds b (inside-span b (f .0))) ∙ led .unheld b i)
+    end-kept : Free Y (s .bays) e
+    end-kept = (end-free .0, sym (s .holds e end-found) ∙ end-unheld)
+
+    x-kept : Free Y (s .bays) x
+    x-kept = around-free Y (s .bays) e end-kept (j + 1) x (led .near)
+
+    path-shortest : path ≡ shortestPath Y (s .bays) x e
+    path-shortest = led .path ∙ sym (shortest-far Y (s .bays) x e (j + 1) x-kept (start-far Y (s .bays) e x (j + 1) end-kept (led .near)))
+
+    path-way : Way Y (s .bays) x path e
+    path-way = rw path-shortest (shortest-path Y (s .bays) x e x-kept end-kept (in-concat Y x (rings Y (s .bays) e) (j + 1) (led .near)) .way)
 
     module _ (q : Bay → Bool) (same : (b : ℕ) → b < n → mem wanted b ≡ q b) where
       passes : (b : Bay) → b < n → mem wanted b ≡ isEmpty (failing n q) b
@@ -227,7 +196,7 @@ module _ {n : ℕ} {table held : List ℕ} (s : Shown n table held) {x : Bay} {w
       end-nearest = record {
         empty = not-true (elem e (failing n q)) (sym (passes e end-inside) ∙ and-left _ _ (sym (g .free e end-found) ∙ end-chosen));
         path = path;
-        way = path-shortest .way;
+        way = path-way;
         nearest = λ b m o w.
             let far = no-nearer (length (w .rest)) b (way-walk Y (s .bays) w) (chosen b (way-free Y (s .bays) w) o) in
             let long : length m ≡ suc (length (w .rest)) = ap length (w .starts) in
@@ -242,12 +211,11 @@ module _ {n : ℕ} {table held : List ℕ} (s : Shown n table held) {x : Bay} {w
 
       end-first : find q (nearestFirst Y (s .bays) x) ≡ some e
       end-first =
-          let x-unheld : Free Y (s .bays) x = path-shortest .way .free in
           let low : (b : Bay) → In b (nearestFirst Y (s .bays) x) → b < n =
-          λ b i. inside (s .joins) (g .most) b (walk-free Y (s .bays) x-unheld (reached-walk Y (s .bays) x b i .2) .0) in
+          λ b i. inside (s .joins) (g .most) b (walk-free Y (s .bays) x-kept (reached-walk Y (s .bays) x b i .2) .0) in
           find-same q (isEmpty (failing n q)) (nearestFirst Y (s .bays) x) (λ b i. failing-empty n q b (low b i))
           ∙ sym (nearest-first Y (s .bays) (failing n q) x)
-          ∙ nearest-exactly Y (s .bays) (failing n q) x x-unheld e .1 end-nearest
+          ∙ nearest-exactly Y (s .bays) (failing n q) x x-kept e .1 end-nearest
 
       pub way-told : (r : Held) → r .0 ≡ e → Told s x q room (To r (j + 2))
       way-told r k = told s (record {
@@ -256,5 +224,5 @@ module _ {n : ℕ} {table held : List ℕ} (s : Shown n table held) {x : Bay} {w
         path = λ y h.
             let there : y ≡ e = sym (some-same h) ∙ k in
             let long : j + 2 ≡ j + 1 + 1 = omega arith in
-            rw (there, long) (shortest-is Y (s .bays) x e path path-shortest);
+            rw (there, long) path-shortest;
       })

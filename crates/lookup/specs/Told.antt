@@ -1,5 +1,4 @@
--- What the levels of a table tell: the nearest of some bays and the shortest path to it, with no bay held; and when that is the answer with the held
--- bays too.
+-- What the levels of a table tell: the nearest of some bays and the shortest path to it, where the held bays make it no longer.
 -- Assumes nothing.
 use mathlib.Core.Path.{_≡_}
 use mathlib.Core.Bool.{Bool, true, false}
@@ -7,10 +6,9 @@ use mathlib.Core.List.{List, []}
 use Prim.Native.Nat.{ℕ, _+_, _*_, _≤_, _<_}
 use lib.ListN.{length, take}
 use Rattle.paper.specs.Basics.{_and_, In}
-use Rattle.paper.specs.Yard.{Bay, Yard}
+use Rattle.paper.specs.Yard.{Bay}
 use Rattle.paper.specs.Path.{rings, inward}
-use Rattle.words.specs.Sets.{mem, memRow, words, span, anyBelow}
-use Rattle.yard.specs.Table.{Table}
+use Rattle.words.specs.Sets.{memRow, words, span, anyBelow}
 use Rattle.rings.specs.Search.{Shown, around}
 use Rattle.rings.specs.Ways.{WayFound}
 use Rattle.rings.specs.declared.Way.the-variants as way
@@ -26,21 +24,16 @@ pub record FirstLevel (n : ℕ) (table : List ℕ) (x : Bay) (bays : List ℕ) (
   pub before : (i : ℕ) → i < j → anyBelow (λ b. memRow table (i * n + x) b and memRow bays 0 b) span ≡ false
 
 -- with no bay held, x is d rails from e
-pub record Distant (n : ℕ) (table : List ℕ) (x e d : ℕ) : Type 0 where
-  pub yard : Yard
-  pub joins : Table yard n table
+pub record Distant (n : ℕ) (table held : List ℕ) (x e d : ℕ) : Type 0 where
+  pub shown : Shown n table held
   pub levels : Levelled n table
   pub home : e < n
-  pub far : In x (around yard [] e d)
+  pub far : In x (around (shown .yard) [] e d)
 
--- the shortest path between them
-abbrev pub plainPath : {n : ℕ} {table : List ℕ} {x e d : ℕ} → Distant n table x e d → List Bay
-plainPath {x = x} {e = e} {d = d} t = inward (t .yard) (rings (t .yard) [] e) d x
-
--- it is the first bays of the room, and none of them is held
-pub record Led {n : ℕ} {table : List ℕ} {x e d : ℕ} (t : Distant n table x e d) (held room : List ℕ) : Type 0 where
-  pub path : take (d + 1) room ≡ plainPath t
-  pub unheld : (b : ℕ) → In b (take (d + 1) room) → mem held b ≡ false
+-- With the held bays it is no further, and the first bays of the room are the shortest path between them.
+pub record Led {n : ℕ} {table held : List ℕ} {x e d : ℕ} (t : Distant n table held x e d) (room : List ℕ) : Type 0 where
+  pub near : In x (around (t .shown .yard) (t .shown .bays) e d)
+  pub path : take (d + 1) room ≡ inward (t .shown .yard) (rings (t .shown .yard) (t .shown .bays) e) d x
 
 -- what is told is the nearest bay of which q holds, and the shortest path to it
 abbrev pub Told : {n : ℕ} {table held : List ℕ} → Shown n table held → Bay → (Bay → Bool) → List ℕ → Known → Type 0

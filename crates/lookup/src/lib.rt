@@ -1,5 +1,5 @@
 // Where a table goes on above its rails, the way to the nearest wanted bay is looked up in its levels. They know of no held bays, and these only take
-// paths away: so a shortest path that meets none of them is the answer, and else it has to be searched for.
+// paths away: so a walk past the held bays that is a rail nearer at each step is the answer, and where it is stuck, the way has to be searched for.
 use docket::Bay;
 ghost use mathlib.Core.Path.{_≡_};
 ghost use mathlib.Core.Bool.{Bool, true, false};
@@ -32,11 +32,11 @@ fn first_level(table: &[u64], n: usize, x: Bay, bays: &[u64]) -> usize
     j
 }
 
-// The path from x to e, d rails away with no bay held: each next bay is the lowest neighbour one rail nearer to e. Answers whether no bay of it is
-// held.
+// The path from x to e, d rails away with no bay held: each next bay is the lowest neighbour not held that is one rail nearer to e. Answers whether
+// there is one at each step.
 fn lead(table: &[u64], n: usize, held: &[u64], x: Bay, e: Bay, d: usize, path: &mut [u16]) -> bool
-    requires { ⌜ (n ≤ span) × (1 ≤ d) × (d < n) × (d * n * words ≤ length (now table)) × (length (now held) ≡ words) × (n ≤ length (now path)) × (mem (now held) (x .0) ≡ false) × (mem (now held) (e .0) ≡ false) × Distant n (now table) (x .0) (e .0) d ⌝ }
-    ensures { λ r. ⌜ ((t : Distant n (now (table .entry)) (x .0) (e .0) d) → r ≡ true → Led t (now (held .entry)) (now (path .exit))) ⌝ }
+    requires { ⌜ (n ≤ span) × (1 ≤ d) × (d < n) × (d * n * words ≤ length (now table)) × (length (now held) ≡ words) × (n ≤ length (now path)) × (mem (now held) (x .0) ≡ false) × Distant n (now table) (now held) (x .0) (e .0) d ⌝ }
+    ensures { λ r. ⌜ ((t : Distant n (now (table .entry)) (now (held .entry)) (x .0) (e .0) d) → r ≡ true → Led t (now (path .exit))) ⌝ }
 {
     let end = e.0 as usize;
     let mut u = x.0 as usize;
@@ -44,8 +44,9 @@ fn lead(table: &[u64], n: usize, held: &[u64], x: Bay, e: Bay, d: usize, path: &
     while i + 1 < d {
         path[i] = u as u16;
         i += 1;
-        u = words::lowest_common(table, u, table, (d - 1 - i) * n + end);
-        if words::is_in(held, u) {
+        let row = ((d - 1 - i) * n + end) * words::WORDS;
+        u = words::lowest_free(table, u, &table[row..row + words::WORDS], held);
+        if words::SPAN <= u {
             return false;
         }
     }

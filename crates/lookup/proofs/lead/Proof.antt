@@ -1,19 +1,20 @@
--- `lookup::lead` meets its contract. The room holds i bays of the path, none of them held, and u is the next.
+-- `lookup::lead` meets its contract. The room holds i bays, and u is the next; they begin the path if the walk goes on to e.
 -- Assumes nothing.
-use mathlib.Core.Path.{_≡_, refl, sym, _∙_}
-use Prim.Native.Nat.{_+_, _-_, _≤_, _<_}
+use mathlib.Core.Path.{_≡_, refl}
+use Prim.Native.Nat.{_+_, _-_, _*_, _≤_, _<_}
 use native.Mathlib.Omega.{arith}
 use lib.ListN.{length, set, length-set}
 use borrow.Author.Needs.{needs}
 use Rattle.paper.proofs.Tests.{not-both}
+use Rattle.words.specs.Sets.{words}
 use Rattle.lookup.specs.Told.{Distant}
 use Rattle.lookup.proofs.Levelling.{row-fits}
-use Rattle.lookup.proofs.Leading.{Leading, leading-inside, leading-first, next-inside, leading-more, leading-all}
+use Rattle.lookup.proofs.Leading.{lent-length, Leading, leading-inside, leading-first, leading-more, leading-all}
 use Rattle.lookup.proofs.lead.Statement.{statement}
 use Rattle.lookup.proofs.lead.Tie as tie
 
 abbrev Inv-loop : tie.InvT-loop
-Inv-loop table n held e d path₀ end u₀ i₀ path u i = (i + 1 ≤ d) × (length path ≡ length path₀) × (u < n) × ((t : Distant n table u₀ (e .0) d) → Leading t held i u path)
+Inv-loop table n held e d path₀ end u₀ i₀ path u i = (i + 1 ≤ d) × (length path ≡ length path₀) × (u < n) × ((t : Distant n table held u₀ (e .0) d) → Leading t i u path)
 
 abbrev μ-loop : tie.MeasureT-loop
 μ-loop table n held e d path₀ end u₀ i₀ path u i = d - i
@@ -25,7 +26,7 @@ cast-u : tie.Need-cast-u Inv-loop μ-loop
 cast-u c = search needs
 
 loop-holds : tie.Need-loop-holds Inv-loop μ-loop
-loop-holds c = let p = c .before .before .before .before .before .pre in (omega (arith, p .1), refl, leading-inside (p .8) (p .0) _ 0 _ (c .before .before .before .before .before .args .path .now) (leading-first (p .8) _ _ (p .6)), λ t. leading-first t _ _ (p .6))
+loop-holds c = let a = c .before .before .before .before .before .args in let p = c .before .before .before .before .before .pre in let first : (t : Distant (a .n) (a .table .now) (a .held .now) (a .x .0) (a .e .0) (a .d)) → Leading t 0 (a .x .0) (a .path .now) = λ t. leading-first t _ (p .6) in (omega (arith, p .1), refl, leading-inside (p .7) (p .0) 0 _ _ (first (p .7)), first)
 
 add-loop : tie.Need-add-loop Inv-loop μ-loop
 add-loop c = search needs
@@ -42,23 +43,42 @@ slice-write-path c = search needs
 add-i : tie.Need-add-i Inv-loop μ-loop
 add-i c = search needs
 
-sub-lowest-common : tie.Need-sub-lowest-common Inv-loop μ-loop
-sub-lowest-common c = search needs
+sub-row : tie.Need-sub-row Inv-loop μ-loop
+sub-row c = search needs
 
-sub-lowest-common-2 : tie.Need-sub-lowest-common-2 Inv-loop μ-loop
-sub-lowest-common-2 c = search needs
+sub-row-2 : tie.Need-sub-row-2 Inv-loop μ-loop
+sub-row-2 c = search needs
 
-mul-lowest-common : tie.Need-mul-lowest-common Inv-loop μ-loop
-mul-lowest-common c = let a = c .before .before .before .before .before .before .before .args in let p = c .before .before .before .before .before .before .before .pre in let k = row-fits (a .d) (a .n) (a .d - 1 - (c .before .loop .i + 1)) (a .e .0) (p .3) (omega arith) (p .8 .home) in search needs
+-- the row of the level that is read is in the table
+row-inside : (c : tie.In-loop Inv-loop μ-loop) → ((c .before .before .before .before .before .before .before .args .d - 1 - (c .before .loop .i + 1)) * c .before .before .before .before .before .before .before .args .n + c .before .before .before .before .before .before .before .args .e .0) * words + words ≤ length (c .before .before .before .before .before .before .before .args .table .now)
+row-inside c = let a = c .before .before .before .before .before .before .before .args in let p = c .before .before .before .before .before .before .before .pre in row-fits (a .d) (a .n) (a .d - 1 - (c .before .loop .i + 1)) (a .e .0) (p .3) (omega arith) (p .7 .home)
 
-add-lowest-common : tie.Need-add-lowest-common Inv-loop μ-loop
-add-lowest-common c = let a = c .before .before .before .before .before .before .before .args in let p = c .before .before .before .before .before .before .before .pre in let k = row-fits (a .d) (a .n) (a .d - 1 - (c .before .loop .i + 1)) (a .e .0) (p .3) (omega arith) (p .8 .home) in search needs
+mul-row : tie.Need-mul-row Inv-loop μ-loop
+mul-row c = let k = row-inside c in search needs
 
-lowest-common-requires : tie.Need-lowest-common-requires Inv-loop μ-loop
-lowest-common-requires c κs = let a = c .before .before .before .before .before .before .before .args in let p = c .before .before .before .before .before .before .before .pre in let l = c .before .loop in let j = row-fits (a .d) (a .n) 0 (l .u) (p .3) (omega arith) (l .inv .2) in (omega arith, row-fits (a .d) (a .n) (a .d - 1 - (l .i + 1)) (a .e .0) (p .3) (omega arith) (p .8 .home))
+add-row : tie.Need-add-row Inv-loop μ-loop
+add-row c = let k = row-inside c in search needs
 
-is-in-requires : tie.Need-is-in-requires Inv-loop μ-loop
-is-in-requires c κs = let p = c .before .before .before .before .before .before .before .before .pre in let l = c .before .before .loop in let k = next-inside (p .8) (p .0) _ (l .i) (l .u) _ (l .path) (p .3) (c .before .loop-test .taken) (l .inv .3 (p .8)) (c .lowest-common .ensures) in search needs
+mul-row-2 : tie.Need-mul-row-2 Inv-loop μ-loop
+mul-row-2 c = let k = row-inside c in search needs
+
+add-lowest-free : tie.Need-add-lowest-free Inv-loop μ-loop
+add-lowest-free c = let k = row-inside c in search needs
+
+mul-lowest-free : tie.Need-mul-lowest-free Inv-loop μ-loop
+mul-lowest-free c = let k = row-inside c in search needs
+
+sub-lowest-free : tie.Need-sub-lowest-free Inv-loop μ-loop
+sub-lowest-free c = search needs
+
+part-lowest-free-start : tie.Need-part-lowest-free-start Inv-loop μ-loop
+part-lowest-free-start c = search needs
+
+part-lowest-free-end : tie.Need-part-lowest-free-end Inv-loop μ-loop
+part-lowest-free-end c = let k = row-inside c in search needs
+
+lowest-free-requires : tie.Need-lowest-free-requires Inv-loop μ-loop
+lowest-free-requires c κs = let a = c .before .before .before .before .before .before .before .before .args in let p = c .before .before .before .before .before .before .before .before .pre in let l = c .before .before .loop in let j = row-fits (a .d) (a .n) 0 (l .u) (p .3) (omega arith) (l .inv .2) in let k = lent-length (a .table .now) ((a .d - 1 - (l .i + 1)) * a .n + a .e .0) (row-inside (c .before)) in search needs
 
 same-length : tie.Need-same-length Inv-loop μ-loop
 same-length c = search needs
@@ -70,7 +90,7 @@ loop-less : tie.Need-loop-less Inv-loop μ-loop
 loop-less c = search needs
 
 loop-again : tie.Need-loop-again Inv-loop μ-loop
-loop-again c = let a = c .before .before .before .before .before .before .before .before .before .before .args in let p = c .before .before .before .before .before .before .before .before .before .before .pre in let l = c .before .before .before .before .loop in let on : (t : Distant (a .n) (a .table .now) (a .x .0) (a .e .0) (a .d)) → Leading t (a .held .now) (l .i + 1) (c .before .before .lowest-common .result) (set (l .path) (l .i) (l .u)) = λ t. leading-more t (p .0) _ (l .i) (l .u) _ (l .path) (p .3) (c .before .before .before .loop-test .taken) (l .inv .3 t) (c .before .before .lowest-common .ensures) (omega arith) (sym (c .before .is-in .ensures) ∙ c .if1 .left) in (omega arith, simp length-set (omega arith), leading-inside (p .8) (p .0) _ (l .i + 1) _ _ (on (p .8)), on)
+loop-again c = let a = c .before .before .before .before .before .before .before .before .before .before .args in let p = c .before .before .before .before .before .before .before .before .before .before .pre in let l = c .before .before .before .before .loop in let on : (t : Distant (a .n) (a .table .now) (a .held .now) (a .x .0) (a .e .0) (a .d)) → Leading t (l .i + 1) (c .before .lowest-free .result) (set (l .path) (l .i) (l .u)) = λ t. leading-more t (p .0) (l .i) (l .u) (l .path) (l .inv .3 t) _ (p .3) (c .before .before .before .loop-test .taken) (omega arith) (c .before .lowest-free .ensures) (c .if1 .left) in (omega arith, simp length-set (omega arith), leading-inside (p .7) (p .0) (l .i + 1) _ _ (on (p .7)), on)
 
 cast-path-2 : tie.Need-cast-path-2 Inv-loop μ-loop
 cast-path-2 c = search needs
@@ -94,7 +114,7 @@ same-length-2 : tie.Need-same-length-2 Inv-loop μ-loop
 same-length-2 c = search needs
 
 returns-2 : tie.Need-returns-2 Inv-loop μ-loop
-returns-2 c = let p = c .before .before .before .before .before .before .before .pre in let l = c .before .loop in λ t k. leading-all t _ (l .i) (l .u) (l .path) (omega arith) (omega arith) (p .7) (l .inv .3 t)
+returns-2 c = let p = c .before .before .before .before .before .before .before .pre in let l = c .before .loop in λ t k. leading-all t (p .0) (l .i) (l .u) (l .path) (l .inv .3 t) (omega arith) (omega arith)
 
 pub lead-spec : {M : Type 1} → statement M
 lead-spec =
@@ -110,12 +130,17 @@ lead-spec =
     mul-path
     slice-write-path
     add-i
-    sub-lowest-common
-    sub-lowest-common-2
-    mul-lowest-common
-    add-lowest-common
-    lowest-common-requires
-    is-in-requires
+    sub-row
+    sub-row-2
+    mul-row
+    add-row
+    mul-row-2
+    add-lowest-free
+    mul-lowest-free
+    sub-lowest-free
+    part-lowest-free-start
+    part-lowest-free-end
+    lowest-free-requires
     same-length
     returns
     loop-less

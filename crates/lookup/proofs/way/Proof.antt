@@ -4,7 +4,7 @@ use mathlib.Core.Path.{refl}
 use native.Mathlib.Omega.{arith}
 use borrow.Author.Needs.{needs}
 use Rattle.lookup.proofs.Levelling.{levels-few}
-use Rattle.lookup.proofs.Looking.{untold, looked, end-short, end-unheld, distant, way-told}
+use Rattle.lookup.proofs.Looking.{untold, looked, end-short, distant, way-told}
 use Rattle.lookup.proofs.way.Statement.{statement}
 use Rattle.lookup.proofs.way.Tie as tie
 
@@ -60,7 +60,7 @@ add-lead : tie.Need-add-lead
 add-lead c = let p = c .before .before .before .before .before .before .before .before .before .before .before .before .before .before .before .before .pre in let k = levels-few (c .before .before .before .before .first-level .result) (c .before .before .before .before .before .before .before .before .before .before .before .before .before .before .before .before .args .n) (omega (arith, p .1)) (c .before .before .before .before .first-level .ensures .fits) in search needs
 
 lead-requires : tie.Need-lead-requires
-lead-requires c κs = let p = c .before .before .before .before .before .before .before .before .before .before .before .before .before .before .before .before .before .pre in let g = looked (p .0) (p .8) (p .1) (p .9) (c .before .before .before .before .before .before .before .before .before .before .before .keep .ensures) (c .before .before .before .before .before .before .before .before .minus .ensures) (c .before .before .before .before .before .first-level .ensures) (c .before .before .before .before .if1 .left) (c .before .lowest-common .ensures) in (p .0, omega arith, end-short (p .7) g, c .before .before .before .before .if1 .left, p .3, p .5, p .6, end-unheld (p .7) g, distant (p .7) g)
+lead-requires c κs = let p = c .before .before .before .before .before .before .before .before .before .before .before .before .before .before .before .before .before .pre in let g = looked (p .0) (p .8) (p .1) (p .9) (c .before .before .before .before .before .before .before .before .before .before .before .keep .ensures) (c .before .before .before .before .before .before .before .before .minus .ensures) (c .before .before .before .before .before .first-level .ensures) (c .before .before .before .before .if1 .left) (c .before .lowest-common .ensures) in (p .0, omega arith, end-short (p .7) g, c .before .before .before .before .if1 .left, p .3, p .5, p .6, distant (p .7) g)
 
 add-t28 : tie.Need-add-t28
 add-t28 c = let p = c .before .before .before .before .before .before .before .before .before .before .before .before .before .before .before .before .before .before .before .before .before .pre in let g = looked (p .0) (p .8) (p .1) (p .9) (c .before .before .before .before .before .before .before .before .before .before .before .before .before .before .before .keep .ensures) (c .before .before .before .before .before .before .before .before .before .before .before .before .minus .ensures) (c .before .before .before .before .before .before .before .before .before .first-level .ensures) (c .before .before .before .before .before .before .before .before .if1 .left) (c .before .before .before .before .before .lowest-common .ensures) in let k = end-short (p .7) g in search needs
