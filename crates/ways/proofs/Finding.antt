@@ -9,14 +9,15 @@ use Prim.Native.Nat.{ℕ, zero, suc, _+_, _-_, _≤_, _<_}
 use native.Mathlib.Decide.{ℕ-discrete, decLt}
 use native.Mathlib.Omega.{arith}
 use lib.Dec.{eqb}
-use lib.ListN.{take}
+use lib.ListN.{length, take}
+use lib.Seq.{take-take, length-take-le}
 use borrow.Author.Tests.{eqb-true, eq-eqb, not-true}
 use Rattle.paper.specs.Basics.{_and_, _or_, concat, find, elem, In}
 use Rattle.paper.specs.Yard.{Bay}
 use Rattle.paper.specs.Path.{rings, nearestFirst, ringOf, pathBetween}
-use Rattle.paper.proofs.Tests.{by-cases, not-both, and-left, and-right, and-both, some-same}
-use Rattle.paper.proofs.Members.{In-one, In-head, In-nil, nothing-in-nil, none-find, find-in, find-passes, find-none}
-use Rattle.paper.proofs.Rings.{ring-step, distance-in, reached-sym}
+use Rattle.paper.proofs.Tests.{by-cases, not-both, and-left, and-right, and-both, or-right, or-cases, some-same}
+use Rattle.paper.proofs.Members.{In-one, In-head, nothing-in-nil, none-find, find-in, find-passes, find-none}
+use Rattle.paper.proofs.Rings.{ring-step, distance-in, rings-apart, reached-sym}
 use Rattle.paper.proofs.Shortest.{rings-rise, inward-zero}
 use Rattle.docket.specs.declared.Bay.{Bay as Held}
 use Rattle.words.specs.Sets.{mem, memRow, span, Kept, Lowest}
@@ -25,11 +26,12 @@ use Rattle.rings.specs.Search.{Shown, ringOn}
 use Rattle.rings.specs.Ways.{WayFound, PathFound}
 use Rattle.rings.specs.declared.Way.the-variants.{To, NoWay}
 use Rattle.rings.specs.declared.Path.the-variants.{First, NoPath}
-use Rattle.rings.proofs.Searching.{elem-one, ring-first, in-yard, ring-none, Widening, widening-first, widening-more}
+use Rattle.rings.proofs.Searching.{elem-one, ring-first, in-yard}
 use Rattle.rings.proofs.Reading.{find-rings, find-is, way-none}
 use Rattle.rings.proofs.Between.{shortest-far}
 use Rattle.ways.specs.Meeting.{back}
-use Rattle.ways.specs.Queue.{Met, Stands, Passed}
+use Rattle.ways.specs.Queue.{Met, Passed}
+use Rattle.ways.proofs.Passing.{Within, next-holds, next-within}
 use Rattle.ways.proofs.Tracing.{free-of, path-back}
 
 -- the lowest that passes, of the first ring that has one, is the nearest
@@ -42,9 +44,9 @@ nearest-of s x q d e i h early lower =
 -- ## Where the search stands
 
 -- at ring d, and no ring up to it has a wanted bay
-pub record Stage {n : ℕ} {table held : List ℕ} (s : Shown n table held) (x : Bay) (wanted : List ℕ) (d : ℕ) (seen ring met before : List ℕ) (done count : ℕ) : Type 0 where
-  pub stands : Stands n table held x seen ring met before done count
-  pub widening : Widening s x d seen ring
+pub record Stage {n : ℕ} {table held : List ℕ} (s : Shown n table held) (x : Bay) (wanted : List ℕ) (d : ℕ) (seen met before : List ℕ) (done count : ℕ) : Type 0 where
+  pub queue : Met n table held x seen (take count met) before done
+  pub within : Within s x d (take count met)
   pub missed : (i b : ℕ) → i ≤ d → In b (ringOn s x i) → mem wanted b ≡ false
   pub near : d ≤ done
 
@@ -64,38 +66,34 @@ module _ {n : ℕ} {table held : List ℕ} (s : Shown n table held) (most : n �
     looked = λ l z h. absurd (omega arith);
   }
 
-  one-and-not : (b : ℕ) → eqb b x ≡ elem b (x ∷ []) and not (elem b [])
-  unfolding elem _and_
-  one-and-not b = by-cases (eqb b x) (λ e. rw e) (λ e. rw e)
+  -- the first ring is x alone
+  of-first : (i b : ℕ) → i ≤ 0 → In b (ringOn s x i) → In b (x ∷ [])
+  of-first i b l y = let e : i ≡ 0 = omega arith in rw (e, first-ring) at y
 
-  pub stage-first : (wanted seen₀ seen₁ seen ring met before : List ℕ) → mem wanted x ≡ false → Kept seen₀ 0 held seen₁ → ((y : ℕ) → mem seen y ≡ mem seen₁ y or eqb y x)
-      → ((y : ℕ) → mem ring y ≡ eqb y x) → take 1 met ≡ x ∷ [] → Stage s x wanted 0 seen ring met before 0 1
-  stage-first wanted seen₀ seen₁ seen ring met before miss k f r first =
-      let kept : (b : ℕ) → b < span → mem seen₁ b ≡ mem held b = λ b l. sym (row-zero seen₁ b) ∙ k .row b l in
-      record {
-        stands = record {
-          queue = rw first (start-met seen before (λ b l. f b ∙ rw (kept b l)));
-          ringing = λ b l. r b ∙ rw first (one-and-not b);
-        };
-        widening = widening-first s x seen₁ hx kept f r;
-        missed = λ i b l y. let e : i ≡ 0 = omega arith in rw (In-one b x (rw (e, first-ring) at y)) miss;
-        near = omega arith;
-      }
+  pub stage-first : (wanted seen₀ seen₁ seen met before : List ℕ) → mem wanted x ≡ false → Kept seen₀ 0 held seen₁ → ((y : ℕ) → mem seen y ≡ mem seen₁ y or eqb y x)
+      → take 1 met ≡ x ∷ [] → Stage s x wanted 0 seen met before 0 1
+  stage-first wanted seen₀ seen₁ seen met before miss k f first = record {
+    queue = rw first (start-met seen before (λ b l. f b ∙ rw (sym (row-zero seen₁ b) ∙ k .row b l)));
+    within = rw first (record { holds = of-first; only = λ b i. (0, omega arith, rw first-ring i) });
+    missed = λ i b l y. rw (In-one b x (of-first i b l y)) miss;
+    near = omega arith;
+  }
 
-  module _ (wanted : List ℕ) (d : ℕ) (seen ring met before : List ℕ) (done count : ℕ) (g : Stage s x wanted d seen ring met before done count)
-      (seen′ ring′ met′ before′ : List ℕ) (r : ℕ) (p : Passed n table held x seen ring seen′ ring′ met′ before′ count r) (some-left : done < count) where
+  module _ (wanted : List ℕ) (d : ℕ) (seen met before : List ℕ) (done count : ℕ) (g : Stage s x wanted d seen met before done count)
+      (seen′ met′ before′ : List ℕ) (r : ℕ) (p : Passed n table held x met count seen′ met′ before′ count r) (some-left : done < count) (room : n ≤ length met′) where
+    kept : take count (take r met′) ≡ take count met
+    kept = take-take count r met′ (p .more) ∙ p .kept
+
+    long : count ≤ length (take r met′)
+    long = omega (arith, p .more, p .most, length-take-le r met′ (omega (arith, p .most)))
+
     -- ## Nothing new
 
     next-dry : r ≡ count → (b : ℕ) → In b (ringOn s x (d + 1)) → ⊥
-    next-dry e b i = elim (decLt (d + 1) n) [
-      | yes h ↦
-          let hb : b < n = in-yard s x most hx (d + 1) b i in
-          let w = widening-more s x most hx h (g .widening) (p .widened) in
-          let z : elem b (take count met′) and not (elem b (take count met′)) ≡ true =
-          rw e at (sym (p .stands .ringing b (omega arith)) ∙ w .ringing b (omega arith) ∙ i) in
-          not-both (and-left _ _ z) (not-true _ (and-right _ _ z))
-      | no h ↦ In-nil b (rw (ring-none s x (d + 1) (omega arith)) at i)
-    ]
+    next-dry e b i =
+        let y : In b (take r met′) = next-holds s most x hx (g .within) (p .queue) kept (omega arith) long (d + 1) b (omega arith) i in
+        let k = g .within .only b (rw (e, p .kept) at y) in
+        not-both (k .2) (rings-apart (s .yard) (s .bays) (s .yard .bays) [] (x ∷ []) (k .0) (d + 1) b (omega (arith, k .1)) i)
 
     all-dry : r ≡ count → (k b : ℕ) → In b (ringOn s x (k + (d + 1))) → ⊥
     all-dry e zero b i = let z : 0 + (d + 1) ≡ d + 1 = omega arith in next-dry e b (rw z at i)
@@ -121,20 +119,29 @@ module _ {n : ℕ} {table held : List ℕ} (s : Shown n table held) (most : n �
       far : d + 1 < n
       far = omega (arith, g .near, p .most)
 
-      wider : Widening s x (d + 1) seen′ ring′
-      wider = widening-more s x most hx far (g .widening) (p .widened)
+      wider : Within s x (d + 1) (take r met′)
+      wider = next-within s most x hx (g .within) (p .queue) kept (omega arith) long far
 
-      module _ (e : ℕ) (l : Lowest (λ y. memRow ring′ 0 y and memRow wanted 0 y) 0 span e) where
+      -- what is seen and free is of the newest ring: held bays are not free, and no ring before it has a wanted bay
+      module _ (free₀ free₁ free : List ℕ) (f : Kept free₀ 0 wanted free₁) (f′ : (b : ℕ) → mem free b ≡ mem free₁ b and not (mem held b)) (e : ℕ)
+          (l : Lowest (λ y. memRow seen′ 0 y and memRow free 0 y) 0 span e) where
+        is-free : (b : ℕ) → b < span → memRow free 0 b ≡ mem wanted b and not (mem held b)
+        is-free b h = row-zero free b ∙ f′ b ∙ rw (sym (row-zero free₁ b) ∙ f .row b h)
+
         lower : (b : ℕ) → b < e → In b (ringOn s x (d + 1)) → mem wanted b ≡ false
         lower b h i =
             let hb : b < n = in-yard s x most hx (d + 1) b i in
-            let z : mem ring′ b and mem wanted b ≡ false = rw (row-zero ring′ b, row-zero wanted b) at (l .before b (omega arith) h) in
-            by-cases (mem wanted b) (λ t. not-both (and-both _ _ (wider .ringing b (omega arith) ∙ i) t) z) (λ t. t)
+            let low : b < span = omega arith in
+            let y : In b (take r met′) = wider .holds (d + 1) b (omega arith) i in
+            let sees : memRow seen′ 0 b ≡ true = row-zero seen′ b ∙ p .queue .seeing b low ∙ or-right _ _ y in
+            by-cases (mem wanted b)
+            (λ t. not-both (and-both _ _ sees (is-free b low ∙ and-both _ _ t (ap not (p .queue .unheld b y)))) (l .before b (omega arith) h))
+            (λ t. t)
 
-        pub stage-more : span ≤ e → Stage s x wanted (d + 1) seen′ ring′ met′ before′ count r
+        pub stage-more : span ≤ e → Stage s x wanted (d + 1) seen′ met′ before′ count r
         stage-more h = record {
-          stands = p .stands;
-          widening = wider;
+          queue = p .queue;
+          within = wider;
           missed = λ i b k y. elim (ℕ-discrete i (d + 1)) [
             | yes o ↦
                 let y′ : In b (ringOn s x (d + 1)) = rw o at y in
@@ -148,18 +155,25 @@ module _ {n : ℕ} {table held : List ℕ} (s : Shown n table held) (most : n �
         pub way-found : e < span → (q : Bay → Bool) → ((b : ℕ) → b < n → mem wanted b ≡ q b) → (room : List ℕ) (bay : Held) → bay .0 ≡ e
             → take (d + 1 + 1) room ≡ back before′ (d + 1) e [] → WayFound s x q room (To bay (d + 1 + 1))
         way-found hit q w room bay same path =
-            let z : mem ring′ e and mem wanted e ≡ true = rw (row-zero ring′ e, row-zero wanted e) at (l .hit hit) in
-            let e-in : In e (ringOn s x (d + 1)) = sym (wider .ringing e hit) ∙ and-left _ _ z in
-            let in-queue : In e (take r met′) = and-left _ _ (sym (p .stands .ringing e hit) ∙ and-left _ _ z) in
+            let z : mem wanted e and not (mem held e) ≡ true = sym (is-free e hit) ∙ and-right _ _ (l .hit hit) in
+            let is-wanted : mem wanted e ≡ true = and-left _ _ z in
+            let in-queue : In e (take r met′) =
+            or-cases (mem held e) (elem e (take r met′)) (sym (p .queue .seeing e hit) ∙ sym (row-zero seen′ e) ∙ and-left _ _ (l .hit hit))
+            (λ t. not-both t (not-true _ (and-right _ _ z))) (λ t. t) in
+            let k = wider .only e in-queue in
+            let e-in : In e (ringOn s x (d + 1)) = elim (ℕ-discrete (k .0) (d + 1)) [
+              | yes o ↦ rw o at (k .2)
+              | no o ↦ not-both is-wanted (g .missed (k .0) e (omega (arith, k .1)) (k .2))
+            ] in
             let low : (i b : ℕ) → In b (ringOn s x i) → b < n = in-yard s x most hx in
             record {
-              nearest = rw same (nearest-of s x q (d + 1) e e-in (sym (w e (low (d + 1) e e-in)) ∙ and-right _ _ z)
+              nearest = rw same (nearest-of s x q (d + 1) e e-in (sym (w e (low (d + 1) e e-in)) ∙ is-wanted)
                   (λ i b h y. sym (w b (low i b y)) ∙ g .missed i b (omega arith) y)
                   (λ b y h. sym (w b (low (d + 1) b y)) ∙ lower b h y));
               fits = let h = far in omega arith;
               path = λ y k.
                   let it : e ≡ y = let u = rw same at k in some-same u in
-                  rw (← it) (path ∙ path-back s most x e (d + 1) (p .stands .queue) hx unheld e-in in-queue);
+                  rw (← it) (path ∙ path-back s most x e (d + 1) (p .queue) hx unheld e-in in-queue);
             }
 
   -- ## x itself

@@ -1,182 +1,127 @@
--- Once all bays of a ring are passed, what was put behind them is the next ring: whatever they lead to is in the queue, and what stands
--- behind them was met from one of them, since all that earlier bays lead to stood in the queue before.
+-- Once all bays of a ring are passed, the queue holds the next ring too: whatever they lead to is in it, and what stands behind them was
+-- met from one that was passed.
 -- Assumes nothing.
-use mathlib.Core.Path.{_≡_, refl, sym, ap, _∙_}
-use mathlib.Core.Bool.{Bool, true, false, not}
-use mathlib.Core.List.{List, _++_}
-use Prim.Native.Nat.{ℕ, _+_, _≤_, _<_}
+use mathlib.Core.Path.{_≡_, refl, sym, _∙_}
+use mathlib.Core.Bool.{true}
+use mathlib.Core.List.{List, [], _∷_, _++_}
+use Prim.Native.Nat.{ℕ, suc, _+_, _≤_, _<_}
 use native.Mathlib.Decide.{decLt}
 use native.Mathlib.Numerals.{add-one}
 use native.Mathlib.Omega.{arith}
 use lib.ListN.{length, getD, take, length-append}
 use lib.Seq.{take-take, take-append-le, getD-take, length-take-le}
-use borrow.Author.Tests.{not-true}
-use Rattle.paper.specs.Basics.{_and_, _or_, elem, placeOf, In, Out}
-use Rattle.paper.proofs.Tests.{by-cases, not-both, and-left, and-right, and-both, or-none, or-neither}
+use Rattle.paper.specs.Basics.{elem, placeOf, In, Out}
+use Rattle.paper.specs.Yard.{Bay, joined}
+use Rattle.paper.proofs.Tests.{by-cases, not-both}
 use Rattle.paper.proofs.Members.{take-in}
 use Rattle.paper.proofs.Playing.{bay-in, placeOf-bay, placeOf-there}
-use Rattle.words.specs.Sets.{mem, memRow, span, reaches}
-use Rattle.words.proofs.Besides.{equal-tests, anyBelow-some, anyBelow-of}
-use Rattle.rings.specs.Widening.{Widened}
-use Rattle.rings.proofs.Searching.{elem-append}
+use Rattle.paper.proofs.Rings.{joined-sym, on, ring-step, ring-free, ring-walk, walk-ring}
+use Rattle.words.specs.Sets.{memRow, span}
+use Rattle.rings.specs.Search.{Shown, ringOn}
+use Rattle.rings.proofs.Searching.{in-yard}
 use Rattle.ways.specs.Meeting.{new, Meets}
-use Rattle.ways.specs.Queue.{Met, Stands, Passed}
-use Rattle.ways.proofs.Places.{before-in, in-before, once-before, few-below}
-use Rattle.ways.proofs.Queueing.{found, more-once, more-inside, found-out, met-more}
+use Rattle.ways.specs.Queue.{Met, Passed}
+use Rattle.ways.proofs.Places.{before-in, in-before, few-below}
+use Rattle.ways.proofs.Queueing.{found, more-once, more-inside, met-more}
+use Rattle.ways.proofs.Tracing.{free-of}
 
 -- ## The next ring
 
-set-less : (h a b : Bool) → (a ≡ true → b ≡ true) → h or b ≡ (h or a) or (b and not a)
-unfolding _or_ _and_
-set-less true a b f = refl
-set-less false true b f = f refl
-set-less false false true f = refl
-set-less false false false f = refl
+-- the queue holds the bays up to d rails from x, and no others
+pub record Within {n : ℕ} {table held : List ℕ} (s : Shown n table held) (x : Bay) (d : ℕ) (queue : List ℕ) : Type 0 where
+  pub holds : (i b : ℕ) → i ≤ d → In b (ringOn s x i) → In b queue
+  pub only : (b : ℕ) → In b queue → (i : ℕ) × (i ≤ d) × In b (ringOn s x i)
 
-module _ {n : ℕ} {table held : List ℕ} {x : ℕ} {seen queue before seen′ queue′ before′ : List ℕ} {lo hi : ℕ} (m : Met n table held x seen queue before lo)
-    (m′ : Met n table held x seen′ queue′ before′ hi) (most : n ≤ span) (size : length queue ≡ hi) (kept : take hi queue′ ≡ queue) (some : lo < hi) (long : hi ≤ length queue′) where
-  -- the first bays of the queue are where they were
-  at-kept : (l : ℕ) → l < hi → getD queue′ l 0 ≡ getD queue l 0
-  at-kept l h = sym (getD-take hi queue′ l 0 h) ∙ ap (λ (q : List ℕ). getD q l 0) kept
-
+module _ {n : ℕ} {table held : List ℕ} (s : Shown n table held) (most : n ≤ span) (x : Bay) (hx : x < n) {d : ℕ} {seen′ queue queue′ before′ : List ℕ} {hi : ℕ}
+    (w : Within s x d queue) (m : Met n table held x seen′ queue′ before′ hi) (kept : take hi queue′ ≡ queue) (some : 0 < hi) (long : hi ≤ length queue′) where
   stays : (b : ℕ) → In b queue → In b queue′
   stays b i = take-in hi queue′ b (rw kept i)
 
-  -- what stands behind them was met from one of them
-  met-from : (b : ℕ) → In b queue′ → Out b queue → (l : ℕ) × (lo ≤ l) × (l < hi) × (memRow table (getD queue l 0) b ≡ true)
+  -- what the ring leads to is in the queue
+  pub next-holds : (i b : ℕ) → i ≤ d + 1 → In b (ringOn s x i) → In b queue′
+  next-holds i b h y = elim (decLt d i) [
+    | yes o ↦
+        let e : i ≡ suc d = omega arith in
+        let y′ : In b (ringOn s x (suc d)) = rw e at y in
+        let t = ring-step (s .yard) (s .bays) (s .yard .bays) [] (x ∷ []) d b y′ in
+        let ha : t .0 < n = in-yard s x most hx d (t .0) (t .1) in
+        let hb : b < n = in-yard s x most hx (suc d) b y′ in
+        let low : b < span = omega arith in
+        let l = in-before queue′ hi (t .0) long (rw kept (w .holds d (t .0) (omega arith) (t .1))) in
+        m .looked (l .0) b (l .1) low (
+          rw (l .2) (s .joins .same (t .0) b ha low ∙ joined-sym (s .yard) b (t .0) (t .2)),
+          s .holds b low ∙ ring-free (s .yard) (s .bays) (s .yard .bays) [] (x ∷ []) d b y′ .0 .1,
+        )
+    | no o ↦ stays b (w .holds i b (omega arith) y)
+  ]
+
+  -- what stands behind the bays that were there was met from one of them
+  met-from : (b : ℕ) → In b queue′ → Out b queue → (a : ℕ) × In a queue × (memRow table a b ≡ true)
   met-from b i o =
       let j : ℕ = placeOf b queue′ in
-      let hj : j < length queue′ = placeOf-there queue′ b i in
       let at-b : getD queue′ j 0 ≡ b = placeOf-bay queue′ b i in
       let behind : hi ≤ j = elim (decLt j hi) [
         | yes h ↦ not-both (rw (kept, at-b) at (before-in queue′ j hi h long)) o
         | no h ↦ omega arith
       ] in
-      let p = m′ .parent j (omega arith) hj in
-      let rail : memRow table (getD queue (p .place) 0) b ≡ true = rw (at-b, at-kept (p .place) (p .passed)) at (p .rail) in
-      let hb : b < n = m′ .inside b i in
-      elim (decLt (p .place) lo) [
-        | yes h ↦ not-both (m .looked (p .place) b h (omega arith) (rail, m′ .unheld b i)) o
-        | no h ↦ (p .place, omega arith, p .passed, rail)
-      ]
+      let p = m .parent j (omega arith) (placeOf-there queue′ b i) in
+      (getD queue′ (p .place) 0, rw kept at (before-in queue′ (p .place) hi (p .passed) long), rw at-b at (p .rail))
 
-  -- a bay behind place lo is not before it
-  behind : (l : ℕ) → lo ≤ l → l < hi → Out (getD queue l 0) (take lo queue)
-  behind l h k = by-cases (elem (getD queue l 0) (take lo queue))
-      (λ i.
-      let e = in-before queue lo (getD queue l 0) (omega arith) i in
-      not-both (rw (e .2) at (before-in queue (e .0) l (omega (arith, e .1)) (omega arith))) (once-before queue l (m .once) (omega arith)))
-      (λ o. o)
+  next-only : d + 1 < n → (b : ℕ) → In b queue′ → (i : ℕ) × (i ≤ d + 1) × In b (ringOn s x i)
+  next-only far b i =
+      by-cases (elem b queue)
+      (λ y. let k = w .only b y in (k .0, omega (arith, k .1), k .2))
+      (λ o.
+      let Y = s .yard in
+      let f = met-from b i o in
+      let k = w .only (f .0) (f .1) in
+      let ha : f .0 < n = in-yard s x most hx (k .0) (f .0) (k .2) in
+      let hb : b < n = m .inside b i in
+      let rail : joined Y (f .0) b ≡ true = sym (s .joins .same (f .0) b ha (omega arith)) ∙ f .2 in
+      let free = free-of s most b hb (m .unheld b i) in
+      let short : suc (k .0) < Y .bays = let e = s .joins .bays in omega (arith, k .1) in
+      let t = walk-ring Y (s .bays) (Y .bays) x (on (ring-walk Y (s .bays) (Y .bays) x (k .0) (f .0) (k .2)) rail free) short in
+      (t .0, omega (arith, t .1, k .1), t .2))
 
-  pub next-ring : {ring ring′ : List ℕ} → ((b : ℕ) → b < span → mem ring b ≡ elem b queue and not (elem b (take lo queue)))
-      → ((b : ℕ) → b < span → mem ring′ b ≡ elem b queue′ and not (elem b queue)) → Widened table seen ring seen′ ring′
-  next-ring {ring} {ring′} r r′ = record {
-    ringed = λ b h. r′ b h ∙ equal-tests _ _
-        (λ k.
-        let i : In b queue′ = and-left _ _ k in
-        let o : Out b queue = not-true _ (and-right _ _ k) in
-        let f = met-from b i o in
-        let a : ℕ = getD queue (f .0) 0 in
-        let a-in : In a queue = bay-in queue (f .0) (omega (arith, f .2)) in
-        let ha : a < span = omega (arith, m .inside a a-in) in
-        let unseen : mem seen b ≡ false = m .seeing b h ∙ or-neither _ _ (m′ .unheld b i) o in
-        and-both _ _
-        (anyBelow-of (reaches table ring b) span a ha (and-both _ _ (r a ha ∙ and-both _ _ a-in (ap not (behind (f .0) (f .1) (f .2)))) (f .3)))
-        (ap not unseen))
-        (λ k.
-        let f = anyBelow-some (reaches table ring b) span (and-left _ _ k) in
-        let a : ℕ = f .0 in
-        let a-in : In a queue = and-left _ _ (sym (r a (f .1)) ∙ and-left _ _ (f .2)) in
-        let rail : memRow table a b ≡ true = and-right _ _ (f .2) in
-        let free = or-none (mem held b) (elem b queue) (sym (m .seeing b h) ∙ not-true _ (and-right _ _ k)) in
-        let l : ℕ = placeOf a queue in
-        let hl : l < length queue = placeOf-there queue a a-in in
-        let at-a : getD queue′ l 0 ≡ a = at-kept l (omega arith) ∙ placeOf-bay queue a a-in in
-        and-both _ _ (m′ .looked l b (omega arith) h (rw at-a rail, free .0)) (ap not (free .1)));
-    all-seen = λ b h. m′ .seeing b h ∙ rw (m .seeing b h, r′ b h) (set-less (mem held b) (elem b queue) (elem b queue′) (stays b));
-  }
+  pub next-within : d + 1 < n → Within s x (d + 1) queue′
+  next-within far = record { holds = next-holds; only = next-only far }
 
 -- ## The bays of the ring, one after the other
 
-none-of : (a : Bool) → a and not a ≡ false
-unfolding _and_
-none-of true = refl
-none-of false = refl
+pub passed-first : {n : ℕ} {table held : List ℕ} {x : ℕ} {seen met before : List ℕ} {done count : ℕ} → count ≤ n → Met n table held x seen (take count met) before done
+    → Passed n table held x met count seen met before done count
+passed-first h m = record { queue = m; kept = refl; more = omega arith; most = h }
 
-more-of : (a f t : Bool) → (f ≡ true → t ≡ false) → (a and not t) or f ≡ (a or f) and not t
-unfolding _or_ _and_
-more-of true f false g = refl
-more-of true true true g = not-both refl (g refl)
-more-of true false true g = refl
-more-of false true true g = not-both refl (g refl)
-more-of false true false g = refl
-more-of false false t g = refl
+module _ {n : ℕ} {table held : List ℕ} {x : ℕ} {met₀ : List ℕ} {count : ℕ} {seen met before : List ℕ} {done c : ℕ} (p : Passed n table held x met₀ count seen met before done c)
+    (most : n ≤ span) (room : n ≤ length met) (h : done < c) where
+  size : length (take c met) ≡ c
+  size = length-take-le c met (omega (arith, p .most))
 
--- the bays from the ring's first up to `done` are passed
-pub record Passing (n : ℕ) (table held : List ℕ) (x : ℕ) (met₀ : List ℕ) (count : ℕ) (seen ring met before : List ℕ) (done c : ℕ) : Type 0 where
-  pub queue : Met n table held x seen (take c met) before done
-  pub kept : take count met ≡ take count met₀
-  pub ringing : (b : ℕ) → b < span → mem ring b ≡ elem b (take c met) and not (elem b (take count met₀))
+  same : getD (take c met) done 0 ≡ getD met done 0
+  same = getD-take c met done 0 h
 
-pub passing-first : {n : ℕ} {table held : List ℕ} {x : ℕ} {seen met before : List ℕ} {done count : ℕ} (ring : List ℕ) → Met n table held x seen (take count met) before done
-    → ((b : ℕ) → mem ring b ≡ false) → Passing n table held x met count seen ring met before done count
-passing-first ring m z = record { queue = m; kept = refl; ringing = λ b h. z b ∙ sym (none-of _) }
+  there : done < length (take c met)
+  there = omega (arith, size)
 
-module _ {n : ℕ} {table held : List ℕ} {x : ℕ} {met₀ : List ℕ} {count : ℕ} {seen ring met before : List ℕ} {done c : ℕ} (p : Passing n table held x met₀ count seen ring met before done c)
-    (most : n ≤ span) (room : length met ≡ span) where
-  pub passing-inside : c ≤ span → done < c → getD met done 0 < n
-  passing-inside l h = let k = length-take-le c met (omega arith) in rw (getD-take c met done 0 h) at (p .queue .inside _ (bay-in (take c met) done (omega arith)))
+  pub passed-inside : getD met done 0 < n
+  passed-inside = rw same at (p .queue .inside _ (bay-in (take c met) done there))
 
-  pub passing-most : c ≤ span → c ≤ n
-  passing-most l = let k = few-below n (take c met) (p .queue .once) (p .queue .inside) in omega (arith, length-take-le c met (omega arith))
+  -- there is room for what is new
+  pub passed-room : c + length (new table seen (getD met done 0)) ≤ n
+  passed-room =
+      let k = few-below n (take c met ++ found (p .queue) there) (more-once (p .queue) there) (more-inside (p .queue) there most) in
+      omega (arith, size, rw same at k, length-append (take c met) (new table seen (getD met done 0)))
 
-  module _ (l : c ≤ span) (h : done < c) where
-    size : length (take c met) ≡ c
-    size = length-take-le c met (omega arith)
-
-    same : getD (take c met) done 0 ≡ getD met done 0
-    same = getD-take c met done 0 h
-
-    there : done < length (take c met)
-    there = omega (arith, size)
-
-    -- there is room for what is new
-    pub passing-room : c + length (new table seen (getD met done 0)) ≤ span
-    passing-room =
-        let k = few-below n (take c met ++ found (p .queue) there) (more-once (p .queue) there) (more-inside (p .queue) there most) in
-        omega (arith, size, rw same at k, length-append (take c met) (new table seen (getD met done 0)))
-
-    pub passing-more : (seen′ ring′ met′ before′ : List ℕ) (r : ℕ) → count ≤ c
-        → Meets (new table seen (getD met done 0)) (getD met done 0) c seen ring met before seen′ ring′ met′ before′ r
-        → Passing n table held x met₀ count seen′ ring′ met′ before′ (done + 1) r
-    passing-more seen′ ring′ met′ before′ r more w =
-        let f : List ℕ = new table seen (getD met done 0) in
-        let q = w .queued in
-        let old : (b : ℕ) → In b f → elem b (take count met₀) ≡ false =
-        λ b i. by-cases (elem b (take count met₀))
-        (λ y.
-        let y′ : In b (take count (take c met)) = rw (take-take count c met more, p .kept) y in
-        not-both (take-in count (take c met) b y′) (found-out (p .queue) there b (rw same i)))
-        (λ y. y) in
-        record {
-          queue = rw (add-one, q .queue, ← same)
-              (met-more (p .queue) there seen′ before′ most (λ b i. rw same (w .seeing b i)) (λ y i. rw same (q .parents y (rw same at i))) (λ y o. q .others y (rw same at o)));
-          kept = sym (take-take count r met′ (omega (arith, q .size))) ∙ rw (q .queue) (take-append-le count (take c met) f (omega (arith, size)))
-              ∙ take-take count c met more ∙ p .kept;
-          ringing = λ b i. w .ringing b i ∙ rw (p .ringing b i, q .queue, elem-append) (more-of (elem b (take c met)) (elem b f) (elem b (take count met₀)) (old b));
-        }
-
--- once the ring is passed
-pub passing-all : {n : ℕ} {table held : List ℕ} {x : ℕ} {seen₀ ring₀ met₀ before₀ : List ℕ} {start count : ℕ} {seen ring met before : List ℕ} {done c : ℕ}
-    → Stands n table held x seen₀ ring₀ met₀ before₀ start count → Passing n table held x met₀ count seen ring met before done c → n ≤ span
-    → start < count → count ≤ c → c ≤ span → length met₀ ≡ span → length met ≡ span → done ≡ count → Passed n table held x seen₀ ring₀ seen ring met before count c
-passing-all {met₀ = met₀} {start = start} {count = count} {met = met} {c = c} s p most some more l room₀ room e =
-    let m′ = rw e at (p .queue) in
-    let kept : take count (take c met) ≡ take count met₀ = take-take count c met more ∙ p .kept in
-    record {
-      stands = record { queue = m′; ringing = λ b h. rw (p .kept) (p .ringing b h) };
-      widened = next-ring (s .queue) m′ most (length-take-le count met₀ (omega arith)) kept some (omega (arith, length-take-le c met (omega arith)))
-          (λ b h. rw (take-take start count met₀ (omega arith)) (s .ringing b h)) (p .ringing);
-      more = more;
-      most = passing-most p most room l;
-    }
+  pub passed-more : (seen′ met′ before′ : List ℕ) (r : ℕ) → Meets (new table seen (getD met done 0)) (getD met done 0) c seen met before seen′ met′ before′ r
+      → Passed n table held x met₀ count seen′ met′ before′ (done + 1) r
+  passed-more seen′ met′ before′ r w =
+      let f : List ℕ = new table seen (getD met done 0) in
+      let q = w .queued in
+      record {
+        queue = rw (add-one, q .queue, ← same)
+            (met-more (p .queue) there seen′ before′ most (λ b i. rw same (w .seeing b i)) (λ y i. rw same (q .parents y (rw same at i))) (λ y o. q .others y (rw same at o)));
+        kept = sym (take-take count r met′ (omega (arith, q .size, p .more))) ∙ rw (q .queue) (take-append-le count (take c met) f (omega (arith, size, p .more)))
+            ∙ take-take count c met (p .more) ∙ p .kept;
+        more = omega (arith, q .size, p .more);
+        most = omega (arith, q .size, passed-room);
+      }

@@ -46,7 +46,7 @@ module _ {n : ℕ} {table held : List ℕ} {x : ℕ} {seen queue before : List �
   found-free : (z : ℕ) → In z found → (mem held z ≡ false) × Out z queue
   found-free z i = let t = found-new z i in or-none (mem held z) (elem z queue) (sym (m .seeing z (t .2)) ∙ t .1)
 
-  pub found-out : (z : ℕ) → In z found → Out z queue
+  found-out : (z : ℕ) → In z found → Out z queue
   found-out z i = found-free z i .1
 
   queue-old : (z : ℕ) → In z queue → Out z found

@@ -146,15 +146,15 @@ filling-first i word a count met before h = record {
 }
 
 module _ {i word a count : ℕ} {met₀ before₀ met before : List ℕ} {left c : ℕ} (g : Filling i word a count met₀ before₀ met before left c) where
-  pub filling-room : 0 < left → count + length (inWord i word) ≤ span → c < span
+  pub filling-room : {room : ℕ} → 0 < left → count + length (inWord i word) ≤ room → c < room
   filling-room some h = let e = ap length (word-first i left some (g .fits)) in omega (arith, e, g .size)
 
   pub filling-less : 0 < left → length (inWord i (later left)) < length (inWord i left)
   filling-less some = let e = ap length (word-first i left some (g .fits)) in omega arith
 
-  pub filling-more : 0 < left → i < words → length met ≡ span → length before ≡ span → c < span
+  pub filling-more : 0 < left → i < words → length before ≡ span → c < length met
       → Filling i word a count met₀ before₀ (set met c (lowest i left)) (set before (lowest i left) a) (later left) (c + 1)
-  filling-more some low room wide h =
+  filling-more some low wide h =
       let y : ℕ = lowest i left in
       let rest : List ℕ = inWord i (later left) in
       let e : inWord i left ≡ y ∷ rest = word-first i left some (g .fits) in
@@ -162,7 +162,7 @@ module _ {i word a count : ℕ} {met₀ before₀ met before : List ℕ} {left c
       let y-in : In y (inWord i word) = g .within y (rw e (In-head y rest)) in
       record {
         fits = and-lt 64 left (left - 1) (g .fits) (omega (arith, g .fits));
-        queue = rw (add-one, take-suc-set met c y (let k : c < length met = omega arith in k), append-assoc) (rw e at (g .queue));
+        queue = rw (add-one, take-suc-set met c y h, append-assoc) (rw e at (g .queue));
         size = omega (arith, ap length e, g .size);
         within = λ z k. g .within z (rw e (In-tail z y rest k));
         parents = λ z k o. elim (ℕ-discrete z y) [
@@ -193,13 +193,12 @@ module _ (a : ℕ) (met before : List ℕ) where
     others = λ y o. refl;
   }
 
-pub meets-none : (a count : ℕ) (seen ring met before : List ℕ) → Meets [] a count seen ring met before seen ring met before count
-meets-none a count seen ring met before =
-    record { queued = queued-none a met before count; seeing = λ b h. sym (or-false _ _ (nothing-in-nil b)); ringing = λ b h. sym (or-false _ _ (nothing-in-nil b)) }
+pub meets-none : (a count : ℕ) (seen met before : List ℕ) → Meets [] a count seen met before seen met before count
+meets-none a count seen met before = record { queued = queued-none a met before count; seeing = λ b h. sym (or-false _ _ (nothing-in-nil b)) }
 
-pub meets-then : {f g : List ℕ} {a count : ℕ} {seen ring met before seen′ ring′ met′ before′ seen″ ring″ met″ before″ : List ℕ} {c r : ℕ}
-    → Meets f a count seen ring met before seen′ ring′ met′ before′ c → Meets g a c seen′ ring′ met′ before′ seen″ ring″ met″ before″ r
-    → Meets (f ++ g) a count seen ring met before seen″ ring″ met″ before″ r
+pub meets-then : {f g : List ℕ} {a count : ℕ} {seen met before seen′ met′ before′ seen″ met″ before″ : List ℕ} {c r : ℕ}
+    → Meets f a count seen met before seen′ met′ before′ c → Meets g a c seen′ met′ before′ seen″ met″ before″ r
+    → Meets (f ++ g) a count seen met before seen″ met″ before″ r
 meets-then {f} {g} {count = count} {met = met} p q = record {
   queued = record {
     size = omega (arith, p .queued .size, q .queued .size, length-append f g);
@@ -210,7 +209,6 @@ meets-then {f} {g} {count = count} {met = met} p q = record {
     others = λ y o. q .queued .others y (Out-right y f g o) ∙ p .queued .others y (Out-left y f g o);
   };
   seeing = λ b h. q .seeing b h ∙ rw (p .seeing b h, elem-append) (or-assoc _ (elem b f) (elem b g));
-  ringing = λ b h. q .ringing b h ∙ rw (p .ringing b h, elem-append) (or-assoc _ (elem b f) (elem b g));
 }
 
 module _ (table seen : List ℕ) (a i : ℕ) (fits : getD seen i 0 < 2 ^ 64) where
@@ -218,30 +216,25 @@ module _ (table seen : List ℕ) (a i : ℕ) (fits : getD seen i 0 < 2 ^ 64) whe
   abbrev pub unseen : ℕ
   unseen = lessWord (getD table (a * words + i) 0) (getD seen i 0)
 
-  pub word-met-none : unseen ≡ 0 → (count : ℕ) (ring met before : List ℕ) → Meets (newIn table seen a i) a count seen ring met before seen ring met before count
-  word-met-none e count ring met before =
+  pub word-met-none : unseen ≡ 0 → (count : ℕ) (met before : List ℕ) → Meets (newIn table seen a i) a count seen met before seen met before count
+  word-met-none e count met before =
       let none : newIn table seen a i ≡ [] = sym (word-new table seen a i fits) ∙ rw e (word-none i) in
-      rw none (meets-none a count seen ring met before)
+      rw none (meets-none a count seen met before)
 
-  pub word-met : (count : ℕ) (ring met before met′ before′ : List ℕ) (r : ℕ) → i < length seen → i < length ring → Queued (inWord i unseen) a count met before met′ before′ r
-      → Meets (newIn table seen a i) a count seen ring met before (set seen i (bitOr (getD seen i 0) unseen)) (set ring i (bitOr (getD ring i 0) unseen)) met′ before′ r
-  word-met count ring met before met′ before′ r hs hr q =
-      rw (← word-new table seen a i fits) (record {
-        queued = q;
-        seeing = λ b h. word-joined seen i unseen hs b;
-        ringing = λ b h. word-joined ring i unseen hr b;
-      })
+  pub word-met : (count : ℕ) (met before met′ before′ : List ℕ) (r : ℕ) → i < length seen → Queued (inWord i unseen) a count met before met′ before′ r
+      → Meets (newIn table seen a i) a count seen met before (set seen i (bitOr (getD seen i 0) unseen)) met′ before′ r
+  word-met count met before met′ before′ r h q = rw (← word-new table seen a i fits) (record { queued = q; seeing = λ b k. word-joined seen i unseen h b })
 
 -- what is new in the words below i
 abbrev pub newBelow : List ℕ → List ℕ → ℕ → ℕ → List ℕ
 newBelow table seen a i = filter (isNew table seen a) (upTo (i * 64))
 
-pub meeting-none : (table : List ℕ) (a count : ℕ) (seen ring met before : List ℕ) → Meets (newBelow table seen a 0) a count seen ring met before seen ring met before count
+pub meeting-none : (table : List ℕ) (a count : ℕ) (seen met before : List ℕ) → Meets (newBelow table seen a 0) a count seen met before seen met before count
 unfolding filter countFrom
-meeting-none table a count seen ring met before = meets-none a count seen ring met before
+meeting-none table a count seen met before = meets-none a count seen met before
 
-module _ (table : List ℕ) (i : ℕ) {a count : ℕ} {seen₀ ring₀ met₀ before₀ seen ring met before : List ℕ} {c : ℕ}
-    (p : Meets (newBelow table seen₀ a i) a count seen₀ ring₀ met₀ before₀ seen ring met before c) (low : i < words) where
+module _ (table : List ℕ) (i : ℕ) {a count : ℕ} {seen₀ met₀ before₀ seen met before : List ℕ} {c : ℕ}
+    (p : Meets (newBelow table seen₀ a i) a count seen₀ met₀ before₀ seen met before c) (low : i < words) where
   -- bays of the words below are none of word i
   new-same : newIn table seen a i ≡ filter (isNew table seen₀ a) (places i)
   new-same =
@@ -255,11 +248,11 @@ module _ (table : List ℕ) (i : ℕ) {a count : ℕ} {seen₀ ring₀ met₀ be
       (λ o. o) in
       rw (p .seeing y (omega arith)) (ap (λ (t : Bool). memRow table a y and not t) (or-false _ _ out)))
 
-  pub meeting-room : count + length (new table seen₀ a) ≤ span → c + length (newIn table seen a i) ≤ span
+  pub meeting-room : {room : ℕ} → count + length (new table seen₀ a) ≤ room → c + length (newIn table seen a i) ≤ room
   meeting-room h = omega (arith, p .queued .size, passes-most (isNew table seen₀ a) i low, ap length new-same)
 
-  pub meeting-more : {seen′ ring′ met′ before′ : List ℕ} {r : ℕ} → Meets (newIn table seen a i) a c seen ring met before seen′ ring′ met′ before′ r
-      → Meets (newBelow table seen₀ a (i + 1)) a count seen₀ ring₀ met₀ before₀ seen′ ring′ met′ before′ r
+  pub meeting-more : {seen′ met′ before′ : List ℕ} {r : ℕ} → Meets (newIn table seen a i) a c seen met before seen′ met′ before′ r
+      → Meets (newBelow table seen₀ a (i + 1)) a count seen₀ met₀ before₀ seen′ met′ before′ r
   meeting-more q = rw (passes-more (isNew table seen₀ a) i) (meets-then p (rw new-same at q))
 
 -- ## How many rails

@@ -47,11 +47,10 @@ pub record Queued (f : List ℕ) (a count : ℕ) (met before met′ before′ : 
   pub parents : (y : ℕ) → In y f → getD before′ y 0 ≡ a
   pub others : (y : ℕ) → Out y f → getD before′ y 0 ≡ getD before y 0
 
--- and they are in the two sets
-pub record Meets (f : List ℕ) (a count : ℕ) (seen ring met before seen′ ring′ met′ before′ : List ℕ) (r : ℕ) : Type 0 where
+-- and they are seen
+pub record Meets (f : List ℕ) (a count : ℕ) (seen met before seen′ met′ before′ : List ℕ) (r : ℕ) : Type 0 where
   pub queued : Queued f a count met before met′ before′ r
   pub seeing : (b : ℕ) → b < span → mem seen′ b ≡ mem seen b or elem b f
-  pub ringing : (b : ℕ) → b < span → mem ring′ b ≡ mem ring b or elem b f
 
 -- ## The path back
 

@@ -2,14 +2,13 @@
 -- joined to it, those of one bay rising.
 -- Assumes nothing.
 use mathlib.Core.Path.{_≡_}
-use mathlib.Core.Bool.{true, false, not}
+use mathlib.Core.Bool.{true, false}
 use mathlib.Core.List.{List}
 use mathlib.Core.Logic.{_⊎_}
 use Prim.Native.Nat.{ℕ, _≤_, _<_}
 use lib.ListN.{length, getD, take}
-use Rattle.paper.specs.Basics.{_and_, _or_, elem, In, NoDup}
+use Rattle.paper.specs.Basics.{_or_, elem, In, NoDup}
 use Rattle.words.specs.Sets.{mem, memRow, span}
-use Rattle.rings.specs.Widening.{Widened}
 
 -- a rail leads from the bay at place l of the queue to z, which is not held
 abbrev pub Leads : List ℕ → List ℕ → List ℕ → ℕ → ℕ → Type 0
@@ -35,18 +34,13 @@ pub record Met (n : ℕ) (table held : List ℕ) (x : ℕ) (seen queue before : 
   pub parent : (j : ℕ) → 0 < j → j < length queue → Parent table held queue before done j
   pub looked : (l z : ℕ) → l < done → z < span → Leads table held queue l z → In z queue
 
--- the same in the code's words: the ring is what stands from `done` to `count`
-pub record Stands (n : ℕ) (table held : List ℕ) (x : ℕ) (seen ring met before : List ℕ) (done count : ℕ) : Type 0 where
-  pub queue : Met n table held x seen (take count met) before done
-  pub ringing : (b : ℕ) → b < span → mem ring b ≡ elem b (take count met) and not (elem b (take done met))
+-- the first `count` bays of the room are the queue of some search
+abbrev pub Standing : ℕ → List ℕ → List ℕ → List ℕ → List ℕ → ℕ → ℕ → Type 0
+Standing n table seen met before done count = (held : List ℕ) × (x : ℕ) × Met n table held x seen (take count met) before done
 
--- of some search
-abbrev pub Standing : ℕ → List ℕ → List ℕ → List ℕ → List ℕ → List ℕ → ℕ → ℕ → Type 0
-Standing n table seen ring met before done count = (held : List ℕ) × (x : ℕ) × Stands n table held x seen ring met before done count
-
--- the bays from `done` to `count` have been passed, and what they led to is the next ring
-pub record Passed (n : ℕ) (table held : List ℕ) (x : ℕ) (seen ring seen′ ring′ met′ before′ : List ℕ) (count r : ℕ) : Type 0 where
-  pub stands : Stands n table held x seen′ ring′ met′ before′ count r
-  pub widened : Widened table seen ring seen′ ring′
+-- the bays up to `done` have been passed, and what they led to stands behind the first `count`, which are as they were
+pub record Passed (n : ℕ) (table held : List ℕ) (x : ℕ) (met : List ℕ) (count : ℕ) (seen′ met′ before′ : List ℕ) (done r : ℕ) : Type 0 where
+  pub queue : Met n table held x seen′ (take r met′) before′ done
+  pub kept : take count met′ ≡ take count met
   pub more : count ≤ r
   pub most : r ≤ n

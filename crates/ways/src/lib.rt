@@ -13,7 +13,7 @@ ghost use Rattle.words.specs.Sets.{mem, words, span};
 ghost use Rattle.rings.specs.Search.{Shown};
 ghost use Rattle.rings.specs.Ways.{PathFound, WayFound};
 ghost use Rattle.ways.specs.Meeting.{few, inWord, newIn, new, Queued, Meets, back};
-ghost use Rattle.ways.specs.Queue.{Stands, Standing, Passed};
+ghost use Rattle.ways.specs.Queue.{Met, Standing, Passed};
 
 // Whether fewer than four rails lead to the bay: then a queue is faster than rings.
 fn few_rails(table: &[u64], a: usize) -> bool
@@ -25,8 +25,8 @@ fn few_rails(table: &[u64], a: usize) -> bool
 }
 
 // The bays of word i go to the queue's end, rising, as met from a.
-fn enqueue(i: usize, word: u64, a: u8, met: &mut [u8], before: &mut [u8], count: usize) -> usize
-    requires { ⌜ (i < words) × (length (now before) ≡ span) × (length (now met) ≡ span) × (count + length (inWord i word) ≤ span) ⌝ }
+fn enqueue(i: usize, word: u64, a: u8, met: &mut [u16], before: &mut [u8], count: usize) -> usize
+    requires { ⌜ (i < words) × (length (now before) ≡ span) × (count + length (inWord i word) ≤ length (now met)) ⌝ }
     ensures { λ r. ⌜ Queued (inWord i word) a count (now (met .entry)) (now (before .entry)) (now (met .exit)) (now (before .exit)) r ⌝ }
 {
     let mut left = word;
@@ -35,7 +35,7 @@ fn enqueue(i: usize, word: u64, a: u8, met: &mut [u8], before: &mut [u8], count:
         let y = i * 64 + u64::trailing_zeros(left) as usize;
         left = left & (left - 1);
         before[y] = a;
-        met[c] = y as u8;
+        met[c] = y as u16;
         c += 1;
     }
     c
@@ -47,20 +47,18 @@ fn meet_word(
     a: u8,
     i: usize,
     seen: &mut [u64],
-    ring: &mut [u64],
-    met: &mut [u8],
+    met: &mut [u16],
     before: &mut [u8],
     count: usize,
 ) -> usize
-    requires { ⌜ (i < words) × (a * words + words ≤ length (now table)) × (length (now seen) ≡ words) × (length (now ring) ≡ words) × (length (now before) ≡ span) × (length (now met) ≡ span) × (count + length (newIn (now table) (now seen) a i) ≤ span) ⌝ }
-    ensures { λ r. ⌜ Meets (newIn (now (table .entry)) (now (seen .entry)) a i) a count (now (seen .entry)) (now (ring .entry)) (now (met .entry)) (now (before .entry)) (now (seen .exit)) (now (ring .exit)) (now (met .exit)) (now (before .exit)) r ⌝ }
+    requires { ⌜ (i < words) × (a * words + words ≤ length (now table)) × (length (now seen) ≡ words) × (length (now before) ≡ span) × (count + length (newIn (now table) (now seen) a i) ≤ length (now met)) ⌝ }
+    ensures { λ r. ⌜ Meets (newIn (now (table .entry)) (now (seen .entry)) a i) a count (now (seen .entry)) (now (met .entry)) (now (before .entry)) (now (seen .exit)) (now (met .exit)) (now (before .exit)) r ⌝ }
 {
     let word = table[a as usize * words::WORDS + i] & !seen[i];
     if word == 0 {
         return count;
     }
     seen[i] = seen[i] | word;
-    ring[i] = ring[i] | word;
     enqueue(i, word, a, met, before, count)
 }
 
@@ -69,42 +67,39 @@ fn meet(
     table: &[u64],
     a: u8,
     seen: &mut [u64],
-    ring: &mut [u64],
-    met: &mut [u8],
+    met: &mut [u16],
     before: &mut [u8],
     count: usize,
 ) -> usize
-    requires { ⌜ (a * words + words ≤ length (now table)) × (length (now seen) ≡ words) × (length (now ring) ≡ words) × (length (now before) ≡ span) × (length (now met) ≡ span) × (count + length (new (now table) (now seen) a) ≤ span) ⌝ }
-    ensures { λ r. ⌜ Meets (new (now (table .entry)) (now (seen .entry)) a) a count (now (seen .entry)) (now (ring .entry)) (now (met .entry)) (now (before .entry)) (now (seen .exit)) (now (ring .exit)) (now (met .exit)) (now (before .exit)) r ⌝ }
+    requires { ⌜ (a * words + words ≤ length (now table)) × (length (now seen) ≡ words) × (length (now before) ≡ span) × (count + length (new (now table) (now seen) a) ≤ length (now met)) ⌝ }
+    ensures { λ r. ⌜ Meets (new (now (table .entry)) (now (seen .entry)) a) a count (now (seen .entry)) (now (met .entry)) (now (before .entry)) (now (seen .exit)) (now (met .exit)) (now (before .exit)) r ⌝ }
 {
     let mut c = count;
     let mut i = 0;
     while i < words::WORDS {
-        c = meet_word(table, a, i, seen, ring, met, before, c);
+        c = meet_word(table, a, i, seen, met, before, c);
         i += 1;
     }
     c
 }
 
-// The bays of the queue from `start` to `count` are passed: what they lead to is the next ring.
+// The bays of the queue from `start` to `count` are passed: what they lead to, the next ring, goes to its end.
 fn pass(
     table: &[u64],
     n: usize,
     start: usize,
     count: usize,
     seen: &mut [u64],
-    ring: &mut [u64],
-    met: &mut [u8],
+    met: &mut [u16],
     before: &mut [u8],
 ) -> usize
-    requires { ⌜ (n ≤ span) × (n * words ≤ length (now table)) × (start < count) × (count ≤ span) × (length (now seen) ≡ words) × (length (now ring) ≡ words) × (length (now met) ≡ span) × (length (now before) ≡ span) × Standing n (now table) (now seen) (now ring) (now met) (now before) start count ⌝ }
-    ensures { λ r. ⌜ ((held : List ℕ) (x : ℕ) → Stands n (now (table .entry)) held x (now (seen .entry)) (now (ring .entry)) (now (met .entry)) (now (before .entry)) start count → Passed n (now (table .entry)) held x (now (seen .entry)) (now (ring .entry)) (now (seen .exit)) (now (ring .exit)) (now (met .exit)) (now (before .exit)) count r) ⌝ }
+    requires { ⌜ (n ≤ span) × (n * words ≤ length (now table)) × (start < count) × (count ≤ n) × (length (now seen) ≡ words) × (n ≤ length (now met)) × (length (now before) ≡ span) × Standing n (now table) (now seen) (now met) (now before) start count ⌝ }
+    ensures { λ r. ⌜ ((held : List ℕ) (x : ℕ) → Met n (now (table .entry)) held x (now (seen .entry)) (take count (now (met .entry))) (now (before .entry)) start → Passed n (now (table .entry)) held x (now (met .entry)) count (now (seen .exit)) (now (met .exit)) (now (before .exit)) count r) ⌝ }
 {
-    words::clear(ring);
     let mut done = start;
     let mut c = count;
     while done < count {
-        c = meet(table, met[done], seen, ring, met, before, c);
+        c = meet(table, met[done] as u8, seen, met, before, c);
         done += 1;
     }
     c
@@ -125,7 +120,8 @@ fn trace(before: &[u8], e: usize, d: usize, path: &mut [u16])
     path[0] = u as u16;
 }
 
-// The shortest path from x to the nearest wanted bay, through bays not held, by a queue.
+// The shortest path from x to the nearest wanted bay, through bays not held, by a queue. The queue stands in the room for the path, which is
+// written over it at last. What is seen and free is of the newest ring, since no ring before it has a free bay.
 fn one_by_one(
     table: &[u64],
     n: usize,
@@ -143,34 +139,25 @@ fn one_by_one(
         return Way::To(x, 1);
     }
     let mut seen = [0u64; words::WORDS];
-    let mut ring = [0u64; words::WORDS];
-    let mut met = [0u8; words::SPAN];
+    let mut free = [0u64; words::WORDS];
     let mut before = [0u8; words::SPAN];
     words::keep(&mut seen, 0, held);
     words::join(&mut seen, middle);
-    words::alone(&mut ring, middle);
-    met[0] = middle as u8;
+    words::keep(&mut free, 0, wanted);
+    words::minus(&mut free, held);
+    path[0] = x.0;
     let mut done = 0;
     let mut count = 1;
     let mut d = 0;
     loop {
         let end = count;
-        count = pass(
-            table,
-            n,
-            done,
-            end,
-            &mut seen,
-            &mut ring,
-            &mut met,
-            &mut before,
-        );
+        count = pass(table, n, done, end, &mut seen, path, &mut before);
         if count == end {
             return Way::NoWay;
         }
         done = end;
         d += 1;
-        let e = words::lowest_common(&ring, 0, wanted, 0);
+        let e = words::lowest_common(&seen, 0, &free, 0);
         if e < words::SPAN {
             trace(&before, e, d, path);
             return Way::To(Bay(e as u16), d + 1);

@@ -25,7 +25,7 @@ slice-read-word : tie.Need-slice-read-word
 slice-read-word c = search needs
 
 returns : tie.Need-returns
-returns c = word-met-none _ _ _ _ (c .before .slice-known5 .given _ .fits) (c .if1 .taken) _ _ _ _
+returns c = word-met-none _ _ _ _ (c .before .slice-known4 .given _ .fits) (c .if1 .taken) _ _ _
 
 mul-seen : tie.Need-mul-seen
 mul-seen c = search needs
@@ -39,20 +39,11 @@ mul-seen-2 c = search needs
 slice-write-seen : tie.Need-slice-write-seen
 slice-write-seen c = search needs
 
-mul-ring : tie.Need-mul-ring
-mul-ring c = search needs
-
-slice-read-ring : tie.Need-slice-read-ring
-slice-read-ring c = search needs
-
-mul-ring-2 : tie.Need-mul-ring-2
-mul-ring-2 c = search needs
-
-slice-write-ring : tie.Need-slice-write-ring
-slice-write-ring c = search needs
-
 enqueue-requires : tie.Need-enqueue-requires
-enqueue-requires c κs = let p = c .before .before .before .before .before .before .before .before .before .before .before .before .pre in let a = c .before .before .before .before .before .before .before .before .before .before .before .before .args in (p .0, omega arith, omega arith, rw (word-new (a .table .now) (a .seen .now) (a .a) (a .i) (c .before .before .before .before .before .slice-known5 .given _ .fits)) (p .6))
+enqueue-requires c κs =
+    let p = c .before .before .before .before .before .before .before .before .before .before .pre in
+    let a = c .before .before .before .before .before .before .before .before .before .before .args in
+    (p .0, omega arith, rw (word-new (a .table .now) (a .seen .now) (a .a) (a .i) (c .before .before .before .before .slice-known4 .given _ .fits)) (p .4))
 
 same-length : tie.Need-same-length
 same-length c = search needs
@@ -63,11 +54,8 @@ same-length-2 c = search needs
 same-length-3 : tie.Need-same-length-3
 same-length-3 c = search needs
 
-same-length-4 : tie.Need-same-length-4
-same-length-4 c = search needs
-
 returns-2 : tie.Need-returns-2
-returns-2 c = word-met _ _ _ _ (c .before .before .before .before .before .before .before .before .before .before .slice-known5 .given _ .fits) _ _ _ _ _ _ _ (omega arith) (omega arith) (c .before .before .before .before .enqueue .ensures)
+returns-2 c = word-met _ _ _ _ (c .before .before .before .before .before .before .before .before .before .slice-known4 .given _ .fits) _ _ _ _ _ _ (omega arith) (c .before .before .before .before .enqueue .ensures)
 
 pub meet-word-spec : {M : Type 1} → statement M
 meet-word-spec =
@@ -84,13 +72,8 @@ meet-word-spec =
     slice-read-seen
     mul-seen-2
     slice-write-seen
-    mul-ring
-    slice-read-ring
-    mul-ring-2
-    slice-write-ring
     enqueue-requires
     same-length
     same-length-2
     same-length-3
-    same-length-4
     returns-2)

@@ -3,7 +3,7 @@
 use mathlib.Core.Path.{_≡_, refl, sym, _∙_}
 use Prim.Native.Nat.{_-_, _≤_, _<_}
 use native.Mathlib.Omega.{arith}
-use lib.ListN.{length}
+use lib.ListN.{length, length-set}
 use lib.Seq.{take-suc-set}
 use Rattle.words.specs.Sets.{words, span}
 use Rattle.rings.specs.Search.{Shown}
@@ -13,11 +13,11 @@ use Rattle.ways.proofs.one_by_one.Statement.{statement}
 use Rattle.ways.proofs.one_by_one.Tie as tie
 
 abbrev Inv-loop : tie.InvT-loop
-Inv-loop table n held wanted path₀ middle seen₀ ring₀ met₀ before₀ done₀ count₀ d₀ path seen ring met before done count d =
-    (done < count) × (count ≤ n) × (d ≤ done) × (length path ≡ length path₀) × (length seen ≡ words) × (length ring ≡ words) × (length met ≡ span) × (length before ≡ span) × ((s : Shown n table held) → Stage s middle wanted d seen ring met before done count)
+Inv-loop table n held wanted path₀ middle seen₀ free before₀ done₀ count₀ d₀ path seen before done count d =
+    (done < count) × (count ≤ n) × (d ≤ done) × (length path ≡ length path₀) × (n ≤ length path) × (length seen ≡ words) × (length before ≡ span) × ((s : Shown n table held) → Stage s middle wanted d seen path before done count)
 
 abbrev μ-loop : tie.MeasureT-loop
-μ-loop table n held wanted path₀ middle seen₀ ring₀ met₀ before₀ done₀ count₀ d₀ path seen ring met before done count d =
+μ-loop table n held wanted path₀ middle seen₀ free before₀ done₀ count₀ d₀ path seen before done count d =
     n - done
 
 cast-middle : tie.Need-cast-middle Inv-loop μ-loop
@@ -50,22 +50,27 @@ slice-aggregate-join c = search needs
 join-requires : tie.Need-join-requires Inv-loop μ-loop
 join-requires c κs = search needs
 
-slice-aggregate-alone : tie.Need-slice-aggregate-alone Inv-loop μ-loop
-slice-aggregate-alone c = search needs
+slice-aggregate-keep-2 : tie.Need-slice-aggregate-keep-2 Inv-loop μ-loop
+slice-aggregate-keep-2 c = search needs
 
-alone-requires : tie.Need-alone-requires Inv-loop μ-loop
-alone-requires c κs = search needs
+keep-requires-2 : tie.Need-keep-requires-2 Inv-loop μ-loop
+keep-requires-2 c κs = search needs
 
-cast-met : tie.Need-cast-met Inv-loop μ-loop
-cast-met c = search needs
+slice-aggregate-minus : tie.Need-slice-aggregate-minus Inv-loop μ-loop
+slice-aggregate-minus c = search needs
 
-array-write-met : tie.Need-array-write-met Inv-loop μ-loop
-array-write-met c = search needs
+minus-requires : tie.Need-minus-requires Inv-loop μ-loop
+minus-requires c κs = search needs
+
+slice-write-path-2 : tie.Need-slice-write-path-2 Inv-loop μ-loop
+slice-write-path-2 c = search needs
 
 loop-holds : tie.Need-loop-holds Inv-loop μ-loop
 loop-holds c =
-    let p = c .before .before .before .before .before .before .before .before .before .before .before .before .before .before .before .before .pre in
-    (omega arith, omega arith, omega arith, refl, search needs, search needs, search needs, search needs, λ s. stage-first s (p .0) _ (p .1) (p .6) _ _ _ _ _ _ _ (sym (c .before .before .before .before .before .before .before .before .before .before .is-in .ensures) ∙ c .before .before .before .before .before .before .before .before .before .if1 .left) (c .before .before .before .before .before .before .before .keep .ensures) (c .before .before .before .before .join .ensures) (c .before .alone .ensures) refl)
+    let p = c .before .before .before .before .before .before .before .before .before .before .before .before .before .before .before .before .before .before .before .pre in
+    let a = c .before .before .before .before .before .before .before .before .before .before .before .before .before .before .before .before .before .before .before .args in
+    let miss = sym (c .before .before .before .before .before .before .before .before .before .before .before .before .before .is-in .ensures) ∙ c .before .before .before .before .before .before .before .before .before .before .before .before .if1 .left in
+    (omega arith, omega arith, omega arith, refl, simp length-set (p .5), search needs, search needs, λ s. stage-first s (p .0) _ (p .1) (p .6) _ _ _ _ _ _ miss (c .before .before .before .before .before .before .before .before .before .before .keep .ensures) (c .before .before .before .before .before .before .before .join .ensures) (take-suc-set (a .path .now) 0 (a .x .0) (omega arith)))
 
 slice-aggregate-pass : tie.Need-slice-aggregate-pass Inv-loop μ-loop
 slice-aggregate-pass c = search needs
@@ -73,32 +78,32 @@ slice-aggregate-pass c = search needs
 slice-aggregate-pass-2 : tie.Need-slice-aggregate-pass-2 Inv-loop μ-loop
 slice-aggregate-pass-2 c = search needs
 
-slice-aggregate-pass-3 : tie.Need-slice-aggregate-pass-3 Inv-loop μ-loop
-slice-aggregate-pass-3 c = search needs
-
-slice-aggregate-pass-4 : tie.Need-slice-aggregate-pass-4 Inv-loop μ-loop
-slice-aggregate-pass-4 c = search needs
-
 pass-requires : tie.Need-pass-requires Inv-loop μ-loop
 pass-requires c κs =
-    let p = c .before .before .before .before .before .before .before .before .before .before .before .before .before .before .before .before .before .before .before .before .before .pre in
-    let l = c .before .before .before .before .loop in
-    (p .0, p .2, omega arith, omega arith, l .inv .4, l .inv .5, l .inv .6, l .inv .7, (_, _, l .inv .8 (p .7) .stands))
+    let p = c .before .before .before .before .before .before .before .before .before .before .before .before .before .before .before .before .before .before .before .before .before .before .before .pre in
+    let l = c .before .before .before .loop in
+    (p .0, p .2, l .inv .0, l .inv .1, l .inv .5, l .inv .4, l .inv .6, (_, _, l .inv .7 (p .7) .queue))
 
 same-length-2 : tie.Need-same-length-2 Inv-loop μ-loop
-same-length-2 c = search needs
+same-length-2 c =
+    let l = c .before .before .before .before .before .before .before .before .before .loop in
+    c .before .before .before .before .before .pass .kept .1 .1 .1 .1 .1 .0 ∙ rw length-set at (l .inv .3)
 
 returns-2 : tie.Need-returns-2 Inv-loop μ-loop
 returns-2 c =
-    let p = c .before .before .before .before .before .before .before .before .before .before .before .before .before .before .before .before .before .before .before .before .before .before .before .before .before .before .before .pre in
-    let l = c .before .before .before .before .before .before .before .before .before .before .loop in
-    λ s q w. way-nowhere s (p .0) _ (p .1) (p .6) _ _ _ _ _ _ _ _ (l .inv .8 s) _ _ _ _ _ (c .before .before .before .before .before .pass .ensures _ _ (l .inv .8 s .stands)) (l .inv .0) (c .if2 .taken) q w _
+    let p = c .before .before .before .before .before .before .before .before .before .before .before .before .before .before .before .before .before .before .before .before .before .before .before .before .before .before .before .before .before .pre in
+    let l = c .before .before .before .before .before .before .before .before .before .loop in
+    let w = c .before .before .before .before .before .pass in
+    λ s q f. way-nowhere s (p .0) _ (p .1) (p .6) _ _ _ _ _ _ _ (l .inv .7 s) _ _ _ _ (w .ensures _ _ (l .inv .7 s .queue)) (l .inv .0) (rw (w .kept .1 .1 .1 .1 .1 .0) (l .inv .4)) (c .if2 .taken) q f _
 
 add-d : tie.Need-add-d Inv-loop μ-loop
-add-d c = let l = c .before .before .before .before .before .before .before .before .before .before .loop in omega (arith, l .inv .2, c .before .before .before .before .before .before .before .before .before .before .before .before .before .before .before .before .before .before .before .before .before .before .before .before .before .before .before .pre .0)
+add-d c = let l = c .before .before .before .before .before .before .before .before .before .loop in omega (arith, l .inv .2, c .before .before .before .before .before .before .before .before .before .before .before .before .before .before .before .before .before .before .before .before .before .before .before .before .before .before .before .before .before .pre .0)
 
 slice-aggregate-lowest-common : tie.Need-slice-aggregate-lowest-common Inv-loop μ-loop
 slice-aggregate-lowest-common c = search needs
+
+slice-aggregate-lowest-common-2 : tie.Need-slice-aggregate-lowest-common-2 Inv-loop μ-loop
+slice-aggregate-lowest-common-2 c = search needs
 
 lowest-common-requires : tie.Need-lowest-common-requires Inv-loop μ-loop
 lowest-common-requires c κs = search needs
@@ -108,41 +113,46 @@ slice-aggregate-trace c = search needs
 
 trace-requires : tie.Need-trace-requires Inv-loop μ-loop
 trace-requires c κs =
-    let p = c .before .before .before .before .before .before .before .before .before .before .before .before .before .before .before .before .before .before .before .before .before .before .before .before .before .before .before .before .before .before .before .before .pre in
-    let l = c .before .before .before .before .before .before .before .before .before .before .before .before .before .before .before .loop in
-    let g = c .before .before .before .before .before .before .before .before .before .before .pass .ensures _ _ (l .inv .8 (p .7) .stands) in
-    (search needs, c .before .before .if3 .taken, omega (arith, l .inv .0, l .inv .2, l .inv .3, g .more, g .most, c .before .before .before .before .before .if2 .left, p .5))
-
-cast-t45 : tie.Need-cast-t45 Inv-loop μ-loop
-cast-t45 c = search needs
-
-add-t47 : tie.Need-add-t47 Inv-loop μ-loop
-add-t47 c =
     let p = c .before .before .before .before .before .before .before .before .before .before .before .before .before .before .before .before .before .before .before .before .before .before .before .before .before .before .before .before .before .before .before .before .before .before .before .pre in
+    let l = c .before .before .before .before .before .before .before .before .before .before .before .before .before .before .before .loop in
+    let w = c .before .before .before .before .before .before .before .before .before .before .before .pass in
+    let g = w .ensures _ _ (l .inv .7 (p .7) .queue) in
+    (search needs, c .before .before .if3 .taken, omega (arith, l .inv .0, l .inv .2, l .inv .4, w .kept .1 .1 .1 .1 .1 .0, g .more, g .most, c .before .before .before .before .before .before .if2 .left))
+
+cast-t44 : tie.Need-cast-t44 Inv-loop μ-loop
+cast-t44 c = search needs
+
+add-t46 : tie.Need-add-t46 Inv-loop μ-loop
+add-t46 c =
     let l = c .before .before .before .before .before .before .before .before .before .before .before .before .before .before .before .before .before .before .loop in
-    omega (arith, l .inv .0, l .inv .1, l .inv .2, p .0)
+    omega (arith, l .inv .0, l .inv .1, l .inv .2, c .before .before .before .before .before .before .before .before .before .before .before .before .before .before .before .before .before .before .before .before .before .before .before .before .before .before .before .before .before .before .before .before .before .before .before .before .before .before .pre .0)
 
 same-length-3 : tie.Need-same-length-3 Inv-loop μ-loop
-same-length-3 c = search needs
+same-length-3 c =
+    let l = c .before .before .before .before .before .before .before .before .before .before .before .before .before .before .before .before .before .before .loop in
+    c .before .before .trace .kept .1 .1 .1 .0 ∙ c .before .before .before .before .before .before .before .before .before .before .before .before .before .before .pass .kept .1 .1 .1 .1 .1 .0 ∙ rw length-set at (l .inv .3)
 
 returns-3 : tie.Need-returns-3 Inv-loop μ-loop
 returns-3 c =
-    let p = c .before .before .before .before .before .before .before .before .before .before .before .before .before .before .before .before .before .before .before .before .before .before .before .before .before .before .before .before .before .before .before .before .before .before .before .pre in
+    let p = c .before .before .before .before .before .before .before .before .before .before .before .before .before .before .before .before .before .before .before .before .before .before .before .before .before .before .before .before .before .before .before .before .before .before .before .before .before .before .pre in
     let l = c .before .before .before .before .before .before .before .before .before .before .before .before .before .before .before .before .before .before .loop in
-    λ s q w.
-    let g = c .before .before .before .before .before .before .before .before .before .before .before .before .before .pass .ensures _ _ (l .inv .8 s .stands) in
-    way-found s (p .0) _ (p .1) (p .6) _ _ _ _ _ _ _ _ (l .inv .8 s) _ _ _ _ _ g (l .inv .0) (omega (arith, g .more, c .before .before .before .before .before .before .before .before .if2 .left)) _ (c .before .before .before .before .before .before .lowest-common .ensures) (c .before .before .before .before .before .if3 .taken) q w _ _ refl (c .before .before .trace .ensures)
+    let v = c .before .before .before .before .before .before .before .before .before .before .before .before .before .before .pass in
+    λ s q f.
+    let g = v .ensures _ _ (l .inv .7 s .queue) in
+    way-found s (p .0) _ (p .1) (p .6) _ _ _ _ _ _ _ (l .inv .7 s) _ _ _ _ g (l .inv .0) (rw (v .kept .1 .1 .1 .1 .1 .0) (l .inv .4)) (omega (arith, g .more, c .before .before .before .before .before .before .before .before .before .if2 .left)) _ _ _ (c .before .before .before .before .before .before .before .before .before .before .before .before .before .before .before .before .before .before .before .before .before .before .before .keep2 .ensures) (c .before .before .before .before .before .before .before .before .before .before .before .before .before .before .before .before .before .before .before .before .minus .ensures) _ (c .before .before .before .before .before .before .lowest-common .ensures) (c .before .before .before .before .before .if3 .taken) q f _ _ refl (c .before .before .trace .ensures)
 
 loop-less : tie.Need-loop-less Inv-loop μ-loop
 loop-less c = let l = c .before .before .before .before .before .before .before .before .before .before .before .before .before .loop in omega (arith, l .inv .0, l .inv .1)
 
 loop-again : tie.Need-loop-again Inv-loop μ-loop
 loop-again c =
-    let p = c .before .before .before .before .before .before .before .before .before .before .before .before .before .before .before .before .before .before .before .before .before .before .before .before .before .before .before .before .before .before .pre in
+    let p = c .before .before .before .before .before .before .before .before .before .before .before .before .before .before .before .before .before .before .before .before .before .before .before .before .before .before .before .before .before .before .before .before .before .pre in
     let l = c .before .before .before .before .before .before .before .before .before .before .before .before .before .loop in
-    let g = c .before .before .before .before .before .before .before .before .pass .ensures _ _ (l .inv .8 (p .7) .stands) in
-    let grew = c .before .before .before .if2 .left in
-    (omega (arith, g .more, grew), g .most, omega (arith, l .inv .0, l .inv .2), l .inv .3, search needs, search needs, search needs, search needs, λ s. let h = c .before .before .before .before .before .before .before .before .pass .ensures _ _ (l .inv .8 s .stands) in stage-more s (p .0) _ (p .1) (p .6) _ _ _ _ _ _ _ _ (l .inv .8 s) _ _ _ _ _ h (l .inv .0) (omega (arith, h .more, grew)) _ (c .before .lowest-common .ensures) (c .if3 .left))
+    let w = c .before .before .before .before .before .before .before .before .before .pass in
+    let g = w .ensures _ _ (l .inv .7 (p .7) .queue) in
+    let kept = w .kept .1 .1 .1 .1 .1 .0 in
+    let grew = c .before .before .before .before .if2 .left in
+    (omega (arith, g .more, grew), g .most, omega (arith, l .inv .0, l .inv .2), kept ∙ l .inv .3, rw kept (l .inv .4), search needs, search needs, λ s. let h = w .ensures _ _ (l .inv .7 s .queue) in stage-more s (p .0) _ (p .1) (p .6) _ _ _ _ _ _ _ (l .inv .7 s) _ _ _ _ h (l .inv .0) (rw kept (l .inv .4)) (omega (arith, h .more, grew)) _ _ _ (c .before .before .before .before .before .before .before .before .before .before .before .before .before .before .before .before .before .before .keep2 .ensures) (c .before .before .before .before .before .before .before .before .before .before .before .before .before .before .before .minus .ensures) _ (c .before .lowest-common .ensures) (c .if3 .left))
 
 pub one-by-one-spec : {M : Type 1} → statement M
 one-by-one-spec =
@@ -159,25 +169,25 @@ one-by-one-spec =
     keep-requires
     slice-aggregate-join
     join-requires
-    slice-aggregate-alone
-    alone-requires
-    cast-met
-    array-write-met
+    slice-aggregate-keep-2
+    keep-requires-2
+    slice-aggregate-minus
+    minus-requires
+    slice-write-path-2
     loop-holds
     slice-aggregate-pass
     slice-aggregate-pass-2
-    slice-aggregate-pass-3
-    slice-aggregate-pass-4
     pass-requires
     same-length-2
     returns-2
     add-d
     slice-aggregate-lowest-common
+    slice-aggregate-lowest-common-2
     lowest-common-requires
     slice-aggregate-trace
     trace-requires
-    cast-t45
-    add-t47
+    cast-t44
+    add-t46
     same-length-3
     returns-3
     loop-less
