@@ -4,11 +4,14 @@ use docket::Bay;
 use docket::Carrier;
 ghost use mathlib.Core.Path.{_≡_};
 ghost use mathlib.Core.Bool.{true, false};
+ghost use mathlib.Core.List.{[], _∷_};
 ghost use Prim.Native.Nat.{ℕ, _^_, _≤_, _<_};
 ghost use lib.ListN.{length, getD};
 ghost use Rattle.paper.specs.Basics.{_and_};
 ghost use Rattle.paper.specs.Procedure.{trade};
+ghost use Rattle.paper.specs.Yard.{carrierAt, crossing};
 ghost use Rattle.words.specs.Sets.{mem, memRow, words, span, Lowest};
+ghost use Rattle.vacate.specs.Placed.{Placed, Played};
 ghost use Rattle.bring.specs.Acting.{Tabled, Ready, Within, Acts};
 ghost use Rattle.step.specs.Asking.{Loopless, BaysBelow, steps};
 
@@ -152,6 +155,28 @@ fn settle(settled: &mut [u64], u: Bay, w: Bay)
     if left {
         words::replace(settled, from, to);
     }
+}
+
+// The step of r into an empty bay w, and the bays of the finished carriers after it: nobody but r moves.
+pub fn step_in(
+    r: Carrier,
+    w: Bay,
+    placement: &mut [u16],
+    standing: &mut [u16],
+    empty: &mut [u64],
+    settled: &mut [u64],
+    out: &mut [u64],
+    at: usize,
+) -> usize
+    requires { ⌜ (r .0 < length (now placement)) × (w .0 < length (now standing)) × (mem (now empty) (w .0) ≡ true) × Placed (length (now standing)) (now placement) (now standing) (now empty) ⌝ }
+    requires { ⌜ (length (now standing) ≤ span) × (length (now empty) ≡ words) × (length (now settled) ≡ words) × (at < 2 ^ 60) ⌝ }
+    ensures { λ m. ⌜ Played (crossing (carrierAt (now (placement .entry)) (getD (now (placement .entry)) (r .0) 0)) (getD (now (placement .entry)) (r .0) 0) (w .0) ∷ []) (length (now (standing .entry))) (now (placement .entry)) (now (placement .exit)) (now (standing .exit)) (now (empty .exit)) (now (out .entry)) at (now (out .exit)) m × ((f : ℕ) → BaysBelow f (now (placement .entry)) (now (settled .entry)) → BaysBelow f (now (placement .exit)) (now (settled .exit))) ⌝ }
+{
+    let own = r.0 as usize;
+    let u = Bay(placement[own]);
+    let m = vacate::cross(placement, standing, empty, u, w, out, at);
+    settle(settled, u, w);
+    m
 }
 
 // One step of r to w, and the bays of the finished carriers after it: r or one of them may have left its bay for another's.

@@ -1,0 +1,79 @@
+-- `step::step_in` meets its contract. Nobody stands at the bay, so r crosses at once; it is the only carrier that moves.
+-- Assumes nothing.
+use mathlib.Core.Path.{sym, _∙_}
+use native.Mathlib.Omega.{arith}
+use borrow.Author.Needs.{needs}
+use borrow.Author.Tests.{not-true}
+use Rattle.paper.specs.Basics.{elem}
+use Rattle.paper.proofs.Playing.{bay-in}
+use Rattle.step.proofs.Settling.{settled-free}
+use Rattle.step.proofs.step_in.Statement.{statement}
+use Rattle.step.proofs.step_in.Tie as tie
+
+cast-own : tie.Need-cast-own
+cast-own c = search needs
+
+mul-t12 : tie.Need-mul-t12
+mul-t12 c = search needs
+
+slice-read-t14 : tie.Need-slice-read-t14
+slice-read-t14 c = search needs
+
+cross-requires : tie.Need-cross-requires
+cross-requires c κs =
+    let a = c .before .before .before .before .before .before .before .before .before .before .before .args in
+    let z = c .before .before .before .before .before .before .before .before .before .before .before .pre .0 in
+    let s = c .before .before .before .before .before .before .before .before .before .before .before .pre .1 in (
+      z .3 .inside (a .r .0) (z .0),
+      z .1,
+      s .0,
+      s .1,
+      omega (arith, s .3),
+      bay-in (a .placement .now) (a .r .0) (z .0),
+      not-true (elem (a .w .0) (a .placement .now)) (sym (z .3 .empties (a .w .0) (z .1)) ∙ z .2),
+      z .3,
+    )
+
+settle-requires : tie.Need-settle-requires
+settle-requires c κs =
+    let z = c .before .before .before .before .before .before .before .before .before .before .before .before .before .before .before .before .before .before .before .before .before .pre .0 in
+    let s = c .before .before .before .before .before .before .before .before .before .before .before .before .before .before .before .before .before .before .before .before .before .pre .1 in
+    (s .2, omega (arith, z .3 .inside (c .before .before .before .before .before .before .before .before .before .before .before .before .before .before .before .before .before .before .before .before .before .args .r .0) (z .0), s .0), omega (arith, z .1, s .0))
+
+same-length : tie.Need-same-length
+same-length c = search needs
+
+same-length-2 : tie.Need-same-length-2
+same-length-2 c = search needs
+
+same-length-3 : tie.Need-same-length-3
+same-length-3 c = search needs
+
+same-length-4 : tie.Need-same-length-4
+same-length-4 c = search needs
+
+same-length-5 : tie.Need-same-length-5
+same-length-5 c = search needs
+
+returns : tie.Need-returns
+returns c =
+    let a = c .before .before .before .before .before .before .before .before .before .before .before .before .before .before .before .before .before .before .before .before .before .before .before .before .args in
+    let z = c .before .before .before .before .before .before .before .before .before .before .before .before .before .before .before .before .before .before .before .before .before .before .before .before .pre .0 in
+    let crossed = c .before .before .before .before .before .before .before .before .before .before .before .before .cross .ensures in
+    (crossed, settled-free (a .r .0) (a .w .0) (a .placement .now) (z .3) (z .0) crossed (c .before .before .settle .kept .0) (c .before .before .settle .ensures))
+
+pub step-in-spec : {M : Type 1} → statement M
+step-in-spec =
+    tie.close
+    (tie.spec
+    cast-own
+    mul-t12
+    slice-read-t14
+    cross-requires
+    settle-requires
+    same-length
+    same-length-2
+    same-length-3
+    same-length-4
+    same-length-5
+    returns)
