@@ -40,8 +40,8 @@ mul-t16 c = search needs
 shared-slice-read-t19 : tie.Need-shared-slice-read-t19 Inv-loop μ-loop
 shared-slice-read-t19 c = search needs
 
-step-requires : tie.Need-step-requires Inv-loop μ-loop
-step-requires c κs =
+advance-requires : tie.Need-advance-requires Inv-loop μ-loop
+advance-requires c κs =
     let p = c .before .before .before .before .before .before .before .before .before .before .before .before .before .before .before .before .pre .0 in
     let z = c .before .before .before .before .before .before .before .before .before .before .before .before .before .before .before .before .pre .1 in
     let l = c .before .before .before .before .before .before .before .loop in
@@ -88,10 +88,10 @@ returns c =
       tt,
       λ t goals.
           let kw : length (l .standing) ≡ length (c .before .before .before .before .before .before .before .before .before .before .before .before .before .before .before .before .before .before .before .before .before .before .before .before .before .before .before .before .before .args .standing .now) = v .3 in
-          let e : c .before .before .before .before .before .before .before .before .before .before .before .before .step .result ≡ Failed = c .enum-told .given .1 in
-          let f = rw kw at (c .before .before .before .before .before .before .before .before .before .before .before .before .step .ensures .1) in
+          let e : c .before .before .before .before .before .before .before .before .before .before .before .before .advance .result ≡ Failed = c .enum-told .given .1 in
+          let f = rw kw at (c .before .before .before .before .before .before .before .before .before .before .before .before .advance .ensures .1) in
           tries-none (going-stops (v .7 t goals) (c .before .before .before .before .before .before .before .before .before .before .before .before .before .before .before .before .before .before .before .loop-test .taken) (rw e at (f t))),
-      c .before .before .before .before .before .before .before .before .before .before .before .before .step .ensures .2,
+      c .before .before .before .before .before .before .before .before .before .before .before .before .advance .ensures .2,
     )
 
 add-i : tie.Need-add-i Inv-loop μ-loop
@@ -109,10 +109,10 @@ loop-again c =
     let b = v .7 (p .tabled) [] in
     let h = linked-here (length (c .before .before .before .before .before .before .before .before .before .before .before .before .before .before .before .before .before .before .before .before .before .before .before .before .before .before .before .before .before .before .args .standing .now)) (c .before .before .before .before .before .before .before .before .before .before .before .before .before .before .before .before .before .before .before .before .before .before .before .before .before .before .before .before .before .before .args .table .now) (getD (l .placement) (c .before .before .before .before .before .before .before .before .before .before .before .before .before .before .before .before .before .before .before .before .before .before .before .before .before .before .before .before .before .before .args .r .0) 0) (c .before .before .before .before .before .before .before .before .before .before .before .before .before .before .before .before .before .before .before .before .before .before .before .before .before .before .before .before .before .before .args .ahead .now) (l .i) (c .before .before .before .before .before .before .before .before .before .before .before .before .before .before .before .before .before .before .before .before .loop-test .taken) (v .6) in
     let kw : length (l .standing) ≡ length (c .before .before .before .before .before .before .before .before .before .before .before .before .before .before .before .before .before .before .before .before .before .before .before .before .before .before .before .before .before .before .args .standing .now) = v .3 in
-    let k = c .before .before .before .before .before .before .before .before .before .before .before .before .before .step .kept in
-    let e : c .before .before .before .before .before .before .before .before .before .before .before .before .before .step .result ≡ Done (c .before .one .given .0 .0) = c .before .one .given .1 in
-    let few = rw e at (c .before .before .before .before .before .before .before .before .before .before .before .before .before .step .ensures .0) in
-    let f = rw kw at (c .before .before .before .before .before .before .before .before .before .before .before .before .before .step .ensures .1) in
+    let k = c .before .before .before .before .before .before .before .before .before .before .before .before .before .advance .kept in
+    let e : c .before .before .before .before .before .before .before .before .before .before .before .before .before .advance .result ≡ Done (c .before .one .given .0 .0) = c .before .one .given .1 in
+    let few = rw e at (c .before .before .before .before .before .before .before .before .before .before .before .before .before .advance .ensures .0) in
+    let f = rw kw at (c .before .before .before .before .before .before .before .before .before .before .before .before .before .advance .ensures .1) in
     let hr : c .before .before .before .before .before .before .before .before .before .before .before .before .before .before .before .before .before .before .before .before .before .before .before .before .before .before .before .before .before .before .args .r .0 < length (l .placement) = omega (arith, z .0, v .2) in
     let hf : c .before .before .before .before .before .before .before .before .before .before .before .before .before .before .before .before .before .before .before .before .before .before .before .before .before .before .before .before .before .before .args .r .0 ≤ length (l .placement) = omega (arith, z .0, v .2) in (
       omega (arith, c .before .before .before .before .before .before .before .before .before .before .before .before .before .before .before .before .before .before .before .before .loop-test .taken),
@@ -124,7 +124,7 @@ loop-again c =
       rw (arrived (p .tabled) (p .most) (z .2) (c .before .before .before .before .before .before .before .before .before .before .before .before .before .before .before .before .before .before .before .before .before .before .before .before .before .before .before .before .before .before .args .r .0) (c .before .before .before .before .before .before .before .before .before .before .before .before .before .before .before .before .before .before .before .before .before .before .before .before .before .before .before .before .before .before .args .r .0) (getD (c .before .before .before .before .before .before .before .before .before .before .before .before .before .before .before .before .before .before .before .before .before .before .before .before .before .before .before .before .before .before .args .ahead .now) (l .i) 0) (l .placement) (b .played .placed) hr hf (h .0) (h .1) (rw e at (f (p .tabled)))) (h .2),
       λ t goals. going-more (v .7 t goals) (c .before .before .before .before .before .before .before .before .before .before .before .before .before .before .before .before .before .before .before .before .loop-test .taken) (rw e at (f t)),
       omega (arith, k .1 .1 .1 .1 .1 .1 .1 .0, v .8),
-      c .before .before .before .before .before .before .before .before .before .before .before .before .before .step .ensures .2,
+      c .before .before .before .before .before .before .before .before .before .before .before .before .before .advance .ensures .2,
     )
 
 same-length-6 : tie.Need-same-length-6 Inv-loop μ-loop
@@ -155,7 +155,7 @@ go-spec =
     loop-holds
     mul-t16
     shared-slice-read-t19
-    step-requires
+    advance-requires
     enum-known-one
     enum-told
     same-length

@@ -1,0 +1,90 @@
+-- `go::advance` meets its contract. Where the bay is empty the step is the crossing alone; else the contract is that of the step.
+-- Assumes nothing.
+use mathlib.Core.Path.{sym, _∙_}
+use native.Mathlib.Omega.{arith}
+use borrow.Author.Needs.{needs}
+use Rattle.step.proofs.Stepping.{stepped-free}
+use Rattle.go.proofs.advance.Statement.{statement}
+use Rattle.go.proofs.advance.Tie as tie
+
+cast-bay : tie.Need-cast-bay
+cast-bay c = search needs
+
+is-in-requires : tie.Need-is-in-requires
+is-in-requires c κs = search needs
+
+step-in-requires : tie.Need-step-in-requires
+step-in-requires c κs =
+    let p = c .before .before .before .before .before .before .before .before .before .before .before .before .before .before .before .pre .0 in
+    let z = c .before .before .before .before .before .before .before .before .before .before .before .before .before .before .before .pre .1 in
+    let free = sym (c .before .before .before .before .before .before .is-in .ensures) ∙ c .before .before .before .before .before .if1 .taken in
+    ((z .0, z .2, free, p .placed), (p .most, p .empty-size, z .6 .size, z .5))
+
+same-length : tie.Need-same-length
+same-length c = search needs
+
+same-length-2 : tie.Need-same-length-2
+same-length-2 c = search needs
+
+same-length-3 : tie.Need-same-length-3
+same-length-3 c = search needs
+
+same-length-4 : tie.Need-same-length-4
+same-length-4 c = search needs
+
+same-length-5 : tie.Need-same-length-5
+same-length-5 c = search needs
+
+returns : tie.Need-returns
+returns c =
+    let a = c .before .before .before .before .before .before .before .before .before .before .before .before .before .before .before .before .before .before .before .before .before .before .before .before .before .before .args in
+    let p = c .before .before .before .before .before .before .before .before .before .before .before .before .before .before .before .before .before .before .before .before .before .before .before .before .before .before .pre .0 in
+    let z = c .before .before .before .before .before .before .before .before .before .before .before .before .before .before .before .before .before .before .before .before .before .before .before .before .before .before .pre .1 in
+    let free = sym (c .before .before .before .before .before .before .before .before .before .before .before .before .before .before .before .before .if1 .taken) ∙ c .before .before .before .before .before .before .before .before .before .before .before .before .before .before .before .before .before .is-in .ensures in
+    let stepped = c .before .before .before .before .before .before .before .before .before .before .step-in .ensures in (
+      omega (arith, stepped .0 .counted),
+      λ t. stepped-free t (p .most) (z .4) (a .finished) (a .r .0) (a .w .0) (a .placement .now) (p .placed) (z .0) (z .2) (z .3) free (stepped .0),
+      stepped .1 (a .finished) (z .6),
+    )
+
+step-requires : tie.Need-step-requires
+step-requires c κs = search needs
+
+same-length-6 : tie.Need-same-length-6
+same-length-6 c = search needs
+
+same-length-7 : tie.Need-same-length-7
+same-length-7 c = search needs
+
+same-length-8 : tie.Need-same-length-8
+same-length-8 c = search needs
+
+same-length-9 : tie.Need-same-length-9
+same-length-9 c = search needs
+
+same-length-10 : tie.Need-same-length-10
+same-length-10 c = search needs
+
+returns-2 : tie.Need-returns-2
+returns-2 c = search needs
+
+pub advance-spec : {M : Type 1} → statement M
+advance-spec =
+    tie.close
+    (tie.spec
+    cast-bay
+    is-in-requires
+    step-in-requires
+    same-length
+    same-length-2
+    same-length-3
+    same-length-4
+    same-length-5
+    returns
+    step-requires
+    same-length-6
+    same-length-7
+    same-length-8
+    same-length-9
+    same-length-10
+    returns-2)
