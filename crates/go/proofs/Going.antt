@@ -16,8 +16,8 @@ use Rattle.go.specs.Going.{planOf, Linked}
 use Rattle.words.specs.Sets.{span, memRow}
 use Rattle.vacate.specs.Placed.{Placed, Played}
 use Rattle.vacate.proofs.Playing.{played-none, played-then}
-use Rattle.bring.specs.Acting.{Tabled, Acts, Tries}
-use Rattle.bring.proofs.Acting.{tries-some, acted-done, acted-failed}
+use Rattle.bring.specs.Acting.{Tabled, Proceeds, Tries}
+use Rattle.bring.proofs.Acting.{tries-some, tried-done, tried-failed}
 use Rattle.step.specs.Asking.{Loopless}
 use Rattle.bring.specs.declared.Tried.the-variants.{Done}
 use Rattle.bring.specs.declared.Tried.the-variants.{Failed}
@@ -72,18 +72,18 @@ going-all Y goals r ahead n p out at i p′ standing′ empty′ out′ m g h =
 
 module _ {Y : Yard} {goals : Placement} {r : Carrier} {ahead : List Bay} {n : ℕ} {p out : List ℕ} {at i : ℕ} {p′ standing′ empty′ out′ : List ℕ} {m : ℕ} (g : Going Y goals r ahead n p out at i p′ standing′ empty′ out′ m)
     (here : i < length ahead) where
-  pub going-more : {q standing″ empty″ out″ : List ℕ} {b : ℕ} → Acts (step Y r r (getD ahead i 0) p′) n p′ standing′ empty′ out′ m q standing″ empty″ out″ (Done b)
+  pub going-more : {q standing″ empty″ out″ : List ℕ} {b : ℕ} → Proceeds (step Y r r (getD ahead i 0) p′) n p′ out′ m q standing″ empty″ out″ (Done b)
       → Going Y goals r ahead n p out at (i + 1) q standing″ empty″ out″ b
   going-more a =
-      let s = acted-done a in
+      let s = tried-done (a .tries) in
       record {
         xs = g .xs ++ s .0;
         played = played-then (g .played) (s .2);
         answer = g .answer ∙ rw (drop-cons ahead i 0, go-more Y goals r (getD ahead i 0) (drop (suc i) ahead) p′ (s .0) (s .1), followed-twice, ← add-one, ← (s .2 .moved));
       }
 
-  pub going-stops : {q standing″ empty″ out″ : List ℕ} → Acts (step Y r r (getD ahead i 0) p′) n p′ standing′ empty′ out′ m q standing″ empty″ out″ Failed → planOf (go Y goals r ahead p) ≡ none
-  going-stops a = g .answer ∙ rw (drop-cons ahead i 0, go-stops Y goals r (getD ahead i 0) (drop (suc i) ahead) p′ (acted-failed a))
+  pub going-stops : {q standing″ empty″ out″ : List ℕ} → Proceeds (step Y r r (getD ahead i 0) p′) n p′ out′ m q standing″ empty″ out″ Failed → planOf (go Y goals r ahead p) ≡ none
+  going-stops a = g .answer ∙ rw (drop-cons ahead i 0, go-stops Y goals r (getD ahead i 0) (drop (suc i) ahead) p′ (tried-failed (a .tries)))
 
 -- ## The links
 
@@ -93,5 +93,5 @@ linked-here n table u ahead i h l = rw add-one (rw (drop-cons ahead i 0) at l)
 
 module _ {n : ℕ} {table : List ℕ} (t : Tabled n table) (most : n ≤ span) (loopless : Loopless n table) (finished : ℕ) (r : Carrier) (w : Bay) (p : Placement)
     {standing empty : List ℕ} (k : Placed n p standing empty) (hr : r < length p) (hf : finished ≤ length p) (hw : w < n) (rail : memRow table (bayOf p r) w ≡ true) where
-  pub arrived : {out : List ℕ} {at b : ℕ} {p′ standing′ empty′ out′ : List ℕ} → Acts (step (t .yard) finished r w p) n p standing empty out at p′ standing′ empty′ out′ (Done b) → bayOf p′ r ≡ w
-  arrived a = let s = acted-done a in rw (s .2 .moved) (stepped-of t most loopless finished r w p k hr hf hw rail (s .0) (s .1) .arrives)
+  pub arrived : {out : List ℕ} {at b : ℕ} {p′ standing′ empty′ out′ : List ℕ} → Proceeds (step (t .yard) finished r w p) n p out at p′ standing′ empty′ out′ (Done b) → bayOf p′ r ≡ w
+  arrived a = let s = tried-done (a .tries) in rw (s .2 .moved) (stepped-of t most loopless finished r w p k hr hf hw rail (s .0) (s .1) .arrives)

@@ -18,8 +18,8 @@ use Rattle.paper.proofs.Tests.{never, by-cases}
 use Rattle.words.specs.Sets.{span}
 use Rattle.vacate.specs.Placed.{Placed, Played}
 use Rattle.vacate.proofs.Playing.{played-none, played-then}
-use Rattle.bring.specs.Acting.{Tabled, Acts}
-use Rattle.bring.proofs.Acting.{acted-done, acted-failed}
+use Rattle.bring.specs.Acting.{Tabled, Proceeds}
+use Rattle.bring.proofs.Acting.{tried-done, tried-failed}
 use Rattle.step.specs.Asking.{Loopless}
 use Rattle.go.specs.Going.{Linked}
 use Rattle.home.proofs.Settling.{due, homed}
@@ -83,14 +83,14 @@ module _ (Y : Yard) (goals : Placement) (finished : ℕ) (v : Bay) (p : Placemen
     home-away d = rw (← e, lt-ltb c finished h, ne-eqb (bayOf p c) v d)
 
     pub home-steps : {n : ℕ} {standing empty out : List ℕ} {at : ℕ} {p′ standing′ empty′ out′ : List ℕ} {m : ℕ} → (bayOf p c ≡ v → ⊥)
-        → Acts (step Y finished c v p) n p standing empty out at p′ standing′ empty′ out′ (Done m) → Stages (homeAt Y goals finished v p) n p out at p′ standing′ empty′ out′ (Planned m)
+        → Proceeds (step Y finished c v p) n p out at p′ standing′ empty′ out′ (Done m) → Stages (homeAt Y goals finished v p) n p out at p′ standing′ empty′ out′ (Planned m)
     unfolding orStuck
-    home-steps d a = let s = acted-done a in stages-done (home-away d ∙ ap (orStuck c) (s .1)) (s .2)
+    home-steps d a = let s = tried-done (a .tries) in stages-done (home-away d ∙ ap (orStuck c) (s .1)) (s .2)
 
     pub home-stuck : {n : ℕ} {standing empty out : List ℕ} {at : ℕ} {p′ standing′ empty′ out′ : List ℕ} {f : Named} → f .0 ≡ c → (bayOf p c ≡ v → ⊥)
-        → Acts (step Y finished c v p) n p standing empty out at p′ standing′ empty′ out′ Failed → Stages (homeAt Y goals finished v p) n p out at p′ standing′ empty′ out′ (Stuck f)
+        → Proceeds (step Y finished c v p) n p out at p′ standing′ empty′ out′ Failed → Stages (homeAt Y goals finished v p) n p out at p′ standing′ empty′ out′ (Stuck f)
     unfolding orStuck
-    home-stuck q d a = stages-stuck (home-away d ∙ ap (orStuck c) (acted-failed a) ∙ ap stuck (sym q))
+    home-stuck q d a = stages-stuck (home-away d ∙ ap (orStuck c) (tried-failed (a .tries)) ∙ ap stuck (sym q))
 
 -- ## All bays
 

@@ -24,9 +24,9 @@ use Rattle.words.proofs.Besides.{equal-tests}
 use Rattle.vacate.specs.Placed.{Placed, Played}
 use Rattle.vacate.proofs.Playing.{carrier-is}
 use Rattle.trial.proofs.Copying.{in-bays}
-use Rattle.bring.specs.Acting.{Tabled, Acts}
+use Rattle.bring.specs.Acting.{Tabled, Proceeds}
 use Rattle.bring.specs.declared.Tried.the-variants.{Done}
-use Rattle.bring.proofs.Acting.{acted-done}
+use Rattle.bring.proofs.Acting.{tried-done}
 use Rattle.step.specs.Asking.{Loopless, BaysBelow}
 use Rattle.step.proofs.Stepping.{sound-of, railed}
 
@@ -133,9 +133,9 @@ module _ {n : ℕ} {table : List ℕ} (t : Tabled n table) (most : n ≤ span) (
   pub stepped-of : (xs : List Crossing) → step (t .yard) finished r w p ≡ some xs → Stepped (t .yard) (sound-of t most loopless) finished r w p xs
   stepped-of xs e = step-steps (t .yard) (sound-of t most loopless) finished r w p good-of hr hf (railed t most loopless finished r w p k hr hw rail) xs e
 
-  pub settled-after : {out : List ℕ} {at b : ℕ} {p′ standing′ empty′ out′ settled settled′ : List ℕ} → Acts (step (t .yard) finished r w p) n p standing empty out at p′ standing′ empty′ out′ (Done b)
+  pub settled-after : {out : List ℕ} {at b : ℕ} {p′ standing′ empty′ out′ settled settled′ : List ℕ} → Proceeds (step (t .yard) finished r w p) n p out at p′ standing′ empty′ out′ (Done b)
       → BaysBelow finished p settled → length settled′ ≡ length settled → ((b : Bay) → mem settled′ b ≡ mem settled (trade (bayOf p r) w b)) → BaysBelow finished p′ settled′
   settled-after {p′ = p′} a s kept traded =
-      let d = acted-done a in
+      let d = tried-done (a .tries) in
       let o = stepped-of (d .0) (d .1) in
       below-traded finished r w p p′ (k .apart) (d .2 .placed .apart) (rw (d .2 .moved) (after-length p (d .0))) hr (rw (d .2 .moved) (o .arrives)) (rw (d .2 .moved) (o .others)) s kept traded

@@ -24,8 +24,8 @@ use Rattle.swap.specs.Seeking.{Beside}
 use Rattle.rings.specs.Search.{Shown}
 use Rattle.vacate.specs.Placed.{Placed, Played}
 use Rattle.vacate.proofs.Playing.{played-none, played-then, carrier-is, carrier-none}
-use Rattle.bring.specs.Acting.{Tabled, Acts}
-use Rattle.bring.proofs.Acting.{acts-some}
+use Rattle.bring.specs.Acting.{Tabled, Proceeds}
+use Rattle.bring.proofs.Acting.{proceeds-some}
 use Rattle.step.specs.Asking.{Loopless, BaysBelow}
 use Rattle.bring.specs.declared.Tried.the-variants.{Done}
 use Rattle.bring.specs.declared.Tried.{Tried}
@@ -83,7 +83,7 @@ module _ {n : ℕ} {table : List ℕ} (t : Tabled n table) (most : n ≤ span) (
 
   -- by a swap
   pub stepped-swap : {out : List ℕ} {at : ℕ} {p′ standing′ empty′ out′ : List ℕ} {z : Tried} → vacate (t .yard) (holding finished r p) w p ≡ none
-      → Acts (swap (t .yard) r (getD standing w 0) p) n p standing empty out at p′ standing′ empty′ out′ z → Acts (step (t .yard) finished r w p) n p standing empty out at p′ standing′ empty′ out′ z
+      → Proceeds (swap (t .yard) r (getD standing w 0) p) n p out at p′ standing′ empty′ out′ z → Proceeds (step (t .yard) finished r w p) n p out at p′ standing′ empty′ out′ z
   unfolding step _then_
   stepped-swap e a = rw (e, ← (k .stands w hw)) a
 
@@ -105,17 +105,17 @@ module _ {n : ℕ} {table : List ℕ} (t : Tabled n table) (most : n ≤ span) (
     w-empty q e = rw e (vac .empties)
 
     pub stepped-cross : {out out₁ : List ℕ} {at a b : ℕ} {q standing₁ empty₁ p′ standing′ empty′ out′ : List ℕ} → Played vs n p q standing₁ empty₁ out at out₁ a
-        → Played (crossing (carrierAt q (bayOf q r)) (bayOf q r) w ∷ []) n q p′ standing′ empty′ out₁ a out′ b → Acts (step (t .yard) finished r w p) n p standing empty out at p′ standing′ empty′ out′ (Done b)
+        → Played (crossing (carrierAt q (bayOf q r)) (bayOf q r) w ∷ []) n q p′ standing′ empty′ out₁ a out′ b → Proceeds (step (t .yard) finished r w p) n p out at p′ standing′ empty′ out′ (Done b)
     unfolding step _then_ cross
     stepped-cross {q = q} x y =
         let same : carrierAt q (bayOf q r) ≡ r = carrier-is q (bayOf q r) r (x .placed .apart) (rw (x .moved, after-length) hr) refl in
         let y′ = rw same at y in
-        acts-some (rw (made, ← (x .moved))) (played-then x y′)
+        proceeds-some (rw (made, ← (x .moved))) (played-then x y′)
 
   -- by crossing alone, where w is empty
   pub free : true ≡ mem empty w → Out w p
   free h = not-true (elem w p) (sym (k .empties w hw) ∙ sym h)
 
   pub stepped-free : {out : List ℕ} {at b : ℕ} {p′ standing′ empty′ out′ : List ℕ} → true ≡ mem empty w → Played (crossing (carrierAt p (bayOf p r)) (bayOf p r) w ∷ []) n p p′ standing′ empty′ out at out′ b
-      → Acts (step (t .yard) finished r w p) n p standing empty out at p′ standing′ empty′ out′ (Done b)
+      → Proceeds (step (t .yard) finished r w p) n p out at p′ standing′ empty′ out′ (Done b)
   stepped-free {out = out} {at = at} h y = stepped-cross [] (vacate-empty (t .yard) (holding finished r p) w p (free h)) (played-none n p standing empty out at k) y

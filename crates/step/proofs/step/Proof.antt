@@ -1,9 +1,8 @@
 -- `step::step` meets its contract. Where the step fails nothing has moved; else the bays of the finished carriers are the ones before with u and w traded.
 -- Assumes nothing.
-use mathlib.Core.Path.{_≡_}
+use mathlib.Core.Path.{_≡_, refl}
 use native.Mathlib.Omega.{arith}
 use borrow.Author.Needs.{needs}
-use Rattle.bring.proofs.Acting.{acted-failed}
 use Rattle.bring.specs.declared.Tried.the-variants.{Done}
 use Rattle.bring.specs.declared.Tried.the-variants.{Failed}
 use Rattle.step.proofs.Settling.{settled-after}
@@ -50,7 +49,7 @@ returns c =
     let e : c .before .before .before .before .before .before .before .before .before .before .step-to .result ≡ Failed = c .enum-told .given .1 in
     let a = rw e at (c .before .before .before .before .before .before .before .before .before .before .step-to .ensures .1) in
     let f = a (p .tabled) in
-    (tt, a, rw (f .fails (acted-failed f) .1 .same-placement) (z .6))
+    (tt, a, rw (f .still refl) (z .6))
 
 settle-requires : tie.Need-settle-requires
 settle-requires c κs =
