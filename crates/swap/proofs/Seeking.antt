@@ -3,27 +3,28 @@
 -- Assumes nothing.
 use mathlib.Core.Path.{_≡_, sym, _∙_, ap, refl}
 use mathlib.Core.Bool.{Bool, true, false}
-use mathlib.Core.List.{List, [], _∷_, map}
+use mathlib.Core.List.{List, [], _∷_, _++_, map}
 use mathlib.Core.Option.{Option, none, some}
 use Prim.Native.Nat.{ℕ, suc, _≤_, _<_, _-_, _+_, zero}
 use native.Mathlib.Omega.{arith}
 use lib.ListN.{length, getD, length-map}
 use lib.Dec.{leb, ltb}
 use native.Mathlib.Decide.{ℕ-discrete, decLt}
-use borrow.Author.Tests.{le-leb, lt-ltb, le-ltb}
-use Rattle.paper.specs.Basics.{_and_, _or_, _>>=_, filter, find, concat, firstOf, elem, countFrom, In}
+use Rattle.paper.specs.Basics.{_and_, _>>=_, filter, find, concat, firstOf, elem, countFrom, upTo, In}
 use Rattle.paper.specs.Path.{rings, nearestFirst, ringOf}
 use Rattle.paper.specs.Procedure.{trial, swap}
 use Rattle.paper.specs.Yard.{Bay, Carrier, Yard, Placement, bayOf, Crossing, pack, joined, neighbours, junction}
-use Rattle.paper.proofs.Members.{find-passes, In-nil, find-in, find-some, nothing-in-nil, in-count, none-find}
+use Rattle.paper.proofs.Admitted.{same-filter, filter-nothing}
+use Rattle.paper.proofs.Members.{find-passes, In-nil, find-in, find-some, nothing-in-nil, count-low, count-high, in-count, none-find}
 use Rattle.paper.proofs.Nearest.{find-here, find-later}
 use Rattle.paper.proofs.Rings.{distance-in, in-concat, reached-sym}
 use Rattle.paper.proofs.Shortest.{Rising, find-lowest, rings-rise}
 use Rattle.paper.proofs.Tests.{by-cases, by-option, not-both, and-right, and-both, never}
 use Rattle.docket.specs.Reading.{isSome}
-use Rattle.words.specs.Sets.{mem, words, span, memRow, Lowest}
-use Rattle.swap.specs.Seeking.{Beside, fitting, TriedAt}
-use Rattle.words.proofs.Sets.{zeros, mem-zeros}
+use Rattle.words.specs.Sets.{mem, span, memRow, Lowest}
+use Rattle.swap.specs.Seeking.{Beside, fitting, TriedAt, Written}
+use Rattle.words.proofs.Sets.{filter-append, count-split}
+use Rattle.ways.specs.Meeting.{rails}
 use Rattle.rings.proofs.Searching.{in-yard, ring-none}
 use Rattle.bring.specs.Acting.{Tabled}
 use Rattle.bring.specs.declared.Tried.{Tried}
@@ -91,58 +92,31 @@ tried-not Y r s v p log j = record { fails = λ e. fitting-not Y r s p v j; fits
 
 -- ## Junctions
 
-filter-none : (f : ℕ → Bool) (a k : ℕ) → ((y : ℕ) → a ≤ y → y < a + k → f y ≡ false) → filter f (countFrom a k) ≡ []
-unfolding filter countFrom
-filter-none f a zero h = refl
-filter-none f a (suc k) h = rw (h a (omega arith) (omega arith)) (filter-none f (suc a) k (λ y i l. h y (omega arith) (omega arith)))
+-- the table's row of v names its neighbours and no bay above the yard's
+module _ {n : ℕ} {table : List ℕ} (t : Tabled n table) (most : n ≤ span) (v : Bay) (hv : v < n) where
+  rails-below : filter (memRow table v) (upTo n) ≡ filter (joined (t .yard) v) (upTo n)
+  rails-below = same-filter (joined (t .yard) v) (memRow table v) (upTo n) (λ y i. let h = count-high 0 n y i in t .joins .same v y hv (omega arith))
 
-filter-first : (f : ℕ → Bool) (a k x : ℕ) → a ≤ x → x < a + k → f x ≡ true → ((y : ℕ) → a ≤ y → y < x → f y ≡ false)
-    → filter f (countFrom a k) ≡ x ∷ filter f (countFrom (suc x) (a + k - suc x))
-unfolding filter countFrom
-filter-first f a zero x h l t b = absurd (omega arith)
-filter-first f a (suc k) x h l t b = elim (ℕ-discrete a x) [
-  | yes e ↦ let d : a + suc k - suc a ≡ k = omega arith in rw (← e, d, (rw (← e) at t))
-  | no e ↦
-      let d : suc a + k - suc x ≡ a + suc k - suc x = omega arith in
-      rw (b a (omega arith) (omega arith)) (rw d at (filter-first f (suc a) k x (omega arith) (omega arith) t (λ y i m. b y (omega arith) m)))
-]
+  rails-above : filter (memRow table v) (countFrom n (span - n)) ≡ []
+  rails-above =
+      same-filter (λ y. elem y []) (memRow table v) (countFrom n (span - n))
+      (λ y i.
+      let l = count-low n (span - n) y i in
+      let h = count-high n (span - n) y i in
+      by-cases (memRow table v y)
+      (λ e. let k = t .joins .inside v y (sym (t .joins .same v y hv (omega arith)) ∙ e) .1 in absurd (omega arith))
+      (λ e. e ∙ sym (nothing-in-nil y)))
+      ∙ filter-nothing (countFrom n (span - n))
 
--- how many from a on and below n
-abbrev many : (ℕ → Bool) → ℕ → ℕ → ℕ
-many f a n = length (filter f (countFrom a (n - a)))
-
-module _ {n : ℕ} {table : List ℕ} (t : Tabled n table) (most : n ≤ span) (v : Bay) (hv : v < n) (row : List ℕ)
-    (j : (y : ℕ) → y < span → mem row y ≡ mem (zeros words) y or memRow table v y) where
-  row-is : (y : ℕ) → y < span → mem row y ≡ joined (t .yard) v y
-  unfolding _or_
-  row-is y h = j y h ∙ rw (mem-zeros words y) (t .joins .same v y hv h)
-
-  more : (a r : ℕ) → Lowest (mem row) a span r → r < span → (many (joined (t .yard) v) a n ≡ suc (many (joined (t .yard) v) (r + 1) n))
-  more a r l h =
-      let jr : joined (t .yard) v r ≡ true = sym (row-is r h) ∙ l .hit h in
-      let hr : r < n = t .joins .inside v r jr .1 in
-      let e : a + (n - a) - suc r ≡ n - (r + 1) = omega (arith, l .from) in
-      let d : suc r ≡ r + 1 = omega arith in
-      rw (filter-first (joined (t .yard) v) a (n - a) r (l .from) (omega (arith, l .from)) jr (λ y i m. sym (row-is y (omega arith)) ∙ l .before y i m), e, d)
-
-  over : (a r : ℕ) → Lowest (mem row) a span r → span ≤ r → many (joined (t .yard) v) a n ≡ 0
-  over a r l h = rw (filter-none (joined (t .yard) v) a (n - a) (λ y i m. by-cases (joined (t .yard) v y) (λ e. let hy = t .joins .inside v y e .1 in not-both (row-is y (omega arith) ∙ e) (l .before y i (omega arith))) (λ e. e)))
-
-  counted : (k : ℕ) → many (joined (t .yard) v) 0 n ≡ k → junction (t .yard) v ≡ leb 3 k
+  pub junction-rails : ltb 2 (rails table v) ≡ junction (t .yard) v
   unfolding junction neighbours
-  counted k e = let z : n - 0 ≡ t .yard .bays = omega (arith, t .joins .bays) in ap (leb 3) ((let y = sym (ap (λ (m : ℕ). length (filter (joined (t .yard) v) (countFrom 0 m))) z) in y) ∙ e)
-
-  pub junction-none : (a : ℕ) → Lowest (mem row) 0 span a → span ≤ a → false ≡ junction (t .yard) v
-  junction-none a l h = sym (counted 0 (over 0 a l h))
-
-  pub junction-one : (a b : ℕ) → Lowest (mem row) 0 span a → a < span → Lowest (mem row) (a + 1) span b → span ≤ b → false ≡ junction (t .yard) v
-  junction-one a b l h m k = sym (counted 1 (more 0 a l h ∙ ap suc (over (a + 1) b m k)))
-
-  pub junction-two : (a b c : ℕ) → Lowest (mem row) 0 span a → a < span → Lowest (mem row) (a + 1) span b → b < span → Lowest (mem row) (b + 1) span c → ltb c span ≡ junction (t .yard) v
-  junction-two a b c l h m k w = elim (decLt c span) [
-    | yes q ↦ lt-ltb c span q ∙ sym (le-leb 3 (suc (suc (suc (many (joined (t .yard) v) (c + 1) n)))) (omega arith)) ∙ sym (counted (suc (suc (suc (many (joined (t .yard) v) (c + 1) n)))) (more 0 a l h ∙ ap suc (more (a + 1) b m k ∙ ap suc (more (b + 1) c w q))))
-    | no q ↦ le-ltb c span (omega arith) ∙ sym (counted 2 (more 0 a l h ∙ ap suc (more (a + 1) b m k ∙ ap suc (over (b + 1) c w (omega arith)))))
-  ]
+  junction-rails =
+      let all : n + (span - n) ≡ span = omega arith in
+      let from : 0 + n ≡ n = omega arith in
+      let split : upTo span ≡ upTo n ++ countFrom n (span - n) = rw (all, from) at (count-split 0 n (span - n)) in
+      let count : rails table v ≡ length (filter (joined (t .yard) v) (upTo n)) =
+      rw (split, filter-append, rails-below, rails-above) (omega arith) in
+      ap (leb 3) count ∙ rw (t .joins .bays)
 
 -- ## Ring by ring
 

@@ -25,17 +25,8 @@ fn is_junction(table: &[u64], n: usize, v: Bay) -> bool
     requires { ⌜ (n ≤ span) × (v .0 < n) × (n * words ≤ length (now table)) ⌝ }
     ensures { λ r. ⌜ ((t : Tabled n (now (table .entry))) → r ≡ junctions (t .yard) (v .0)) ⌝ }
 {
-    let mut row = [0u64; words::WORDS];
-    words::join_row(&mut row, table, v.0 as usize);
-    let a = words::next_from(&row, 0);
-    if words::SPAN <= a {
-        return false;
-    }
-    let b = words::next_from(&row, a + 1);
-    if words::SPAN <= b {
-        return false;
-    }
-    words::next_from(&row, b + 1) < words::SPAN
+    let from = v.0 as usize * words::WORDS;
+    2 < words::count(&table[from..from + words::WORDS])
 }
 
 // The trial at v, if v is a junction; its crossings go to the log as far as that is so long.
