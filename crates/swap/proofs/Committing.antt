@@ -25,11 +25,11 @@ use Rattle.paper.proofs.Vacating.{plan-apart}
 use Rattle.docket.specs.Reading.{isSome}
 use Rattle.swap.specs.Seeking.{Beside, standingTraded, fitting, Logged}
 use Rattle.words.proofs.Besides.{equal-tests}
-use Rattle.vacate.specs.Placed.{Placed, Stored}
-use Rattle.vacate.proofs.Playing.{carrier-is, carrier-none}
-use Rattle.bring.specs.Acting.{Tabled, Proceeds}
-use Rattle.bring.proofs.Acting.{proceeds-none, proceeds-some}
-use Rattle.trial.specs.Trying.{Near}
+use Rattle.vacate.specs.Placed.{Placed}
+use Rattle.vacate.proofs.Playing.{unchanged, carrier-is, carrier-none}
+use Rattle.bring.specs.Acting.{Tabled, Acts}
+use Rattle.bring.proofs.Acting.{acts-none, acts-some}
+use Rattle.trial.specs.Trying.{Near, Noted}
 use Rattle.swap.proofs.Seeking.{swap-found, near-of}
 use Rattle.bring.specs.declared.Tried.the-variants.{Done}
 use Rattle.bring.specs.declared.Tried.the-variants.{Failed}
@@ -83,6 +83,14 @@ module _ {n : ℕ} {table : List ℕ} (t : Tabled n table) {p standing empty : L
   home : In (bayOf p r) (upTo (t .yard .bays))
   home = in-count 0 (t .yard .bays) (bayOf p r) (omega arith) (omega (arith, t .joins .bays, k .inside r hr))
 
+  -- the crossings of the swap were noted, and the two have traded places
+  pub traded-acts : {xs : List Crossing} {out : List ℕ} {at : ℕ} {out′ : List ℕ} {m : ℕ} (p′ standing′ : List ℕ) → swap (t .yard) r s p ≡ some xs
+      → p′ ≡ traded r s p → standing′ ≡ standingTraded r s p standing → Noted xs out at out′ m → Acts (swap (t .yard) r s p) n p standing empty out at p′ standing′ empty out′ (Done m)
+  traded-acts {xs = xs} p′ standing′ made e d w =
+      let tr = swap-trades (t .yard) (b .sound) r s (ne-eqb r s (λ y. differ (sym y))) p (k .apart) hr hs (b .beside) xs home made in
+      let apart : Apart (traded r s p) = rw (tr .1) at (plan-apart (t .yard) p xs (k .apart) (tr .0)) in
+      acts-some made (record { moved = e ∙ sym (tr .1); placed = rw (e, d) (placed-traded k r s hr hs differ apart (omega arith)); stored = w .stored; counted = w .counted })
+
   module _ (v : Bay) (found : some v ≡ find (fitting (t .yard) r s p) (nearestFirst (t .yard) [] (bayOf p r))) where
     there : In v (nearestFirst (t .yard) [] (bayOf p r))
     there = find-in (fitting (t .yard) r s p) (nearestFirst (t .yard) [] (bayOf p r)) (sym found)
@@ -128,16 +136,7 @@ module _ {n : ℕ} {table : List ℕ} (t : Tabled n table) {p standing empty : L
     committed {at = at} {m = m} rest p′ standing′ e d at-end size l =
         by-option (trial (t .yard) r s v p)
         (λ f. not-both some-trial (rw f))
-        (λ xs f.
-        let made : swap (t .yard) r s p ≡ some xs = is-trial ∙ f in
-        let tr = swap-trades (t .yard) (b .sound) r s (ne-eqb r s (λ y. differ (sym y))) p (k .apart) hr hs (b .beside) xs home made in
-        let apart : Apart (traded r s p) = rw (tr .1) at (plan-apart (t .yard) p xs (k .apart) (tr .0)) in
-        proceeds-some made (record {
-          moved = e ∙ sym (tr .1);
-          placed = rw (e, d) (placed-traded k r s hr hs differ apart (omega arith));
-          stored = log-stored rest xs at-end (size .0) (size .1) (l xs f);
-          counted = ap (λ (j : ℕ). at + j) (l xs f .counted);
-        }))
+        (λ xs f. traded-acts p′ standing′ (is-trial ∙ f) e d (record { stored = w .stored xs f (l xs f); counted = ap (λ (j : ℕ). at + j) (l xs f .counted) }))
 
   pub not-found : {out out′ : List ℕ} {at : ℕ} → none ≡ find (fitting (t .yard) r s p) (nearestFirst (t .yard) [] (bayOf p r))
       → Proceeds (swap (t .yard) r s p) n p out at p standing empty out′ Failed

@@ -2,22 +2,26 @@
 -- Assumes nothing.
 use mathlib.Core.Path.{_≡_}
 use mathlib.Core.Bool.{Bool, true, false}
-use mathlib.Core.List.{List, map}
+use mathlib.Core.List.{List, [], _∷_, map}
 use mathlib.Core.Option.{Option, none, some}
-use Prim.Native.Nat.{ℕ, _≤_}
+use Prim.Native.Nat.{ℕ, _≤_, _<_}
 use lib.ListN.{length, getD, set, take}
 use Rattle.paper.specs.Basics.{_and_}
-use Rattle.paper.specs.Procedure.{trial, swap}
+use Rattle.paper.specs.Procedure.{clear, trial, swap}
 use Rattle.paper.specs.Yard.{Bay, Carrier, Yard, Placement, bayOf, Crossing, pack, joined, junction}
 use Rattle.paper.proofs.Playing.{Sound}
 use Rattle.paper.proofs.Trading.{traded}
 use Rattle.docket.specs.Reading.{isSome}
+use Rattle.words.specs.Sets.{span}
+use Rattle.vacate.specs.Placed.{Placed}
 use Rattle.bring.specs.Acting.{Tabled}
 use Rattle.bring.specs.declared.Tried.{Tried}
 use Rattle.bring.specs.declared.Tried.the-variants.{Done, Failed}
 use Rattle.swap.specs.declared.Junction.the-variants.{At}
 use Rattle.swap.specs.declared.Junction.{Junction}
 use Rattle.swap.specs.declared.Junction.the-variants.{Missing}
+use Rattle.swap.specs.declared.Spare.the-variants.{Both, Fewer}
+use Rattle.swap.specs.declared.Spare.{Spare}
 
 -- (the code's functions have the same names)
 abbrev pub junctions : Yard → Bay → Bool
@@ -68,3 +72,15 @@ pub record Beside (Y : Yard) (r s : Carrier) (p : Placement) : Type 0 where
 pub record SideBySide (n : ℕ) (table : List ℕ) (r s : Carrier) (p : Placement) : Type 0 where
   pub tabled : Tabled n table
   pub beside : Beside (tabled .yard) r s p
+
+-- ## At r's own bay
+
+-- x and y are the lowest empty neighbours of u other than w: clearing around u keeps them, and nobody moves
+pub record TwoSpare (table empty : List ℕ) (u w x y : Bay) : Type 0 where
+  pub rising : x < y
+  pub kept : {n : ℕ} (t : Tabled n table) {p standing : List ℕ} → n ≤ span → u < n → Placed n p standing empty
+      → clear (t .yard) u w p ≡ record { moves = []; kept = x ∷ y ∷ [] }
+
+abbrev pub Spares : List ℕ → List ℕ → Bay → Bay → Spare → Type 0
+Spares table empty u w (Both x y) = TwoSpare table empty u w (x .0) (y .0)
+Spares table empty u w Fewer = Unit {0}

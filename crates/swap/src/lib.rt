@@ -10,14 +10,20 @@ ghost use Rattle.paper.specs.Basics.{find};
 ghost use Rattle.paper.specs.Yard.{bayOf};
 ghost use Rattle.paper.specs.Path.{nearestFirst};
 ghost use Rattle.words.specs.Sets.{words, span};
-ghost use Rattle.bring.specs.Acting.{Tabled, Ready, Within, Proceeds};
-ghost use Rattle.trial.specs.Trying.{Near};
-ghost use Rattle.swap.specs.Seeking.{junctions, junctionAt, fitting, TriedAt, Counted, LoggedAt, Beside, placementTraded, standingTraded, SideBySide, swaps};
+ghost use Rattle.bring.specs.Acting.{Tabled, Ready, Within, Acts};
+ghost use Rattle.trial.specs.Trying.{Near, Noted, exchanges};
+ghost use Rattle.swap.specs.Seeking.{junctions, junctionAt, fitting, TriedAt, Counted, LoggedAt, Written, Beside, placementTraded, standingTraded, SideBySide, swaps, Spares};
 
 // The junction of a swap and how many crossings its trial has, or that there is none.
 pub enum Junction {
     At(Bay, usize),
     Missing,
+}
+
+// Two empty bays beside a junction, or that there are fewer.
+pub enum Spare {
+    Both(Bay, Bay),
+    Fewer,
 }
 
 // Whether three rails or more lead to v.
@@ -118,8 +124,33 @@ fn place_in(out: &[u64], at: usize) -> usize
     out.len()
 }
 
-// Swap of r with its neighbour s. Trials go to the list itself, from where it goes on; the one that succeeds stays there.
-pub fn swap(
+// The crossings of the trial at v go to the list: copied where the log holds them all, else played again.
+fn write(
+    table: &[u64],
+    v: Bay,
+    r: Carrier,
+    s: Carrier,
+    placement: &[u16],
+    standing: &[u16],
+    empty: &[u64],
+    log: &[u64],
+    m: usize,
+    out: &mut [u64],
+    at: usize,
+)
+    requires { ⌜ Ready (now table) (now placement) (now standing) (now empty) ⌝ }
+    requires { ⌜ (r .0 < length (now placement)) × (s .0 < length (now placement)) × (s .0 ≡ r .0 → ⊥) × (v .0 < length (now standing)) × (at < 2 ^ 60) × (length (now log) ≡ 128) ⌝ }
+    ensures { λ _. ⌜ ((t : Tabled (length (now (standing .entry))) (now (table .entry))) → Near (t .yard) (r .0) (s .0) (v .0) (now (placement .entry)) → Written (t .yard) (r .0) (s .0) (v .0) (now (placement .entry)) (now (log .entry)) m (now (out .entry)) at (now (out .exit))) ⌝ }
+{
+    if m <= log.len() {
+        put_all(out, at, &log[..m]);
+        return;
+    }
+    trial::try_at(table, v, r, s, placement, standing, empty, out, at);
+}
+
+// Swap of r with its neighbour s, by trials at the junctions.
+fn swap_far(
     table: &[u64],
     r: Carrier,
     s: Carrier,
@@ -140,4 +171,72 @@ pub fn swap(
     };
     trade(placement, standing, r, s);
     Tried::Done(at + m)
+}
+
+// The two lowest empty neighbours of bay u other than w, if there are two.
+fn spare_bays(table: &[u64], u: Bay, w: Bay, empty: &[u64]) -> Spare
+    requires { ⌜ (u .0 * words + words ≤ length (now table)) × (w .0 < span) × (length (now empty) ≡ words) ⌝ }
+    ensures { λ z. ⌜ Spares (now (table .entry)) (now (empty .entry)) (u .0) (w .0) z ⌝ }
+{
+    let mut others = [0u64; words::WORDS];
+    words::join_row(&mut others, table, u.0 as usize);
+    words::remove(&mut others, w.0 as usize);
+    let x = words::lowest_common(&others, 0, empty, 0);
+    if words::SPAN <= x {
+        return Spare::Fewer;
+    }
+    words::remove(&mut others, x);
+    let y = words::lowest_common(&others, 0, empty, 0);
+    if words::SPAN <= y {
+        return Spare::Fewer;
+    }
+    Spare::Both(Bay(x as u16), Bay(y as u16))
+}
+
+// Swap of r at u with s at w by the exchange alone, x and y beside u being empty.
+fn swap_beside(
+    r: Carrier,
+    s: Carrier,
+    u: Bay,
+    w: Bay,
+    x: Bay,
+    y: Bay,
+    placement: &mut [u16],
+    standing: &mut [u16],
+    out: &mut [u64],
+    at: usize,
+) -> usize
+    requires { ⌜ (r .0 < length (now placement)) × (s .0 < length (now placement)) × (length (now placement) ≤ span) × (getD (now placement) (r .0) 0 < length (now standing)) × (getD (now placement) (s .0) 0 < length (now standing)) × (at < 2 ^ 60) ⌝ }
+    ensures { λ m. ⌜ (now (placement .exit) ≡ placementTraded (r .0) (s .0) (now (placement .entry))) × (now (standing .exit) ≡ standingTraded (r .0) (s .0) (now (placement .entry)) (now (standing .entry))) × Noted (exchanges (r .0) (s .0) (u .0) (w .0) (x .0) (y .0)) (now (out .entry)) at (now (out .exit)) m ⌝ }
+{
+    let m = trial::exchange(out, at, r, s, u, w, x, y);
+    trade(placement, standing, r, s);
+    m
+}
+
+// Swap of r with its neighbour s. Where two neighbours of r's bay other than s's are empty, that bay is the nearest junction, its trial
+// succeeds, and no log and no copies are wanted for it.
+pub fn swap(
+    table: &[u64],
+    r: Carrier,
+    s: Carrier,
+    placement: &mut [u16],
+    standing: &mut [u16],
+    empty: &[u64],
+    out: &mut [u64],
+    at: usize,
+) -> Tried
+    requires { ⌜ Ready (now table) (now placement) (now standing) (now empty) ⌝ }
+    requires { ⌜ (r .0 < length (now placement)) × (s .0 < length (now placement)) × (s .0 ≡ r .0 → ⊥) × (at < 2 ^ 60) × SideBySide (length (now standing)) (now table) (r .0) (s .0) (now placement) ⌝ }
+    ensures { λ z. ⌜ (Within at 150000 z) × ((t : Tabled (length (now (standing .entry))) (now (table .entry))) → Beside (t .yard) (r .0) (s .0) (now (placement .entry)) → Acts (swaps (t .yard) (r .0) (s .0) (now (placement .entry))) (length (now (standing .entry))) (now (placement .entry)) (now (standing .entry)) (now (empty .entry)) (now (out .entry)) at (now (placement .exit)) (now (standing .exit)) (now (empty .entry)) (now (out .exit)) z) ⌝ }
+{
+    let first = r.0 as usize;
+    let second = s.0 as usize;
+    let u = Bay(placement[first]);
+    let w = Bay(placement[second]);
+    let spare = spare_bays(table, u, w, empty);
+    if let Spare::Both(x, y) = spare {
+        return Tried::Done(swap_beside(r, s, u, w, x, y, placement, standing, out, at));
+    }
+    swap_far(table, r, s, placement, standing, empty, out, at)
 }

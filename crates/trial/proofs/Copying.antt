@@ -126,7 +126,7 @@ module _ {Y : Yard} {r s : Carrier} {v : Bay} {p path : List ℕ} (near : Near Y
   unfolding trial
   trial-second h = rw (← short, ← h)
 
-  trial-first : false ≡ ltb 1 (length path) and eqb (getD path 1 0) (bayOf p s) → trial Y r s v p ≡ trialLed Y r s v (drop 1 path) p
+  pub trial-first : false ≡ ltb 1 (length path) and eqb (getD path 1 0) (bayOf p s) → trial Y r s v p ≡ trialLed Y r s v (drop 1 path) p
   unfolding trial
   trial-first h = rw (← short, ← h)
 

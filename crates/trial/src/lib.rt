@@ -39,7 +39,7 @@ fn note_three(out: &mut [u64], at: usize, x: Crossing, y: Crossing, z: Crossing)
 }
 
 // Exchange: l v→x, m b→v, m v→y, l x→v, l v→b, m y→v.
-fn exchange(
+pub fn exchange(
     out: &mut [u64],
     at: usize,
     l: Carrier,

@@ -41,8 +41,8 @@ returns c =
     let v : ℕ = c .before .before .before .before .args .v .0 in
     let size : v * words + words - v * words ≡ words = omega arith in
     λ t.
-        ap (λ (k : ℕ). ltb 2 k) (c .count .ensures ∙ row-rails _ v (v * words + words - v * words) size (omega (arith, p .1, p .2)))
-        ∙ junction-rails t (p .0) v (p .1)
+    ap (λ (k : ℕ). ltb 2 k) (c .count .ensures ∙ row-rails _ v (v * words + words - v * words) size (omega (arith, p .1, p .2)))
+    ∙ junction-rails t (p .0) v (p .1)
 
 pub is-junction-spec : {M : Type 1} → statement M
 is-junction-spec =

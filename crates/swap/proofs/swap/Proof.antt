@@ -1,37 +1,49 @@
--- `swap::swap` meets its contract. The bay found is the paper's junction, and what its trial left in the list is the swap.
+-- `swap::swap` meets its contract. With two bays to spare beside r the swap is the exchange there, and else it is sought.
 -- Assumes nothing.
-use mathlib.Core.Path.{_≡_, sym, _∙_, ap, refl}
+use mathlib.Core.Path.{_≡_, refl}
 use native.Mathlib.Omega.{arith}
 use borrow.Author.Needs.{needs}
-use Rattle.swap.specs.Seeking.{junctionAt}
-use Rattle.swap.specs.declared.Junction.the-variants.{At, Missing}
-use Rattle.swap.proofs.Committing.{committed, not-found}
+use Rattle.trial.proofs.Attempting.{length-exchange}
+use Rattle.swap.specs.declared.Spare.the-variants.{Both}
+use Rattle.swap.proofs.Committing.{traded-acts}
+use Rattle.swap.proofs.Besides.{swap-own}
 use Rattle.swap.proofs.swap.Statement.{statement}
 use Rattle.swap.proofs.swap.Tie as tie
 
-place-in-requires : tie.Need-place-in-requires
-place-in-requires c κs = search needs
+cast-first : tie.Need-cast-first
+cast-first c = search needs
 
-mul-seek : tie.Need-mul-seek
-mul-seek c = search needs
+cast-second : tie.Need-cast-second
+cast-second c = search needs
 
-sub-seek : tie.Need-sub-seek
-sub-seek c = search needs
+mul-t16 : tie.Need-mul-t16
+mul-t16 c = search needs
 
-part-seek-start : tie.Need-part-seek-start
-part-seek-start c = search needs
+slice-read-t18 : tie.Need-slice-read-t18
+slice-read-t18 c = search needs
 
-part-seek-end : tie.Need-part-seek-end
-part-seek-end c = search needs
+mul-t16-2 : tie.Need-mul-t16-2
+mul-t16-2 c = search needs
 
-seek-requires : tie.Need-seek-requires
-seek-requires c κs = search needs
+slice-read-t18-2 : tie.Need-slice-read-t18-2
+slice-read-t18-2 c = search needs
 
-enum-known-found : tie.Need-enum-known-found
-enum-known-found c = search needs
+spare-bays-requires : tie.Need-spare-bays-requires
+spare-bays-requires c κs =
+    let p = c .before .before .before .before .before .before .before .before .before .pre .0 in
+    let z = c .before .before .before .before .before .before .before .before .before .pre .1 in
+    let hr = p .placed .inside _ (z .0) in
+    let hs = p .placed .inside _ (z .1) in
+    (omega (arith, hr, p .table-size), omega (arith, hs, p .most), p .empty-size)
 
-enum-told : tie.Need-enum-told
-enum-told c = search needs
+enum-known-spare : tie.Need-enum-known-spare
+enum-known-spare c = search needs
+
+swap-beside-requires : tie.Need-swap-beside-requires
+swap-beside-requires c κs =
+    let p = c .before .before .before .before .before .before .before .before .before .before .before .before .before .before .before .before .pre .0 in
+    let z = c .before .before .before .before .before .before .before .before .before .before .before .before .before .before .before .before .pre .1 in
+    (z .0, z .1, omega (arith, p .placed .few, p .most), p .placed .inside _ (z .0), p .placed .inside _ (z .1), z .3)
 
 same-length : tie.Need-same-length
 same-length c = search needs
@@ -44,24 +56,22 @@ same-length-3 c = search needs
 
 returns : tie.Need-returns
 returns c =
-    let p = c .before .before .before .before .before .before .before .before .before .before .before .before .before .before .before .pre .0 in
-    let z = c .before .before .before .before .before .before .before .before .before .before .before .before .before .before .before .pre .1 in
-    let e : c .before .before .before .before .seek .result ≡ Missing = c .enum-told .given .1 in
-    (tt, λ t b. not-found t (p .placed) refl _ _ (z .0) (z .1) (z .2) b (sym (ap junctionAt e) ∙ c .before .before .before .before .seek .ensures .1 t b .0))
-
-trade-requires : tie.Need-trade-requires
-trade-requires c κs =
-    let p = c .before .before .before .before .before .before .before .before .before .before .before .before .before .before .before .before .before .before .pre .0 in
-    let z = c .before .before .before .before .before .before .before .before .before .before .before .before .before .before .before .before .before .before .pre .1 in
-    (z .0, z .1, omega (arith, p .placed .few, p .most), p .placed .inside _ (z .0), p .placed .inside _ (z .1))
-
-add-t18 : tie.Need-add-t18
-add-t18 c =
+    let p = c .before .before .before .before .before .before .before .before .before .before .before .before .before .before .before .before .before .before .before .before .before .before .before .pre .0 in
     let z = c .before .before .before .before .before .before .before .before .before .before .before .before .before .before .before .before .before .before .before .before .before .before .before .pre .1 in
-    let g = c .before .before .before .before .before .before .before .before .found .given in
-    let e : c .before .before .before .before .before .before .before .before .before .before .before .before .seek .result ≡ At (g .0 .0) (g .0 .1 .0) = g .1 in
-    let m = rw e at (c .before .before .before .before .before .before .before .before .before .before .before .before .seek .ensures .0) in
-    omega (arith, m, z .3)
+    let g = c .before .before .before .before .before .before .before .before .before .before .before .spare .given in
+    let e : c .before .before .before .before .before .before .before .before .before .before .before .before .before .spare-bays .result ≡ Both (g .0 .0) (g .0 .1 .0) = g .1 in
+    let two = rw e at (c .before .before .before .before .before .before .before .before .before .before .before .before .before .spare-bays .ensures) in
+    let w = c .before .before .before .before .before .before .swap-beside .ensures in
+    let few = rw length-exchange at (w .2 .counted) in (
+      omega (arith, few),
+      λ t b. traded-acts t (p .placed) refl _ _ (z .0) (z .1) (z .2) b _ _ (swap-own t (p .placed) (p .most) (z .0) (z .1) b two) (w .0) (w .1) (w .2),
+    )
+
+enum-told : tie.Need-enum-told
+enum-told c = search needs
+
+swap-far-requires : tie.Need-swap-far-requires
+swap-far-requires c κs = search needs
 
 same-length-4 : tie.Need-same-length-4
 same-length-4 c = search needs
@@ -73,37 +83,27 @@ same-length-6 : tie.Need-same-length-6
 same-length-6 c = search needs
 
 returns-2 : tie.Need-returns-2
-returns-2 c =
-    let p = c .before .before .before .before .before .before .before .before .before .before .before .before .before .before .before .before .before .before .before .before .before .before .before .pre .0 in
-    let z = c .before .before .before .before .before .before .before .before .before .before .before .before .before .before .before .before .before .before .before .before .before .before .before .pre .1 in
-    let g = c .before .before .before .before .before .before .before .before .found .given in
-    let e : c .before .before .before .before .before .before .before .before .before .before .before .before .seek .result ≡ At (g .0 .0) (g .0 .1 .0) = g .1 in
-    let m = rw e at (c .before .before .before .before .before .before .before .before .before .before .before .before .seek .ensures .0) in (
-      omega (arith, m),
-      λ t b.
-          let q = c .before .before .before .before .before .before .before .before .before .before .before .before .seek .ensures .1 t b in
-          let f = sym (ap junctionAt e) ∙ q .0 in
-          committed t (p .placed) refl _ _ (z .0) (z .1) (z .2) b _ f _ _ _ (c .before .before .before .before .trade .ensures .0) (c .before .before .before .before .trade .ensures .1) (c .before .before .before .before .before .before .before .before .before .before .before .before .before .before .before .before .place-in .ensures) (c .before .before .before .before .before .before .before .before .before .before .before .out .given) (rw e at (q .1)),
-    )
+returns-2 c = search needs
 
 pub swap-spec : {M : Type 1} → statement M
 swap-spec =
     tie.close
     (tie.spec
-    place-in-requires
-    mul-seek
-    sub-seek
-    part-seek-start
-    part-seek-end
-    seek-requires
-    enum-known-found
-    enum-told
+    cast-first
+    cast-second
+    mul-t16
+    slice-read-t18
+    mul-t16-2
+    slice-read-t18-2
+    spare-bays-requires
+    enum-known-spare
+    swap-beside-requires
     same-length
     same-length-2
     same-length-3
     returns
-    trade-requires
-    add-t18
+    enum-told
+    swap-far-requires
     same-length-4
     same-length-5
     same-length-6
