@@ -15,9 +15,8 @@ use Rattle.paper.specs.Basics.{find, elem, placeOf, upTo, In}
 use Rattle.paper.specs.Path.{nearestFirst}
 use Rattle.paper.specs.Procedure.{trade, trial, swap}
 use Rattle.paper.specs.Yard.{Bay, Carrier, Crossing, bayOf, pack}
-use Rattle.paper.proofs.Members.{find-passes, find-in, nothing-in-nil, count-high, in-count}
+use Rattle.paper.proofs.Members.{find-passes, in-count}
 use Rattle.paper.proofs.Playing.{Apart, placeOf-bay, placeOf-there, bay-in}
-use Rattle.paper.proofs.Rings.{walk-free, reached-walk, reached-sym}
 use Rattle.paper.proofs.Swapping.{swap-trades}
 use Rattle.paper.proofs.Tests.{by-cases, by-option, not-both, and-right}
 use Rattle.paper.proofs.Trading.{traded, traded-length, trade-first, trade-second, trade-other, trade-twice, trade-there, traded-bay}
@@ -25,12 +24,12 @@ use Rattle.paper.proofs.Vacating.{plan-apart}
 use Rattle.docket.specs.Reading.{isSome}
 use Rattle.swap.specs.Seeking.{Beside, standingTraded, fitting, Logged}
 use Rattle.words.proofs.Besides.{equal-tests}
-use Rattle.vacate.specs.Placed.{Placed}
-use Rattle.vacate.proofs.Playing.{unchanged, carrier-is, carrier-none}
-use Rattle.bring.specs.Acting.{Tabled, Acts}
-use Rattle.bring.proofs.Acting.{acts-none, acts-some}
-use Rattle.trial.specs.Trying.{Near, Noted}
-use Rattle.swap.proofs.Seeking.{swap-found, near-of}
+use Rattle.vacate.specs.Placed.{Placed, Stored}
+use Rattle.vacate.proofs.Playing.{carrier-is, carrier-none}
+use Rattle.bring.specs.Acting.{Tabled, Proceeds}
+use Rattle.bring.proofs.Acting.{proceeds-none, proceeds-some}
+use Rattle.trial.specs.Trying.{Listed}
+use Rattle.swap.proofs.Seeking.{swap-found}
 use Rattle.bring.specs.declared.Tried.the-variants.{Done}
 use Rattle.bring.specs.declared.Tried.the-variants.{Failed}
 
@@ -84,30 +83,14 @@ module _ {n : ℕ} {table : List ℕ} (t : Tabled n table) {p standing empty : L
   home = in-count 0 (t .yard .bays) (bayOf p r) (omega arith) (omega (arith, t .joins .bays, k .inside r hr))
 
   -- the crossings of the swap were noted, and the two have traded places
-  pub traded-acts : {xs : List Crossing} {out : List ℕ} {at : ℕ} {out′ : List ℕ} {m : ℕ} (p′ standing′ : List ℕ) → swap (t .yard) r s p ≡ some xs
-      → p′ ≡ traded r s p → standing′ ≡ standingTraded r s p standing → Noted xs out at out′ m → Acts (swap (t .yard) r s p) n p standing empty out at p′ standing′ empty out′ (Done m)
-  traded-acts {xs = xs} p′ standing′ made e d w =
+  pub traded-proceeds : {xs : List Crossing} {out : List ℕ} {at : ℕ} {out′ : List ℕ} {m : ℕ} (p′ standing′ : List ℕ) → swap (t .yard) r s p ≡ some xs
+      → p′ ≡ traded r s p → standing′ ≡ standingTraded r s p standing → Listed xs out at out′ m → Proceeds (swap (t .yard) r s p) n p out at p′ standing′ empty out′ (Done m)
+  traded-proceeds {xs = xs} p′ standing′ made e d w =
       let tr = swap-trades (t .yard) (b .sound) r s (ne-eqb r s (λ y. differ (sym y))) p (k .apart) hr hs (b .beside) xs home made in
       let apart : Apart (traded r s p) = rw (tr .1) at (plan-apart (t .yard) p xs (k .apart) (tr .0)) in
-      acts-some made (record { moved = e ∙ sym (tr .1); placed = rw (e, d) (placed-traded k r s hr hs differ apart (omega arith)); stored = w .stored; counted = w .counted })
+      proceeds-some made (record { moved = e ∙ sym (tr .1); placed = rw (e, d) (placed-traded k r s hr hs differ apart (omega arith)); stored = w .stored; counted = w .counted })
 
   module _ (v : Bay) (found : some v ≡ find (fitting (t .yard) r s p) (nearestFirst (t .yard) [] (bayOf p r))) where
-    there : In v (nearestFirst (t .yard) [] (bayOf p r))
-    there = find-in (fitting (t .yard) r s p) (nearestFirst (t .yard) [] (bayOf p r)) (sym found)
-
-    pub found-linked : In (bayOf p r) (nearestFirst (t .yard) [] v)
-    found-linked = reached-sym (t .yard) [] (bayOf p r) v (home, nothing-in-nil (bayOf p r)) there
-
-    pub found-low : v < n
-    found-low =
-        let w = reached-walk (t .yard) [] (bayOf p r) v there in
-        let f = walk-free (t .yard) [] (home, nothing-in-nil (bayOf p r)) (w .2) in
-        let h = count-high 0 (t .yard .bays) v (f .0) in
-        omega (arith, t .joins .bays)
-
-    pub found-near : Near (t .yard) r s v p
-    found-near = near-of b found-linked
-
     is-trial : swap (t .yard) r s p ≡ trial (t .yard) r s v p
     is-trial = swap-found (t .yard) r s p ∙ rw (← found)
 
@@ -136,7 +119,10 @@ module _ {n : ℕ} {table : List ℕ} (t : Tabled n table) {p standing empty : L
     committed {at = at} {m = m} rest p′ standing′ e d at-end size l =
         by-option (trial (t .yard) r s v p)
         (λ f. not-both some-trial (rw f))
-        (λ xs f. traded-acts p′ standing′ (is-trial ∙ f) e d (record { stored = w .stored xs f (l xs f); counted = ap (λ (j : ℕ). at + j) (l xs f .counted) }))
+        (λ xs f. traded-proceeds p′ standing′ (is-trial ∙ f) e d (record {
+          stored = log-stored rest xs at-end (size .0) (size .1) (l xs f);
+          counted = ap (λ (j : ℕ). at + j) (l xs f .counted);
+        }))
 
   pub not-found : {out out′ : List ℕ} {at : ℕ} → none ≡ find (fitting (t .yard) r s p) (nearestFirst (t .yard) [] (bayOf p r))
       → Proceeds (swap (t .yard) r s p) n p out at p standing empty out′ Failed

@@ -22,7 +22,7 @@ use Rattle.paper.proofs.Shortest.{Rising, find-lowest, rings-rise}
 use Rattle.paper.proofs.Tests.{by-cases, by-option, not-both, and-right, and-both, never}
 use Rattle.docket.specs.Reading.{isSome}
 use Rattle.words.specs.Sets.{mem, span, memRow, Lowest}
-use Rattle.swap.specs.Seeking.{Beside, fitting, TriedAt, Written}
+use Rattle.swap.specs.Seeking.{Beside, fitting, TriedAt}
 use Rattle.words.proofs.Sets.{filter-append, count-split}
 use Rattle.ways.specs.Meeting.{rails}
 use Rattle.rings.proofs.Searching.{in-yard, ring-none}

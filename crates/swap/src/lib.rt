@@ -4,15 +4,15 @@ use docket::Bay;
 use docket::Carrier;
 ghost use mathlib.Core.Path.{_≡_};
 ghost use mathlib.Core.List.{List, []};
-ghost use Prim.Native.Nat.{ℕ, min, _*_, _^_, _≤_, _<_};
+ghost use Prim.Native.Nat.{ℕ, min, _+_, _*_, _^_, _≤_, _<_};
 ghost use lib.ListN.{length, getD};
 ghost use Rattle.paper.specs.Basics.{find};
 ghost use Rattle.paper.specs.Yard.{bayOf};
 ghost use Rattle.paper.specs.Path.{nearestFirst};
 ghost use Rattle.words.specs.Sets.{words, span};
-ghost use Rattle.bring.specs.Acting.{Tabled, Ready, Within, Acts};
+ghost use Rattle.bring.specs.Acting.{Tabled, Ready, Within, Proceeds};
 ghost use Rattle.trial.specs.Trying.{Near, Noted, exchanges};
-ghost use Rattle.swap.specs.Seeking.{junctions, junctionAt, fitting, TriedAt, Counted, LoggedAt, Written, Beside, placementTraded, standingTraded, SideBySide, swaps, Spares};
+ghost use Rattle.swap.specs.Seeking.{junctions, junctionAt, fitting, TriedAt, Counted, LoggedAt, Beside, placementTraded, standingTraded, SideBySide, swaps, Spares};
 
 // The junction of a swap and how many crossings its trial has, or that there is none.
 pub enum Junction {
@@ -124,32 +124,7 @@ fn place_in(out: &[u64], at: usize) -> usize
     out.len()
 }
 
-// The crossings of the trial at v go to the list: copied where the log holds them all, else played again.
-fn write(
-    table: &[u64],
-    v: Bay,
-    r: Carrier,
-    s: Carrier,
-    placement: &[u16],
-    standing: &[u16],
-    empty: &[u64],
-    log: &[u64],
-    m: usize,
-    out: &mut [u64],
-    at: usize,
-)
-    requires { ⌜ Ready (now table) (now placement) (now standing) (now empty) ⌝ }
-    requires { ⌜ (r .0 < length (now placement)) × (s .0 < length (now placement)) × (s .0 ≡ r .0 → ⊥) × (v .0 < length (now standing)) × (at < 2 ^ 60) × (length (now log) ≡ 128) ⌝ }
-    ensures { λ _. ⌜ ((t : Tabled (length (now (standing .entry))) (now (table .entry))) → Near (t .yard) (r .0) (s .0) (v .0) (now (placement .entry)) → Written (t .yard) (r .0) (s .0) (v .0) (now (placement .entry)) (now (log .entry)) m (now (out .entry)) at (now (out .exit))) ⌝ }
-{
-    if m <= log.len() {
-        put_all(out, at, &log[..m]);
-        return;
-    }
-    trial::try_at(table, v, r, s, placement, standing, empty, out, at);
-}
-
-// Swap of r with its neighbour s, by trials at the junctions.
+// Swap of r with its neighbour s, by trials at the junctions. They go to the list itself, from where it goes on; the one that succeeds stays there.
 fn swap_far(
     table: &[u64],
     r: Carrier,
@@ -215,7 +190,7 @@ fn swap_beside(
 }
 
 // Swap of r with its neighbour s. Where two neighbours of r's bay other than s's are empty, that bay is the nearest junction, its trial
-// succeeds, and no log and no copies are wanted for it.
+// succeeds, and no copies are wanted for it.
 pub fn swap(
     table: &[u64],
     r: Carrier,
@@ -228,7 +203,7 @@ pub fn swap(
 ) -> Tried
     requires { ⌜ Ready (now table) (now placement) (now standing) (now empty) ⌝ }
     requires { ⌜ (r .0 < length (now placement)) × (s .0 < length (now placement)) × (s .0 ≡ r .0 → ⊥) × (at < 2 ^ 60) × SideBySide (length (now standing)) (now table) (r .0) (s .0) (now placement) ⌝ }
-    ensures { λ z. ⌜ (Within at 150000 z) × ((t : Tabled (length (now (standing .entry))) (now (table .entry))) → Beside (t .yard) (r .0) (s .0) (now (placement .entry)) → Acts (swaps (t .yard) (r .0) (s .0) (now (placement .entry))) (length (now (standing .entry))) (now (placement .entry)) (now (standing .entry)) (now (empty .entry)) (now (out .entry)) at (now (placement .exit)) (now (standing .exit)) (now (empty .entry)) (now (out .exit)) z) ⌝ }
+    ensures { λ z. ⌜ (Within at 150000 z) × ((t : Tabled (length (now (standing .entry))) (now (table .entry))) → Beside (t .yard) (r .0) (s .0) (now (placement .entry)) → Proceeds (swaps (t .yard) (r .0) (s .0) (now (placement .entry))) (length (now (standing .entry))) (now (placement .entry)) (now (out .entry)) at (now (placement .exit)) (now (standing .exit)) (now (empty .entry)) (now (out .exit)) z) ⌝ }
 {
     let first = r.0 as usize;
     let second = s.0 as usize;

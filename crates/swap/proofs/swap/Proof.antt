@@ -3,9 +3,10 @@
 use mathlib.Core.Path.{_≡_, refl}
 use native.Mathlib.Omega.{arith}
 use borrow.Author.Needs.{needs}
+use Rattle.vacate.proofs.Playing.{stored-exact}
 use Rattle.trial.proofs.Attempting.{length-exchange}
 use Rattle.swap.specs.declared.Spare.the-variants.{Both}
-use Rattle.swap.proofs.Committing.{traded-acts}
+use Rattle.swap.proofs.Committing.{traded-proceeds}
 use Rattle.swap.proofs.Besides.{swap-own}
 use Rattle.swap.proofs.swap.Statement.{statement}
 use Rattle.swap.proofs.swap.Tie as tie
@@ -64,7 +65,7 @@ returns c =
     let w = c .before .before .before .before .before .before .swap-beside .ensures in
     let few = rw length-exchange at (w .2 .counted) in (
       omega (arith, few),
-      λ t b. traded-acts t (p .placed) refl _ _ (z .0) (z .1) (z .2) b _ _ (swap-own t (p .placed) (p .most) (z .0) (z .1) b two) (w .0) (w .1) (w .2),
+      λ t b. traded-proceeds t (p .placed) refl _ _ (z .0) (z .1) (z .2) b _ _ (swap-own t (p .placed) (p .most) (z .0) (z .1) b two) (w .0) (w .1) (record { stored = stored-exact (w .2 .stored); counted = w .2 .counted }),
     )
 
 enum-told : tie.Need-enum-told

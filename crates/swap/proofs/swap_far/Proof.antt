@@ -1,16 +1,28 @@
--- `swap::swap_far` meets its contract. The bay found is the paper's junction, and what is written is its trial.
+-- `swap::swap_far` meets its contract. The bay found is the paper's junction, and what its trial left in the list is the swap.
 -- Assumes nothing.
 use mathlib.Core.Path.{_≡_, sym, _∙_, ap, refl}
 use native.Mathlib.Omega.{arith}
 use borrow.Author.Needs.{needs}
 use Rattle.swap.specs.Seeking.{junctionAt}
 use Rattle.swap.specs.declared.Junction.the-variants.{At, Missing}
-use Rattle.swap.proofs.Committing.{found-low, found-near, committed, not-found}
+use Rattle.swap.proofs.Committing.{committed, not-found}
 use Rattle.swap.proofs.swap_far.Statement.{statement}
 use Rattle.swap.proofs.swap_far.Tie as tie
 
-slice-aggregate-seek : tie.Need-slice-aggregate-seek
-slice-aggregate-seek c = search needs
+place-in-requires : tie.Need-place-in-requires
+place-in-requires c κs = search needs
+
+mul-seek : tie.Need-mul-seek
+mul-seek c = search needs
+
+sub-seek : tie.Need-sub-seek
+sub-seek c = search needs
+
+part-seek-start : tie.Need-part-seek-start
+part-seek-start c = search needs
+
+part-seek-end : tie.Need-part-seek-end
+part-seek-end c = search needs
 
 seek-requires : tie.Need-seek-requires
 seek-requires c κs = search needs
@@ -27,43 +39,29 @@ same-length c = search needs
 same-length-2 : tie.Need-same-length-2
 same-length-2 c = search needs
 
+same-length-3 : tie.Need-same-length-3
+same-length-3 c = search needs
+
 returns : tie.Need-returns
 returns c =
-    let p = c .before .before .before .before .before .before .before .before .before .before .before .before .pre .0 in
-    let z = c .before .before .before .before .before .before .before .before .before .before .before .before .pre .1 in
-    let e : c .before .before .before .seek .result ≡ Missing = c .enum-told .given .1 in
-    (tt, λ t b. not-found t (p .placed) refl _ _ (z .0) (z .1) (z .2) b (sym (ap junctionAt e) ∙ c .before .before .before .seek .ensures .1 t b .0))
-
-slice-aggregate-write : tie.Need-slice-aggregate-write
-slice-aggregate-write c = search needs
-
-write-requires : tie.Need-write-requires
-write-requires c κs =
-    let p = c .before .before .before .before .before .before .before .before .before .before .before .before .before .before .before .before .before .pre .0 in
-    let z = c .before .before .before .before .before .before .before .before .before .before .before .before .before .before .before .before .before .pre .1 in
-    let g = c .before .before .before .before .before .found .given in
-    let e : c .before .before .before .before .before .before .before .before .seek .result ≡ At (g .0 .0) (g .0 .1 .0) = g .1 in
-    let w = z .4 in
-    let f = sym (ap junctionAt e) ∙ c .before .before .before .before .before .before .before .before .seek .ensures .1 (w .tabled) (w .beside) .0 in
-    (p, (z .0, z .1, z .2, found-low (w .tabled) (p .placed) refl _ _ (z .0) (z .1) (z .2) (w .beside) _ f, z .3, search needs))
+    let p = c .before .before .before .before .before .before .before .before .before .before .before .before .before .before .before .pre .0 in
+    let z = c .before .before .before .before .before .before .before .before .before .before .before .before .before .before .before .pre .1 in
+    let e : c .before .before .before .before .seek .result ≡ Missing = c .enum-told .given .1 in
+    (tt, λ t b. not-found t (p .placed) refl _ _ (z .0) (z .1) (z .2) b (sym (ap junctionAt e) ∙ c .before .before .before .before .seek .ensures .1 t b .0))
 
 trade-requires : tie.Need-trade-requires
 trade-requires c κs =
-    let p = c .before .before .before .before .before .before .before .before .before .before .before .before .before .before .before .before .before .before .before .before .before .before .pre .0 in
-    let z = c .before .before .before .before .before .before .before .before .before .before .before .before .before .before .before .before .before .before .before .before .before .before .pre .1 in
+    let p = c .before .before .before .before .before .before .before .before .before .before .before .before .before .before .before .before .before .before .pre .0 in
+    let z = c .before .before .before .before .before .before .before .before .before .before .before .before .before .before .before .before .before .before .pre .1 in
     (z .0, z .1, omega (arith, p .placed .few, p .most), p .placed .inside _ (z .0), p .placed .inside _ (z .1))
 
-add-t32 : tie.Need-add-t32
-add-t32 c =
-    let p = c .before .before .before .before .before .before .before .before .before .before .before .before .before .before .before .before .before .before .before .before .before .before .before .before .before .before .before .pre .0 in
-    let z = c .before .before .before .before .before .before .before .before .before .before .before .before .before .before .before .before .before .before .before .before .before .before .before .before .before .before .before .pre .1 in
-    let g = c .before .before .before .before .before .before .before .before .before .before .before .before .before .before .before .found .given in
-    let e : c .before .before .before .before .before .before .before .before .before .before .before .before .before .before .before .before .before .before .seek .result ≡ At (g .0 .0) (g .0 .1 .0) = g .1 in
-    let m = rw e at (c .before .before .before .before .before .before .before .before .before .before .before .before .before .before .before .before .before .before .seek .ensures .0) in
+add-t18 : tie.Need-add-t18
+add-t18 c =
+    let z = c .before .before .before .before .before .before .before .before .before .before .before .before .before .before .before .before .before .before .before .before .before .before .before .pre .1 in
+    let g = c .before .before .before .before .before .before .before .before .found .given in
+    let e : c .before .before .before .before .before .before .before .before .before .before .before .before .seek .result ≡ At (g .0 .0) (g .0 .1 .0) = g .1 in
+    let m = rw e at (c .before .before .before .before .before .before .before .before .before .before .before .before .seek .ensures .0) in
     omega (arith, m, z .3)
-
-same-length-3 : tie.Need-same-length-3
-same-length-3 c = search needs
 
 same-length-4 : tie.Need-same-length-4
 same-length-4 c = search needs
@@ -71,36 +69,42 @@ same-length-4 c = search needs
 same-length-5 : tie.Need-same-length-5
 same-length-5 c = search needs
 
+same-length-6 : tie.Need-same-length-6
+same-length-6 c = search needs
+
 returns-2 : tie.Need-returns-2
 returns-2 c =
-    let p = c .before .before .before .before .before .before .before .before .before .before .before .before .before .before .before .before .before .before .before .before .before .before .before .before .before .before .before .pre .0 in
-    let z = c .before .before .before .before .before .before .before .before .before .before .before .before .before .before .before .before .before .before .before .before .before .before .before .before .before .before .before .pre .1 in
-    let g = c .before .before .before .before .before .before .before .before .before .before .before .before .before .before .before .found .given in
-    let e : c .before .before .before .before .before .before .before .before .before .before .before .before .before .before .before .before .before .before .seek .result ≡ At (g .0 .0) (g .0 .1 .0) = g .1 in
-    let m = rw e at (c .before .before .before .before .before .before .before .before .before .before .before .before .before .before .before .before .before .before .seek .ensures .0) in (
+    let p = c .before .before .before .before .before .before .before .before .before .before .before .before .before .before .before .before .before .before .before .before .before .before .before .pre .0 in
+    let z = c .before .before .before .before .before .before .before .before .before .before .before .before .before .before .before .before .before .before .before .before .before .before .before .pre .1 in
+    let g = c .before .before .before .before .before .before .before .before .found .given in
+    let e : c .before .before .before .before .before .before .before .before .before .before .before .before .seek .result ≡ At (g .0 .0) (g .0 .1 .0) = g .1 in
+    let m = rw e at (c .before .before .before .before .before .before .before .before .before .before .before .before .seek .ensures .0) in (
       omega (arith, m),
       λ t b.
-          let q = c .before .before .before .before .before .before .before .before .before .before .before .before .before .before .before .before .before .before .seek .ensures .1 t b in
+          let q = c .before .before .before .before .before .before .before .before .before .before .before .before .seek .ensures .1 t b in
           let f = sym (ap junctionAt e) ∙ q .0 in
-          committed t (p .placed) refl _ _ (z .0) (z .1) (z .2) b _ f _ _ (c .before .before .before .before .trade .ensures .0) (c .before .before .before .before .trade .ensures .1) (rw e at (q .1)) (c .before .before .before .before .before .before .before .before .before .write .ensures t (found-near t (p .placed) refl _ _ (z .0) (z .1) (z .2) b _ f)),
+          committed t (p .placed) refl _ _ (z .0) (z .1) (z .2) b _ f _ _ _ (c .before .before .before .before .trade .ensures .0) (c .before .before .before .before .trade .ensures .1) (c .before .before .before .before .before .before .before .before .before .before .before .before .before .before .before .before .place-in .ensures) (c .before .before .before .before .before .before .before .before .before .before .before .out .given) (rw e at (q .1)),
     )
 
 pub swap-far-spec : {M : Type 1} → statement M
 swap-far-spec =
     tie.close
     (tie.spec
-    slice-aggregate-seek
+    place-in-requires
+    mul-seek
+    sub-seek
+    part-seek-start
+    part-seek-end
     seek-requires
     enum-known-found
     enum-told
     same-length
     same-length-2
-    returns
-    slice-aggregate-write
-    write-requires
-    trade-requires
-    add-t32
     same-length-3
+    returns
+    trade-requires
+    add-t18
     same-length-4
     same-length-5
+    same-length-6
     returns-2)
