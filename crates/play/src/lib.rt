@@ -7,7 +7,7 @@ use yard::Yard;
 ghost use mathlib.Core.Path.{_≡_};
 ghost use Prim.Native.Nat.{_≤_, _<_, _*_};
 ghost use lib.ListN.{length};
-ghost use Rattle.words.specs.Sets.{words};
+ghost use Rattle.words.specs.Sets.{words, span};
 ghost use Rattle.levels.specs.Levels.{Levelled};
 ghost use Rattle.bring.specs.Acting.{Tabled};
 ghost use Rattle.step.specs.Asking.{BaysBelow};
@@ -17,11 +17,20 @@ ghost use Rattle.play.specs.Playing.{Admitted, Plays};
 // Fewer carriers than this are soon planned, and levels do not pay for themselves.
 const MANY: usize = 128;
 
-// Nor do they where more bays than this are empty, and vacating has not far to go.
+// Where at most so many bays are empty a way may be long, and many levels pay.
 const CROWDED: usize = 20;
 
-// Words of 32 levels for any yard.
-const WIDE: usize = 32 * Yard::TABLE;
+// Levels that such yards have.
+const HIGH: usize = 32;
+
+// Where at most so many are empty, a few levels pay, unless the yard is dense. Where more are, ways are short.
+const FILLED: usize = 64;
+
+// Levels that those have.
+const LOW: usize = 8;
+
+// From so many rail ends to a bay on a yard is dense: its ways and its plans are short.
+pub const DENSE: usize = 6;
 
 // In lent room: a place for each carrier, and one for each bay. Whose goal a bay is, is worked out as who stands there. Nobody is finished yet, so no bay
 // is settled.
@@ -81,8 +90,26 @@ fn play_by_rails(table: &[u64], n: usize, start: &[u16], goal: &[u16], out: &mut
     play_in(&table[..rails], n, start, goal, out)
 }
 
-// With levels above the rails. The large array stands here only, since clearing it takes time.
+// With levels above the rails, as many as fit into the lent room.
 fn play_by_levels(
+    table: &[u64; Yard::TABLE],
+    n: usize,
+    start: &[u16],
+    goal: &[u16],
+    wide: &mut [u64],
+    out: &mut [u64],
+) -> Staged
+    requires { ⌜ Admitted n (now table) (now start) (now goal) × (0 < n) × (span * words ≤ length (now wide)) ⌝ }
+    ensures { λ z. ⌜ ((t : Tabled n (now (table .entry))) → Plays (procedures (t .yard) (now (goal .entry)) (now (start .entry))) (now (out .entry)) (now (out .exit)) z) ⌝ }
+{
+    copies::longs(wide, table);
+    let levels = levels::raise(n, wide);
+    let size = levels * n * WORDS;
+    play_in(&wide[..size], n, start, goal, out)
+}
+
+// With many levels. The large array stands here only, since clearing it takes time.
+fn play_high(
     table: &[u64; Yard::TABLE],
     n: usize,
     start: &[u16],
@@ -92,17 +119,30 @@ fn play_by_levels(
     requires { ⌜ Admitted n (now table) (now start) (now goal) × (0 < n) ⌝ }
     ensures { λ z. ⌜ ((t : Tabled n (now (table .entry))) → Plays (procedures (t .yard) (now (goal .entry)) (now (start .entry))) (now (out .entry)) (now (out .exit)) z) ⌝ }
 {
-    let mut wide = [0u64; WIDE];
-    copies::longs(&mut wide, table);
-    let levels = levels::raise(n, &mut wide);
-    let size = levels * n * WORDS;
-    play_in(&wide[..size], n, start, goal, out)
+    let mut wide = [0u64; HIGH * Yard::TABLE];
+    play_by_levels(table, n, start, goal, &mut wide, out)
 }
 
-// The crossings of the procedure, counted, and stored where the list has room; or the carrier that could not step.
+// With few.
+fn play_low(
+    table: &[u64; Yard::TABLE],
+    n: usize,
+    start: &[u16],
+    goal: &[u16],
+    out: &mut [u64],
+) -> Staged
+    requires { ⌜ Admitted n (now table) (now start) (now goal) × (0 < n) ⌝ }
+    ensures { λ z. ⌜ ((t : Tabled n (now (table .entry))) → Plays (procedures (t .yard) (now (goal .entry)) (now (start .entry))) (now (out .entry)) (now (out .exit)) z) ⌝ }
+{
+    let mut wide = [0u64; LOW * Yard::TABLE];
+    play_by_levels(table, n, start, goal, &mut wide, out)
+}
+
+// The crossings of the procedure, counted, and stored where the list has room for all; or the carrier that could not step. The rails have so many ends.
 pub fn play(
     table: &[u64; Yard::TABLE],
     n: usize,
+    ends: usize,
     start: &[u16],
     goal: &[u16],
     out: &mut [u64],
@@ -114,8 +154,14 @@ pub fn play(
     if carriers < MANY {
         return play_by_rails(table, n, start, goal, out);
     }
-    if carriers + CROWDED < n {
+    if n <= carriers + CROWDED {
+        return play_high(table, n, start, goal, out);
+    }
+    if carriers + FILLED < n {
         return play_by_rails(table, n, start, goal, out);
     }
-    play_by_levels(table, n, start, goal, out)
+    if n <= ends / DENSE {
+        return play_by_rails(table, n, start, goal, out);
+    }
+    play_low(table, n, start, goal, out)
 }

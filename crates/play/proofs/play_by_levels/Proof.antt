@@ -11,22 +11,15 @@ use borrow.Author.Needs.{needs}
 use Rattle.play.proofs.play_by_levels.Statement.{statement}
 use Rattle.play.proofs.play_by_levels.Tie as tie
 
-slice-aggregate-longs : tie.Need-slice-aggregate-longs
-slice-aggregate-longs c = search needs
-
 longs-requires : tie.Need-longs-requires
 longs-requires c κs = search needs
 
-slice-aggregate-raise : tie.Need-slice-aggregate-raise
-slice-aggregate-raise c = search needs
-
 raise-requires : tie.Need-raise-requires
 raise-requires c κs =
-    let z = c .before .before .before .before .before .before .before .before in
+    let z = c .before .before .before .before .before .before .before .before .before .before in
     let a = z .pre .0 in
     let few : z .args .n * words ≤ length (z .args .table .now) = omega (arith, a .most) in
-    let same = same-appended _ _ _ few in
-    (a .most, z .pre .1, omega (arith, a .most), rails-of (tabled-same (rw (c .before .before .longs .ensures) same) (a .reaching .tabled)))
+    (a .most, z .pre .1, omega (arith, a .most), rails-of (tabled-same (rw (c .before .before .before .longs .ensures) (same-appended _ _ _ few)) (a .reaching .tabled)))
 
 mul-size : tie.Need-mul-size
 mul-size c = search needs
@@ -34,45 +27,47 @@ mul-size c = search needs
 mul-size-2 : tie.Need-mul-size-2
 mul-size-2 c = search needs
 
-array-share-prefix-wide : tie.Need-array-share-prefix-wide
-array-share-prefix-wide c = search needs
+slice-reshare-prefix-play-in : tie.Need-slice-reshare-prefix-play-in
+slice-reshare-prefix-play-in c = search needs
 
 slice-aggregate-play-in : tie.Need-slice-aggregate-play-in
-slice-aggregate-play-in c = sym (length-take-le _ _ (c .before .before .raise .ensures .1))
+slice-aggregate-play-in c = sym (length-take-le _ _ (c .before .before .before .raise .ensures .1))
 
 play-in-requires : tie.Need-play-in-requires
 play-in-requires c κs =
-    let z = c .before .before .before .before .before .before .before .before .before .before .before .before in
+    let z = c .before .before .before .before .before .before .before .before .before .before .before .before .before .before .before in
     let a = z .pre .0 in
-    let r = c .before .before .before .raise .ensures in
+    let r = c .before .before .before .before .raise .ensures in
     let few : z .args .n * words ≤ length (z .args .table .now) = omega (arith, a .most) in
-    let same = same-raised _ _ _ _ _ _ few (c .before .before .before .before .before .before .longs .ensures) (r .3) (r .0) in
+    let same = same-raised _ _ _ _ _ _ few (c .before .before .before .before .before .before .before .before .longs .ensures) (r .3) (r .0) in
     (admitted-same same a, room-raised _ _ _ (r .0) (r .1), r .2)
 
 same-length : tie.Need-same-length
 same-length c = search needs
 
+same-length-2 : tie.Need-same-length-2
+same-length-2 c = search needs
+
 returns : tie.Need-returns
 returns c =
-    let z = c .before .before .before .before .before .before .before .before .before .before .before .before .before .before .before in
+    let z = c .before .before .before .before .before .before .before .before .before .before .before .before .before .before .before .before .before .before in
     let a = z .pre .0 in
-    let r = c .before .before .before .before .before .before .raise .ensures in
+    let r = c .before .before .before .before .before .before .before .raise .ensures in
     let few : z .args .n * words ≤ length (z .args .table .now) = omega (arith, a .most) in
-    let same = same-raised _ _ _ _ _ _ few (c .before .before .before .before .before .before .before .before .before .longs .ensures) (r .3) (r .0) in
+    let same = same-raised _ _ _ _ _ _ few (c .before .before .before .before .before .before .before .before .before .before .before .longs .ensures) (r .3) (r .0) in
     λ t. c .before .before .play-in .ensures (tabled-same same t)
 
 pub play-by-levels-spec : {M : Type 1} → statement M
 play-by-levels-spec =
     tie.close
     (tie.spec
-    slice-aggregate-longs
     longs-requires
-    slice-aggregate-raise
     raise-requires
     mul-size
     mul-size-2
-    array-share-prefix-wide
+    slice-reshare-prefix-play-in
     slice-aggregate-play-in
     play-in-requires
     same-length
+    same-length-2
     returns)
