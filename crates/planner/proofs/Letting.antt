@@ -1,20 +1,16 @@
 -- What refusals 1 to 6 let through is what the procedure asks: a yard in one piece without loops, and placements in it.
 -- Assumes nothing.
-use mathlib.Core.Path.{_≡_, sym, _∙_, ap}
-use mathlib.Core.Bool.{true, false}
+use mathlib.Core.Path.{_≡_, sym, _∙_}
 use mathlib.Core.List.{List}
 use mathlib.Core.Option.{none}
-use Prim.Native.Nat.{ℕ, _≤_, _<_, _*_, _/_, _+_, _%_}
+use Prim.Native.Nat.{ℕ}
 use native.Mathlib.Omega.{arith}
-use lib.ListN.{length, take}
-use lib.Seq.{getD-take, length-take-le}
 use Rattle.paper.specs.Yard.{Bay, Yard, Placement, joined, bayOf}
 use Rattle.paper.specs.Docket.{yardOf}
 use Rattle.paper.specs.Answers.{firstSix}
 use Rattle.paper.proofs.Tests.{by-cases}
 use Rattle.paper.proofs.Members.{count-high, in-count}
 use Rattle.paper.proofs.Admitted.{clean-of, sound-of, good-of, all-reached}
-use Rattle.words.specs.Sets.{on, mem, memRow, words, span}
 use Rattle.yard.specs.Table.{Table}
 use Rattle.yard.specs.declared.Yard.{Yard as Numbers}
 use Rattle.yard.specs.Opening.{Admits}

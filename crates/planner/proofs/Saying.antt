@@ -1,18 +1,17 @@
 -- From the outcome of the procedure to the planner's answer.
 -- Assumes nothing.
-use Prim.Native.Nat.{_+_}
 use mathlib.Core.Path.{_≡_, refl, sym, _∙_, ap}
 use mathlib.Core.Bool.{true}
 use mathlib.Core.List.{List, _++_, map}
 use mathlib.Core.Option.{none, some}
-use Prim.Native.Nat.{ℕ, _≤_, _<_}
+use Prim.Native.Nat.{ℕ, _+_, _≤_}
 use native.Mathlib.Omega.{arith}
 use lib.ListN.{length, take, drop, length-map}
-use lib.Seq.{sets, sets-eq, take-at}
+use lib.Seq.{take-at}
 use Rattle.paper.specs.Procedure.{Outcome, planned, stuck, procedure}
-use Rattle.paper.specs.Yard.{Bay, Placement, Crossing, Carrier, pack, crossings, after, legalPlan, most-crossings}
-use Rattle.paper.specs.Docket.{Refusal, stopped, room, yardOf}
-use Rattle.paper.specs.Answers.{Answer, accepted, refused, firstSix, within, written, unless, plan, planEnd, check}
+use Rattle.paper.specs.Yard.{Bay, Placement, Crossing, pack, crossings, after, legalPlan, most-crossings}
+use Rattle.paper.specs.Docket.{yardOf}
+use Rattle.paper.specs.Answers.{Answer, accepted, refused, firstSix, written, plan, planEnd, check}
 use Rattle.paper.proofs.Planning.{accepted-right, TooLong, within-stuck, within-fits, within-long, plan-clean, plan-unclean}
 use Rattle.paper.proofs.Tests.{never}
 use Rattle.paper.proofs.Handing.{handed-passes}
@@ -20,44 +19,26 @@ use Rattle.docket.specs.Reading.{refusalOf}
 use Rattle.docket.specs.declared.Carrier.{Carrier as Named}
 use Rattle.docket.specs.declared.Refusal.the-variants.{Room, Stopped}
 use Rattle.docket.specs.declared.Refusal.{Refusal as Docketed}
-use Rattle.home.specs.declared.Staged.the-variants.{Planned, Stuck}
+use Rattle.home.specs.declared.Staged.the-variants.{Planned}
 use Rattle.home.specs.declared.Staged.{Staged}
 use Rattle.play.specs.Playing.{Plays}
-use Rattle.planner.specs.Statement.{Told, long, denied, told, plannedOf, Kept, Hands, PlanSays}
+use Rattle.planner.specs.Statement.{long, told, plannedOf, Kept, Hands, HandsIfKept, PlanSays}
+use Rattle.planner.specs.declared.Handed.the-variants.{Done, Longer}
 use Rattle.planner.specs.declared.Planned.the-variants.{Accepted, Refused}
 use Rattle.planner.specs.declared.Planned.{Planned as Answered}
 
 -- ## The crossings kept
 
--- what fits stands at the front
-stored-front : (out : List ℕ) (xs : List Crossing) → length xs ≤ length out → sets out 0 (map pack xs) ≡ map pack xs ++ drop (length xs) out
-stored-front out xs h = let l = length-map xs pack in sets-eq (map pack xs) out 0 (omega arith) ∙ (let z : 0 + length (map pack xs) ≡ length xs = omega arith in ap (λ (k : ℕ). map pack xs ++ drop k out) z)
-
-pub kept-of : {o : Outcome} {kept kept′ : List ℕ} {m : ℕ} {z : Staged} → Plays o kept kept′ z → z ≡ Planned m → length kept′ ≡ length kept → Kept o kept′ m
-kept-of {kept = kept} {m = m} p e l =
+pub kept-of : {o : Outcome} {kept kept′ : List ℕ} {m : ℕ} {z : Staged} → Plays o kept kept′ z → z ≡ Planned m → Kept o kept′ m
+kept-of {kept′ = kept′} {m} p e =
     let w = p .plans m e in
+    let size : 0 + length (map pack (w .0)) ≡ m = omega (arith, length-map (w .0) pack, w .3) in
     record {
       crossed = w .0;
       outcome = w .1;
       counted = w .3;
-      stored = λ h. ap (take m) (w .2 ∙ stored-front kept (w .0) (omega (arith, w .3))) ∙ take-at (map pack (w .0)) (drop (length (w .0)) kept) m (length-map (w .0) pack ∙ sym (w .3));
+      stored = λ h. ap (λ (k : ℕ). take k kept′) (sym size) ∙ w .2 .front (omega (arith, h, size, w .2 .long));
     }
-
-by-staged : {P : Type 0} (z : Staged) → ((m : ℕ) → z ≡ Planned m → P) → ((c : Named) → z ≡ Stuck c → P) → P
-by-staged (Planned m) f g = f m refl
-by-staged (Stuck c) f g = g c refl
-
--- played once more into a list that is long enough
-pub played-again : {o : Outcome} {kept out out′ : List ℕ} {m : ℕ} {z : Staged} → Kept o kept m → m ≤ length out → Plays o out out′ z
-    → (xs : List Crossing) → o ≡ planned xs → out′ ≡ map pack xs ++ drop (length xs) out
-played-again {out = out} {z = z} k h p xs e =
-    by-staged z
-    (λ m i. let w = p .plans m i in
-    let same : w .0 ≡ xs = let a = w .1 in cc in
-    let kept : k .crossed ≡ xs = let a = k .outcome in cc in
-    let fits : length (w .0) ≤ length out = omega (arith, h, k .counted, ap length same, ap length kept) in
-    w .2 ∙ stored-front out (w .0) fits ∙ ap (λ (l : List Crossing). map pack l ++ drop (length l) out) same)
-    (λ c i. let a = p .stops c i in never (cc))
 
 -- copied from where it was kept
 pub copied-out : {o : Outcome} {kept out′ : List ℕ} {m : ℕ} (out : List ℕ) → Kept o kept m → m ≤ length kept → out′ ≡ take m kept ++ drop (length (take m kept)) out
@@ -85,6 +66,15 @@ hands-plan {lent = lent} k a b f =
     let w = within-fits (length lent) (k .crossed) (rw (k .counted) at a) (rw (k .counted) at b) in
     let e = f (k .crossed) (k .outcome) in
     rw (k .outcome, k .counted) (record { answers = sym (ap told w); leaves = rw w e })
+
+pub done-if-kept : {o : Outcome} {lent lent′ : List ℕ} {answer : Answered} → Hands o lent answer lent′ → HandsIfKept o lent (Done answer) lent′
+done-if-kept {answer = answer} k = record {
+  done = λ a e. let same : answer ≡ a = cc in rw same at k;
+  longer = λ e. never (cc);
+}
+
+pub longer-unless-kept : {o : Outcome} {lent : List ℕ} → HandsIfKept o lent Longer lent
+longer-unless-kept = record { done = λ a e. never (cc); longer = λ e. refl }
 
 -- ## The planner's answer
 

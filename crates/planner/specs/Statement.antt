@@ -12,6 +12,8 @@ use Rattle.paper.specs.Yard.{Bay, Placement, Crossing, pack, crossings, after, 
 use Rattle.paper.specs.Docket.{Refusal, yardOf}
 use Rattle.paper.specs.Answers.{Answer, accepted, refused, within, written, plan, planEnd, check}
 use Rattle.docket.specs.Reading.{refusalOf}
+use Rattle.planner.specs.declared.Handed.{Handed}
+use Rattle.planner.specs.declared.Handed.the-variants.{Done, Longer}
 use Rattle.planner.specs.declared.Planned.{Planned}
 use Rattle.planner.specs.declared.Planned.the-variants.{Accepted, Refused}
 
@@ -39,6 +41,11 @@ pub record Kept (o : Outcome) (kept : List ℕ) (m : ℕ) : Type 0 where
 pub record Hands (o : Outcome) (lent : List ℕ) (answer : Planned) (lent′ : List ℕ) : Type 0 where
   pub answers : plannedOf answer ≡ told (within (length lent) o)
   pub leaves : lent′ ≡ written (within (length lent) o) lent
+
+-- the same where the plan was kept whole; else the list is as it was
+pub record HandsIfKept (o : Outcome) (lent : List ℕ) (answer : Handed) (lent′ : List ℕ) : Type 0 where
+  pub done : (a : Planned) → answer ≡ Done a → Hands o lent a lent′
+  pub longer : answer ≡ Longer → lent′ ≡ lent
 
 pub record PlanSays (n : ℕ) (ends : List Bay) (starts goals : Placement) (lent : List ℕ) (answer : Planned) (lent′ : List ℕ) : Type 0 where
   pub answers : plannedOf answer ≡ told (plan n ends starts goals (length lent))

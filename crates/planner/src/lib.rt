@@ -1,18 +1,17 @@
 // The planner: refusals 1 to 6 by the yard's opening, then the procedure, then 7 and 8.
 use docket::Refusal;
 use home::Staged;
+use play::DENSE;
 use yard::Opened;
 use yard::Yard;
 ghost use mathlib.Core.Path.{_≡_};
-ghost use mathlib.Core.List.{List, _++_, map};
-ghost use Prim.Native.Nat.{ℕ, _≤_};
-ghost use lib.ListN.{length, drop};
-ghost use Rattle.paper.specs.Procedure.{planned as plannedTo};
-ghost use Rattle.paper.specs.Yard.{Crossing, pack};
+ghost use Prim.Native.Nat.{_<_};
+ghost use lib.ListN.{length};
+ghost use Rattle.paper.specs.Yard.{most-crossings};
 ghost use Rattle.bring.specs.Acting.{Tabled};
 ghost use Rattle.carry.specs.Carrying.{procedures};
 ghost use Rattle.play.specs.Playing.{Admitted};
-ghost use Rattle.planner.specs.Statement.{Kept, Hands, PlanSays};
+ghost use Rattle.planner.specs.Statement.{Hands, HandsIfKept, PlanSays};
 
 // What the planner answers: the plan's length, or why there is none.
 pub enum Planned {
@@ -35,9 +34,6 @@ const LESS: usize = 4096;
 // Crossings that the third holds. The last holds Yard::CROSSINGS, more than which no plan may have.
 const MORE: usize = 16384;
 
-// From so many rail ends to a bay on a yard is dense, and its plans are short.
-const DENSE: usize = 6;
-
 // From so many rail ends to two bays on it is like a grid. All others are narrow, and their plans are long.
 const GRID: usize = 5;
 
@@ -59,50 +55,41 @@ const NARROW_LESS: usize = 24;
 // Fewer than this have the third room there, all others the last.
 const NARROW_MORE: usize = 64;
 
-// The plan of m crossings goes to the list: copied where it was kept, else played once more.
-fn write(
-    table: &[u64; Yard::TABLE],
-    n: usize,
-    start: &[u16],
-    goal: &[u16],
-    kept: &[u64],
-    m: usize,
-    out: &mut [u64],
-)
-    requires { ⌜ Admitted n (now table) (now start) (now goal) × ((t : Tabled n (now table)) → Kept (procedures (t .yard) (now goal) (now start)) (now kept) m) × (m ≤ length (now out)) ⌝ }
-    ensures { λ _. ⌜ ((t : Tabled n (now (table .entry))) (xs : List Crossing) → procedures (t .yard) (now (goal .entry)) (now (start .entry)) ≡ plannedTo xs → now (out .exit) ≡ map pack xs ++ drop (length xs) (now (out .entry))) ⌝ }
-{
-    if kept.len() < m {
-        play::play(table, n, start, goal, out);
-    } else {
-        copies::longs(out, &kept[..m]);
-    }
+// What comes of a plan in the room that it was kept in.
+enum Handed {
+    Done(Planned),
+    // it is none of 7 and 8, and longer than that room
+    Longer,
 }
 
-// 7, then 8, else the plan, for a yard and placements that pass 1 to 6. Crossings are kept while they are counted.
+// 7, then 8, else the plan, for a yard and placements that pass 1 to 6. Crossings are kept while they are counted, and copied where all were kept.
 fn hand_out_in(
     table: &[u64; Yard::TABLE],
     n: usize,
+    ends: usize,
     start: &[u16],
     goal: &[u16],
     kept: &mut [u64],
     out: &mut [u64],
-) -> Planned
+) -> Handed
     requires { ⌜ Admitted n (now table) (now start) (now goal) ⌝ }
-    ensures { λ r. ⌜ ((t : Tabled n (now (table .entry))) → Hands (procedures (t .yard) (now (goal .entry)) (now (start .entry))) (now (out .entry)) r (now (out .exit))) ⌝ }
+    ensures { λ r. ⌜ ((t : Tabled n (now (table .entry))) → HandsIfKept (procedures (t .yard) (now (goal .entry)) (now (start .entry))) (now (out .entry)) r (now (out .exit))) × (r ≡ Handed.Longer → length (now (kept .entry)) < most-crossings) ⌝ }
 {
-    let played = play::play(table, n, start, goal, kept);
+    let played = play::play(table, n, ends, start, goal, kept);
     match played {
-        Staged::Stuck(c) => Planned::Refused(Refusal::Stopped(c)),
+        Staged::Stuck(c) => Handed::Done(Planned::Refused(Refusal::Stopped(c))),
         Staged::Planned(m) => {
             if out.len() < m {
-                return Planned::Refused(Refusal::Room(m as u64));
+                return Handed::Done(Planned::Refused(Refusal::Room(m as u64)));
             }
             if Yard::CROSSINGS < m {
-                return Planned::Refused(Refusal::Room(m as u64));
+                return Handed::Done(Planned::Refused(Refusal::Room(m as u64)));
             }
-            write(table, n, start, goal, kept, m, out);
-            Planned::Accepted(m as u64)
+            if kept.len() < m {
+                return Handed::Longer;
+            }
+            copies::longs(out, &kept[..m]);
+            Handed::Done(Planned::Accepted(m as u64))
         }
     }
 }
@@ -111,51 +98,56 @@ fn hand_out_in(
 fn hand_out_least(
     table: &[u64; Yard::TABLE],
     n: usize,
+    ends: usize,
     start: &[u16],
     goal: &[u16],
     out: &mut [u64],
-) -> Planned
+) -> Handed
     requires { ⌜ Admitted n (now table) (now start) (now goal) ⌝ }
-    ensures { λ r. ⌜ ((t : Tabled n (now (table .entry))) → Hands (procedures (t .yard) (now (goal .entry)) (now (start .entry))) (now (out .entry)) r (now (out .exit))) ⌝ }
+    ensures { λ r. ⌜ ((t : Tabled n (now (table .entry))) → HandsIfKept (procedures (t .yard) (now (goal .entry)) (now (start .entry))) (now (out .entry)) r (now (out .exit))) ⌝ }
 {
     let mut kept = [0u64; LEAST];
-    hand_out_in(table, n, start, goal, &mut kept, out)
+    hand_out_in(table, n, ends, start, goal, &mut kept, out)
 }
 
 // With the second.
 fn hand_out_less(
     table: &[u64; Yard::TABLE],
     n: usize,
+    ends: usize,
     start: &[u16],
     goal: &[u16],
     out: &mut [u64],
-) -> Planned
+) -> Handed
     requires { ⌜ Admitted n (now table) (now start) (now goal) ⌝ }
-    ensures { λ r. ⌜ ((t : Tabled n (now (table .entry))) → Hands (procedures (t .yard) (now (goal .entry)) (now (start .entry))) (now (out .entry)) r (now (out .exit))) ⌝ }
+    ensures { λ r. ⌜ ((t : Tabled n (now (table .entry))) → HandsIfKept (procedures (t .yard) (now (goal .entry)) (now (start .entry))) (now (out .entry)) r (now (out .exit))) ⌝ }
 {
     let mut kept = [0u64; LESS];
-    hand_out_in(table, n, start, goal, &mut kept, out)
+    hand_out_in(table, n, ends, start, goal, &mut kept, out)
 }
 
 // With the third.
 fn hand_out_more(
     table: &[u64; Yard::TABLE],
     n: usize,
+    ends: usize,
     start: &[u16],
     goal: &[u16],
     out: &mut [u64],
-) -> Planned
+) -> Handed
     requires { ⌜ Admitted n (now table) (now start) (now goal) ⌝ }
-    ensures { λ r. ⌜ ((t : Tabled n (now (table .entry))) → Hands (procedures (t .yard) (now (goal .entry)) (now (start .entry))) (now (out .entry)) r (now (out .exit))) ⌝ }
+    ensures { λ r. ⌜ ((t : Tabled n (now (table .entry))) → HandsIfKept (procedures (t .yard) (now (goal .entry)) (now (start .entry))) (now (out .entry)) r (now (out .exit))) ⌝ }
 {
     let mut kept = [0u64; MORE];
-    hand_out_in(table, n, start, goal, &mut kept, out)
+    hand_out_in(table, n, ends, start, goal, &mut kept, out)
 }
 
-// With the last, so that no plan is played twice.
+// With the last, than which no plan is longer that passes 8. It is called twice, so that it is compiled apart and its room takes no stack while
+// another's is used.
 fn hand_out_most(
     table: &[u64; Yard::TABLE],
     n: usize,
+    ends: usize,
     start: &[u16],
     goal: &[u16],
     out: &mut [u64],
@@ -164,53 +156,81 @@ fn hand_out_most(
     ensures { λ r. ⌜ ((t : Tabled n (now (table .entry))) → Hands (procedures (t .yard) (now (goal .entry)) (now (start .entry))) (now (out .entry)) r (now (out .exit))) ⌝ }
 {
     let mut kept = [0u64; Yard::CROSSINGS];
-    hand_out_in(table, n, start, goal, &mut kept, out)
+    let handed = hand_out_in(table, n, ends, start, goal, &mut kept, out);
+    match handed {
+        Handed::Done(answer) => answer,
+        // never
+        Handed::Longer => Planned::Accepted(0),
+    }
 }
 
 // In a dense yard.
 fn hand_out_dense(
     table: &[u64; Yard::TABLE],
     n: usize,
+    ends: usize,
     start: &[u16],
     goal: &[u16],
     out: &mut [u64],
-) -> Planned
+) -> Handed
     requires { ⌜ Admitted n (now table) (now start) (now goal) ⌝ }
-    ensures { λ r. ⌜ ((t : Tabled n (now (table .entry))) → Hands (procedures (t .yard) (now (goal .entry)) (now (start .entry))) (now (out .entry)) r (now (out .exit))) ⌝ }
+    ensures { λ r. ⌜ ((t : Tabled n (now (table .entry))) → HandsIfKept (procedures (t .yard) (now (goal .entry)) (now (start .entry))) (now (out .entry)) r (now (out .exit))) ⌝ }
 {
     if start.len() < DENSE_LEAST {
-        return hand_out_least(table, n, start, goal, out);
+        return hand_out_least(table, n, ends, start, goal, out);
     }
     if start.len() < DENSE_LESS {
-        return hand_out_less(table, n, start, goal, out);
+        return hand_out_less(table, n, ends, start, goal, out);
     }
-    hand_out_more(table, n, start, goal, out)
+    hand_out_more(table, n, ends, start, goal, out)
 }
 
 // In any other yard: fewer than `less` carriers have the second room, fewer than `more` the third.
 fn hand_out_sparse(
     table: &[u64; Yard::TABLE],
     n: usize,
+    ends: usize,
     less: usize,
     more: usize,
     start: &[u16],
     goal: &[u16],
     out: &mut [u64],
-) -> Planned
+) -> Handed
     requires { ⌜ Admitted n (now table) (now start) (now goal) ⌝ }
-    ensures { λ r. ⌜ ((t : Tabled n (now (table .entry))) → Hands (procedures (t .yard) (now (goal .entry)) (now (start .entry))) (now (out .entry)) r (now (out .exit))) ⌝ }
+    ensures { λ r. ⌜ ((t : Tabled n (now (table .entry))) → HandsIfKept (procedures (t .yard) (now (goal .entry)) (now (start .entry))) (now (out .entry)) r (now (out .exit))) ⌝ }
 {
     if start.len() < less {
-        return hand_out_less(table, n, start, goal, out);
+        return hand_out_less(table, n, ends, start, goal, out);
     }
     if start.len() < more {
-        return hand_out_more(table, n, start, goal, out);
+        return hand_out_more(table, n, ends, start, goal, out);
     }
-    hand_out_most(table, n, start, goal, out)
+    Handed::Done(hand_out_most(table, n, ends, start, goal, out))
 }
 
 // With the room that the plan is likely to need, by the carriers and by how many rails a bay has; the rails have so many ends. One call serves grids
 // and narrow yards, since a function called twice is compiled apart and its rooms then take stack beside the others'.
+fn hand_out_likely(
+    table: &[u64; Yard::TABLE],
+    n: usize,
+    ends: usize,
+    start: &[u16],
+    goal: &[u16],
+    out: &mut [u64],
+) -> Handed
+    requires { ⌜ Admitted n (now table) (now start) (now goal) ⌝ }
+    ensures { λ r. ⌜ ((t : Tabled n (now (table .entry))) → HandsIfKept (procedures (t .yard) (now (goal .entry)) (now (start .entry))) (now (out .entry)) r (now (out .exit))) ⌝ }
+{
+    if n <= ends / DENSE {
+        return hand_out_dense(table, n, ends, start, goal, out);
+    }
+    let grid = n <= ends / GRID * 2;
+    let less = if grid { GRID_LESS } else { NARROW_LESS };
+    let more = if grid { GRID_MORE } else { NARROW_MORE };
+    hand_out_sparse(table, n, ends, less, more, start, goal, out)
+}
+
+// With the likely room, and once more with the last where the plan is longer than that.
 fn hand_out(
     table: &[u64; Yard::TABLE],
     n: usize,
@@ -222,13 +242,11 @@ fn hand_out(
     requires { ⌜ Admitted n (now table) (now start) (now goal) ⌝ }
     ensures { λ r. ⌜ ((t : Tabled n (now (table .entry))) → Hands (procedures (t .yard) (now (goal .entry)) (now (start .entry))) (now (out .entry)) r (now (out .exit))) ⌝ }
 {
-    if n <= ends / DENSE {
-        return hand_out_dense(table, n, start, goal, out);
+    let handed = hand_out_likely(table, n, ends, start, goal, out);
+    match handed {
+        Handed::Done(answer) => answer,
+        Handed::Longer => hand_out_most(table, n, ends, start, goal, out),
     }
-    let grid = n <= ends / GRID * 2;
-    let less = if grid { GRID_LESS } else { NARROW_LESS };
-    let more = if grid { GRID_MORE } else { NARROW_MORE };
-    hand_out_sparse(table, n, less, more, start, goal, out)
 }
 
 // Planning tests 1 to 8 by number. Acceptance writes the plan and nothing beyond its length; a refusal changes nothing.

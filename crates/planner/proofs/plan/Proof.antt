@@ -1,6 +1,6 @@
 -- `planner::plan` meets its contract. 1 to 6 are the yard's answer; where it opens, the procedure decides.
 -- Assumes nothing.
-use mathlib.Core.Path.{_≡_, sym, _∙_, ap}
+use mathlib.Core.Path.{sym, _∙_, ap}
 use denote.Ref.{now}
 use Rattle.yard.specs.Opening.{openedOf}
 use Rattle.planner.proofs.Letting.{let-in, tabled-of}

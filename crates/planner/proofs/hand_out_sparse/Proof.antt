@@ -1,0 +1,47 @@
+-- `planner::hand_out_sparse` meets its contract. With the last room the answer is there.
+-- Assumes nothing.
+use Rattle.planner.proofs.Saying.{done-if-kept}
+use borrow.Author.Needs.{needs}
+use Rattle.planner.proofs.hand_out_sparse.Statement.{statement}
+use Rattle.planner.proofs.hand_out_sparse.Tie as tie
+
+hand-out-less-requires : tie.Need-hand-out-less-requires
+hand-out-less-requires c κs = search needs
+
+same-length : tie.Need-same-length
+same-length c = search needs
+
+returns : tie.Need-returns
+returns c = search needs
+
+hand-out-more-requires : tie.Need-hand-out-more-requires
+hand-out-more-requires c κs = search needs
+
+same-length-2 : tie.Need-same-length-2
+same-length-2 c = search needs
+
+returns-2 : tie.Need-returns-2
+returns-2 c = search needs
+
+hand-out-most-requires : tie.Need-hand-out-most-requires
+hand-out-most-requires c κs = search needs
+
+same-length-3 : tie.Need-same-length-3
+same-length-3 c = search needs
+
+returns-3 : tie.Need-returns-3
+returns-3 c = λ t. done-if-kept (c .before .before .hand-out-most .ensures t)
+
+pub hand-out-sparse-spec : {M : Type 1} → statement M
+hand-out-sparse-spec =
+    tie.close
+    (tie.spec
+    hand-out-less-requires
+    same-length
+    returns
+    hand-out-more-requires
+    same-length-2
+    returns-2
+    hand-out-most-requires
+    same-length-3
+    returns-3)
