@@ -58,7 +58,7 @@ const NARROW_MORE: usize = 64;
 // What comes of a plan in the room that it was kept in.
 enum Handed {
     Done(Planned),
-    // it is none of 7 and 8, and longer than that room
+    // neither 7 nor 8 refuses it, and it is longer than that room
     Longer,
 }
 
@@ -142,8 +142,7 @@ fn hand_out_more(
     hand_out_in(table, n, ends, start, goal, &mut kept, out)
 }
 
-// With the last, than which no plan is longer that passes 8. It is called twice, so that it is compiled apart and its room takes no stack while
-// another's is used.
+// With the last, than which no plan is longer that passes 8.
 fn hand_out_most(
     table: &[u64; Yard::TABLE],
     n: usize,
@@ -159,7 +158,7 @@ fn hand_out_most(
     let handed = hand_out_in(table, n, ends, start, goal, &mut kept, out);
     match handed {
         Handed::Done(answer) => answer,
-        // never
+        // never, since 8 refuses such a plan
         Handed::Longer => Planned::Accepted(0),
     }
 }
@@ -230,7 +229,8 @@ fn hand_out_likely(
     hand_out_sparse(table, n, ends, less, more, start, goal, out)
 }
 
-// With the likely room, and once more with the last where the plan is longer than that.
+// With the likely room, and once more with the last where the plan is longer than that. The likely one is given back by then, so the two share their
+// place on the stack.
 fn hand_out(
     table: &[u64; Yard::TABLE],
     n: usize,

@@ -17,19 +17,19 @@ ghost use Rattle.play.specs.Playing.{Admitted, Plays};
 // Fewer carriers than this are soon planned, and levels do not pay for themselves.
 const MANY: usize = 128;
 
-// Where at most so many bays are empty a way may be long, and many levels pay.
+// Where at most so many bays are empty, vacating has far to go, and many levels pay.
 const CROWDED: usize = 20;
 
-// Levels that such yards have.
+// Levels that have room then in any yard.
 const HIGH: usize = 32;
 
-// Where at most so many are empty, a few levels pay, unless the yard is dense. Where more are, ways are short.
+// Where at most so many are empty, a few levels pay, unless the yard is dense. Where more are, vacating has not far to go.
 const FILLED: usize = 64;
 
-// Levels that those have.
+// Levels that have room there in any yard.
 const LOW: usize = 8;
 
-// From so many rail ends to a bay on a yard is dense: its ways and its plans are short.
+// From so many rail ends to a bay on a yard is dense: no bay is far, and plans are short.
 pub const DENSE: usize = 6;
 
 // In lent room: a place for each carrier, and one for each bay. Whose goal a bay is, is worked out as who stands there. Nobody is finished yet, so no bay
@@ -138,7 +138,8 @@ fn play_low(
     play_by_levels(table, n, start, goal, &mut wide, out)
 }
 
-// The crossings of the procedure, counted, and stored where the list has room for all; or the carrier that could not step. The rails have so many ends.
+// The crossings of the procedure, counted, and stored where the list has room for all; or the carrier that could not step. The rails have so many
+// ends.
 pub fn play(
     table: &[u64; Yard::TABLE],
     n: usize,
