@@ -1,11 +1,11 @@
 -- A placement put down at the bays of the start is ready to be carried from, and what was carried is the whole procedure.
 -- Assumes nothing.
-use mathlib.Core.Path.{_≡_, refl, _∙_, ap}
+use mathlib.Core.Path.{_≡_, _∙_, ap}
 use mathlib.Core.List.{List, _++_, append-nil}
-use Prim.Native.Nat.{ℕ, _+_, _≤_, _*_}
+use Prim.Native.Nat.{ℕ, _≤_, _*_}
 use native.Mathlib.Omega.{arith}
-use lib.ListN.{length, take, drop, replicate, length-append, length-replicate, drop-of-length-le}
-use lib.Seq.{length-take-le, take-at, sets, sets-eq, length-sets}
+use lib.ListN.{length, take, drop, replicate, length-replicate, drop-of-length-le}
+use lib.Seq.{length-take-le}
 use Rattle.paper.specs.Procedure.{Outcome}
 use Rattle.paper.specs.Basics.{elem}
 use Rattle.words.specs.Sets.{words, span}
@@ -16,7 +16,7 @@ use Rattle.bring.specs.Acting.{Ready}
 use Rattle.step.specs.Asking.{BaysBelow}
 use Rattle.home.specs.Homing.{Owners, Stages}
 use Rattle.home.specs.declared.Staged.{Staged}
-use Rattle.play.specs.Playing.{Admitted, Stored, Plays}
+use Rattle.play.specs.Playing.{Admitted, Plays}
 
 -- as many places as are taken of an array
 pub places : (k : ℕ) → k ≤ span → length {A = ℕ} (take k (replicate span 0)) ≡ k
@@ -45,17 +45,8 @@ none-settled s = record { size = length-replicate {A = ℕ} words 0; bays = λ b
 pub owners-of : {n m : ℕ} {goals owner spare : List ℕ} → m ≡ n → length owner ≡ m → Placed m goals owner spare → Owners n goals owner
 owners-of e k placed = record { many = omega arith; whose = λ b h. placed .stands b (omega arith) }
 
--- what is stored number by number stands there
-stored-exact : (vs out : List ℕ) (at : ℕ) {out′ : List ℕ} → out′ ≡ sets out at vs → Stored vs out at out′
-stored-exact vs out at e = rw e (record {
-  long = length-sets out at vs;
-  front = λ h.
-      let size : length (take at out ++ vs) ≡ at + length vs = rw (length-append, length-take-le at out (omega arith)) refl in
-      ap (take (at + length vs)) (sets-eq vs out at h) ∙ take-at (take at out ++ vs) (drop (at + length vs) out) (at + length vs) size;
-})
-
 pub plays-of : {o : Outcome} {n : ℕ} {p out p′ standing′ empty′ out′ : List ℕ} {z : Staged} → Stages o n p out 0 p′ standing′ empty′ out′ z → Plays o out out′ z
 plays-of st = record {
-  plans = λ m e. let w = st .plans m e in (w .0, w .1, stored-exact _ _ 0 (w .2 .stored), w .2 .counted ∙ omega arith);
+  plans = λ m e. let w = st .plans m e in (w .0, w .1, w .2 .stored, w .2 .counted ∙ omega arith);
   stops = st .stops;
 }

@@ -1,13 +1,14 @@
 -- What playing the procedure asks of a yard and its placements, and what it answers.
 -- Assumes nothing.
 use mathlib.Core.Path.{_≡_}
-use mathlib.Core.List.{List, _++_, map}
-use Prim.Native.Nat.{ℕ, _+_, _≤_, _<_}
-use lib.ListN.{length, take}
+use mathlib.Core.List.{List, map}
+use Prim.Native.Nat.{ℕ, _≤_, _<_}
+use lib.ListN.{length}
 use Rattle.paper.specs.Procedure.{Outcome, planned, stuck}
 use Rattle.paper.specs.Yard.{Placement, Crossing, pack, bayOf}
 use Rattle.paper.proofs.Playing.{Apart}
 use Rattle.words.specs.Sets.{span}
+use Rattle.vacate.specs.Placed.{Stored}
 use Rattle.step.specs.Asking.{Loopless}
 use Rattle.carry.specs.Carrying.{Goals, Reaching}
 use Rattle.docket.specs.declared.Carrier.{Carrier as Named}
@@ -23,11 +24,6 @@ pub record Admitted (n : ℕ) (table : List ℕ) (s g : Placement) : Type 0 wher
   pub goals : Goals n g s
   pub loopless : Loopless n table
   pub reaching : Reaching n table
-
--- where there is room for them all, the numbers stand in the list from `at` on, and what stood before is as it was; nothing is said of what stands behind
-pub record Stored (vs out : List ℕ) (at : ℕ) (out′ : List ℕ) : Type 0 where
-  pub long : length out′ ≡ length out
-  pub front : at + length vs ≤ length out → take (at + length vs) out′ ≡ take at out ++ vs
 
 -- the crossings of the procedure were counted, and stored where there was room; or the carrier that it names could not step
 pub record Plays (o : Outcome) (out out′ : List ℕ) (z : Staged) : Type 0 where
