@@ -82,12 +82,12 @@ module _ (Y : Yard) (goals : Placement) (finished : ℕ) (v : Bay) (p : Placemen
     unfolding homeAt _and_
     home-away d = rw (← e, lt-ltb c finished h, ne-eqb (bayOf p c) v d)
 
-    pub home-steps : {n : ℕ} {standing empty out : List ℕ} {at : ℕ} {p′ standing′ empty′ out′ : List ℕ} {m : ℕ} → (bayOf p c ≡ v → ⊥)
+    pub home-steps : {n : ℕ} {out : List ℕ} {at : ℕ} {p′ standing′ empty′ out′ : List ℕ} {m : ℕ} → (bayOf p c ≡ v → ⊥)
         → Proceeds (step Y finished c v p) n p out at p′ standing′ empty′ out′ (Done m) → Stages (homeAt Y goals finished v p) n p out at p′ standing′ empty′ out′ (Planned m)
     unfolding orStuck
     home-steps d a = let s = tried-done (a .tries) in stages-done (home-away d ∙ ap (orStuck c) (s .1)) (s .2)
 
-    pub home-stuck : {n : ℕ} {standing empty out : List ℕ} {at : ℕ} {p′ standing′ empty′ out′ : List ℕ} {f : Named} → f .0 ≡ c → (bayOf p c ≡ v → ⊥)
+    pub home-stuck : {n : ℕ} {out : List ℕ} {at : ℕ} {p′ standing′ empty′ out′ : List ℕ} {f : Named} → f .0 ≡ c → (bayOf p c ≡ v → ⊥)
         → Proceeds (step Y finished c v p) n p out at p′ standing′ empty′ out′ Failed → Stages (homeAt Y goals finished v p) n p out at p′ standing′ empty′ out′ (Stuck f)
     unfolding orStuck
     home-stuck q d a = stages-stuck (home-away d ∙ ap (orStuck c) (tried-failed (a .tries)) ∙ ap stuck (sym q))

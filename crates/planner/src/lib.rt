@@ -19,11 +19,11 @@ pub enum Planned {
     Refused(Refusal),
 }
 
-// Clearing room takes time, and a plan longer than its room is played twice. So there are four rooms, and the one taken follows the lengths
-// measured on 256 bays, the least and the most of 15 random orders each:
+// Clearing room takes time, and a plan longer than its room is played twice. So there are five rooms, and the one taken follows the lengths
+// measured on 256 bays, the least and the most of 15 random orders each, or of 100 where the order is not one of the bench:
 // - random yards with 8 rail ends to a bay: 60 carriers 242 to 300, 128: 767 to 920, 200: 1914 to 2182, 240: 3649 to 4189, 254: 7092 to 10525;
-// - grid of 16 × 16: 60 carriers 1067 to 1526, 128: 3990 to 5459, 200: 11751 to 15942, 240: 32656 to 44029;
-// - lines with sidings: 20 carriers 1808 to 3040, 40: 5413 to 13336.
+// - grid of 16 × 16: 60 carriers 1067 to 1526, 100: 2408 to 3533, 128: 3990 to 5459, 152: 5404 to 7913, 200: 11751 to 15942, 240: 32656 to 44029;
+// - lines with sidings: 20 carriers 1808 to 3040, 24: 1910 to 4358, 32: 3226 to 7430, 40: 5413 to 13336.
 
 // Crossings that the least room holds.
 const LEAST: usize = 1024;
@@ -31,7 +31,10 @@ const LEAST: usize = 1024;
 // Crossings that the second holds.
 const LESS: usize = 4096;
 
-// Crossings that the third holds. The last holds Yard::CROSSINGS, more than which no plan may have.
+// Crossings that the third holds.
+const HALF: usize = 8192;
+
+// Crossings that the fourth holds. The last holds Yard::CROSSINGS, more than which no plan may have.
 const MORE: usize = 16384;
 
 // From so many rail ends to two bays on it is like a grid. All others are narrow, and their plans are long.
@@ -40,19 +43,25 @@ const GRID: usize = 5;
 // Fewer carriers than this have the least room in a dense yard.
 const DENSE_LEAST: usize = 144;
 
-// Fewer than this have the second room there, all others the third.
+// Fewer than this have the second room there, all others the fourth.
 const DENSE_LESS: usize = 224;
 
 // Fewer carriers than this have the second room in a yard like a grid.
-const GRID_LESS: usize = 72;
+const GRID_LESS: usize = 100;
 
-// Fewer than this have the third room there, all others the last.
+// Fewer than this have the third room there.
+const GRID_HALF: usize = 152;
+
+// Fewer than this have the fourth, all others the last.
 const GRID_MORE: usize = 208;
 
 // Fewer carriers than this have the second room in a narrow yard.
 const NARROW_LESS: usize = 24;
 
-// Fewer than this have the third room there, all others the last.
+// Fewer than this have the third room there.
+const NARROW_HALF: usize = 32;
+
+// Fewer than this have the fourth, all others the last.
 const NARROW_MORE: usize = 64;
 
 // What comes of a plan in the room that it was kept in.
@@ -127,6 +136,22 @@ fn hand_out_less(
 }
 
 // With the third.
+fn hand_out_half(
+    table: &[u64; Yard::TABLE],
+    n: usize,
+    ends: usize,
+    start: &[u16],
+    goal: &[u16],
+    out: &mut [u64],
+) -> Handed
+    requires { ⌜ Admitted n (now table) (now start) (now goal) ⌝ }
+    ensures { λ r. ⌜ ((t : Tabled n (now (table .entry))) → HandsIfKept (procedures (t .yard) (now (goal .entry)) (now (start .entry))) (now (out .entry)) r (now (out .exit))) ⌝ }
+{
+    let mut kept = [0u64; HALF];
+    hand_out_in(table, n, ends, start, goal, &mut kept, out)
+}
+
+// With the fourth.
 fn hand_out_more(
     table: &[u64; Yard::TABLE],
     n: usize,
@@ -184,12 +209,13 @@ fn hand_out_dense(
     hand_out_more(table, n, ends, start, goal, out)
 }
 
-// In any other yard: fewer than `less` carriers have the second room, fewer than `more` the third.
+// In any other yard: fewer than `less` carriers have the second room, fewer than `half` the third, fewer than `more` the fourth.
 fn hand_out_sparse(
     table: &[u64; Yard::TABLE],
     n: usize,
     ends: usize,
     less: usize,
+    half: usize,
     more: usize,
     start: &[u16],
     goal: &[u16],
@@ -200,6 +226,9 @@ fn hand_out_sparse(
 {
     if start.len() < less {
         return hand_out_less(table, n, ends, start, goal, out);
+    }
+    if start.len() < half {
+        return hand_out_half(table, n, ends, start, goal, out);
     }
     if start.len() < more {
         return hand_out_more(table, n, ends, start, goal, out);
@@ -225,8 +254,9 @@ fn hand_out_likely(
     }
     let grid = n <= ends / GRID * 2;
     let less = if grid { GRID_LESS } else { NARROW_LESS };
+    let half = if grid { GRID_HALF } else { NARROW_HALF };
     let more = if grid { GRID_MORE } else { NARROW_MORE };
-    hand_out_sparse(table, n, ends, less, more, start, goal, out)
+    hand_out_sparse(table, n, ends, less, half, more, start, goal, out)
 }
 
 // With the likely room, and once more with the last where the plan is longer than that. The likely one is given back by then, so the two share their

@@ -32,8 +32,8 @@ const LOW: usize = 8;
 // From so many rail ends to a bay on a yard is dense: no bay is far, and plans are short.
 pub const DENSE: usize = 6;
 
-// In lent room: a place for each carrier, and one for each bay. Whose goal a bay is, is worked out as who stands there. Nobody is finished yet, so no bay
-// is settled.
+// In lent room: a place for each carrier, and one for each bay. Whose goal a bay is, is worked out as who stands there. Nobody is finished yet,
+// so no bay is settled.
 fn play_on(
     table: &[u64],
     start: &[u16],

@@ -14,8 +14,8 @@ same-length c = search needs
 returns : tie.Need-returns
 returns c = search needs
 
-hand-out-more-requires : tie.Need-hand-out-more-requires
-hand-out-more-requires c κs = search needs
+hand-out-half-requires : tie.Need-hand-out-half-requires
+hand-out-half-requires c κs = search needs
 
 same-length-2 : tie.Need-same-length-2
 same-length-2 c = search needs
@@ -23,14 +23,23 @@ same-length-2 c = search needs
 returns-2 : tie.Need-returns-2
 returns-2 c = search needs
 
-hand-out-most-requires : tie.Need-hand-out-most-requires
-hand-out-most-requires c κs = search needs
+hand-out-more-requires : tie.Need-hand-out-more-requires
+hand-out-more-requires c κs = search needs
 
 same-length-3 : tie.Need-same-length-3
 same-length-3 c = search needs
 
 returns-3 : tie.Need-returns-3
-returns-3 c = λ t. done-if-kept (c .before .before .hand-out-most .ensures t)
+returns-3 c = search needs
+
+hand-out-most-requires : tie.Need-hand-out-most-requires
+hand-out-most-requires c κs = search needs
+
+same-length-4 : tie.Need-same-length-4
+same-length-4 c = search needs
+
+returns-4 : tie.Need-returns-4
+returns-4 c = λ t. done-if-kept (c .before .before .hand-out-most .ensures t)
 
 pub hand-out-sparse-spec : {M : Type 1} → statement M
 hand-out-sparse-spec =
@@ -39,9 +48,12 @@ hand-out-sparse-spec =
     hand-out-less-requires
     same-length
     returns
-    hand-out-more-requires
+    hand-out-half-requires
     same-length-2
     returns-2
-    hand-out-most-requires
+    hand-out-more-requires
     same-length-3
-    returns-3)
+    returns-3
+    hand-out-most-requires
+    same-length-4
+    returns-4)
