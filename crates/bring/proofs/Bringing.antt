@@ -12,19 +12,20 @@ use lib.ListN.{length, getD, drop, drop-of-length-le, set, length-set}
 use lib.Seq.{drop-cons, getD-set-same, getD-set-other}
 use native.Mathlib.Decide.{ℕ-discrete}
 use lib.Dec.{eqb}
+use borrow.Author.Tests.{not-true}
 use Rattle.paper.specs.Basics.{if_then_else_, _or_, _>>=_, elem, In, Out}
 use Rattle.paper.specs.Procedure.{_then_, cross, vacate, bring}
 use Rattle.paper.specs.Yard.{Bay, Carrier, Yard, Placement, bayOf, carrierAt, Crossing, crossing, move, after}
 use Rattle.paper.proofs.Members.{In-head, In-tail, in-count}
 use Rattle.paper.proofs.Playing.{Apart, after-append, after-length, bay-in, out-of}
 use Rattle.paper.proofs.Tests.{by-option, not-both, never-some}
-use Rattle.paper.proofs.Vacating.{Vacated, vacate-vacates}
+use Rattle.paper.proofs.Vacating.{Vacated, vacate-vacates, vacate-empty}
 use Rattle.words.specs.Sets.{mem}
 use Rattle.vacate.specs.Placed.{Played, Placed}
 use Rattle.rings.specs.Search.{Shown}
 use Rattle.vacate.proofs.Playing.{played-none, played-then, carrier-is}
-use Rattle.bring.specs.Acting.{Tabled, Acts, Tries}
-use Rattle.bring.proofs.Acting.{tries-some, tried-done, tried-failed, acted-done}
+use Rattle.bring.specs.Acting.{Tabled, Acts, Tries, entering}
+use Rattle.bring.proofs.Acting.{tries-some, tried-done, tried-failed, acts-some, acted-done}
 use Rattle.bring.specs.declared.Tried.the-variants.{Done}
 use Rattle.bring.specs.declared.Tried.the-variants.{Failed}
 
@@ -35,13 +36,6 @@ ahead xs (some ys) = some (xs ++ ys)
 
 pub bay-low : {n : ℕ} {table : List ℕ} {x : ℕ} (t : Tabled n table) → x < n → x < t .yard .bays
 bay-low t h = rw (t .joins .bays) h
-
--- whoever crosses to an empty bay leaves its own empty
-moved-out : (q : Placement) (L : Carrier) (x : Bay) → Apart q → L < length q → Out x q → Out (bayOf q L) (set q L x)
-moved-out q L x apart h o = out-of (set q L x) (bayOf q L) (λ c k e. elim (ℕ-discrete c L) [
-  | yes d ↦ let same : x ≡ bayOf q L = sym (getD-set-same q L x 0 h) ∙ (rw d at e) in not-both (rw (← same) at (bay-in q L h)) o
-  | no d ↦ d (apart c L (rw length-set at k) h (sym (getD-set-other q L c x 0 d) ∙ e))
-])
 
 -- two held bays
 pub pair-view : {n : ℕ} {table : List ℕ} (t : Tabled n table) (u w : Bay) (h₁ h₂ : List ℕ) → ((y : ℕ) → mem h₁ y ≡ eqb y u)
@@ -58,6 +52,41 @@ abbrev pub pairShown : {n : ℕ} {table : List ℕ} (t : Tabled n table) (u w : 
     → ((y : ℕ) → mem h₂ y ≡ mem h₁ y or eqb y w) → Shown n table h₂
 pairShown t u w h₁ h₂ f g = record { yard = t .yard; bays = u ∷ w ∷ []; joins = t .joins; holds = λ b h. pair-view t u w h₁ h₂ f g b }
 
+-- ## Entering an empty bay
+
+module _ (q : Placement) (L M : Carrier) (x : Bay) (apart : Apart q) (hL : L < length q) (hM : M < length q) (differ : M ≡ L → ⊥) (free : Out x q) where
+  -- whoever crosses to an empty bay leaves its own empty
+  leader-leaves : Out (bayOf q L) (set q L x)
+  leader-leaves = out-of (set q L x) (bayOf q L) (λ c k e. elim (ℕ-discrete c L) [
+    | yes d ↦ let same : x ≡ bayOf q L = sym (getD-set-same q L x 0 hL) ∙ (rw d at e) in not-both (rw (← same) at (bay-in q L hL)) free
+    | no d ↦ d (apart c L (rw length-set at k) hL (sym (getD-set-other q L c x 0 d) ∙ e))
+  ])
+
+  -- the follower's crossing, after the leader's
+  module _ {n : ℕ} {out : List ℕ} {at : ℕ} {q₁ standing₁ empty₁ out₁ : List ℕ} {a : ℕ}
+      (first : Played (crossing (carrierAt q (bayOf q L)) (bayOf q L) x ∷ []) n q q₁ standing₁ empty₁ out at out₁ a) where
+    first-is : Played (crossing L (bayOf q L) x ∷ []) n q q₁ standing₁ empty₁ out at out₁ a
+    first-is = rw (carrier-is q (bayOf q L) L apart hL refl) at first
+
+    first-move : q₁ ≡ set q L x
+    unfolding after
+    first-move = first-is .moved
+
+    follower-inside : M < length q₁
+    follower-inside = rw (first-move, length-set) hM
+
+    follower-stays : bayOf q₁ M ≡ bayOf q M
+    follower-stays = rw first-move (getD-set-other q L M x 0 differ)
+
+    pub followed : In (bayOf q M) q₁ × Out (bayOf q L) q₁
+    followed = (rw follower-stays at (bay-in q₁ M follower-inside), rw first-move leader-leaves)
+
+    pub entered : {q₂ standing₂ empty₂ out₂ : List ℕ} {r : ℕ} → Played (crossing (carrierAt q₁ (bayOf q M)) (bayOf q M) (bayOf q L) ∷ []) n q₁ q₂ standing₂ empty₂ out₁ a out₂ r
+        → Played (entering L M x q) n q q₂ standing₂ empty₂ out at out₂ r
+    entered second =
+        let second-is = rw (carrier-is q₁ (bayOf q M) M (first .placed .apart) follower-inside follower-stays) at second in
+        played-then first-is second-is
+
 -- ## One bay of the path
 
 module _ (Y : Yard) (L M : Carrier) (x : Bay) (p : Placement) (apart : Apart p) (hL : L < length p) (hM : M < length p) (differ : M ≡ L → ⊥)
@@ -65,49 +94,36 @@ module _ (Y : Yard) (L M : Carrier) (x : Bay) (p : Placement) (apart : Apart p) 
   vacated : Vacated Y (bayOf p L ∷ bayOf p M ∷ []) x p vs
   vacated = vacate-vacates Y (bayOf p L ∷ bayOf p M ∷ []) x p vs apart (in-count 0 (Y .bays) x (omega arith) (omega arith)) made
 
-  leader-stays : bayOf (after p vs) L ≡ bayOf p L
-  leader-stays = vacated .keeps L hL (In-head _ _)
+  leader-held : bayOf (after p vs) L ≡ bayOf p L
+  leader-held = vacated .keeps L hL (In-head _ _)
 
-  follower-stays : bayOf (after p vs) M ≡ bayOf p M
-  follower-stays = vacated .keeps M hM (In-tail _ _ _ (In-head _ _))
-
-  -- the leader's crossing: from its bay into x
-  leader-there : In (bayOf p L) (after p vs)
-  leader-there = rw leader-stays at (bay-in (after p vs) L (rw after-length hL))
-
-  leader-free : Out x (after p vs)
-  leader-free = vacated .empties
-
-  leader-is : Apart (after p vs) → carrierAt (after p vs) (bayOf p L) ≡ L
-  leader-is a = carrier-is (after p vs) (bayOf p L) L a (rw after-length hL) leader-stays
-
-  abbrev one : Crossing
-  one = crossing L (bayOf p L) x
+  follower-held : bayOf (after p vs) M ≡ bayOf p M
+  follower-held = vacated .keeps M hM (In-tail _ _ _ (In-head _ _))
 
   abbrev q : Placement
   q = after p vs
 
+  next-free : Out x q
+  next-free = vacated .empties
+
+  enters-alike : entering L M x q ≡ entering L M x p
+  enters-alike = rw (leader-held, follower-held)
+
+  abbrev one : Crossing
+  one = crossing L (bayOf p L) x
+
   follower-next : bayOf (move q one) M ≡ bayOf p M
-  follower-next = getD-set-other q L M x 0 differ ∙ follower-stays
-
-  follower-there : In (bayOf p M) (move q one)
-  follower-there = rw follower-next at (bay-in (move q one) M (rw (length-set, after-length) hM))
-
-  follower-is : Apart (move q one) → carrierAt (move q one) (bayOf p M) ≡ M
-  follower-is a = carrier-is (move q one) (bayOf p M) M a (rw (length-set, after-length) hM) follower-next
-
-  leader-leaves : Apart (after p vs) → Out (bayOf p L) (move q one)
-  leader-leaves a = rw leader-stays at (moved-out (after p vs) L x a (rw after-length hL) leader-free)
+  follower-next = getD-set-other q L M x 0 differ ∙ follower-held
 
   abbrev two : Crossing
   two = crossing M (bayOf p M) (bayOf p L)
 
   abbrev made-here : List Crossing
-  made-here = vs ++ (one ∷ two ∷ [])
+  made-here = vs ++ entering L M x p
 
   bring-on : (xs : List Bay) → bring Y L M (x ∷ xs) p ≡ ahead made-here (bring Y L M xs (after p made-here))
   unfolding bring _then_ cross after
-  bring-on xs = rw (made, after-append, leader-stays, follower-next) (regroup (bring Y L M xs (move (move q one) two)))
+  bring-on xs = rw (made, after-append, leader-held, follower-next) (regroup (bring Y L M xs (move (move q one) two)))
     where
       regroup : (o : Option (List Crossing))
           → ((some (one ∷ []) >>= λ a. ((some (two ∷ []) >>= λ b. o >>= λ d. some (b ++ d)) >>= λ b. some (a ++ b))) >>= λ b. some (vs ++ b)) ≡ ahead made-here o
@@ -151,43 +167,35 @@ module _ (Y : Yard) (n : ℕ) (L M : Carrier) (x : Bay) (p : Placement) (apart :
   made-of : (xs : List Crossing) × (vacate Y (bayOf p L ∷ bayOf p M ∷ []) x p ≡ some xs) × Played xs n p q standing₁ empty₁ out at out₁ a
   made-of = acted-done acts
 
-  pub led : In (bayOf p L) q × Out x q × (carrierAt q (bayOf p L) ≡ L) × Placed n q standing₁ empty₁
+  -- what the vacate leaves: both are there, and x is empty
+  pub led : (L < length q) × (M < length q) × Out x q × Placed n q standing₁ empty₁
   led =
       let m = made-of in
       let e = m .2 .moved in (
-        rw e (leader-there Y L M x p apart hL hM differ hx (m .0) (m .1)),
-        rw e (leader-free Y L M x p apart hL hM differ hx (m .0) (m .1)),
-        rw e (leader-is Y L M x p apart hL hM differ hx (m .0) (m .1) (rw e at (m .2 .placed .apart))),
+        rw (e, after-length) hL,
+        rw (e, after-length) hM,
+        rw e (next-free Y L M x p apart hL hM differ hx (m .0) (m .1)),
         m .2 .placed,
       )
 
-  -- the follower's crossing, after the leader's
-  module _ {q₁ standing₂ empty₂ out₂ : List ℕ} {b : ℕ}
-      (first : Played (crossing (carrierAt q (bayOf p L)) (bayOf p L) x ∷ []) n q q₁ standing₂ empty₂ out₁ a out₂ b) where
-    first-move : q₁ ≡ move q (crossing L (bayOf p L) x)
-    unfolding after
-    first-move = first .moved ∙ rw (led .2)
+  pub brought-one : {q₂ standing₂ empty₂ out₂ : List ℕ} {r : ℕ} → Played (entering L M x q) n q q₂ standing₂ empty₂ out₁ a out₂ r
+      → Tries (bring Y L M (x ∷ []) p) n p out at q₂ standing₂ empty₂ out₂ (Done r)
+  brought-one {q₂} {standing₂} {empty₂} {out₂} {r} entry =
+      let m = made-of in
+      let alike : entering L M x q ≡ entering L M x p = rw (m .2 .moved) (enters-alike Y L M x p apart hL hM differ hx (m .0) (m .1)) in
+      let entry-is : Played (entering L M x p) n q q₂ standing₂ empty₂ out₁ a out₂ r = rw alike at entry in
+      let nil : (s : Placement) → bring Y L M [] s ≡ some [] = λ s. unfold bring in refl in
+      let on : bring Y L M (x ∷ []) p ≡ some ((m .0 ++ entering L M x p) ++ []) =
+      bring-on Y L M x p apart hL hM differ hx (m .0) (m .1) [] ∙ rw nil in
+      tries-some on (rw append-nil (played-then (m .2) entry-is))
 
-    pub followed : In (bayOf p M) q₁ × Out (bayOf p L) q₁ × (carrierAt q₁ (bayOf p M) ≡ M)
-    followed =
-        let m = made-of in
-        let e = m .2 .moved in
-        let f : q₁ ≡ move (after p (m .0)) (crossing L (bayOf p L) x) = first-move ∙ ap (λ (s : Placement). move s (crossing L (bayOf p L) x)) e in (
-          rw f (follower-there Y L M x p apart hL hM differ hx (m .0) (m .1)),
-          rw f (leader-leaves Y L M x p apart hL hM differ hx (m .0) (m .1) (rw e at (m .2 .placed .apart))),
-          rw f (follower-is Y L M x p apart hL hM differ hx (m .0) (m .1) (rw f at (first .placed .apart))),
-        )
+-- an empty bay is vacated already
+module _ {n : ℕ} {standing empty : List ℕ} (x : Bay) (p : Placement) (k : Placed n p standing empty) (hx : x < n) (h : true ≡ mem empty x) where
+  pub free : Out x p
+  free = not-true (elem x p) (sym (k .empties x hx) ∙ sym h)
 
-    pub brought-one : {q₂ standing₃ empty₃ out₃ : List ℕ} {r : ℕ} → Played (crossing (carrierAt q₁ (bayOf p M)) (bayOf p M) (bayOf p L) ∷ []) n q₁ q₂ standing₃ empty₃ out₂ b out₃ r
-        → Tries (bring Y L M (x ∷ []) p) n p out at q₂ standing₃ empty₃ out₃ (Done r)
-    brought-one {q₂} {standing₃} {empty₃} {out₃} {r} second =
-        let m = made-of in
-        let one-is : Played (crossing L (bayOf p L) x ∷ []) n q q₁ standing₂ empty₂ out₁ a out₂ b = rw (led .2) at first in
-        let two-is : Played (crossing M (bayOf p M) (bayOf p L) ∷ []) n q₁ q₂ standing₃ empty₃ out₂ b out₃ r = rw (followed .2) at second in
-        let nil : (s : Placement) → bring Y L M [] s ≡ some [] = λ s. unfold bring in refl in
-        let on : bring Y L M (x ∷ []) p ≡ some ((m .0 ++ (crossing L (bayOf p L) x ∷ crossing M (bayOf p M) (bayOf p L) ∷ [])) ++ []) =
-        bring-on Y L M x p apart hL hM differ hx (m .0) (m .1) [] ∙ rw nil in
-        tries-some on (rw append-nil (played-then (m .2) (played-then one-is two-is)))
+  pub acts-free : {out : List ℕ} {at : ℕ} (Y : Yard) (held : List Bay) → Acts (vacate Y held x p) n p standing empty out at p standing empty out (Done at)
+  acts-free {out} {at} Y held = acts-some (vacate-empty Y held x p free) (played-none n p standing empty out at k)
 
 pub brought-not : (Y : Yard) (L M : Carrier) (x : Bay) (p : Placement) → vacate Y (bayOf p L ∷ bayOf p M ∷ []) x p ≡ none → (xs : List Bay) → bring Y L M (x ∷ xs) p ≡ none
 unfolding bring _then_
@@ -200,7 +208,7 @@ module _ (Y : Yard) (L M : Carrier) (x : Bay) (p : Placement) (apart : Apart p) 
       by-option (vacate Y (bayOf p L ∷ bayOf p M ∷ []) x p)
       (λ none-made. never-some cs (sym (brought-not Y L M x p none-made []) ∙ e))
       (λ vs made.
-      let here : List Crossing = vs ++ (crossing L (bayOf p L) x ∷ crossing M (bayOf p M) (bayOf p L) ∷ []) in
+      let here : List Crossing = vs ++ entering L M x p in
       let nil : bring Y L M [] (after p here) ≡ some [] = unfold bring in refl in
       let z : bring Y L M (x ∷ []) p ≡ some here = bring-on Y L M x p apart hL hM differ hx vs made [] ∙ rw (nil, append-nil here) in
       let same : here ≡ cs = let y = sym z ∙ e in cc in
@@ -211,7 +219,7 @@ module _ (Y : Yard) (L M : Carrier) (x : Bay) (p : Placement) (apart : Apart p) 
       by-option (vacate Y (bayOf p L ∷ bayOf p M ∷ []) x p)
       (λ none-made. brought-not Y L M x p none-made xs)
       (λ vs made.
-      let here : List Crossing = vs ++ (crossing L (bayOf p L) x ∷ crossing M (bayOf p M) (bayOf p L) ∷ []) in
+      let here : List Crossing = vs ++ entering L M x p in
       let nil : bring Y L M [] (after p here) ≡ some [] = unfold bring in refl in
       let z : bring Y L M (x ∷ []) p ≡ some here = bring-on Y L M x p apart hL hM differ hx vs made [] ∙ rw (nil, append-nil here) in
       never-some here (sym e ∙ z))

@@ -1,12 +1,12 @@
 -- What actions in code are lent and what they answer: the paper's crossings were played and counted, or the action failed.
 -- Assumes nothing.
 use mathlib.Core.Path.{_≡_}
-use mathlib.Core.List.{List}
+use mathlib.Core.List.{List, [], _∷_}
 use mathlib.Core.Option.{Option, none, some}
 use Prim.Native.Nat.{ℕ, _≤_, _+_, _*_}
 use lib.ListN.{length}
 use Rattle.paper.specs.Procedure.{vacate, bring}
-use Rattle.paper.specs.Yard.{Bay, Carrier, Yard, Placement, Crossing}
+use Rattle.paper.specs.Yard.{Bay, Carrier, Yard, Placement, Crossing, crossing, bayOf}
 use Rattle.words.specs.Sets.{words, span}
 use Rattle.yard.specs.Table.{Table}
 use Rattle.levels.specs.Levels.{Levelled}
@@ -58,6 +58,10 @@ pub record Tries (o : Option (List Crossing)) (n : ℕ) (p out : List ℕ) (at :
 pub record Proceeds (o : Option (List Crossing)) (n : ℕ) (p out : List ℕ) (at : ℕ) (p′ standing′ empty′ out′ : List ℕ) (r : Tried) : Type 0 where
   pub tries : Tries o n p out at p′ standing′ empty′ out′ r
   pub still : r ≡ Failed → p′ ≡ p
+
+-- l goes into x, and m follows into l's bay
+abbrev pub entering : Carrier → Carrier → Bay → Placement → List Crossing
+entering L M x p = crossing L (bayOf p L) x ∷ crossing M (bayOf p M) (bayOf p L) ∷ []
 
 -- (the code's functions have the same names)
 abbrev pub vacates : Yard → List Bay → Bay → Placement → Option (List Crossing)

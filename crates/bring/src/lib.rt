@@ -8,11 +8,13 @@ ghost use mathlib.Core.List.{[], _∷_};
 ghost use Prim.Native.Nat.{ℕ, _+_, _*_, _^_, _≤_, _<_};
 ghost use lib.ListN.{length, getD, set};
 ghost use lib.Seq.{sets};
+ghost use Rattle.paper.specs.Basics.{Out};
 ghost use Rattle.paper.specs.Procedure.{trade};
 ghost use Rattle.words.specs.Sets.{words, span};
 ghost use Rattle.rings.specs.Search.{Shown};
 ghost use Rattle.vacate.specs.Answer.{countAfter};
-ghost use Rattle.bring.specs.Acting.{Tabled, Ready, countOf, Within, Acts, Tries, vacates, brings};
+ghost use Rattle.vacate.specs.Placed.{Placed, Played};
+ghost use Rattle.bring.specs.Acting.{Tabled, Ready, countOf, Within, Acts, Tries, entering, vacates, brings};
 ghost use Rattle.bring.specs.Turning.{Crossings, Small, Holds, turned, numbers};
 
 // The count of crossings afterwards, or that it could not be done.
@@ -51,7 +53,30 @@ pub fn make_room(
     counted(answer, at)
 }
 
-// One bay of the path: it is vacated, holding both carriers' bays; l crosses into it, and m into l's old bay.
+// l crosses into the empty bay x, and m into l's old bay.
+fn enter(
+    l: Carrier,
+    m: Carrier,
+    x: Bay,
+    placement: &mut [u16],
+    standing: &mut [u16],
+    empty: &mut [u64],
+    out: &mut [u64],
+    at: usize,
+) -> usize
+    requires { ⌜ (l .0 < length (now placement)) × (m .0 < length (now placement)) × (m .0 ≡ l .0 → ⊥) × (x .0 < length (now standing)) × (length (now standing) ≤ span) × (length (now empty) ≡ words) × (at < 2 ^ 62 + span) × Out (x .0) (now placement) × Placed (length (now standing)) (now placement) (now standing) (now empty) ⌝ }
+    ensures { λ r. ⌜ Played (entering (l .0) (m .0) (x .0) (now (placement .entry))) (length (now (standing .entry))) (now (placement .entry)) (now (placement .exit)) (now (standing .exit)) (now (empty .exit)) (now (out .entry)) at (now (out .exit)) r ⌝ }
+{
+    let first = l.0 as usize;
+    let second = m.0 as usize;
+    let u = Bay(placement[first]);
+    let w = Bay(placement[second]);
+    let a = vacate::cross(placement, standing, empty, u, x, out, at);
+    vacate::cross(placement, standing, empty, w, u, out, a)
+}
+
+// One bay of the path: it is vacated, holding both carriers' bays; l crosses into it, and m into l's old bay. Vacating an empty bay moves
+// nothing, so it wants no search.
 fn bring_one(
     table: &[u64],
     l: Carrier,
@@ -67,6 +92,9 @@ fn bring_one(
     requires { ⌜ (l .0 < length (now placement)) × (m .0 < length (now placement)) × (m .0 ≡ l .0 → ⊥) × (x .0 < length (now standing)) × (at < 2 ^ 62) ⌝ }
     ensures { λ r. ⌜ (Within at 258 r) × ((t : Tabled (length (now (standing .entry))) (now (table .entry))) → Tries (brings (t .yard) (l .0) (m .0) (x .0 ∷ []) (now (placement .entry))) (length (now (standing .entry))) (now (placement .entry)) (now (out .entry)) at (now (placement .exit)) (now (standing .exit)) (now (empty .exit)) (now (out .exit)) r) ⌝ }
 {
+    if words::is_in(empty, x.0 as usize) {
+        return Tried::Done(enter(l, m, x, placement, standing, empty, out, at));
+    }
     let first = l.0 as usize;
     let second = m.0 as usize;
     let u = placement[first];
@@ -78,8 +106,7 @@ fn bring_one(
     let Tried::Done(a) = vacated else {
         return Tried::Failed;
     };
-    let b = vacate::cross(placement, standing, empty, Bay(u), x, out, a);
-    Tried::Done(vacate::cross(placement, standing, empty, Bay(w), Bay(u), out, b))
+    Tried::Done(enter(l, m, x, placement, standing, empty, out, a))
 }
 
 // Bring, along the bays that the leader l has yet to enter.

@@ -1,21 +1,55 @@
--- `bring::bring_one` meets its contract. The vacate holds both bays, so both carriers are where they were when they cross. Either carrier's
--- bay would be low enough to be held: that it is m's is what the vacate's answer asks.
+-- `bring::bring_one` meets its contract. An empty bay is vacated already. The vacate holds both bays, so both carriers are where they were when they
+-- cross. Either carrier's bay would be low enough to be held: that it is m's is what the vacate's answer asks.
 -- Assumes nothing.
-use mathlib.Core.Path.{_≡_}
+use mathlib.Core.Path.{_≡_, sym, _∙_}
 use native.Mathlib.Omega.{arith}
 use lib.ListN.{length}
 use mathlib.Core.List.{[]}
 use borrow.Author.Needs.{needs}
 use Rattle.bring.proofs.Acting.{tries-none, acted-failed}
-use Rattle.bring.proofs.Bringing.{bay-low, pairShown, led, followed, brought-one, brought-not}
+use Rattle.bring.proofs.Bringing.{bay-low, pairShown, led, brought-one, free, acts-free, brought-not}
 use Rattle.bring.specs.declared.Tried.the-variants.{Done}
 use Rattle.bring.specs.declared.Tried.the-variants.{Failed}
 use Rattle.bring.proofs.bring_one.Statement.{statement}
 use Rattle.bring.proofs.bring_one.Tie as tie
-use Rattle.bring.proofs.bring_one.Reads as reads
-use Rattle.bring.proofs.bring_one.Lts as lts
-use Rattle.bring.proofs.make_room.Reads as make-room-reads
-use Rattle.vacate.proofs.cross.Reads as cross-reads
+
+cast-is-in : tie.Need-cast-is-in
+cast-is-in c = search needs
+
+is-in-requires : tie.Need-is-in-requires
+is-in-requires c κs = search needs
+
+enter-requires : tie.Need-enter-requires
+enter-requires c κs =
+    let p = c .before .before .before .before .before .before .before .before .before .before .before .before .before .pre .0 in
+    let z = c .before .before .before .before .before .before .before .before .before .before .before .before .before .pre .1 in
+    let a = c .before .before .before .before .before .before .before .before .before .before .before .before .before .args in
+    let h = sym (c .before .before .before .before .if1 .taken) ∙ c .before .before .before .before .before .is-in .ensures in
+    (z .0, z .1, z .2, z .3, p .most, p .empty-size, omega (arith, z .4), free (a .x .0) (a .placement .now) (p .placed) (z .3) h, p .placed)
+
+same-length : tie.Need-same-length
+same-length c = search needs
+
+same-length-2 : tie.Need-same-length-2
+same-length-2 c = search needs
+
+same-length-3 : tie.Need-same-length-3
+same-length-3 c = search needs
+
+same-length-4 : tie.Need-same-length-4
+same-length-4 c = search needs
+
+returns : tie.Need-returns
+returns c =
+    let p = c .before .before .before .before .before .before .before .before .before .before .before .before .before .before .before .before .before .before .before .before .before .before .pre .0 in
+    let z = c .before .before .before .before .before .before .before .before .before .before .before .before .before .before .before .before .before .before .before .before .before .before .pre .1 in
+    let a = c .before .before .before .before .before .before .before .before .before .before .before .before .before .before .before .before .before .before .before .before .before .before .args in
+    let h = sym (c .before .before .before .before .before .before .before .before .before .before .before .before .before .if1 .taken) ∙ c .before .before .before .before .before .before .before .before .before .before .before .before .before .before .is-in .ensures in
+    let entry = c .before .before .before .before .before .before .before .before .enter .ensures in (
+      omega (arith, entry .counted),
+      λ t.
+          brought-one (t .yard) (length (a .standing .now)) (a .l .0) (a .m .0) (a .x .0) (a .placement .now) (p .placed .apart) (z .0) (z .1) (z .2) (bay-low t (z .3)) (acts-free (a .x .0) (a .placement .now) (p .placed) (z .3) h (t .yard) _) entry,
+    )
 
 cast-first : tie.Need-cast-first
 cast-first c = search needs
@@ -40,14 +74,14 @@ slice-aggregate-alone c = search needs
 
 cast-alone : tie.Need-cast-alone
 cast-alone c =
-    let p = c .before .before .before .before .before .before .before .before .before .before .pre in
-    let a = c .before .before .before .before .before .before .before .before .before .before .args in
+    let p = c .before .before .before .before .before .before .before .before .before .before .before .before .before .before .pre in
+    let a = c .before .before .before .before .before .before .before .before .before .before .before .before .before .before .args in
     omega (arith, p .0 .placed .inside (a .l .0) (p .1 .0))
 
 alone-requires : tie.Need-alone-requires
 alone-requires c κs =
-    let p = c .before .before .before .before .before .before .before .before .before .before .pre in
-    let a = c .before .before .before .before .before .before .before .before .before .before .args in
+    let p = c .before .before .before .before .before .before .before .before .before .before .before .before .before .before .pre in
+    let a = c .before .before .before .before .before .before .before .before .before .before .before .before .before .before .args in
     (omega arith, omega (arith, p .0 .placed .inside (a .l .0) (p .1 .0), p .0 .most))
 
 slice-aggregate-join : tie.Need-slice-aggregate-join
@@ -55,14 +89,14 @@ slice-aggregate-join c = search needs
 
 cast-join : tie.Need-cast-join
 cast-join c =
-    let p = c .before .before .before .before .before .before .before .before .before .before .before .before .before .pre in
-    let a = c .before .before .before .before .before .before .before .before .before .before .before .before .before .args in
+    let p = c .before .before .before .before .before .before .before .before .before .before .before .before .before .before .before .before .before .pre in
+    let a = c .before .before .before .before .before .before .before .before .before .before .before .before .before .before .before .before .before .args in
     omega (arith, p .0 .placed .inside (a .l .0) (p .1 .0), p .0 .placed .inside (a .m .0) (p .1 .1))
 
 join-requires : tie.Need-join-requires
 join-requires c κs =
-    let p = c .before .before .before .before .before .before .before .before .before .before .before .before .before .pre in
-    let a = c .before .before .before .before .before .before .before .before .before .before .before .before .before .args in
+    let p = c .before .before .before .before .before .before .before .before .before .before .before .before .before .before .before .before .before .pre in
+    let a = c .before .before .before .before .before .before .before .before .before .before .before .before .before .before .before .before .before .args in
     (omega arith, omega (arith, p .0 .placed .inside (a .l .0) (p .1 .0), p .0 .placed .inside (a .m .0) (p .1 .1), p .0 .most))
 
 slice-aggregate-make-room : tie.Need-slice-aggregate-make-room
@@ -70,8 +104,8 @@ slice-aggregate-make-room c = search needs
 
 make-room-requires : tie.Need-make-room-requires
 make-room-requires c κs =
-    let p = c .before .before .before .before .before .before .before .before .before .before .before .before .before .before .before .before .before .before .before .before .pre .0 in
-    let z = c .before .before .before .before .before .before .before .before .before .before .before .before .before .before .before .before .before .before .before .before .pre .1 in
+    let p = c .before .before .before .before .before .before .before .before .before .before .before .before .before .before .before .before .before .before .before .before .before .before .before .before .pre .0 in
+    let z = c .before .before .before .before .before .before .before .before .before .before .before .before .before .before .before .before .before .before .before .before .before .before .before .before .pre .1 in
     (p, (z .3, omega arith, z .4, pairShown (p .tabled) _ _ _ _ (c .before .before .before .before .before .before .before .before .before .alone .ensures) (c .before .before .before .before .before .before .join .ensures)))
 
 enum-known-vacated : tie.Need-enum-known-vacated
@@ -80,68 +114,8 @@ enum-known-vacated c = search needs
 enum-told : tie.Need-enum-told
 enum-told c = search needs
 
-same-length : tie.Need-same-length
-same-length c = search needs
-
-same-length-2 : tie.Need-same-length-2
-same-length-2 c = search needs
-
-same-length-3 : tie.Need-same-length-3
-same-length-3 c = search needs
-
-same-length-4 : tie.Need-same-length-4
-same-length-4 c = search needs
-
 same-length-5 : tie.Need-same-length-5
 same-length-5 c = search needs
-
-returns : tie.Need-returns
-returns c =
-    let z = c .before .before .before .before .before .before .before .before .before .before .before .before .before .before .before .before .before .before .before .before .before .before .before .before .before .before .before .before .before .before .before .pre .1 in (
-      tt,
-      λ t.
-          let v = pairShown t _ _ _ _ (c .before .before .before .before .before .before .before .before .before .before .before .before .before .before .before .before .before .before .before .before .alone .ensures) (c .before .before .before .before .before .before .before .before .before .before .before .before .before .before .before .before .before .join .ensures) in
-          let e : c .before .before .before .before .before .before .before .before .before .before .make-room .result ≡ Failed = c .enum-told .given .1 in
-          tries-none (brought-not (t .yard) (c .before .before .before .before .before .before .before .before .before .before .before .before .before .before .before .before .before .before .before .before .before .before .before .before .before .before .before .before .before .before .before .args .l .0) (c .before .before .before .before .before .before .before .before .before .before .before .before .before .before .before .before .before .before .before .before .before .before .before .before .before .before .before .before .before .before .before .args .m .0) (c .before .before .before .before .before .before .before .before .before .before .before .before .before .before .before .before .before .before .before .before .before .before .before .before .before .before .before .before .before .before .before .args .x .0) (c .before .before .before .before .before .before .before .before .before .before .before .before .before .before .before .before .before .before .before .before .before .before .before .before .before .before .before .before .before .before .before .args .placement .now) (acted-failed (rw e at (c .before .before .before .before .before .before .before .before .before .before .make-room .ensures .1 v))) []),
-    )
-
-cross-requires : tie.Need-cross-requires
-cross-requires c κs =
-    let p = c .before .before .before .before .before .before .before .before .before .before .before .before .before .before .before .before .before .before .before .before .before .before .before .before .before .before .before .before .before .before .before .before .before .before .before .before .pre .0 in
-    let z = c .before .before .before .before .before .before .before .before .before .before .before .before .before .before .before .before .before .before .before .before .before .before .before .before .before .before .before .before .before .before .before .before .before .before .before .before .pre .1 in
-    let a = c .before .before .before .before .before .before .before .before .before .before .before .before .before .before .before .before .before .before .before .before .before .before .before .before .before .before .before .before .before .before .before .before .before .before .before .before .args in
-    let m = c .before .before .before .before .before .vacated .given .0 .0 in
-    let e : c .before .before .before .before .before .before .before .before .before .before .before .before .before .before .before .make-room .result ≡ Done m = c .before .before .before .before .before .vacated .given .1 in
-    let few = rw e at (c .before .before .before .before .before .before .before .before .before .before .before .before .before .before .before .make-room .ensures .0) in
-    let kw : length (c .before .before .before .before .before .before .before .before .before .before .before .before .before .before .before .make-room .last .1 .1 .1 .1 .0) ≡ length (a .standing .now) = c .before .before .before .before .before .before .before .before .before .before .before .before .before .before .before .make-room .kept .1 .1 .1 .1 .0 in
-    let kf : length (c .before .before .before .before .before .before .before .before .before .before .before .before .before .before .before .make-room .last .1 .1 .1 .1 .1 .0) ≡ length (a .empty .now) = c .before .before .before .before .before .before .before .before .before .before .before .before .before .before .before .make-room .kept .1 .1 .1 .1 .1 .0 in
-    let hu = p .placed .inside (a .l .0) (z .0) in
-    let hw = p .placed .inside (a .m .0) (z .1) in
-    let acts = rw e at (c .before .before .before .before .before .before .before .before .before .before .before .before .before .before .before .make-room .ensures .1 (pairShown (p .tabled) _ _ _ _ (c .before .before .before .before .before .before .before .before .before .before .before .before .before .before .before .before .before .before .before .before .before .before .before .before .before .alone .ensures) (c .before .before .before .before .before .before .before .before .before .before .before .before .before .before .before .before .before .before .before .before .before .before .join .ensures))) in
-    let hx = bay-low (p .tabled) (z .3) in
-    let l = led (p .tabled .yard) (length (a .standing .now)) (a .l .0) (a .m .0) (a .x .0) (a .placement .now) (p .placed .apart) (z .0) (z .1) (z .2) hx acts in
-    (omega (arith, hu, kw), omega (arith, z .3, kw), omega (arith, p .most, kw), omega (arith, p .empty-size, kf), omega (arith, few, z .4), l .0, l .1, rw kw (l .3))
-
-cross-requires-2 : tie.Need-cross-requires-2
-cross-requires-2 c κs =
-    let p = c .before .before .before .before .before .before .before .before .before .before .before .before .before .before .before .before .before .before .before .before .before .before .before .before .before .before .before .before .before .before .before .before .before .before .before .before .before .before .before .before .before .before .before .before .before .before .before .before .before .pre .0 in
-    let z = c .before .before .before .before .before .before .before .before .before .before .before .before .before .before .before .before .before .before .before .before .before .before .before .before .before .before .before .before .before .before .before .before .before .before .before .before .before .before .before .before .before .before .before .before .before .before .before .before .before .pre .1 in
-    let a = c .before .before .before .before .before .before .before .before .before .before .before .before .before .before .before .before .before .before .before .before .before .before .before .before .before .before .before .before .before .before .before .before .before .before .before .before .before .before .before .before .before .before .before .before .before .before .before .before .before .args in
-    let m = c .before .before .before .before .before .before .before .before .before .before .before .before .before .before .before .before .before .before .vacated .given .0 .0 in
-    let e : c .before .before .before .before .before .before .before .before .before .before .before .before .before .before .before .before .before .before .before .before .before .before .before .before .before .before .before .before .make-room .result ≡ Done m = c .before .before .before .before .before .before .before .before .before .before .before .before .before .before .before .before .before .before .vacated .given .1 in
-    let few = rw e at (c .before .before .before .before .before .before .before .before .before .before .before .before .before .before .before .before .before .before .before .before .before .before .before .before .before .before .before .before .make-room .ensures .0) in
-    let kw : length (c .before .before .before .before .before .before .before .before .before .before .before .before .before .before .before .before .before .before .before .before .before .before .before .before .before .before .before .before .make-room .last .1 .1 .1 .1 .0) ≡ length (a .standing .now) = c .before .before .before .before .before .before .before .before .before .before .before .before .before .before .before .before .before .before .before .before .before .before .before .before .before .before .before .before .make-room .kept .1 .1 .1 .1 .0 in
-    let kf : length (c .before .before .before .before .before .before .before .before .before .before .before .before .before .before .before .before .before .before .before .before .before .before .before .before .before .before .before .before .make-room .last .1 .1 .1 .1 .1 .0) ≡ length (a .empty .now) = c .before .before .before .before .before .before .before .before .before .before .before .before .before .before .before .before .before .before .before .before .before .before .before .before .before .before .before .before .make-room .kept .1 .1 .1 .1 .1 .0 in
-    let hu = p .placed .inside (a .l .0) (z .0) in
-    let hw = p .placed .inside (a .m .0) (z .1) in
-    let acts = rw e at (c .before .before .before .before .before .before .before .before .before .before .before .before .before .before .before .before .before .before .before .before .before .before .before .before .before .before .before .before .make-room .ensures .1 (pairShown (p .tabled) _ _ _ _ (c .before .before .before .before .before .before .before .before .before .before .before .before .before .before .before .before .before .before .before .before .before .before .before .before .before .before .before .before .before .before .before .before .before .before .before .before .before .before .alone .ensures) (c .before .before .before .before .before .before .before .before .before .before .before .before .before .before .before .before .before .before .before .before .before .before .before .before .before .before .before .before .before .before .before .before .before .before .before .join .ensures))) in
-    let hx = bay-low (p .tabled) (z .3) in
-    let l = led (p .tabled .yard) (length (a .standing .now)) (a .l .0) (a .m .0) (a .x .0) (a .placement .now) (p .placed .apart) (z .0) (z .1) (z .2) hx acts in
-    let first = rw kw at (c .before .before .before .before .before .before .before .before .before .before .before .before .cross .ensures) in
-    let g = followed (p .tabled .yard) (length (a .standing .now)) (a .l .0) (a .m .0) (a .x .0) (a .placement .now) (p .placed .apart) (z .0) (z .1) (z .2) hx acts first in
-    let kw2 : length (c .before .before .before .before .before .before .before .before .before .before .before .before .cross .last .1 .0) ≡ length (c .before .before .before .before .before .before .before .before .before .before .before .before .before .before .before .before .before .before .before .before .before .before .before .before .before .before .before .before .make-room .last .1 .1 .1 .1 .0) = c .before .before .before .before .before .before .before .before .before .before .before .before .cross .kept .1 .0 in
-    let kf2 : length (c .before .before .before .before .before .before .before .before .before .before .before .before .cross .last .1 .1 .0) ≡ length (c .before .before .before .before .before .before .before .before .before .before .before .before .before .before .before .before .before .before .before .before .before .before .before .before .before .before .before .before .make-room .last .1 .1 .1 .1 .1 .0) = c .before .before .before .before .before .before .before .before .before .before .before .before .cross .kept .1 .1 .0 in
-    (omega (arith, hw, kw, kw2), omega (arith, hu, kw, kw2), omega (arith, p .most, kw, kw2), omega (arith, p .empty-size, kf, kf2), omega (arith, few, z .4, first .counted), g .0, g .1, rw (kw2, kw) (first .placed))
 
 same-length-6 : tie.Need-same-length-6
 same-length-6 c = search needs
@@ -154,30 +128,68 @@ same-length-8 c = search needs
 
 returns-2 : tie.Need-returns-2
 returns-2 c =
-    let p = c .before .before .before .before .before .before .before .before .before .before .before .before .before .before .before .before .before .before .before .before .before .before .before .before .before .before .before .before .before .before .before .before .before .before .before .before .before .before .before .before .before .before .before .before .before .before .before .before .before .before .before .before .before .before .before .before .before .before .pre .0 in
-    let z = c .before .before .before .before .before .before .before .before .before .before .before .before .before .before .before .before .before .before .before .before .before .before .before .before .before .before .before .before .before .before .before .before .before .before .before .before .before .before .before .before .before .before .before .before .before .before .before .before .before .before .before .before .before .before .before .before .before .before .pre .1 in
-    let a = c .before .before .before .before .before .before .before .before .before .before .before .before .before .before .before .before .before .before .before .before .before .before .before .before .before .before .before .before .before .before .before .before .before .before .before .before .before .before .before .before .before .before .before .before .before .before .before .before .before .before .before .before .before .before .before .before .before .before .args in
-    let m = c .before .before .before .before .before .before .before .before .before .before .before .before .before .before .before .before .before .before .before .before .before .before .before .before .before .before .before .vacated .given .0 .0 in
-    let e : c .before .before .before .before .before .before .before .before .before .before .before .before .before .before .before .before .before .before .before .before .before .before .before .before .before .before .before .before .before .before .before .before .before .before .before .before .before .make-room .result ≡ Done m = c .before .before .before .before .before .before .before .before .before .before .before .before .before .before .before .before .before .before .before .before .before .before .before .before .before .before .before .vacated .given .1 in
-    let few = rw e at (c .before .before .before .before .before .before .before .before .before .before .before .before .before .before .before .before .before .before .before .before .before .before .before .before .before .before .before .before .before .before .before .before .before .before .before .before .before .make-room .ensures .0) in
-    let kw : length (c .before .before .before .before .before .before .before .before .before .before .before .before .before .before .before .before .before .before .before .before .before .before .before .before .before .before .before .before .before .before .before .before .before .before .before .before .before .make-room .last .1 .1 .1 .1 .0) ≡ length (a .standing .now) = c .before .before .before .before .before .before .before .before .before .before .before .before .before .before .before .before .before .before .before .before .before .before .before .before .before .before .before .before .before .before .before .before .before .before .before .before .before .make-room .kept .1 .1 .1 .1 .0 in
-    let kf : length (c .before .before .before .before .before .before .before .before .before .before .before .before .before .before .before .before .before .before .before .before .before .before .before .before .before .before .before .before .before .before .before .before .before .before .before .before .before .make-room .last .1 .1 .1 .1 .1 .0) ≡ length (a .empty .now) = c .before .before .before .before .before .before .before .before .before .before .before .before .before .before .before .before .before .before .before .before .before .before .before .before .before .before .before .before .before .before .before .before .before .before .before .before .before .make-room .kept .1 .1 .1 .1 .1 .0 in
-    let hu = p .placed .inside (a .l .0) (z .0) in
-    let hw = p .placed .inside (a .m .0) (z .1) in
-    let kw2 : length (c .before .before .before .before .before .before .before .before .before .before .before .before .before .before .before .before .before .before .before .before .before .cross .last .1 .0) ≡ length (c .before .before .before .before .before .before .before .before .before .before .before .before .before .before .before .before .before .before .before .before .before .before .before .before .before .before .before .before .before .before .before .before .before .before .before .before .before .make-room .last .1 .1 .1 .1 .0) = c .before .before .before .before .before .before .before .before .before .before .before .before .before .before .before .before .before .before .before .before .before .cross .kept .1 .0 in
-    let first = rw kw at (c .before .before .before .before .before .before .before .before .before .before .before .before .before .before .before .before .before .before .before .before .before .cross .ensures) in
-    let second = rw (kw2, kw) at (c .before .before .before .before .before .before .before .before .cross2 .ensures) in (
-      omega (arith, few, first .counted, second .counted),
+    let z = c .before .before .before .before .before .before .before .before .before .before .before .before .before .before .before .before .before .before .before .before .before .before .before .before .before .before .before .before .before .before .before .before .before .before .before .pre .1 in (
+      tt,
       λ t.
-          let acts = rw e at (c .before .before .before .before .before .before .before .before .before .before .before .before .before .before .before .before .before .before .before .before .before .before .before .before .before .before .before .before .before .before .before .before .before .before .before .before .before .make-room .ensures .1 (pairShown (t) _ _ _ _ (c .before .before .before .before .before .before .before .before .before .before .before .before .before .before .before .before .before .before .before .before .before .before .before .before .before .before .before .before .before .before .before .before .before .before .before .before .before .before .before .before .before .before .before .before .before .before .before .alone .ensures) (c .before .before .before .before .before .before .before .before .before .before .before .before .before .before .before .before .before .before .before .before .before .before .before .before .before .before .before .before .before .before .before .before .before .before .before .before .before .before .before .before .before .before .before .before .join .ensures))) in
-          let hx = bay-low (t) (z .3) in
-          brought-one (t .yard) (length (a .standing .now)) (a .l .0) (a .m .0) (a .x .0) (a .placement .now) (p .placed .apart) (z .0) (z .1) (z .2) hx acts first second,
+          let v = pairShown t _ _ _ _ (c .before .before .before .before .before .before .before .before .before .before .before .before .before .before .before .before .before .before .before .before .alone .ensures) (c .before .before .before .before .before .before .before .before .before .before .before .before .before .before .before .before .before .join .ensures) in
+          let e : c .before .before .before .before .before .before .before .before .before .before .make-room .result ≡ Failed = c .enum-told .given .1 in
+          tries-none (brought-not (t .yard) (c .before .before .before .before .before .before .before .before .before .before .before .before .before .before .before .before .before .before .before .before .before .before .before .before .before .before .before .before .before .before .before .before .before .before .before .args .l .0) (c .before .before .before .before .before .before .before .before .before .before .before .before .before .before .before .before .before .before .before .before .before .before .before .before .before .before .before .before .before .before .before .before .before .before .before .args .m .0) (c .before .before .before .before .before .before .before .before .before .before .before .before .before .before .before .before .before .before .before .before .before .before .before .before .before .before .before .before .before .before .before .before .before .before .before .args .x .0) (c .before .before .before .before .before .before .before .before .before .before .before .before .before .before .before .before .before .before .before .before .before .before .before .before .before .before .before .before .before .before .before .before .before .before .before .args .placement .now) (acted-failed (rw e at (c .before .before .before .before .before .before .before .before .before .before .make-room .ensures .1 v))) []),
+    )
+
+enter-requires-2 : tie.Need-enter-requires-2
+enter-requires-2 c κs =
+    let p = c .before .before .before .before .before .before .before .before .before .before .before .before .before .before .before .before .before .before .before .before .before .before .before .before .before .before .before .before .before .before .before .before .before .before .before .before .before .before .before .before .pre .0 in
+    let z = c .before .before .before .before .before .before .before .before .before .before .before .before .before .before .before .before .before .before .before .before .before .before .before .before .before .before .before .before .before .before .before .before .before .before .before .before .before .before .before .before .pre .1 in
+    let a = c .before .before .before .before .before .before .before .before .before .before .before .before .before .before .before .before .before .before .before .before .before .before .before .before .before .before .before .before .before .before .before .before .before .before .before .before .before .before .before .before .args in
+    let m = c .before .before .before .before .before .vacated .given .0 .0 in
+    let e : c .before .before .before .before .before .before .before .before .before .before .before .before .before .before .before .make-room .result ≡ Done m = c .before .before .before .before .before .vacated .given .1 in
+    let few = rw e at (c .before .before .before .before .before .before .before .before .before .before .before .before .before .before .before .make-room .ensures .0) in
+    let kw : length (c .before .before .before .before .before .before .before .before .before .before .before .before .before .before .before .make-room .last .1 .1 .1 .1 .0) ≡ length (a .standing .now) = c .before .before .before .before .before .before .before .before .before .before .before .before .before .before .before .make-room .kept .1 .1 .1 .1 .0 in
+    let kf : length (c .before .before .before .before .before .before .before .before .before .before .before .before .before .before .before .make-room .last .1 .1 .1 .1 .1 .0) ≡ length (a .empty .now) = c .before .before .before .before .before .before .before .before .before .before .before .before .before .before .before .make-room .kept .1 .1 .1 .1 .1 .0 in
+    let acts = rw e at (c .before .before .before .before .before .before .before .before .before .before .before .before .before .before .before .make-room .ensures .1 (pairShown (p .tabled) _ _ _ _ (c .before .before .before .before .before .before .before .before .before .before .before .before .before .before .before .before .before .before .before .before .before .before .before .before .before .alone .ensures) (c .before .before .before .before .before .before .before .before .before .before .before .before .before .before .before .before .before .before .before .before .before .before .join .ensures))) in
+    let l = led (p .tabled .yard) (length (a .standing .now)) (a .l .0) (a .m .0) (a .x .0) (a .placement .now) (p .placed .apart) (z .0) (z .1) (z .2) (bay-low (p .tabled) (z .3)) acts in
+    (l .0, l .1, z .2, omega (arith, z .3, kw), omega (arith, p .most, kw), omega (arith, p .empty-size, kf), omega (arith, few, z .4), l .2, rw kw (l .3))
+
+same-length-9 : tie.Need-same-length-9
+same-length-9 c = search needs
+
+same-length-10 : tie.Need-same-length-10
+same-length-10 c = search needs
+
+same-length-11 : tie.Need-same-length-11
+same-length-11 c = search needs
+
+same-length-12 : tie.Need-same-length-12
+same-length-12 c = search needs
+
+returns-3 : tie.Need-returns-3
+returns-3 c =
+    let p = c .before .before .before .before .before .before .before .before .before .before .before .before .before .before .before .before .before .before .before .before .before .before .before .before .before .before .before .before .before .before .before .before .before .before .before .before .before .before .before .before .before .before .before .before .before .before .before .before .before .pre .0 in
+    let z = c .before .before .before .before .before .before .before .before .before .before .before .before .before .before .before .before .before .before .before .before .before .before .before .before .before .before .before .before .before .before .before .before .before .before .before .before .before .before .before .before .before .before .before .before .before .before .before .before .before .pre .1 in
+    let a = c .before .before .before .before .before .before .before .before .before .before .before .before .before .before .before .before .before .before .before .before .before .before .before .before .before .before .before .before .before .before .before .before .before .before .before .before .before .before .before .before .before .before .before .before .before .before .before .before .before .args in
+    let m = c .before .before .before .before .before .before .before .before .before .before .before .before .before .before .vacated .given .0 .0 in
+    let e : c .before .before .before .before .before .before .before .before .before .before .before .before .before .before .before .before .before .before .before .before .before .before .before .before .make-room .result ≡ Done m = c .before .before .before .before .before .before .before .before .before .before .before .before .before .before .vacated .given .1 in
+    let few = rw e at (c .before .before .before .before .before .before .before .before .before .before .before .before .before .before .before .before .before .before .before .before .before .before .before .before .make-room .ensures .0) in
+    let kw : length (c .before .before .before .before .before .before .before .before .before .before .before .before .before .before .before .before .before .before .before .before .before .before .before .before .make-room .last .1 .1 .1 .1 .0) ≡ length (a .standing .now) = c .before .before .before .before .before .before .before .before .before .before .before .before .before .before .before .before .before .before .before .before .before .before .before .before .make-room .kept .1 .1 .1 .1 .0 in
+    let entry = rw kw at (c .before .before .before .before .before .before .before .before .enter2 .ensures) in (
+      omega (arith, few, entry .counted),
+      λ t.
+          let acts = rw e at (c .before .before .before .before .before .before .before .before .before .before .before .before .before .before .before .before .before .before .before .before .before .before .before .before .make-room .ensures .1 (pairShown t _ _ _ _ (c .before .before .before .before .before .before .before .before .before .before .before .before .before .before .before .before .before .before .before .before .before .before .before .before .before .before .before .before .before .before .before .before .before .before .alone .ensures) (c .before .before .before .before .before .before .before .before .before .before .before .before .before .before .before .before .before .before .before .before .before .before .before .before .before .before .before .before .before .before .before .join .ensures))) in
+          brought-one (t .yard) (length (a .standing .now)) (a .l .0) (a .m .0) (a .x .0) (a .placement .now) (p .placed .apart) (z .0) (z .1) (z .2) (bay-low t (z .3)) acts entry,
     )
 
 pub bring-one-spec : {M : Type 1} → statement M
 bring-one-spec =
     tie.close
     (tie.spec
+    cast-is-in
+    is-in-requires
+    enter-requires
+    same-length
+    same-length-2
+    same-length-3
+    same-length-4
+    returns
     cast-first
     cast-second
     mul-u
@@ -194,15 +206,14 @@ bring-one-spec =
     make-room-requires
     enum-known-vacated
     enum-told
-    same-length
-    same-length-2
-    same-length-3
-    same-length-4
-    returns
-    cross-requires
-    cross-requires-2
     same-length-5
     same-length-6
     same-length-7
     same-length-8
-    returns-2)
+    returns-2
+    enter-requires-2
+    same-length-9
+    same-length-10
+    same-length-11
+    same-length-12
+    returns-3)

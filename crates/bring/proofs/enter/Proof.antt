@@ -1,0 +1,91 @@
+-- `bring::enter` meets its contract. The leader's crossing leaves its bay empty and the follower where it was.
+-- Assumes nothing.
+use mathlib.Core.Path.{_≡_}
+use native.Mathlib.Omega.{arith}
+use lib.ListN.{length}
+use borrow.Author.Needs.{needs}
+use Rattle.paper.proofs.Playing.{bay-in}
+use Rattle.bring.proofs.Bringing.{followed, entered}
+use Rattle.bring.proofs.enter.Statement.{statement}
+use Rattle.bring.proofs.enter.Tie as tie
+
+cast-first : tie.Need-cast-first
+cast-first c = search needs
+
+cast-second : tie.Need-cast-second
+cast-second c = search needs
+
+mul-t14 : tie.Need-mul-t14
+mul-t14 c = search needs
+
+slice-read-t16 : tie.Need-slice-read-t16
+slice-read-t16 c = search needs
+
+mul-t14-2 : tie.Need-mul-t14-2
+mul-t14-2 c = search needs
+
+slice-read-t16-2 : tie.Need-slice-read-t16-2
+slice-read-t16-2 c = search needs
+
+cross-requires : tie.Need-cross-requires
+cross-requires c κs =
+    let z = c .before .before .before .before .before .before .before .before .before .before .before .before .pre in
+    let a = c .before .before .before .before .before .before .before .before .before .before .before .before .args in
+    (z .8 .inside (a .l .0) (z .0), z .3, z .4, z .5, omega (arith, z .6), bay-in (a .placement .now) (a .l .0) (z .0), z .7, z .8)
+
+cross-requires-2 : tie.Need-cross-requires-2
+cross-requires-2 c κs =
+    let z = c .before .before .before .before .before .before .before .before .before .before .before .before .before .before .before .before .before .before .before .before .before .before .before .before .before .pre in
+    let a = c .before .before .before .before .before .before .before .before .before .before .before .before .before .before .before .before .before .before .before .before .before .before .before .before .before .args in
+    let first = c .before .before .before .before .before .before .before .before .before .before .before .before .cross .ensures in
+    let f = followed (a .placement .now) (a .l .0) (a .m .0) (a .x .0) (z .8 .apart) (z .0) (z .1) (z .2) (z .7) first in
+    let kw : length (c .before .before .before .before .before .before .before .before .before .before .before .before .cross .last .1 .0) ≡ length (a .standing .now) = c .before .before .before .before .before .before .before .before .before .before .before .before .cross .kept .1 .0 in
+    let kf : length (c .before .before .before .before .before .before .before .before .before .before .before .before .cross .last .1 .1 .0) ≡ length (a .empty .now) = c .before .before .before .before .before .before .before .before .before .before .before .before .cross .kept .1 .1 .0 in (
+      omega (arith, z .8 .inside (a .m .0) (z .1), kw),
+      omega (arith, z .8 .inside (a .l .0) (z .0), kw),
+      omega (arith, z .4, kw),
+      omega (arith, z .5, kf),
+      omega (arith, z .6, first .counted),
+      f .0,
+      f .1,
+      rw kw (first .placed),
+    )
+
+same-length : tie.Need-same-length
+same-length c = search needs
+
+same-length-2 : tie.Need-same-length-2
+same-length-2 c = search needs
+
+same-length-3 : tie.Need-same-length-3
+same-length-3 c = search needs
+
+same-length-4 : tie.Need-same-length-4
+same-length-4 c = search needs
+
+returns : tie.Need-returns
+returns c =
+    let z = c .before .before .before .before .before .before .before .before .before .before .before .before .before .before .before .before .before .before .before .before .before .before .before .before .before .before .before .before .before .before .before .before .before .before .pre in
+    let a = c .before .before .before .before .before .before .before .before .before .before .before .before .before .before .before .before .before .before .before .before .before .before .before .before .before .before .before .before .before .before .before .before .before .before .args in
+    let first = c .before .before .before .before .before .before .before .before .before .before .before .before .before .before .before .before .before .before .before .before .before .cross .ensures in
+    let kw : length (c .before .before .before .before .before .before .before .before .before .before .before .before .before .before .before .before .before .before .before .before .before .cross .last .1 .0) ≡ length (a .standing .now) = c .before .before .before .before .before .before .before .before .before .before .before .before .before .before .before .before .before .before .before .before .before .cross .kept .1 .0 in
+    let second = rw kw at (c .before .before .before .before .before .before .before .before .cross2 .ensures) in
+    entered (a .placement .now) (a .l .0) (a .m .0) (a .x .0) (z .8 .apart) (z .0) (z .1) (z .2) (z .7) first second
+
+pub enter-spec : {M : Type 1} → statement M
+enter-spec =
+    tie.close
+    (tie.spec
+    cast-first
+    cast-second
+    mul-t14
+    slice-read-t16
+    mul-t14-2
+    slice-read-t16-2
+    cross-requires
+    cross-requires-2
+    same-length
+    same-length-2
+    same-length-3
+    same-length-4
+    returns)
