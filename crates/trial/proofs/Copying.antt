@@ -15,7 +15,7 @@ use Rattle.paper.specs.Basics.{_and_, elem, upTo, In}
 use Rattle.paper.specs.Path.{Free, Route, Way, nearestFirst, shortestPath, pathBetween}
 use Rattle.paper.specs.Procedure.{trialLed, trial}
 use Rattle.paper.specs.Yard.{Bay, Carrier, Yard, Placement, bayOf}
-use Rattle.paper.proofs.Members.{nothing-in-nil, count-high, in-count}
+use Rattle.paper.proofs.Members.{nothing-in-nil, count-high, in-count, In-head, out-cons}
 use Rattle.bring.specs.Acting.{Ready, Tabled}
 use Rattle.paper.proofs.Rings.{joined-sym}
 use Rattle.paper.proofs.Shortest.{shortest-path}
@@ -24,6 +24,7 @@ use Rattle.paper.proofs.Tests.{not-both, never-some, and-left, and-right, some-
 use Rattle.words.specs.Sets.{mem, words, span, memRow}
 use Rattle.words.proofs.Sets.{zeros, mem-zeros}
 use Rattle.rings.specs.Search.{Shown}
+use Rattle.vacate.proofs.Beside.{beside-path}
 use Rattle.trial.specs.Trying.{Wrote, Led, Near}
 use Rattle.bring.specs.declared.Tried.{Tried}
 
@@ -102,6 +103,16 @@ path-own {Y = Y} {v = v} near h e = rw e (path-alone Y v h (rw e at (near .reach
 pub alone-inside : (u n : ℕ) → u < n → (k : ℕ) → k < 1 → getD (u ∷ []) k 0 < n
 alone-inside u n h zero m = h
 alone-inside u n h (suc k) m = absurd (omega arith)
+
+-- the shortest path to a bay beside is those two bays
+pub path-beside : {n : ℕ} {table : List ℕ} (t : Tabled n table) (u v : Bay) → n ≤ span → u < n → v < n → (u ≡ v → ⊥) → true ≡ memRow table u v → u ∷ v ∷ [] ≡ shortestPath (t .yard) [] u v
+path-beside t u v most hu hv ne m =
+    beside-path (t .yard) [] u (u ∷ []) v (in-bays t hu, nothing-in-nil u) (In-head u []) (sym (m ∙ t .joins .same u v hu (omega arith))) (in-bays t hv, nothing-in-nil v)
+    (out-cons v u [] (λ e. ne (sym e)) (nothing-in-nil v))
+
+pub two-inside : (u v n : ℕ) → u < n → v < n → (k : ℕ) → k < 2 → getD (u ∷ v ∷ []) k 0 < n
+two-inside u v n h i zero m = h
+two-inside u v n h i (suc k) m = alone-inside v n i k (omega arith)
 
 pub path-missing : {P : Type 0} {Y : Yard} {r s : Carrier} {v : Bay} {p : Placement} → Near Y r s v p → none ≡ pathBetween Y [] (bayOf p r) v → P
 unfolding pathBetween

@@ -313,7 +313,8 @@ fn try_along(
     )
 }
 
-// A trial at v of the swap of r with its neighbour s. From r's own bay, the nearest junction, the path is that bay alone.
+// A trial at v of the swap of r with its neighbour s. From r's own bay, the nearest junction, the path is that bay alone; to
+// a junction beside it, those two bays.
 pub fn try_at(
     table: &[u64],
     v: Bay,
@@ -333,6 +334,10 @@ pub fn try_at(
     let u = placement[carrier];
     if u == v.0 {
         let path = [u];
+        return try_on(table, &path, v, r, s, placement, standing, empty, out, at);
+    }
+    if words::is_in(table, u as usize * words::SPAN + v.0 as usize) {
+        let path = [u, v.0];
         return try_on(table, &path, v, r, s, placement, standing, empty, out, at);
     }
     try_along(table, v, r, s, placement, standing, empty, out, at)

@@ -1,9 +1,9 @@
--- `trial::try_at` meets its contract. The shortest path of a bay to itself is the bay alone.
+-- `trial::try_at` meets its contract. The shortest path of a bay to itself is the bay alone, and to a bay beside it those two.
 -- Assumes nothing.
-use mathlib.Core.Path.{_≡_}
+use mathlib.Core.Path.{_≡_, sym, _∙_}
 use native.Mathlib.Omega.{arith}
 use Rattle.paper.specs.Yard.{bayOf}
-use Rattle.trial.proofs.Copying.{in-bays, path-own, alone-inside}
+use Rattle.trial.proofs.Copying.{in-bays, path-own, alone-inside, path-beside, two-inside}
 use borrow.Author.Needs.{needs}
 use Rattle.trial.proofs.try_at.Statement.{statement}
 use Rattle.trial.proofs.try_at.Tie as tie
@@ -35,14 +35,58 @@ returns c =
     let own : bayOf (c .before .before .before .before .before .before .before .before .before .before .before .before .before .before .args .placement .now) (c .before .before .before .before .before .before .before .before .before .before .before .before .before .before .args .r .0) ≡ c .before .before .before .before .before .before .before .before .before .before .before .before .before .before .args .v .0 = c .before .before .before .before .before .if1 .taken in
     (c .before .before .try-on .ensures .0, λ t near. c .before .before .try-on .ensures .1 t near (path-own near (in-bays t (z .3)) own))
 
-try-along-requires : tie.Need-try-along-requires
-try-along-requires c κs = search needs
+cast-is-in : tie.Need-cast-is-in
+cast-is-in c =
+    let s = c .before .before .before .before .before .before .before .before .before in
+    omega (arith, s .pre .0 .placed .inside (s .args .r .0) (s .pre .1 .0), s .pre .0 .most)
+
+mul-is-in : tie.Need-mul-is-in
+mul-is-in c =
+    let s = c .before .before .before .before .before .before .before .before .before in
+    omega (arith, s .pre .0 .placed .inside (s .args .r .0) (s .pre .1 .0), s .pre .0 .most)
+
+cast-is-in-2 : tie.Need-cast-is-in-2
+cast-is-in-2 c = search needs
+
+add-is-in : tie.Need-add-is-in
+add-is-in c =
+    let s = c .before .before .before .before .before .before .before .before .before .before in
+    omega (arith, s .pre .0 .placed .inside (s .args .r .0) (s .pre .1 .0), s .pre .0 .most, s .pre .1 .3)
+
+is-in-requires : tie.Need-is-in-requires
+is-in-requires c κs =
+    let s = c .before .before .before .before .before .before .before .before .before .before in
+    omega (arith, s .pre .0 .placed .inside (s .args .r .0) (s .pre .1 .0), s .pre .0 .most, s .pre .1 .3, s .pre .0 .table-size)
+
+slice-aggregate-try-on-2 : tie.Need-slice-aggregate-try-on-2
+slice-aggregate-try-on-2 c = search needs
+
+try-on-requires-2 : tie.Need-try-on-requires-2
+try-on-requires-2 c κs =
+    let s = c .before .before .before .before .before .before .before .before .before .before .before .before .before .before in
+    let p = s .pre .0 in
+    let z = s .pre .1 in
+    (p, (z .0, z .1, z .2, z .3, two-inside _ _ _ (p .placed .inside (s .args .r .0) (z .0)) (z .3), omega arith, z .4, omega arith))
 
 same-length-2 : tie.Need-same-length-2
 same-length-2 c = search needs
 
 returns-2 : tie.Need-returns-2
-returns-2 c = search needs
+returns-2 c =
+    let s = c .before .before .before .before .before .before .before .before .before .before .before .before .before .before .before .before .before in
+    let p = s .pre .0 in
+    let z = s .pre .1 in
+    let rail = sym (c .before .before .before .before .before .if2 .taken) ∙ c .before .before .before .before .before .before .is-in .ensures in
+    (c .before .before .try-on2 .ensures .0, λ t near. c .before .before .try-on2 .ensures .1 t near (path-beside t _ _ (p .most) (p .placed .inside (s .args .r .0) (z .0)) (z .3) (c .before .before .before .before .before .before .before .before .if1 .left) rail))
+
+try-along-requires : tie.Need-try-along-requires
+try-along-requires c κs = search needs
+
+same-length-3 : tie.Need-same-length-3
+same-length-3 c = search needs
+
+returns-3 : tie.Need-returns-3
+returns-3 c = search needs
 
 pub try-at-spec : {M : Type 1} → statement M
 try-at-spec =
@@ -55,6 +99,15 @@ try-at-spec =
     try-on-requires
     same-length
     returns
-    try-along-requires
+    cast-is-in
+    mul-is-in
+    cast-is-in-2
+    add-is-in
+    is-in-requires
+    slice-aggregate-try-on-2
+    try-on-requires-2
     same-length-2
-    returns-2)
+    returns-2
+    try-along-requires
+    same-length-3
+    returns-3)
