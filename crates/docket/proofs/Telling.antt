@@ -1,8 +1,8 @@
 -- What the code's crossings and refusals read as tells any two of them apart, so a statement about the reading fixes the value;
 -- and a crossing and its number are had back from each other.
-use mathlib.Core.Path.{_≡_, refl, sym, _∙_, ap}
+use mathlib.Core.Path.{_≡_, refl, _∙_, ap}
 use Prim.Native.Nat.{ℕ, _<_, _^_}
-use Rattle.paper.specs.Yard.{Crossing, pack, unpack}
+use Rattle.paper.specs.Yard.{pack, unpack}
 use Rattle.paper.specs.Docket as paper
 use Rattle.paper.proofs.Determined.{Telling, telling-by}
 use Rattle.paper.proofs.Packing.{unpack-pack, pack-unpack}

@@ -1,16 +1,14 @@
 -- What is kept follows the definitions case by case: a digit more, a field at its index, a byte of the version.
-use mathlib.Core.Path.{_≡_, refl, sym, _∙_, ap}
-use mathlib.Core.Bool.{Bool, true, false, not}
-use mathlib.Core.List.{List, [], _∷_, _++_}
-use mathlib.Core.Option.{Option, none, some}
-use Prim.Native.Nat.{ℕ, zero, suc, _+_, _-_, _*_, _≤_, _<_}
+use mathlib.Core.Path.{_≡_, sym, _∙_}
+use mathlib.Core.Bool.{Bool, true, false}
+use Prim.Native.Nat.{ℕ, suc, _+_, _-_, _*_, _≤_, _<_}
 use native.Mathlib.Omega.{arith}
 use lib.Dec.{eqb, ltb, leb}
-use lib.ListN.{length, getD}
+use lib.ListN.{getD}
 use borrow.Author.Tests.{leb-true, ltb-true}
-use Rattle.paper.specs.Basics.{if_then_else_, _and_, _or_, _>>=_}
-use Rattle.paper.proofs.Tests.{by-cases, and-left, and-right}
-use Rattle.paper.specs.Text.{isDigit, isPoint, text}
+use Rattle.paper.specs.Basics.{if_then_else_, _and_, _or_}
+use Rattle.paper.proofs.Tests.{and-left, and-right}
+use Rattle.paper.specs.Text.{isDigit, text}
 use native.Mathlib.Numerals.{add-one}
 use lib.ListN.{List·getD-eq-default}
 use borrow.Author.Tests.{ne-eqb, lt-ltb, le-ltb, le-leb}

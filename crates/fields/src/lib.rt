@@ -1,9 +1,9 @@
 // What is kept of a scenario's line, byte by byte: the version under way, a field under way, and the fields that are past. Straight
 // functions over tiny ones, each equal to its definition.
 ghost use mathlib.Core.Path.{_≡_};
-ghost use mathlib.Core.Bool.{Bool, true, false, not};
-ghost use Prim.Native.Nat.{ℕ, suc, _≤_, _<_};
-ghost use lib.Dec.{eqb, ltb, leb};
+ghost use mathlib.Core.Bool.{true, false};
+ghost use Prim.Native.Nat.{suc, _<_};
+ghost use lib.Dec.{ltb, leb};
 ghost use Rattle.paper.specs.Basics.{if_then_else_, _and_, _or_};
 ghost use Rattle.paper.specs.Text.{isDigit, isPoint, text};
 ghost use Rattle.paper.specs.Bytes.{matchByte, matched, grow, tally, sizedField, numberField, lengthField, keepAt, wellField};

@@ -1,18 +1,18 @@
 -- The first bytes of a file decide what it reads as, once they are more than the longest good file has: a line that is cut off there is too
 -- long already, and so is the whole line. So a program reads that many bytes of a file of any length and no more.
 use mathlib.Core.Path.{_≡_, refl, sym, _∙_, ap}
-use mathlib.Core.Bool.{Bool, true, false, not}
+use mathlib.Core.Bool.{true, false}
 use mathlib.Core.List.{List, [], _∷_, _++_}
-use mathlib.Core.Option.{Option, none, some}
-use Prim.Native.Nat.{ℕ, zero, suc, _+_, _-_, _*_, _≤_, _<_}
+use mathlib.Core.Option.{Option, some}
+use Prim.Native.Nat.{ℕ, zero, suc, _+_, _-_, _≤_, _<_}
 use native.Mathlib.Omega.{arith}
 use lib.Dec.{eqb, ltb}
 use lib.ListN.{length, take, length-append}
 use lib.Seq.{take-all, take-append-le, take-append-add, length-take-le}
 use borrow.Author.Tests.{ltb-true, ltb-false, eqb-true}
-use Rattle.paper.specs.Basics.{if_then_else_, if-some_then_else_, _and_}
+use Rattle.paper.specs.Basics.{_and_}
 use Rattle.paper.specs.Text.{Text, LF, CR, lines, all, Read, badLine, readLines}
-use Rattle.paper.proofs.Tests.{by-cases, by-option, never, and-left, and-right, and-both}
+use Rattle.paper.proofs.Tests.{by-cases, by-option}
 use Rattle.lines.specs.Lines.{noLF}
 use Rattle.lines.proofs.Cut.{chop, lines-cut, lines-last, first-plain, rest-plain}
 

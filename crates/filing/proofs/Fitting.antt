@@ -1,5 +1,5 @@
 -- Every order fits in 16,384 ends of rails and 254 carriers: a cell is the lower bay of two rails at most, and a 255th carrier's line is bad.
-use mathlib.Core.Path.{_≡_, refl, sym, _∙_, ap}
+use mathlib.Core.Path.{_≡_, refl, ap}
 use mathlib.Core.Bool.{Bool, true, false}
 use mathlib.Core.List.{List, [], _∷_, _++_, map}
 use mathlib.Core.Option.{Option, none, some}
@@ -9,15 +9,15 @@ use native.Mathlib.Nat.{mul-le-mul}
 use lib.Dec.{ltb}
 use lib.ListN.{length, length-append}
 use borrow.Author.Tests.{ltb-true}
-use Rattle.paper.specs.Basics.{if_then_else_, if-some_then_else_, _and_, _or_, _>>=_, when, concat, countFrom, upTo}
+use Rattle.paper.specs.Basics.{if_then_else_, if-some_then_else_, _and_, _or_, concat, countFrom, upTo}
 use Rattle.paper.specs.Yard.{Bay}
 use Rattle.paper.specs.Text.{Text, text, TAB, lines, split, same, Read, good, badLine, readLines}
-use Rattle.paper.specs.Map.{Grid, readMap, cells, bayAt, numberAt, bayCount, bayIn, railsAt, railEnds}
+use Rattle.paper.specs.Map.{Grid, readMap, cells, bayAt, numberAt, bayIn, railsAt, railEnds}
 use Rattle.paper.specs.Scenario.{Listed, versionDue, carriers, most-carriers, carrierLine, scenarioLine, scenarioEnd, readScenario}
 use Rattle.paper.specs.Program.{readFile}
 use Rattle.paper.proofs.Tests.{by-cases, by-option, never, some-when, some-from}
 use Rattle.gridmap.proofs.Good.{Sized}
-use Rattle.filing.specs.Filing.{Filed, order, refusal, carriersFiled, mapFiled, filed}
+use Rattle.filing.specs.Filing.{order, carriersFiled, mapFiled, filed}
 use Rattle.filing.proofs.Joining.{by-read, map-is-sized}
 
 -- ## Rails

@@ -1,9 +1,9 @@
 -- What the parts read is the order: the cells that the map's reading leaves give the map's own rails and bays.
-use mathlib.Core.Path.{_≡_, refl, sym, _∙_, ap}
+use mathlib.Core.Path.{_≡_, refl, _∙_, ap}
 use mathlib.Core.Bool.{Bool, true, false}
 use mathlib.Core.List.{List}
 use mathlib.Core.Option.{Option, none, some}
-use Prim.Native.Nat.{ℕ, _+_, _*_, _≤_}
+use Prim.Native.Nat.{ℕ, _*_, _≤_}
 use native.Mathlib.Omega.{arith}
 use native.Mathlib.Nat.{mul-le-mul}
 use lib.ListN.{length}
@@ -12,7 +12,6 @@ use Rattle.paper.specs.Yard.{Bay}
 use Rattle.paper.specs.Text.{Text, Read, good, badLine}
 use Rattle.paper.specs.Map.{Grid, readMap, cells, bayCount, bayIn, railEnds}
 use Rattle.paper.specs.Scenario.{readScenario}
-use Rattle.paper.specs.Answers.{Answer}
 use Rattle.paper.specs.Program.{readFile, planRead, scenarioRead, programAnswer}
 use Rattle.stores.specs.Writing.{Wrote}
 use Rattle.paper.proofs.Tests.{never}
@@ -22,16 +21,15 @@ use Rattle.docket.specs.Reading.{refusalOf}
 use Rattle.gridmap.specs.declared.Grid.{Grid as Held}
 use Rattle.gridmap.specs.declared.MapRead.{MapRead}
 use Rattle.gridmap.specs.declared.MapRead.the-variants as map-read
-use Rattle.gridmap.specs.Cells.{numbering, railsIn, bayFound, shapeOf, cellsAfter, Reads as MapReads}
+use Rattle.gridmap.specs.Cells.{numbering, railsIn, bayFound, shapeOf, Reads as MapReads}
 use Rattle.gridmap.proofs.Good.{Sized, map-sized}
 use Rattle.gridmap.proofs.OfMap.{rails-of-map}
 use Rattle.scenario.specs.declared.ScenarioRead.{ScenarioRead}
 use Rattle.scenario.specs.declared.ScenarioRead.the-variants as scenario-read
-use Rattle.scenario.specs.Under.{bayBy, countRead, Reads as ScenarioReads}
+use Rattle.scenario.specs.Under.{countRead, Reads as ScenarioReads}
 use Rattle.scenario.proofs.OfMap.{reads-of-map}
-use Rattle.filing.specs.declared.Ordered.{Ordered}
 use Rattle.filing.specs.declared.Ordered.the-variants as the
-use Rattle.filing.specs.Filing.{fileOf, MapFiled, scenarioIn, ScenarioFiled, Filed, order, refusal, carriersFiled, mapFiled, filed, answered, counts, Files}
+use Rattle.filing.specs.Filing.{fileOf, MapFiled, scenarioIn, ScenarioFiled, order, refusal, carriersFiled, mapFiled, filed, answered, counts, Files}
 
 -- ## One file
 pub map-there : {q : Bool} {file before after : List ℕ} {r : MapRead} → q ≡ true → MapReads file before r after → MapFiled (fileOf q file) before r after

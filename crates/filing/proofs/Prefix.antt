@@ -1,23 +1,23 @@
 -- 4,264 bytes of a map and 49,036 of a scenario decide what the program prints: the longest good files are one byte shorter.
 use mathlib.Core.Path.{_≡_, refl, sym, _∙_, ap}
-use mathlib.Core.Bool.{Bool, true, false}
+use mathlib.Core.Bool.{true}
 use mathlib.Core.List.{List, [], _∷_, _++_}
 use mathlib.Core.Option.{Option, none, some}
-use Prim.Native.Nat.{ℕ, zero, suc, _+_, _-_, _*_, _≤_, _<_}
+use Prim.Native.Nat.{ℕ, suc, _+_, _-_, _*_, _≤_, _<_}
 use native.Mathlib.Omega.{arith}
 use native.Mathlib.Nat.{mul-le-mul, add-mul}
 use lib.Dec.{eqb, ltb, leb}
 use lib.ListN.{length, getD, take, drop, length-append, take-append-drop, drop-of-length-le}
 use lib.Seq.{drop-cons}
 use borrow.Author.Tests.{ltb-true, leb-true, eqb-true, eq-eqb}
-use Rattle.paper.specs.Basics.{if_then_else_, if-some_then_else_, _and_, _or_, _>>=_, when}
+use Rattle.paper.specs.Basics.{_and_, _or_}
 use Rattle.paper.specs.Yard.{Bay}
-use Rattle.paper.specs.Text.{Text, text, TAB, join, lines, split, same, all, value, sized, isNumber, Read, good, badLine, readLines}
+use Rattle.paper.specs.Text.{Text, text, TAB, join, split, same, value, sized, isNumber, Read, good, badLine}
 use Rattle.paper.specs.Map.{Grid, Due, typeDue, heightDue, widthDue, mapDue, rowDue, sideAfter, isRow, mapLine, mapEnd, readMap, bayIn}
 use Rattle.paper.specs.Scenario.{Listed, versionDue, carriers, most-carriers, isLength, nineFields, carrierLine, scenarioLine, scenarioEnd, readScenario}
 use Rattle.paper.specs.Print.{printed}
 use Rattle.paper.specs.Program.{readFile, scenarioRead, programAnswer, program}
-use Rattle.paper.proofs.Tests.{by-cases, by-option, and-left, and-right, not-both, never, or-cases, some-when, some-from, some-same}
+use Rattle.paper.proofs.Tests.{by-cases, and-left, and-right, not-both, never, or-cases, some-when, some-from, some-same}
 use Rattle.lines.proofs.Words.{same-other}
 use Rattle.filing.specs.Filing.{map-bytes, scenario-bytes}
 use Rattle.filing.proofs.Enough.{decided}

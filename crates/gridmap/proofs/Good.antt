@@ -1,19 +1,19 @@
 -- The letters of a good map's file are its cells: no line before the rows has a letter, and rows have nothing else.
 use mathlib.Core.Path.{_≡_, refl, sym, _∙_, ap}
-use mathlib.Core.Bool.{Bool, true, false}
+use mathlib.Core.Bool.{true, false}
 use mathlib.Core.List.{List, [], _∷_, _++_, append-nil, append-assoc}
-use mathlib.Core.Option.{Option, none, some}
-use Prim.Native.Nat.{ℕ, zero, suc, _+_, _-_, _*_, _≤_, _<_}
+use mathlib.Core.Option.{none, some}
+use Prim.Native.Nat.{ℕ, suc, _+_, _-_, _*_, _≤_}
 use native.Mathlib.Omega.{arith}
 use native.Mathlib.Nat.{mul-le-mul, add-mul}
 use lib.Dec.{eqb, ltb, leb}
 use lib.ListN.{length, take, drop, length-append, take-append-drop}
 use lib.Seq.{sets}
 use borrow.Author.Tests.{eqb-true, leb-true, ne-eqb}
-use Rattle.paper.specs.Basics.{if_then_else_, if-some_then_else_, _and_, _or_, _>>=_, when, filter, concat}
+use Rattle.paper.specs.Basics.{if_then_else_, if-some_then_else_, _and_, _or_, filter, concat}
 use Rattle.paper.specs.Text.{Text, text, LF, CR, join, beginsWithLF, lines, same, all, count, isDigit, value, isNumber, Read, good, badLine, readLines}
 use Rattle.paper.specs.Map.{Grid, Due, typeDue, heightDue, widthDue, mapDue, rowDue, bayLetter, wallLetter, sideAfter, isRow, mapLine, mapEnd, readMap, cells, bayCount}
-use Rattle.paper.proofs.Tests.{by-cases, by-option, and-left, and-right, not-both, never, some-when, some-from, some-same, or-cases, or-neither}
+use Rattle.paper.proofs.Tests.{by-cases, by-option, and-left, and-right, not-both, never, some-when, some-from, some-same, or-neither}
 use Rattle.sides.specs.Letters.{letter}
 use Rattle.sides.specs.Layout.{sidesRead}
 use Rattle.stores.specs.Writing.{Wrote}

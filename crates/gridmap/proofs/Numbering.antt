@@ -2,14 +2,12 @@
 use mathlib.Core.Path.{_≡_, refl, sym, _∙_, ap}
 use mathlib.Core.Bool.{Bool, true, false}
 use mathlib.Core.List.{List, [], _∷_, _++_, append-nil}
-use Prim.Native.Nat.{ℕ, zero, suc, _+_, _-_, _≤_, _<_}
+use Prim.Native.Nat.{ℕ, _+_, _-_, _≤_, _<_}
 use native.Mathlib.Omega.{arith}
 use native.Mathlib.Numerals.{add-one}
-use lib.Dec.{eqb, ltb}
 use lib.ListN.{length, set, take, drop, getD, length-append, take-append-drop}
-use lib.Seq.{sets, take-suc}
-use borrow.Author.Tests.{eq-eqb, ne-eqb, lt-ltb, le-ltb}
-use Rattle.paper.specs.Basics.{if_then_else_, filter}
+use lib.Seq.{take-suc}
+use Rattle.paper.specs.Basics.{filter}
 use Rattle.paper.specs.Text.{Text, count}
 use Rattle.paper.specs.Map.{bayLetter}
 use Rattle.paper.proofs.Tests.{by-cases}

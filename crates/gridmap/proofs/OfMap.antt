@@ -3,16 +3,15 @@
 use mathlib.Core.Path.{_≡_, refl, sym, _∙_, ap}
 use mathlib.Core.Bool.{Bool, true, false}
 use mathlib.Core.List.{List, [], _∷_, _++_, map}
-use mathlib.Core.Option.{Option, none, some}
+use mathlib.Core.Option.{none}
 use Prim.Native.Nat.{ℕ, zero, suc, _+_, _-_, _*_, _%_, _≤_, _<_}
 use native.Mathlib.Omega.{arith}
 use native.Mathlib.Numerals.{add-one}
 use lib.Dec.{eqb, ltb}
 use lib.ListN.{length, getD, take, drop, List·getD-append, List·getD-eq-default}
 use lib.Seq.{sets, sets-eq}
-use borrow.Author.Tests.{ne-eqb, ltb-true, ltb-false, lt-ltb, le-ltb}
-use Rattle.paper.specs.Basics.{if_then_else_, _and_, _or_, when, concat, upTo}
-use Rattle.paper.specs.Yard.{Bay}
+use borrow.Author.Tests.{ne-eqb, ltb-true, ltb-false}
+use Rattle.paper.specs.Basics.{if_then_else_, _and_, _or_, concat, upTo}
 use Rattle.paper.specs.Text.{Text, count}
 use Rattle.paper.specs.Map.{Grid, bayLetter, cells, bayAt, numberAt, bayIn, railsAt, railEnds}
 use Rattle.paper.proofs.Tests.{by-cases}

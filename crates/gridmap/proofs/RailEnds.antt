@@ -1,18 +1,15 @@
 -- The rails of one cell more stand behind those of the cells before it.
 use mathlib.Core.Path.{_≡_, refl, sym, _∙_, ap}
-use mathlib.Core.Bool.{Bool, true, false}
 use mathlib.Core.List.{List, [], _∷_, _++_, map, map-append, append-assoc, append-nil}
-use mathlib.Core.Option.{Option, none, some}
+use mathlib.Core.Option.{none, some}
 use Prim.Native.Nat.{ℕ, zero, suc, _+_, _-_, _*_, _%_, _≤_, _<_}
 use native.Mathlib.Omega.{arith}
 use native.Mathlib.Nat.{mul-le-mul-left, mul-zero}
 use native.Mathlib.Numerals.{add-one}
 use lib.Dec.{eqb, ltb}
 use lib.ListN.{length, set, getD, length-append, List·getD-eq-default}
-use lib.Seq.{sets}
-use borrow.Author.Tests.{eq-eqb, ne-eqb, lt-ltb, le-ltb}
-use Rattle.paper.specs.Basics.{if_then_else_, concat, countFrom, upTo}
-use Rattle.paper.specs.Yard.{Bay}
+use borrow.Author.Tests.{ne-eqb, lt-ltb, le-ltb}
+use Rattle.paper.specs.Basics.{concat, countFrom, upTo}
 use Rattle.paper.proofs.Tests.{by-cases}
 use Rattle.stores.specs.Writing.{Wrote}
 use Rattle.gridmap.specs.Cells.{numberIn, besideIn, railOf, railsAtIn, railsTo, numbered, bayFound}

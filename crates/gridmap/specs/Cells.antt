@@ -1,19 +1,17 @@
 -- The cells of a map as a list of numbers, and its rails and bays by that list.
 -- Assumes nothing.
-use mathlib.Core.Bool.{Bool, true, false}
 use mathlib.Core.List.{List, [], _∷_, _++_, map}
 use mathlib.Core.Option.{Option, none, some}
 use mathlib.Core.Path.{_≡_}
 use Prim.Native.Nat.{ℕ, zero, suc, _+_, _-_, _*_, _%_}
 use lib.Dec.{eqb, ltb}
-use lib.ListN.{length, getD}
+use lib.ListN.{getD}
 use lib.Seq.{sets}
 use Rattle.paper.specs.Basics.{if_then_else_, _and_, _or_, filter, concat, upTo}
 use Rattle.paper.specs.Yard.{Bay}
 use Rattle.paper.specs.Text.{Text, Read, good, badLine}
 use Rattle.paper.specs.Map.{Grid, bayLetter, readMap, cells, bayCount}
 use Rattle.sides.specs.Letters.{letter}
-use Rattle.gridmap.specs.declared.Grid.{Grid as Held}
 use Rattle.gridmap.specs.declared.MapRead.{MapRead}
 use Rattle.gridmap.specs.declared.MapRead.the-variants as read
 use Rattle.gridmap.specs.declared.Cell.{Cell}

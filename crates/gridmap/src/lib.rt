@@ -2,12 +2,12 @@
 // the bay of a cell. A cell's number is 0 for a wall and one more than the bay's for a bay.
 use sides::Sides;
 ghost use mathlib.Core.Path.{_≡_};
-ghost use Prim.Native.Nat.{ℕ, _+_, _*_, _≤_, _<_, _^_};
-ghost use lib.ListN.{length, getD};
+ghost use Prim.Native.Nat.{_+_, _*_, _≤_, _<_, _^_};
+ghost use lib.ListN.{length};
 ghost use Rattle.paper.specs.Map.{bayLetter};
 ghost use Rattle.paper.specs.Text.{count};
 ghost use Rattle.stores.specs.Writing.{Wrote};
-ghost use Rattle.gridmap.specs.Cells.{letters, markOf, countWith, numbering, numberIn, besideIn, railOf, railsAtIn, railsTo, railsIn, cellOf, bayFound, Reads};
+ghost use Rattle.gridmap.specs.Cells.{letters, markOf, countWith, numbering, numberIn, besideIn, railOf, railsAtIn, railsIn, cellOf, bayFound, Reads};
 
 // The sides of a map and the count of its bays.
 pub struct Grid {

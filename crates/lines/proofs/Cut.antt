@@ -1,18 +1,17 @@
 -- Lines are made from the right, so up to the first LF they make one line, without a CR at its end, and the rest makes the others.
 use mathlib.Core.Path.{_≡_, refl, sym, _∙_, ap}
-use mathlib.Core.Bool.{Bool, true, false, not}
-use mathlib.Core.List.{List, [], _∷_, _++_, append-nil}
+use mathlib.Core.Bool.{true, false, not}
+use mathlib.Core.List.{[], _∷_, _++_, append-nil}
 use Prim.Native.Nat.{ℕ, suc, _+_, _-_, _≤_, _<_}
 use native.Mathlib.Omega.{arith}
 use native.Mathlib.Numerals.{add-one}
 use lib.Dec.{eqb}
 use lib.ListN.{length, take, drop, getD, take-append-drop, drop-of-length-le, length-drop}
-use lib.Seq.{take-suc, drop-cons, drop-drop, getD-drop, take-all}
-use borrow.Author.Tests.{eqb-true, eq-eqb, ne-eqb, not-true}
+use lib.Seq.{take-suc, drop-cons, drop-drop, getD-drop}
+use borrow.Author.Tests.{ne-eqb, not-true}
 use Rattle.paper.specs.Basics.{if_then_else_, _and_}
 use Rattle.paper.specs.Text.{Text, LF, CR, join, beginsWithLF, lines, all}
-use Rattle.paper.proofs.Tests.{by-cases, and-left, and-right, and-both, not-both}
-use Rattle.lines.specs.declared.Line.{Line}
+use Rattle.paper.proofs.Tests.{by-cases, and-left, and-right, and-both}
 use Rattle.lines.specs.declared.Line.the-variants as the
 use Rattle.lines.specs.Lines.{part, noLF, EndOf, TextAt, LineAt}
 

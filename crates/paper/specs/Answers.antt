@@ -1,14 +1,14 @@
 -- What planning, check, slots and report answer, in which order they test, and what they leave in the lent lists.
 -- Assumes nothing.
 use mathlib.Core.Bool.{Bool, true, false}
-use mathlib.Core.List.{List, [], _∷_, _++_, map}
+use mathlib.Core.List.{List, [], _++_, map}
 use mathlib.Core.Option.{Option, none, some}
 use Prim.Native.Nat.{ℕ}
 use lib.ListN.{length, set, drop}
 use Rattle.paper.specs.Basics.{if_then_else_, if-some_then_else_, orElse}
-use Rattle.paper.specs.Yard.{Bay, Placement, Crossing, pack, crossings, named, after}
+use Rattle.paper.specs.Yard.{Bay, Placement, Crossing, pack, crossings, after}
 use Rattle.paper.specs.Procedure.{Outcome, planned, stuck, procedure}
-use Rattle.paper.specs.Dependence.{slots, isDone, fresh}
+use Rattle.paper.specs.Dependence.{slots, isDone}
 use Rattle.paper.specs.Docket.{Refusal, yardOf, no-1, no-2, no-3, no-4, no-5, no-6, no-7, no-8, no-9, no-10, no-11, no-12, no-13}
 
 -- the first of 1 to 6, by number; `lent` is the lent plan's crossings, 0 where none is lent

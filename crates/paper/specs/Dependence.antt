@@ -1,11 +1,11 @@
 -- Dependence, slots and marks.
 -- Assumes nothing.
-use mathlib.Core.Bool.{Bool, true, false, not}
+use mathlib.Core.Bool.{Bool, not}
 use mathlib.Core.List.{List, [], _∷_, _++_}
-use mathlib.Core.Option.{Option, none, some}
+use mathlib.Core.Option.{Option}
 use Prim.Native.Nat.{ℕ, zero, suc, max}
 use lib.Dec.{eqb}
-use lib.ListN.{length, getD, set, replicate}
+use lib.ListN.{length, getD, replicate}
 use Rattle.paper.specs.Basics.{if_then_else_, _and_, _or_, any, find, upTo}
 use Rattle.paper.specs.Yard.{Carrier, Placement, Crossing, named, after}
 

@@ -1,6 +1,6 @@
 -- Numbers on a refused docket: the table, one definition a row. Row N is `no-N`: the refusal with what it carries, or none.
 -- Assumes nothing.
-use mathlib.Core.Bool.{Bool, true, false, not}
+use mathlib.Core.Bool.{Bool, not}
 use mathlib.Core.List.{List, [], _∷_}
 use mathlib.Core.Option.{Option, none, some}
 use Prim.Native.Nat.{ℕ, suc, _+_, _/_, _%_}

@@ -1,6 +1,5 @@
 -- The report log: any sequence of reports on one plan.
 -- Assumes nothing.
-use mathlib.Core.Bool.{Bool, true, false}
 use mathlib.Core.List.{List, [], _∷_, map}
 use Prim.Native.Nat.{ℕ}
 use Rattle.paper.specs.Basics.{if_then_else_}

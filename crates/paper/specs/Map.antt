@@ -1,6 +1,6 @@
 -- The map file: its layout, and its bays and rails.
 -- Assumes nothing.
-use mathlib.Core.Bool.{Bool, true, false}
+use mathlib.Core.Bool.{Bool}
 use mathlib.Core.List.{List, [], _∷_, _++_, map}
 use mathlib.Core.Option.{Option, none, some}
 use Prim.Native.Nat.{ℕ, suc, _+_, _*_, _%_}
@@ -8,7 +8,7 @@ use lib.Dec.{eqb, ltb, leb}
 use lib.ListN.{length, getD, take, drop}
 use Rattle.paper.specs.Basics.{if_then_else_, if-some_then_else_, _and_, _or_, _>>=_, when, concat, upTo}
 use Rattle.paper.specs.Yard.{Bay}
-use Rattle.paper.specs.Text.{Text, text, lines, same, all, count, value, isNumber, Read, good, badLine, readLines}
+use Rattle.paper.specs.Text.{Text, text, lines, same, all, count, value, isNumber, Read, readLines}
 
 -- "H, W from 1 to 64"
 abbrev pub most-side : ℕ

@@ -1,14 +1,14 @@
 -- Ways between bays: what can be reached, what is nearest, and the shortest path.
 -- Each of them is computed here by rings; proofs/Shortest, Nearest and Reach say it in the document's words.
 -- Assumes nothing.
-use mathlib.Core.Bool.{Bool, true, false}
+use mathlib.Core.Bool.{true}
 use mathlib.Core.List.{List, [], _∷_, _++_}
 use mathlib.Core.Logic.{_⊎_}
 use mathlib.Core.Option.{Option, none, some, Option·getD}
 use mathlib.Core.Path.{_≡_}
 use Prim.Native.Nat.{ℕ, zero, suc, _<_}
 use lib.Dec.{eqb}
-use lib.ListN.{length, getD}
+use lib.ListN.{getD}
 use Rattle.paper.specs.Basics.{if_then_else_, _and_, when, filter, any, lowestOf, concat, elem, without, upTo, In, Out}
 use Rattle.paper.specs.Yard.{Bay, Rail, Yard, joined}
 

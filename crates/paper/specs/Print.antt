@@ -1,6 +1,5 @@
 -- The print of a plan and of a refusal, and reading a printed plan.
 -- Assumes nothing.
-use mathlib.Core.Bool.{Bool, true, false}
 use mathlib.Core.List.{List, [], _∷_, _++_, map}
 use mathlib.Core.Option.{Option, none, some}
 use Prim.Native.Nat.{ℕ, zero, suc, _+_, _/_, _%_}
@@ -8,7 +7,7 @@ use lib.Dec.{eqb, ltb, leb}
 use lib.ListN.{length, getD}
 use Rattle.paper.specs.Basics.{if_then_else_, if-some_then_else_, _and_, _>>=_}
 use Rattle.paper.specs.Yard.{Crossing, crossing}
-use Rattle.paper.specs.Docket.{Refusal, number, carried}
+use Rattle.paper.specs.Docket.{number, carried}
 use Rattle.paper.specs.Answers.{Answer, accepted, refused}
 use Rattle.paper.specs.Text.{Text, text, LF, SPACE, split, same, all, isDigit, value}
 

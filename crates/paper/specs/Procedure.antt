@@ -1,7 +1,7 @@
 -- How the order is found, sentence by sentence. An action takes the placement and gives the crossings that it makes, in
 -- order, or none where it fails.
 -- Assumes nothing.
-use mathlib.Core.Bool.{Bool, true, false, not}
+use mathlib.Core.Bool.{not}
 use mathlib.Core.List.{List, [], _∷_, _++_, map, reverse, dropLast}
 use mathlib.Core.Option.{Option, none, some}
 use Prim.Native.Nat.{ℕ, zero, suc, min, max}

@@ -1,7 +1,7 @@
 -- The program: two files in, a plan or a refusal out.
 -- Assumes nothing.
 use mathlib.Core.List.{List, map}
-use mathlib.Core.Option.{Option, none, some}
+use mathlib.Core.Option.{Option}
 use Prim.Native.Nat.{ℕ}
 use Rattle.paper.specs.Basics.{if-some_then_else_}
 use Rattle.paper.specs.Yard.{Bay}

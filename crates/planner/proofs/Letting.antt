@@ -5,7 +5,7 @@ use mathlib.Core.List.{List}
 use mathlib.Core.Option.{none}
 use Prim.Native.Nat.{ℕ}
 use native.Mathlib.Omega.{arith}
-use Rattle.paper.specs.Yard.{Bay, Yard, Placement, joined, bayOf}
+use Rattle.paper.specs.Yard.{Bay, Placement, joined, bayOf}
 use Rattle.paper.specs.Docket.{yardOf}
 use Rattle.paper.specs.Answers.{firstSix}
 use Rattle.paper.proofs.Tests.{by-cases}

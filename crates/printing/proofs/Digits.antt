@@ -1,12 +1,11 @@
 -- A number's digits are those of its tenth and its last one: the number itself is fuel enough, and a 64-bit number has at most 20.
-use mathlib.Core.Path.{_≡_, refl, sym, _∙_, ap}
+use mathlib.Core.Path.{_≡_, refl, _∙_, ap}
 use mathlib.Core.List.{[], _∷_, _++_}
 use Prim.Native.Nat.{ℕ, zero, suc, _+_, _*_, _/_, _%_, _^_, _≤_, _<_}
 use native.Mathlib.Omega.{arith}
 use lib.Dec.{ltb}
 use lib.ListN.{length, length-append}
 use borrow.Author.Tests.{lt-ltb, le-ltb, ltb-false, ltb-true}
-use Rattle.paper.specs.Basics.{if_then_else_}
 use Rattle.paper.specs.Print.{spell, decimal}
 use Rattle.paper.proofs.Tests.{by-cases}
 

@@ -1,20 +1,18 @@
 -- The print is its parts one behind the other: an action is three numbers with what stands before them, lines follow lines.
-use mathlib.Core.Path.{_≡_, refl, sym, _∙_, ap, ap₂}
-use mathlib.Core.List.{List, [], _∷_, _++_, map, map-append, append-nil, append-assoc}
+use mathlib.Core.Path.{_≡_, refl, sym, _∙_, ap}
+use mathlib.Core.List.{List, [], _∷_, _++_, map, map-append, append-assoc}
 use mathlib.Core.Bool.{true, false}
 use mathlib.Core.Option.{Option, none, some, Option·getD}
-use Prim.Native.Nat.{ℕ, suc, _+_, _*_, _^_, _≤_, _<_}
+use Prim.Native.Nat.{ℕ, _+_, _*_, _^_, _≤_, _<_}
 use native.Mathlib.Omega.{arith}
 use native.Mathlib.Numerals.{add-one}
-use lib.Dec.{leb}
 use lib.ListN.{length, take, getD, length-append, length-map}
 use lib.Seq.{take-suc}
 use borrow.Author.Tests.{le-leb, lt-leb}
-use Rattle.paper.specs.Basics.{if_then_else_, if-some_then_else_}
-use Rattle.paper.specs.Yard.{Crossing, crossing, unpack, crossings, most-crossings}
+use Rattle.paper.specs.Yard.{Crossing, unpack, crossings, most-crossings}
 use Rattle.paper.specs.Docket.{Refusal, number, carried, room}
-use Rattle.paper.specs.Answers.{accepted, refused}
-use Rattle.paper.specs.Text.{Text, text, LF, SPACE}
+use Rattle.paper.specs.Answers.{refused}
+use Rattle.paper.specs.Text.{Text, text, LF}
 use Rattle.paper.proofs.Packing.{unpack-small}
 use Rattle.paper.specs.Print.{decimal, actionLine, costLine, refusedLine, ended, planLines, printPlan, printed}
 use Rattle.docket.specs.Reading.{isSome}

@@ -2,7 +2,6 @@
 // room was too small learns how much it takes.
 use docket::Crossing;
 use docket::Refusal;
-ghost use mathlib.Core.Path.{_≡_};
 ghost use mathlib.Core.List.{_∷_, []};
 ghost use Prim.Native.Nat.{_+_, _*_, _<_, _≤_, _^_};
 ghost use lib.ListN.{length};

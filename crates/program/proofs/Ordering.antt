@@ -1,8 +1,8 @@
 -- What the files leave in the lent lists is the order that the paper plans: every order fits there, so the lists begin with all of it.
 use mathlib.Core.Path.{_≡_, refl, sym, _∙_, ap}
-use mathlib.Core.List.{List, map}
+use mathlib.Core.List.{List}
 use mathlib.Core.Option.{Option}
-use Prim.Native.Nat.{ℕ, _+_, _≤_}
+use Prim.Native.Nat.{ℕ, _≤_}
 use native.Mathlib.Omega.{arith}
 use lib.ListN.{length, take, length-map}
 use lib.Seq.{sets}
@@ -20,7 +20,7 @@ use Rattle.scenario.specs.Under.{startsOf, goalsOf}
 use Rattle.filing.specs.declared.Order.{Order}
 use Rattle.filing.specs.declared.Ordered.{Ordered}
 use Rattle.filing.specs.declared.Ordered.the-variants as the
-use Rattle.filing.specs.Filing.{Filed, order, refusal, filed, answered, counts, toldOf, toldBy, Files}
+use Rattle.filing.specs.Filing.{Filed, order, refusal, filed, counts, toldOf, toldBy, Files}
 use Rattle.filing.proofs.Joining.{program-answers}
 use Rattle.filing.proofs.Fitting.{order-fits}
 

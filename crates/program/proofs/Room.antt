@@ -1,5 +1,5 @@
 -- Every print fits in 180,250 bytes: an accepted plan names carriers and bays below 256, so that each of its 8,192 lines at most has 22 bytes.
-use mathlib.Core.Path.{_≡_, refl, sym, _∙_, ap}
+use mathlib.Core.Path.{_≡_, sym, _∙_, ap}
 use mathlib.Core.List.{List, [], _∷_, _++_, map}
 use Prim.Native.Nat.{ℕ, zero, suc, _+_, _*_, _≤_, _<_}
 use native.Mathlib.Omega.{arith}
@@ -10,7 +10,6 @@ use Rattle.paper.specs.Yard.{Bay, Placement, Crossing, pack, unpack, crossings}
 use mathlib.Core.Option.{none}
 use Rattle.paper.specs.Answers.{Answer, accepted, refused, plan, check}
 use Rattle.paper.specs.OnePass.{Fits}
-use Rattle.paper.specs.Text.{text}
 use Rattle.paper.specs.Print.{decimal, actionLine, costLine, ended, printed}
 use Rattle.paper.specs.Program.{program-room}
 use Rattle.paper.proofs.Tests.{never}

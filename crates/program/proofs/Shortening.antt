@@ -1,8 +1,8 @@
 -- An accepted plan is shortened and never refused: it passes the check, nothing of it is done, and what is left fits where the plan did.
 use mathlib.Core.Path.{_≡_, refl, sym, _∙_, ap}
-use mathlib.Core.Bool.{true, false}
-use mathlib.Core.List.{List, [], _∷_, _++_, map}
-use mathlib.Core.Option.{Option, none, some}
+use mathlib.Core.Bool.{false}
+use mathlib.Core.List.{List, [], _++_, map}
+use mathlib.Core.Option.{none}
 use Prim.Native.Nat.{ℕ, zero, suc, _+_, _≤_}
 use native.Mathlib.Omega.{arith}
 use borrow.Author.Tests.{le-ltb}
@@ -10,9 +10,9 @@ use lib.Dec.{ltb}
 use lib.ListN.{length, take, drop, replicate, length-map, length-append, length-drop, length-replicate}
 use lib.Seq.{take-at, length-take-le}
 use Rattle.paper.specs.Basics.{_or_, any}
-use Rattle.paper.specs.Yard.{Bay, Placement, Crossing, pack, unpack, crossings, most-crossings}
+use Rattle.paper.specs.Yard.{Bay, Placement, pack, unpack, crossings, most-crossings}
 use Rattle.paper.specs.Docket.{yardOf, badMarks}
-use Rattle.paper.specs.Answers.{Answer, accepted, refused, plan, check}
+use Rattle.paper.specs.Answers.{accepted, refused, plan, check}
 use Rattle.paper.specs.Log.{marksFrom}
 use Rattle.paper.specs.Program.{program-room}
 use Rattle.paper.proofs.Tests.{never, or-neither}
@@ -27,10 +27,9 @@ use Rattle.shorten.specs.declared.Shortened.the-variants as short
 use Rattle.shorten.specs.Statements.{wrote, toldOf, tells, ShortenSays}
 use Rattle.shorten.proofs.Looking.{take-fresh}
 use Rattle.trips.specs.Trips.{shorten}
-use Rattle.trips.specs.Shortening.{Shortening, shortened, anyDone, intoRoom, leaves, shortening, shorteningEnd}
+use Rattle.trips.specs.Shortening.{shortened, anyDone, intoRoom, leaves, shortening}
 use Rattle.trips.proofs.Shortened.{shorten-shortens, shortened-passes}
-use Rattle.program.specs.Printout.{Within, Handed}
-use Rattle.program.specs.Short.{shortAnswer, PlannedIn, ShortIn}
+use Rattle.program.specs.Short.{PlannedIn, ShortIn}
 use Rattle.program.proofs.Telling.{by-answer, handed-in, within-by}
 
 fresh-begins-nothing : (k : ℕ) → anyDone (replicate k 0) ≡ false

@@ -1,17 +1,13 @@
 -- What is printed from the planner's answer and the lent list is the print of the paper's answer: a plan's numbers read as its crossings.
 use mathlib.Core.Path.{_≡_, refl, sym, _∙_, ap}
-use mathlib.Core.Bool.{Bool, true, false}
-use mathlib.Core.List.{List, [], _∷_, _++_, map}
-use mathlib.Core.Option.{Option, none, some}
+use mathlib.Core.List.{List, _++_, map}
 use Prim.Native.Nat.{ℕ, _+_, _≤_}
 use native.Mathlib.Omega.{arith}
-use lib.Dec.{leb}
 use lib.ListN.{length, take, drop, length-map, length-append}
 use lib.Seq.{length-take-le, take-at}
 use borrow.Author.Tests.{le-leb}
-use Rattle.paper.specs.Basics.{if_then_else_}
 use Rattle.paper.specs.Yard.{Bay, Placement, Crossing, pack, crossings, most-crossings}
-use Rattle.paper.specs.Answers.{Answer, accepted, refused, plan, written, planEnd}
+use Rattle.paper.specs.Answers.{Answer, accepted, refused, plan, written}
 use Rattle.paper.specs.Print.{printed}
 use Rattle.paper.specs.Program.{program-room}
 use Rattle.paper.proofs.Tests.{never}

@@ -3,7 +3,7 @@
 -- Assumes nothing.
 use mathlib.Core.Path.{_≡_, refl, sym, _∙_}
 use mathlib.Core.Bool.{Bool, true, false}
-use mathlib.Core.List.{List, [], _∷_, _++_, append-assoc}
+use mathlib.Core.List.{List, [], _++_, append-assoc}
 use mathlib.Core.Option.{some}
 use Prim.Native.Nat.{ℕ, suc, _+_, _-_, _*_, _/_, _%_, _≤_, _<_}
 use native.Mathlib.Decide.{ℕ-discrete, decLt}
@@ -19,7 +19,6 @@ use Rattle.paper.specs.Yard.{Bay, Yard, joined}
 use Rattle.paper.specs.Path.{Free, rings, inward}
 use Rattle.paper.proofs.Tests.{not-both, and-left, and-right, and-both}
 use Rattle.paper.proofs.Members.{in-count, In-head}
-use Rattle.paper.proofs.Shortest.{find-lowest, rings-rise}
 use Rattle.paper.proofs.Shortest.{Next, next, inward-zero}
 use Rattle.words.specs.Sets.{mem, memRow, on, words, span, Lowest, Kept, Beside}
 use Rattle.words.proofs.Bits.{on-and}
@@ -30,7 +29,7 @@ use Rattle.rings.specs.Search.{around, Shown, ringOn, Searched}
 use Rattle.rings.specs.Ways.{Ended, onPath, Narrowed, Outside, pathOut, KeptBeside, WayFound, endOf, wayLength}
 use Rattle.rings.specs.declared.Way.{Way}
 use Rattle.rings.proofs.Searching.{ring-first, ring-inside, in-yard}
-use Rattle.rings.proofs.Reading.{one-rises, nearest-at}
+use Rattle.rings.proofs.Reading.{nearest-at}
 use Rattle.rings.proofs.Between.{between-end, between-inside, between-beside, further, start-far, shortest-far}
 
 -- word by word, the bays of both

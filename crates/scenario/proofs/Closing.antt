@@ -1,22 +1,22 @@
 -- A line that ends gives the state that its closing asks for: a carrier more, or a broken layout in this line.
-use mathlib.Core.Path.{_≡_, refl, sym, _∙_, ap, ap₂}
-use mathlib.Core.Bool.{Bool, true, false, not}
-use mathlib.Core.List.{List, [], _∷_, _++_}
+use mathlib.Core.Path.{_≡_, refl, sym, _∙_, ap}
+use mathlib.Core.Bool.{Bool, true, false}
+use mathlib.Core.List.{List, [], _∷_}
 use mathlib.Core.Option.{Option, none, some}
-use Prim.Native.Nat.{ℕ, zero, suc, _+_, _-_, _*_, _≤_, _<_}
+use Prim.Native.Nat.{ℕ, _+_, _-_, _≤_, _<_}
 use native.Mathlib.Omega.{arith}
 use native.Mathlib.Numerals.{add-one}
-use lib.Dec.{eqb, ltb, leb}
-use lib.ListN.{length, getD, length-append}
+use lib.Dec.{eqb}
+use lib.ListN.{length, length-append}
 use borrow.Author.Tests.{lt-ltb, le-ltb, eq-eqb, ne-eqb}
-use Rattle.paper.specs.Basics.{if_then_else_, _and_, _or_, _>>=_}
+use Rattle.paper.specs.Basics.{_and_, _or_}
 use Rattle.paper.specs.Yard.{Bay}
 use Rattle.paper.proofs.Tests.{not-both}
-use Rattle.paper.specs.Scenario.{startAndGoal, carriers, most-carriers}
+use Rattle.paper.specs.Scenario.{startAndGoal}
 use Rattle.paper.specs.Bytes.{Past, fieldPast, carrierOf, matched, lineClosed, beginLine, closeLine}
 use Rattle.fields.specs.Kept.{matchOf, seenOf, pastOf}
 use Rattle.gridmap.specs.declared.Grid.{Grid}
-use Rattle.scenario.specs.Under.{bayBy, Sound, lineNo, underOf, stateOf, carriersAfter, dueOf, Broken, Closes}
+use Rattle.scenario.specs.Under.{bayBy, Sound, underOf, dueOf, Broken, Closes}
 use Rattle.scenario.specs.declared.Reading.{Reading}
 
 module _ (W H : ℕ) (bay : ℕ → ℕ → Option Bay) (p : Past) (r : Bool) (is : r ≡ eqb (p .index) 9 and p .well) where

@@ -1,9 +1,9 @@
 -- The end of the file closes the line under way, and what is read then is the state without a line under way.
 use mathlib.Core.Path.{_≡_, refl, sym, _∙_, ap, ap₂}
-use mathlib.Core.Bool.{Bool, true, false}
+use mathlib.Core.Bool.{true, false}
 use mathlib.Core.List.{List, [], _∷_, _++_, map, map-append, foldl, foldl-append}
 use mathlib.Core.Option.{Option, none, some}
-use Prim.Native.Nat.{ℕ, suc, _+_, _≤_, _<_}
+use Prim.Native.Nat.{ℕ, suc, _+_, _<_}
 use native.Mathlib.Omega.{arith}
 use native.Mathlib.Numerals.{add-one}
 use lib.Dec.{eqb}
@@ -14,7 +14,7 @@ use Rattle.paper.specs.Basics.{if_then_else_}
 use Rattle.paper.specs.Yard.{Bay}
 use Rattle.paper.specs.Text.{Text, Read, good, badLine}
 use Rattle.paper.specs.Scenario.{Listed, readScenario}
-use Rattle.paper.specs.Bytes.{State, failed, going, Under, release, lineClosed, ending, endAfter, finishFile, beginLine, inLine, closeLine, listedSoFar, unread, scenarioStep, scenarioFinish}
+use Rattle.paper.specs.Bytes.{State, failed, going, Under, lineClosed, ending, endAfter, finishFile, beginLine, inLine, closeLine, listedSoFar, unread, scenarioStep, scenarioFinish}
 use Rattle.paper.proofs.Tests.{by-cases, never}
 use Rattle.paper.proofs.Stepping.{stepped}
 use Rattle.stores.specs.Writing.{Wrote}
@@ -23,7 +23,7 @@ use Rattle.gridmap.specs.declared.Grid.{Grid}
 use Rattle.scenario.specs.declared.Reading.{Reading}
 use Rattle.scenario.specs.declared.ScenarioRead.{ScenarioRead}
 use Rattle.scenario.specs.declared.ScenarioRead.the-variants as answer
-use Rattle.scenario.specs.Under.{bayBy, Sound, lineNo, underOf, stateOf, carriersAfter, dueOf, readOf, answerOf, answerBy, countRead, kept, startsOf, goalsOf, Stored, Ended, Reads, startsAfter, goalsAfter, Closes, Steps, Released, Finishes}
+use Rattle.scenario.specs.Under.{bayBy, Sound, lineNo, stateOf, carriersAfter, dueOf, readOf, answerOf, answerBy, countRead, kept, Stored, Ended, Reads, startsAfter, goalsAfter, Closes, Steps, Released, Finishes}
 
 module _ (W H : ℕ) (bay : ℕ → ℕ → Option Bay) where
   -- what a state without a line under way gives

@@ -1,17 +1,13 @@
 -- A byte of the scenario makes of the state what the definition's step makes of it, byte by byte of the four kinds.
-use mathlib.Core.Path.{_≡_, refl, sym, _∙_, ap, ap₂}
-use mathlib.Core.Bool.{Bool, true, false, not}
-use mathlib.Core.List.{List, [], _∷_, _++_}
-use mathlib.Core.Option.{Option, none, some}
-use Prim.Native.Nat.{ℕ, zero, suc}
-use lib.Dec.{eqb}
-use lib.ListN.{length}
+use mathlib.Core.Path.{_≡_, refl, sym, _∙_}
+use mathlib.Core.Bool.{true, false}
+use mathlib.Core.List.{List}
+use Prim.Native.Nat.{ℕ}
 use borrow.Author.Tests.{eq-eqb, ne-eqb}
-use Rattle.paper.specs.Basics.{if_then_else_}
 use Rattle.paper.specs.Yard.{Bay}
-use Rattle.paper.specs.Bytes.{State, going, scenarioStep, feed, release, inLine}
+use Rattle.paper.specs.Bytes.{scenarioStep, feed}
 use Rattle.gridmap.specs.declared.Grid.{Grid}
-use Rattle.scenario.specs.Under.{bayBy, Sound, lineNo, underOf, stateOf, carriersAfter, Closes, Steps, On, Released, Marked}
+use Rattle.scenario.specs.Under.{bayBy, Sound, carriersAfter, Closes, Steps, On, Released, Marked}
 use Rattle.scenario.specs.declared.Reading.{Reading}
 
 module _ (t : List ℕ) (G : Grid) (s : Reading) (b : ℕ) (o : Sound s) where

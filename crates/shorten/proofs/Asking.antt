@@ -1,11 +1,10 @@
 -- The code's tests of a crossing read as the definitions': dropped or not first, then the bay or the carrier.
-use mathlib.Core.Path.{_≡_, refl, sym, _∙_, ap}
-use mathlib.Core.Bool.{Bool, true, false}
+use mathlib.Core.Path.{_≡_, _∙_}
+use mathlib.Core.Bool.{Bool, false}
 use Prim.Native.Nat.{ℕ}
 use lib.Dec.{eqb}
-use borrow.Author.Tests.{eq-eqb, ne-eqb, eqb-true}
+use borrow.Author.Tests.{eq-eqb, ne-eqb}
 use Rattle.paper.specs.Basics.{_and_}
-use Rattle.paper.proofs.Tests.{and-left, and-right, by-cases}
 
 pub gone-not : (g : ℕ) (t : Bool) → (g ≡ 0 → ⊥) → false ≡ eqb g 0 and t
 unfolding _and_

@@ -1,7 +1,6 @@
 -- Each look keeps what stands between two cuts: a name with nothing to look at is passed, a name without a trip is passed for good, and a
 -- trip is cut.
 use mathlib.Core.Path.{_≡_, refl, sym, _∙_, ap}
-use mathlib.Core.Bool.{Bool, true, false}
 use mathlib.Core.List.{List, _∷_}
 use mathlib.Core.Option.{Option, none, some}
 use Prim.Native.Nat.{ℕ, zero, suc, _≤_, _<_, _+_, _*_, _-_}
@@ -10,7 +9,7 @@ use lib.Dec.{eqb}
 use lib.ListN.{length, getD, drop, set, length-set, length-map, replicate, length-replicate, getD-replicate, take}
 use lib.Seq.{getD-set-same, getD-set-other}
 use borrow.Author.Tests.{eqb-true, eqb-false}
-use Rattle.paper.specs.Yard.{Carrier, Crossing, crossings, named, unpack}
+use Rattle.paper.specs.Yard.{Crossing, crossings, named, unpack}
 use Rattle.paper.proofs.Tests.{by-cases, by-option}
 use Rattle.trips.specs.Trips.{cut, shorten}
 use Rattle.trips.specs.Names.{left, lastPlace, dropTrip}

@@ -1,7 +1,7 @@
 -- The search for the last return goes up name by name: a crossing that is dropped or leads elsewhere is passed, a return of the carrier is the
 -- last so far, and another carrier's entering ends it.
 use mathlib.Core.Path.{_≡_, refl, sym, _∙_, ap}
-use mathlib.Core.Bool.{Bool, true, false}
+use mathlib.Core.Bool.{true, false}
 use mathlib.Core.List.{List, [], _∷_}
 use mathlib.Core.Option.{Option, none, some}
 use Prim.Native.Nat.{ℕ, zero, suc, _≤_, _<_, _+_}
@@ -14,7 +14,7 @@ use borrow.Author.Tests.{eqb-true, lt-ltb}
 use Rattle.paper.specs.Basics.{if_then_else_, _and_, _>>=_, orElse}
 use Rattle.paper.specs.Yard.{Crossing, crossings, named}
 use Rattle.paper.proofs.Tests.{and-left, and-right}
-use Rattle.plans.proofs.Rest.{rest-next, rest-none}
+use Rattle.plans.proofs.Rest.{rest-next}
 use Rattle.trips.specs.Trips.{enters, isOf}
 use Rattle.trips.specs.Names.{lastPlace}
 use Rattle.trips.proofs.Naming.{place-past, place-back, place-barred}

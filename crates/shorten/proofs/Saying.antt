@@ -9,7 +9,7 @@ use borrow.Author.Tests.{lt-ltb, le-ltb}
 use lib.Dec.{ltb}
 use lib.ListN.{length, drop, length-map}
 use Rattle.paper.specs.Basics.{_or_}
-use Rattle.paper.specs.Yard.{Bay, Placement, Crossing, crossings, pack, unpack, most-crossings}
+use Rattle.paper.specs.Yard.{Bay, Placement, crossings, pack, unpack, most-crossings}
 use Rattle.paper.specs.Docket.{yardOf, badMarks}
 use Rattle.paper.specs.Answers.{check}
 use Rattle.paper.specs.OnePass.{Fits}

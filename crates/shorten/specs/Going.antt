@@ -8,7 +8,7 @@ use Prim.Native.Nat.{ℕ, suc, _≤_, _<_, _+_, _*_, _-_}
 use lib.Dec.{eqb}
 use lib.ListN.{length, getD, drop}
 use Rattle.paper.specs.Basics.{if_then_else_}
-use Rattle.paper.specs.Yard.{Bay, Carrier, Yard, Placement, Crossing, crossings, named, legalPlan}
+use Rattle.paper.specs.Yard.{Yard, Placement, Crossing, crossings, named, legalPlan}
 use Rattle.paper.proofs.Playing.{Apart}
 use Rattle.trips.specs.Trips.{shorten}
 use Rattle.trips.specs.Names.{left, lastPlace}

@@ -1,7 +1,7 @@
 -- What shortening promises: the answer, and what stands in the lent list at the end, each equal to the request's.
 -- Assumes nothing.
 use mathlib.Core.Path.{_≡_}
-use mathlib.Core.List.{List, _++_}
+use mathlib.Core.List.{List}
 use Prim.Native.Nat.{ℕ}
 use lib.ListN.{length}
 use Rattle.paper.specs.Yard.{Bay, Placement, crossings}

@@ -2,9 +2,9 @@
 // a trip may begin there. A cut drops one carrier's crossings, so only leavings whose next entering was dropped are looked at again.
 // A search by bay or carrier remembers the blocks of 256 names in which it found nothing: nothing comes back, so it need not look there again.
 ghost use mathlib.Core.Path.{_≡_};
-ghost use mathlib.Core.Bool.{Bool, true, false};
+ghost use mathlib.Core.Bool.{true, false};
 ghost use mathlib.Core.List.{_++_};
-ghost use Prim.Native.Nat.{ℕ, suc, _≤_, _<_, _+_, _-_, min};
+ghost use Prim.Native.Nat.{ℕ, suc, _≤_, _<_, _+_, _-_};
 ghost use lib.Dec.{eqb};
 ghost use lib.ListN.{length, getD, drop, replicate};
 ghost use Rattle.paper.specs.Basics.{_and_, any, if_then_else_};

@@ -1,19 +1,18 @@
 -- The layout without the rows' letters answers as the layout does: a row read is a row counted.
-use mathlib.Core.Path.{_≡_, refl, sym, _∙_, ap}
-use mathlib.Core.Bool.{Bool, true, false}
-use mathlib.Core.List.{List, [], _∷_, _++_}
+use mathlib.Core.Path.{_≡_, refl}
+use mathlib.Core.List.{List, [], _∷_}
 use mathlib.Core.Option.{Option, none, some}
-use Prim.Native.Nat.{ℕ, suc, _+_}
+use Prim.Native.Nat.{ℕ, suc}
 use lib.Dec.{eqb, ltb}
 use lib.ListN.{length, length-append}
-use Rattle.paper.specs.Basics.{if_then_else_, if-some_then_else_, _and_, _>>=_, when}
-use Rattle.paper.specs.Text.{Text, text, lines, same, Read, good, badLine, readLines}
+use Rattle.paper.specs.Basics.{_and_}
+use Rattle.paper.specs.Text.{Text, text, lines, same, readLines}
 use Rattle.paper.specs.Map as paper
-use Rattle.paper.specs.Map.{Grid, typeDue, heightDue, widthDue, mapDue, rowDue, sideAfter, isRow, mapLine, mapEnd, readMap}
+use Rattle.paper.specs.Map.{typeDue, heightDue, widthDue, mapDue, rowDue, sideAfter, isRow, mapLine, mapEnd, readMap}
 use Rattle.paper.proofs.Tests.{by-cases, by-option}
 use Rattle.sides.specs.declared.Due.{Due}
 use Rattle.sides.specs.declared.Due.the-variants.{Octile, Height, Width, Map, Row}
-use Rattle.sides.specs.Layout.{lineTaken, dueEnd, endTaken, sidesRead}
+use Rattle.sides.specs.Layout.{lineTaken, dueEnd, sidesRead}
 
 abbrev counted : paper.Due → Due
 counted typeDue = Octile

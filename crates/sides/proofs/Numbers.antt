@@ -1,18 +1,18 @@
 -- A side is its one or two digits' number if that is at most 64: a byte that is no digit counts as 100, so it spoils the number.
-use mathlib.Core.Path.{_≡_, refl, sym, _∙_, ap}
-use mathlib.Core.Bool.{Bool, true, false}
-use mathlib.Core.List.{List, [], _∷_}
-use mathlib.Core.Option.{Option, none, some}
+use mathlib.Core.Path.{_≡_, refl, _∙_}
+use mathlib.Core.Bool.{true, false}
+use mathlib.Core.List.{[], _∷_}
+use mathlib.Core.Option.{Option, none}
 use Prim.Native.Nat.{ℕ, zero, suc, _+_, _-_, _*_, _≤_, _<_}
 use native.Mathlib.Omega.{arith}
 use lib.Dec.{leb}
 use lib.ListN.{length, take, drop, getD, length-drop}
 use lib.Seq.{take-all}
-use borrow.Author.Tests.{le-leb, lt-leb, leb-true}
+use borrow.Author.Tests.{le-leb, lt-leb}
 use Rattle.paper.specs.Basics.{if_then_else_, _and_, when}
-use Rattle.paper.specs.Text.{Text, all, isDigit, value, valueFrom, sized, isNumber, same}
+use Rattle.paper.specs.Text.{Text, all, isDigit, value, valueFrom, sized, isNumber}
 use Rattle.paper.specs.Map.{sideAfter, most-side}
-use Rattle.paper.proofs.Tests.{by-cases, and-left, and-right, and-both, not-both}
+use Rattle.paper.proofs.Tests.{by-cases}
 use Rattle.paper.proofs.Fields.{and-false}
 use Rattle.lines.specs.Lines.{begins}
 use Rattle.lines.proofs.Words.{begins-take, begins-long}

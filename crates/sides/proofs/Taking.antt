@@ -1,15 +1,13 @@
 -- What the line that is due makes of a text, by the test that the code makes of it.
-use mathlib.Core.Path.{_≡_, refl, sym, _∙_, ap}
+use mathlib.Core.Path.{_≡_, refl}
 use mathlib.Core.Bool.{Bool, true, false}
-use mathlib.Core.List.{[], _∷_}
-use mathlib.Core.Option.{Option, none, some}
+use mathlib.Core.List.{[]}
+use mathlib.Core.Option.{none, some}
 use Prim.Native.Nat.{ℕ, zero, suc, _+_, _-_, _≤_, _<_}
-use native.Mathlib.Omega.{arith}
 use native.Mathlib.Numerals.{add-one}
-use lib.Dec.{eqb, ltb}
-use lib.ListN.{length, take, drop}
+use lib.ListN.{drop}
 use borrow.Author.Tests.{eq-eqb, ne-eqb, lt-ltb, le-ltb}
-use Rattle.paper.specs.Basics.{if_then_else_, if-some_then_else_, _and_, _>>=_, when}
+use Rattle.paper.specs.Basics.{_and_}
 use Rattle.paper.specs.Text.{Text, text, lines, same, Read, good, badLine, readLines}
 use Rattle.paper.specs.Map.{sideAfter, isRow}
 use Rattle.lines.specs.Lines.{TextAt, part}

@@ -1,12 +1,10 @@
 -- The map's layout without its rows' letters: what a line makes of the one that was due, and what the end gives.
 -- Assumes nothing.
-use mathlib.Core.Bool.{Bool, true, false}
 use mathlib.Core.List.{[]}
 use mathlib.Core.Option.{Option, none, some}
 use Prim.Native.Nat.{ℕ, _+_}
 use lib.Dec.{eqb, ltb}
-use lib.ListN.{length}
-use Rattle.paper.specs.Basics.{if_then_else_, _and_, _>>=_, when}
+use Rattle.paper.specs.Basics.{_and_, _>>=_, when}
 use Rattle.paper.specs.Text.{Text, text, same, Read, good, badLine, readLines}
 use Rattle.paper.specs.Map.{Grid, sideAfter, isRow}
 use Rattle.sides.specs.declared.Due.{Due}

@@ -4,7 +4,7 @@ ghost use mathlib.Core.Path.{_≡_};
 ghost use Prim.Native.Nat.{_≤_};
 ghost use lib.Dec.{leb};
 ghost use Rattle.paper.specs.Basics.{_or_, if_then_else_};
-ghost use Rattle.paper.specs.Text.{lines as linesOf, all, readLines};
+ghost use Rattle.paper.specs.Text.{all};
 ghost use Rattle.paper.specs.Map.{sideAfter, bayLetter, isRow, readMap};
 ghost use Rattle.sides.specs.Letters.{letter, digitOf, sideIn, sideOf};
 ghost use Rattle.sides.specs.Layout.{lineTaken, endTaken, takenOf, sidesOf, sidesRead};

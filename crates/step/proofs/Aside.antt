@@ -1,6 +1,6 @@
 -- Where an empty bay is beside w, the paper's vacate moves the carrier at w there: it is not held, since only carriers' bays are.
 -- Assumes nothing.
-use mathlib.Core.Path.{_≡_, sym, ap, _∙_, refl}
+use mathlib.Core.Path.{_≡_, sym, ap, _∙_}
 use mathlib.Core.Bool.{true, false, not}
 use mathlib.Core.List.{List, [], _∷_}
 use mathlib.Core.Option.{some}

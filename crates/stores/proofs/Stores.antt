@@ -5,7 +5,7 @@ use Prim.Native.Nat.{ℕ, suc, _+_, _≤_, _<_}
 use native.Mathlib.Omega.{arith}
 use native.Mathlib.Numerals.{add-one}
 use lib.ListN.{length, set, take, drop, getD, length-append}
-use lib.Seq.{sets, length-sets, sets-eq, take-suc, take-append-seam, take-length, take-all}
+use lib.Seq.{sets, length-sets, sets-eq, take-suc, take-append-seam, take-all}
 use Rattle.stores.specs.Writing.{Wrote}
 
 pub sets-append : (l : List ℕ) (i : ℕ) (a b : List ℕ) → sets l i (a ++ b) ≡ sets (sets l i a) (i + length a) b

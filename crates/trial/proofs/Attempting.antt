@@ -8,7 +8,7 @@ use mathlib.Core.Option.{Option, none, some}
 use Prim.Native.Nat.{ℕ, suc, _≤_, _<_, _-_, _+_, zero, _^_, max, min}
 use native.Mathlib.Omega.{arith}
 use lib.ListN.{length, getD, take, length-map, set, length-append, List·getD-map, length-reverse}
-use lib.Seq.{getD-set-other, sets, length-sets, getD-take, getD-append-add, length-take-le}
+use lib.Seq.{getD-set-other, sets, getD-take, getD-append-add, length-take-le}
 use borrow.Author.Tests.{ne-eqb}
 use Rattle.paper.specs.Procedure.{exchange, undo, Cleared, bring, clear, finish, trialLed}
 use Rattle.paper.specs.Yard.{Bay, Carrier, Yard, Placement, bayOf, Crossing, crossing, pack, move, after, joined, legalPlan}

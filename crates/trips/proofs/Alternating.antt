@@ -1,5 +1,5 @@
 -- In a legal plan the leavings of a bay and the crossings into it alternate: once left the bay is empty, and from an empty bay nobody leaves.
-use mathlib.Core.Path.{_≡_, refl, sym, _∙_}
+use mathlib.Core.Path.{_≡_, sym, _∙_}
 use mathlib.Core.Bool.{true}
 use mathlib.Core.List.{List, [], _∷_}
 use Prim.Native.Nat.{ℕ, zero, suc, _<_}

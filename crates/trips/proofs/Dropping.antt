@@ -1,20 +1,19 @@
 -- A carrier that stays at its bay instead of making the trip is in nobody's way: nobody entered that bay, and the bays it went
 -- through are the emptier for it. So what a cut leaves is legal and ends at the same placement.
 use mathlib.Core.Path.{_≡_, refl, sym, _∙_, ap}
-use mathlib.Core.Bool.{Bool, true, false, not}
-use mathlib.Core.List.{List, [], _∷_, _++_}
-use mathlib.Core.Option.{Option, none, some}
+use mathlib.Core.Bool.{true, false}
+use mathlib.Core.List.{List, [], _∷_}
+use mathlib.Core.Option.{none, some}
 use Prim.Native.Nat.{ℕ, zero, suc, _<_}
-use native.Mathlib.Omega.{arith}
 use lib.Dec.{eqb}
-use lib.ListN.{length, set, take, drop, length-set}
+use lib.ListN.{length, set, length-set}
 use lib.Seq.{set-set, set-comm, set-getD, lt-length-set, getD-set-same, getD-set-other}
-use borrow.Author.Tests.{eqb-true, eqb-false, ne-eqb}
-use Rattle.paper.specs.Basics.{if_then_else_, _>>=_, orElse, filter, Out}
-use Rattle.paper.specs.Yard.{Bay, Carrier, Yard, Placement, Crossing, bayOf, move, after, joined, legal, legalPlan}
-use Rattle.paper.proofs.Tests.{by-cases, by-option, never, some-same, never-some}
-use Rattle.paper.proofs.Playing.{Legal, legal-facts, legal-of, plan-head, plan-tail, plan-cons, out-of, out-no}
-use Rattle.trips.specs.Trips.{enters, isOf, lastReturn, kept, cut, cuts, shorten}
+use borrow.Author.Tests.{eqb-true, eqb-false}
+use Rattle.paper.specs.Basics.{filter}
+use Rattle.paper.specs.Yard.{Bay, Carrier, Yard, Placement, Crossing, bayOf, move, after, legal, legalPlan}
+use Rattle.paper.proofs.Tests.{by-cases, by-option, some-same, never-some}
+use Rattle.paper.proofs.Playing.{legal-facts, legal-of, plan-head, plan-tail, plan-cons, out-of, out-no}
+use Rattle.trips.specs.Trips.{enters, isOf, lastReturn, kept, cut, cuts}
 
 -- what is kept, one crossing at a time
 pub kept-own : (c : Carrier) (n : ℕ) (x : Crossing) (xs : List Crossing) → isOf c x ≡ true → kept c (suc n) (x ∷ xs) ≡ kept c n xs

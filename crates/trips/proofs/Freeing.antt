@@ -1,17 +1,17 @@
 -- Which leavings a cut can make the start of a trip: those whose next entering of the bay it drops. In a legal plan that is the last
 -- leaving of the bay before the dropped crossing, so it is enough to look there.
 use mathlib.Core.Path.{_≡_, refl, sym, _∙_, ap}
-use mathlib.Core.Bool.{Bool, true, false}
+use mathlib.Core.Bool.{true, false}
 use mathlib.Core.List.{List, [], _∷_, _++_}
 use mathlib.Core.Option.{Option, none, some}
 use Prim.Native.Nat.{ℕ, zero, suc, _≤_, _<_, _+_, _-_}
 use native.Mathlib.Omega.{arith}
 use lib.ListN.{length, getD, take, drop, length-drop}
 use lib.Seq.{getD-drop}
-use borrow.Author.Tests.{eqb-true, eqb-false, eq-eqb}
-use Rattle.paper.specs.Basics.{if_then_else_, _>>=_, orElse}
+use borrow.Author.Tests.{eqb-true, eqb-false}
+use Rattle.paper.specs.Basics.{_>>=_, orElse}
 use Rattle.paper.specs.Yard.{Bay, Carrier, Yard, Placement, Crossing, crossing, legalPlan, named}
-use Rattle.paper.proofs.Tests.{by-cases, by-option, never-some, none-from}
+use Rattle.paper.proofs.Tests.{by-cases, never-some, none-from}
 use Rattle.paper.proofs.Playing.{Apart}
 use Rattle.trips.specs.Trips.{enters, isOf}
 use Rattle.trips.specs.Names.{left, lastPlace, dropOwn, dropTrip}

@@ -1,16 +1,16 @@
 -- Cuts on a plan whose crossings keep their places are cuts on what is still in it: a dropped crossing is passed over by every rule.
 use mathlib.Core.Path.{_≡_, refl, sym, _∙_, ap}
-use mathlib.Core.Bool.{Bool, true, false}
-use mathlib.Core.List.{List, [], _∷_, _++_, map}
-use mathlib.Core.Option.{Option, none, some}
-use Prim.Native.Nat.{ℕ, zero, suc, _≤_, _<_, _+_}
+use mathlib.Core.Bool.{true, false}
+use mathlib.Core.List.{List, [], _∷_, map}
+use mathlib.Core.Option.{none, some}
+use Prim.Native.Nat.{ℕ, zero, suc, _<_}
 use native.Mathlib.Omega.{arith}
 use lib.Dec.{eqb}
-use lib.ListN.{length, getD, take, drop, replicate}
+use lib.ListN.{length, getD, drop, replicate}
 use borrow.Author.Tests.{eqb-true, eqb-false, eq-eqb, ne-eqb}
-use Rattle.paper.specs.Basics.{if_then_else_, if-some_then_else_, _>>=_, orElse, filter}
+use Rattle.paper.specs.Basics.{if_then_else_, if-some_then_else_, _>>=_, orElse}
 use Rattle.paper.specs.Yard.{Bay, Carrier, Crossing, crossing, named}
-use Rattle.paper.proofs.Tests.{by-cases, by-option, some-same, never-some, never, not-both}
+use Rattle.paper.proofs.Tests.{by-cases, by-option, some-same, never-some}
 use Rattle.trips.specs.Trips.{enters, isOf, lastReturn, kept, cut}
 use Rattle.trips.specs.Names.{left, lastPlace, dropOwn, dropTrip}
 use Rattle.trips.proofs.Dropping.{kept-own, kept-other, kept-zero}

@@ -1,12 +1,12 @@
 -- What comes out of shortening: legal from the same start, the same end, no longer, the rest in its order, and nothing more to shorten.
-use mathlib.Core.Path.{_≡_, refl, sym, _∙_, ap}
-use mathlib.Core.Bool.{Bool, true, false}
-use mathlib.Core.List.{List, [], _∷_, _++_, map}
-use mathlib.Core.Option.{Option, none, some}
+use mathlib.Core.Path.{_≡_, refl, sym, _∙_}
+use mathlib.Core.Bool.{true}
+use mathlib.Core.List.{List, [], _∷_, map}
+use mathlib.Core.Option.{none, some}
 use Prim.Native.Nat.{ℕ, zero, suc, _≤_, _<_}
 use native.Mathlib.Omega.{arith}
 use lib.ListN.{length, length-map}
-use Rattle.paper.specs.Basics.{if_then_else_, if-some_then_else_, _>>=_, filter}
+use Rattle.paper.specs.Basics.{filter}
 use Rattle.paper.specs.Yard.{Bay, Carrier, Yard, Placement, Crossing, after, legalPlan, pack, unpack, crossings}
 use Rattle.paper.specs.Dependence.{countOf}
 use Rattle.paper.specs.Docket.{yardOf}

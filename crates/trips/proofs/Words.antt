@@ -1,14 +1,14 @@
 -- The request's own words, by names: a cut takes the lowest name at which a trip begins, and of its returns the last. So it says exactly what
 -- the request says, and there is no cut exactly if there is no trip.
-use mathlib.Core.Path.{_≡_, refl, sym, _∙_, ap}
-use mathlib.Core.Bool.{Bool, true, false}
+use mathlib.Core.Path.{_≡_, sym, _∙_, ap}
+use mathlib.Core.Bool.{true, false}
 use mathlib.Core.List.{List, [], _∷_, _++_}
-use mathlib.Core.Option.{Option, none, some}
+use mathlib.Core.Option.{none, some}
 use Prim.Native.Nat.{ℕ, zero, suc, _<_, _-_}
 use native.Mathlib.Omega.{arith}
 use lib.ListN.{length, take, drop}
 use borrow.Author.Tests.{eqb-true, eqb-false, eq-eqb}
-use Rattle.paper.specs.Basics.{if_then_else_, if-some_then_else_, _>>=_, orElse}
+use Rattle.paper.specs.Basics.{if_then_else_}
 use Rattle.paper.specs.Yard.{Bay, Carrier, Crossing, named}
 use Rattle.paper.proofs.Tests.{by-cases, by-option, never-some, none-from}
 use Rattle.trips.specs.Trips.{enters, isOf, lastReturn, kept, cut}

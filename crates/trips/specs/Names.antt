@@ -1,7 +1,6 @@
 -- Forms for code: every crossing keeps its place, and a byte beside each says whether it is still in the plan, 0, or dropped. Nothing is
 -- moved at a cut. proofs/Naming shows that they say the same.
 -- Assumes nothing.
-use mathlib.Core.Bool.{Bool, true, false}
 use mathlib.Core.List.{List, [], _∷_, _++_}
 use mathlib.Core.Option.{Option, none, some}
 use Prim.Native.Nat.{ℕ, zero, suc}

@@ -1,7 +1,7 @@
 -- What shortening answers, in which order it tests, and what it leaves in the lent list. Refusal 25 is this request's own: it joins the
 -- table of refusals here, so that the table stays as it is.
 -- Assumes nothing.
-use mathlib.Core.Bool.{Bool, true, false}
+use mathlib.Core.Bool.{Bool}
 use mathlib.Core.List.{List, _++_, map}
 use mathlib.Core.Option.{Option, none, some}
 use Prim.Native.Nat.{ℕ}

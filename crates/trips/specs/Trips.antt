@@ -1,7 +1,7 @@
 -- There-and-back trips: a carrier leaves a bay and stands there again, and no other carrier has entered it meanwhile. Shortening
 -- drops such trips until there is none.
 -- Assumes nothing.
-use mathlib.Core.Bool.{Bool, true, false, not}
+use mathlib.Core.Bool.{Bool, not}
 use mathlib.Core.List.{List, [], _∷_, _++_}
 use mathlib.Core.Option.{Option, none, some}
 use Prim.Native.Nat.{ℕ, zero, suc}

@@ -10,10 +10,10 @@ use native.Mathlib.Omega.{arith}
 use lib.ListN.{length}
 use Rattle.paper.specs.Basics.{In, Out}
 use Rattle.paper.specs.Yard.{Bay, Yard, Placement, joined}
-use Rattle.paper.specs.Path.{Free, Route, Way, shortestPath, NotAbove}
+use Rattle.paper.specs.Path.{Free, Route, Way, shortestPath}
 use Rattle.paper.specs.Procedure.{nearestEmpty}
 use Rattle.paper.proofs.Members.{out-cons, nothing-in-nil}
-use Rattle.paper.proofs.Nearest.{Nearest, nearest-exactly}
+use Rattle.paper.proofs.Nearest.{nearest-exactly}
 use Rattle.paper.proofs.Shortest.{Shortest, shortest-one, shortest-path, way-reached}
 use Rattle.paper.proofs.Tests.{not-both}
 

@@ -1,7 +1,6 @@
 -- `bring::traded` meets its contract. The three cases of trading.
 -- Assumes nothing.
 use borrow.Author.Tests.{eq-eqb, ne-eqb}
-use borrow.Author.Needs.{needs}
 use Rattle.paper.specs.Procedure.{trade}
 use Rattle.bring.proofs.traded.Statement.{statement}
 use Rattle.bring.proofs.traded.Tie as tie

@@ -1,6 +1,5 @@
 -- `fields::both` meets its contract.
 -- Assumes nothing.
-use borrow.Author.Needs.{needs}
 use Rattle.paper.specs.Basics.{_and_}
 use Rattle.fields.proofs.both.Statement.{statement}
 use Rattle.fields.proofs.both.Tie as tie

@@ -1,6 +1,5 @@
 -- `fields::either` meets its contract.
 -- Assumes nothing.
-use borrow.Author.Needs.{needs}
 use Rattle.paper.specs.Basics.{_or_}
 use Rattle.fields.proofs.either.Statement.{statement}
 use Rattle.fields.proofs.either.Tie as tie

@@ -1,7 +1,6 @@
 -- `fields::is_point` meets its contract.
 -- Assumes nothing.
 use mathlib.Core.Path.{refl}
-use borrow.Author.Needs.{needs}
 use Rattle.paper.specs.Text.{isPoint}
 use Rattle.fields.proofs.is_point.Statement.{statement}
 use Rattle.fields.proofs.is_point.Tie as tie

@@ -1,6 +1,5 @@
 -- `fields::kept` meets its contract.
 -- Assumes nothing.
-use borrow.Author.Needs.{needs}
 use borrow.Author.Tests.{eq-eqb, ne-eqb}
 use Rattle.paper.specs.Bytes.{keepAt}
 use Rattle.fields.proofs.kept.Statement.{statement}

@@ -1,6 +1,6 @@
 -- `home::bound_for` meets its contract. The finished carriers are the first ones.
 -- Assumes nothing.
-use mathlib.Core.Path.{_≡_, sym, _∙_}
+use mathlib.Core.Path.{sym, _∙_}
 use native.Mathlib.Omega.{arith}
 use borrow.Author.Needs.{needs}
 use Rattle.home.proofs.Homing.{place-low, place-high}

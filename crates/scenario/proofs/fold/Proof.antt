@@ -1,6 +1,6 @@
 -- `scenario::fold` meets its contract. After i turns the first i bytes were read and their carriers stored.
 -- Assumes nothing.
-use Prim.Native.Nat.{_-_, _≤_, _+_}
+use Prim.Native.Nat.{_-_, _≤_}
 use lib.ListN.{length, take}
 use lib.Seq.{take-all}
 use borrow.Author.Needs.{needs}

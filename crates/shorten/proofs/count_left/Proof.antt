@@ -5,8 +5,8 @@ use Rattle.shorten.proofs.Writing.{rest, one-small, count-next, count-e
 use Rattle.trips.specs.Names.{left}
 use denote.Ref.{now}
 use native.Mathlib.Omega.{arith}
-use Prim.Native.Nat.{ℕ, _≤_, _<_, _+_, _-_}
-use mathlib.Core.Path.{_≡_, refl, sym, _∙_, ap}
+use Prim.Native.Nat.{_≤_, _+_, _-_}
+use mathlib.Core.Path.{_≡_}
 use borrow.Author.Needs.{needs}
 use Rattle.shorten.proofs.count_left.Statement.{statement}
 use Rattle.shorten.proofs.count_left.Tie as tie

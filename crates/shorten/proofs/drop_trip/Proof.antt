@@ -8,7 +8,7 @@ use Rattle.trips.specs.Names.{dropTrip}
 use Rattle.paper.specs.Yard.{crossings}
 use Rattle.paper.specs.Basics.{if_then_else_}
 use lib.ListN.{length, getD, set, length-set}
-use Prim.Native.Nat.{ℕ, suc, _≤_, _<_, _+_, _-_}
+use Prim.Native.Nat.{suc, _≤_, _<_, _+_, _-_}
 use mathlib.Core.Path.{_≡_, refl, sym, _∙_, ap}
 use denote.Ref.{now}
 use native.Mathlib.Omega.{arith}

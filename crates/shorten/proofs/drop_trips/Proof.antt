@@ -4,7 +4,7 @@ use Rattle.shorten.proofs.Looking.{looked}
 use Rattle.shorten.specs.Going.{Going, Settled, rank}
 use lib.ListN.{length}
 use denote.Ref.{now}
-use mathlib.Core.Path.{_≡_, refl, sym, _∙_, ap}
+use mathlib.Core.Path.{_≡_, refl, sym, _∙_}
 use borrow.Author.Needs.{needs}
 use Rattle.shorten.proofs.drop_trips.Statement.{statement}
 use Rattle.shorten.proofs.drop_trips.Tie as tie

@@ -5,8 +5,8 @@ use Rattle.shorten.proofs.Noting.{NoneLeaves, none-start, none-more, no
 use Rattle.shorten.specs.Going.{Settled}
 use Rattle.paper.specs.Yard.{crossings}
 use lib.ListN.{length}
-use Prim.Native.Nat.{suc, _≤_, _<_, _-_}
-use mathlib.Core.Path.{_≡_, refl, sym, _∙_, ap}
+use Prim.Native.Nat.{suc, _≤_, _-_}
+use mathlib.Core.Path.{_≡_, refl, sym, _∙_}
 use denote.Ref.{now}
 use native.Mathlib.Omega.{arith}
 use Rattle.shorten.proofs.last_leaving.Statement.{statement}

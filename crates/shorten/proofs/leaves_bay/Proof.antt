@@ -2,8 +2,6 @@
 -- Assumes nothing.
 use Rattle.shorten.proofs.Asking.{gone-not, in-so}
 use lib.Dec.{eqb}
-use Rattle.paper.specs.Basics.{_and_}
-use denote.Ref.{now}
 use mathlib.Core.Path.{_∙_, ap}
 use borrow.Author.Needs.{needs}
 use Rattle.shorten.proofs.leaves_bay.Statement.{statement}

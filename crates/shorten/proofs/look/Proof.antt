@@ -3,12 +3,9 @@
 use Rattle.shorten.proofs.Looking.{last-not-before, rank-next, look-past, look-none, look-cut, cut-rank}
 use Rattle.paper.specs.Yard.{crossings, named}
 use Rattle.docket.specs.Reading.{crossingOf}
-use lib.ListN.{length}
 use borrow.Author.Tests.{eq-eqb}
 use denote.Ref.{now}
-use native.Mathlib.Omega.{arith}
-use Prim.Native.Nat.{ℕ, suc, _≤_, _<_}
-use mathlib.Core.Path.{_≡_, refl, sym, _∙_, ap}
+use mathlib.Core.Path.{sym, _∙_, ap}
 use borrow.Author.Needs.{needs}
 use Rattle.shorten.proofs.look.Statement.{statement}
 use Rattle.shorten.proofs.look.Tie as tie

@@ -6,8 +6,8 @@ use Rattle.shorten.specs.Going.{Settled}
 use Rattle.trips.proofs.Freeing.{Noted}
 use Rattle.paper.specs.Yard.{crossings}
 use lib.ListN.{length}
-use Prim.Native.Nat.{ℕ, suc, _≤_, _<_, _+_, _-_}
-use mathlib.Core.Path.{_≡_, refl, sym, _∙_, ap}
+use Prim.Native.Nat.{suc, _≤_, _+_, _-_}
+use mathlib.Core.Path.{_≡_, refl, _∙_}
 use denote.Ref.{now}
 use native.Mathlib.Omega.{arith}
 use Rattle.shorten.proofs.note_leavings.Statement.{statement}

@@ -3,11 +3,10 @@
 use Rattle.shorten.proofs.Noting.{noted-not, noted-one}
 use Rattle.trips.proofs.Freeing.{LastLeaving}
 use Rattle.paper.specs.Yard.{crossings, named}
-use lib.ListN.{length}
 use denote.Ref.{now}
 use native.Mathlib.Omega.{arith}
-use Prim.Native.Nat.{ℕ, _≤_, _<_}
-use mathlib.Core.Path.{_≡_, refl, sym, _∙_, ap}
+use Prim.Native.Nat.{ℕ}
+use mathlib.Core.Path.{_≡_, sym, _∙_, ap}
 use borrow.Author.Needs.{needs}
 use Rattle.shorten.proofs.note_one.Statement.{statement}
 use Rattle.shorten.proofs.note_one.Tie as tie

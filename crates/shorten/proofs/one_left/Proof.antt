@@ -3,7 +3,6 @@
 use Rattle.paper.specs.Basics.{if_then_else_}
 use borrow.Author.Tests.{eq-eqb, ne-eqb}
 use mathlib.Core.Path.{sym, ap}
-use borrow.Author.Needs.{needs}
 use Rattle.shorten.proofs.one_left.Statement.{statement}
 use Rattle.shorten.proofs.one_left.Tie as tie
 

@@ -4,9 +4,8 @@ use Rattle.shorten.proofs.Writing.{Writing, writing-start, writing-room
 use lib.ListN.{length}
 use denote.Ref.{now}
 use native.Mathlib.Omega.{arith}
-use Prim.Native.Nat.{ℕ, _≤_, _<_, _+_, _-_}
+use Prim.Native.Nat.{_-_}
 use mathlib.Core.Logic.{⊎-elim}
-use mathlib.Core.Path.{_≡_, refl, sym, _∙_, ap}
 use borrow.Author.Needs.{needs}
 use Rattle.shorten.proofs.write_left.Statement.{statement}
 use Rattle.shorten.proofs.write_left.Tie as tie

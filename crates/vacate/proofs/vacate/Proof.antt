@@ -1,6 +1,6 @@
 -- `vacate::vacate` meets its contract. The cases of the code are those of the paper; a bay beside x is the nearest there can be.
 -- Assumes nothing.
-use mathlib.Core.Path.{_≡_, refl, sym, _∙_}
+use mathlib.Core.Path.{refl, sym, _∙_}
 use Prim.Native.Nat.{_<_}
 use native.Mathlib.Omega.{arith}
 use borrow.Author.Needs.{needs}
