@@ -12,7 +12,7 @@ mod tally;
 
 use lent::Asked;
 use tally::Tally;
-use yards::Dice;
+use yards::{reversed, Dice};
 
 const ORDERS: u64 = 60_000;
 const PLANS: u64 = 60_000;
@@ -45,6 +45,13 @@ fn planning() -> Tally {
     }
     for (order, room) in orders::at_the_limits() {
         tally.add(Asked::new(&order).plan(room));
+    }
+    // Plans that are longer than their yard and carriers let expect: the planner makes them a second time, with more room.
+    for order in [12, 14, 16, 18, 20, 22].map(reversed) {
+        let (_, needed) = reference::plan(order.bays, &order.rails, &order.start, &order.goal, &mut ample);
+        for room in [0, needed as usize - 1, needed as usize, 65_536] {
+            tally.add(Asked::new(&order).plan(room));
+        }
     }
     tally
 }

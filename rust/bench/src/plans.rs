@@ -5,7 +5,7 @@ use crate::yard;
 use sejjekoru::numbers;
 use std::hint::black_box;
 use std::time::Duration;
-use yards::{connected, grid, line_with_sidings, Dice, Order};
+use yards::{connected, grid, line_with_sidings, reversed, Dice, Order};
 
 const ROOM: usize = 65_536;
 
@@ -24,7 +24,8 @@ pub fn tables() {
     for carriers in [60, 128, 200, 240, 254] {
         row("random, 1,024 rails", (0..15).map(|seed| random(carriers, seed)).collect());
     }
-    row("line, siding at every fourth, in reverse", vec![reversed()]);
+    // The slowest yard known.
+    row("line, siding at every fourth, in reverse", vec![reversed(52)]);
 }
 
 fn carried(rails: Vec<u16>, carriers: usize, seed: u64) -> Order {
@@ -34,14 +35,6 @@ fn carried(rails: Vec<u16>, carriers: usize, seed: u64) -> Order {
 fn random(carriers: usize, seed: u64) -> Order {
     let mut dice = Dice::new(1_000 + seed);
     Order::on(256, connected(256, 1_024, 256, &mut dice)).with_carriers(carriers, &mut dice)
-}
-
-/// The slowest yard known: 52 carriers along the line, to be put in reverse order.
-fn reversed() -> Order {
-    let mut order = Order::on(256, line_with_sidings(256, 4));
-    order.start = (0..52).collect();
-    order.goal = (0..52).rev().collect();
-    order
 }
 
 struct Timed {

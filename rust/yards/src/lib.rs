@@ -125,6 +125,14 @@ pub fn line_with_sidings(bays: usize, every: usize) -> Vec<u16> {
     rails
 }
 
+/// Carriers behind one another on a line of 256 with a siding at every fourth bay, to be put in reverse order: few carriers then have long plans.
+pub fn reversed(carriers: u16) -> Order {
+    let mut order = Order::on(256, line_with_sidings(256, 4));
+    order.start = (0..carriers).collect();
+    order.goal = (0..carriers).rev().collect();
+    order
+}
+
 /// A line with a ring at its end.
 pub fn lollipop(bays: usize, around: usize) -> Vec<u16> {
     let mut rails = line(bays);
