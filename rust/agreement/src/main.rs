@@ -12,7 +12,7 @@ mod tally;
 
 use lent::Asked;
 use tally::Tally;
-use yards::{reversed, Dice};
+use yards::{line_with_sidings, reversed, Dice};
 
 const ORDERS: u64 = 60_000;
 const PLANS: u64 = 60_000;
@@ -47,7 +47,7 @@ fn planning() -> Tally {
         tally.add(Asked::new(&order).plan(room));
     }
     // Plans that are longer than their yard and carriers let expect: the planner makes them a second time, with more room.
-    for order in [12, 14, 16, 18, 20, 22].map(reversed) {
+    for order in [12, 14, 16, 18, 20, 22].map(|carriers| reversed(line_with_sidings(256, 4), carriers)) {
         let (_, needed) = reference::plan(order.bays, &order.rails, &order.start, &order.goal, &mut ample);
         for room in [0, needed as usize - 1, needed as usize, 65_536] {
             tally.add(Asked::new(&order).plan(room));

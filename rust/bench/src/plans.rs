@@ -1,11 +1,11 @@
-//! The planner on crowded grids, lines with sidings, random yards and the slowest yard known.
+//! The planner on crowded grids, lines with sidings, random yards and the slowest yards known.
 
 use crate::timing::{middle, race, ratio, written};
 use crate::yard;
 use sejjekoru::numbers;
 use std::hint::black_box;
 use std::time::Duration;
-use yards::{connected, grid, line_with_sidings, reversed, Dice, Order};
+use yards::{comb, connected, grid, line_with_sidings, reversed, Dice, Order};
 
 const ROOM: usize = 65_536;
 
@@ -24,8 +24,8 @@ pub fn tables() {
     for carriers in [60, 128, 200, 240, 254] {
         row("random, 1,024 rails", (0..15).map(|seed| random(carriers, seed)).collect());
     }
-    // The slowest yard known.
-    row("line, siding at every fourth, in reverse", vec![reversed(52)]);
+    row("line, siding at every fourth, in reverse", vec![reversed(line_with_sidings(256, 4), 52)]);
+    row("line, siding at every bay, in reverse", vec![reversed(comb(), 126)]);
 }
 
 fn carried(rails: Vec<u16>, carriers: usize, seed: u64) -> Order {

@@ -125,9 +125,14 @@ pub fn line_with_sidings(bays: usize, every: usize) -> Vec<u16> {
     rails
 }
 
-/// Carriers behind one another on a line of 256 with a siding at every fourth bay, to be put in reverse order: few carriers then have long plans.
-pub fn reversed(carriers: u16) -> Order {
-    let mut order = Order::on(256, line_with_sidings(256, 4));
+/// A line of 128 bays with a siding at each of them: bay 2i and its siding 2i + 1.
+pub fn comb() -> Vec<u16> {
+    (0..128).flat_map(|i| [[2 * i, 2 * i + 1], [2 * i, 2 * i + 2]]).flatten().take(255 * 2).collect()
+}
+
+/// Carriers in the first bays, to be put in reverse order: on a line few of them have long plans.
+pub fn reversed(rails: Vec<u16>, carriers: u16) -> Order {
+    let mut order = Order::on(256, rails);
     order.start = (0..carriers).collect();
     order.goal = (0..carriers).rev().collect();
     order
