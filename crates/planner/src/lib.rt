@@ -2,6 +2,7 @@
 use docket::Refusal;
 use home::Staged;
 use play::DENSE;
+use play::GRID;
 use yard::Opened;
 use yard::Yard;
 ghost use mathlib.Core.Path.{_≡_};
@@ -36,9 +37,6 @@ const HALF: usize = 8192;
 
 // Crossings that the fourth holds. The last holds Yard::CROSSINGS, more than which no plan may have.
 const MORE: usize = 16384;
-
-// From so many rail ends to two bays on it is like a grid. All others are narrow, and their plans are long.
-const GRID: usize = 5;
 
 // Fewer carriers than this have the least room in a dense yard.
 const DENSE_LEAST: usize = 144;

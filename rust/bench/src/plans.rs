@@ -1,4 +1,4 @@
-//! The planner on crowded grids, lines with sidings, random yards and the slowest yards known.
+//! The planner on crowded grids, lines with sidings, random yards and two slow ones.
 
 use crate::timing::{middle, race, ratio, written};
 use crate::yard;
