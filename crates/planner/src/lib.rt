@@ -234,8 +234,7 @@ fn hand_out_sparse(
     Handed::Done(hand_out_most(table, n, ends, start, goal, out))
 }
 
-// With the room that the plan is likely to need, by the carriers and by how many rails a bay has; the rails have so many ends. One call serves grids
-// and narrow yards, since a function called twice is compiled apart and its rooms then take stack beside the others'.
+// With the room that the plan is likely to need, by the carriers and by how many rails a bay has; the rails have so many ends.
 fn hand_out_likely(
     table: &[u64; Yard::TABLE],
     n: usize,
