@@ -9,8 +9,8 @@ use native.Mathlib.Numerals.{add-one}
 use lib.ListN.{length, getD, length-map, set, take, List·getD-map, length-reverse, List·getD-append}
 use lib.Seq.{getD-set-other, sets, take-all, length-take-le, take-suc, set-out, length-sets, getD-append-add}
 use native.Mathlib.Decide.{decLt}
-use Rattle.paper.specs.Procedure.{undo}
-use Rattle.paper.specs.Yard.{Crossing, crossing, pack}
+use Rattle.paper.specs.Procedure.{renamed, undo}
+use Rattle.paper.specs.Yard.{Crossing, crossing, turned as exchanged, reverseOf, pack}
 use Rattle.paper.proofs.Packing.{unpack-pack}
 use Rattle.bring.specs.Turning.{turnedBack, turned, Small, Holds, numbers}
 
@@ -27,19 +27,21 @@ getD-reverse (x ∷ xs) j h = elim (decLt j (length xs)) [
 ]
 
 length-numbers : (l m : ℕ) (xs : List Crossing) → length (numbers l m xs) ≡ length xs
-unfolding undo
-length-numbers l m xs = rw (length-map, length-map, length-reverse)
+unfolding undo reverseOf
+length-numbers l m xs = rw (length-map, length-map, length-map, length-reverse)
 
-in-turned : (l m : ℕ) (ys : List Crossing) (j : ℕ) → j < length ys → getD (map (turnedBack l m) ys) j (crossing 0 0 0) ≡ turnedBack l m (getD ys j (crossing 0 0 0))
-in-turned l m [] j h = absurd (omega arith)
-in-turned l m (y ∷ ys) zero h = refl
-in-turned l m (y ∷ ys) (suc j) h = in-turned l m ys j (omega arith)
+in-mapped : (f : Crossing → Crossing) (ys : List Crossing) (j : ℕ) → j < length ys → getD (map f ys) j (crossing 0 0 0) ≡ f (getD ys j (crossing 0 0 0))
+in-mapped f [] j h = absurd (omega arith)
+in-mapped f (y ∷ ys) zero h = refl
+in-mapped f (y ∷ ys) (suc j) h = in-mapped f ys j (omega arith)
 
 number-at : (l m : ℕ) (xs : List Crossing) (j : ℕ) → j < length xs → getD (numbers l m xs) j 0 ≡ pack (turnedBack l m (getD xs (length xs - 1 - j) (crossing 0 0 0)))
-unfolding undo pack
+unfolding undo reverseOf pack
 number-at l m xs j h =
-    List·getD-map pack (map (turnedBack l m) (reverse xs)) j (crossing 0 0 0)
-    ∙ ap pack (in-turned l m (reverse xs) j (rw length-reverse h) ∙ ap (turnedBack l m) (getD-reverse xs j h))
+    let back : j < length (reverse xs) = rw length-reverse h in
+    List·getD-map pack (map (renamed l m) (map exchanged (reverse xs))) j (crossing 0 0 0)
+    ∙ ap pack (in-mapped (renamed l m) (map exchanged (reverse xs)) j (rw length-map back)
+    ∙ ap (renamed l m) (in-mapped exchanged (reverse xs) j back ∙ ap exchanged (getD-reverse xs j h)))
 
 sets-snoc : (l : List ℕ) (i : ℕ) (vs : List ℕ) (v : ℕ) → sets l i (vs ++ (v ∷ [])) ≡ set (sets l i vs) (i + length vs) v
 sets-snoc l i [] v = let e : i ≡ i + 0 = omega arith in ap (λ (k : ℕ). set l k v) e

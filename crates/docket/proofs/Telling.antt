@@ -6,9 +6,11 @@ use Rattle.paper.specs.Yard.{pack, unpack}
 use Rattle.paper.specs.Docket as paper
 use Rattle.paper.proofs.Determined.{Telling, telling-by}
 use Rattle.paper.proofs.Packing.{unpack-pack, pack-unpack}
-use Rattle.docket.specs.Reading.{crossingOf, refusalOf}
+use Rattle.docket.specs.Reading.{crossingOf, refusalOf, verdictOf}
 use Rattle.docket.specs.declared.Crossing.{Crossing as Held}
 use Rattle.docket.specs.declared.Refusal.{Refusal}
+use Rattle.docket.specs.declared.Verdict.{Verdict}
+use Rattle.docket.specs.declared.Verdict.the-variants.{Granted, Denied}
 use Rattle.docket.specs.declared.Refusal.the-variants.{
   Size,
   Rail,
@@ -25,6 +27,12 @@ use Rattle.docket.specs.declared.Refusal.the-variants.{
   Early,
   BadMap,
   BadScenario,
+  BadSurvey,
+  Ended,
+  LongPiece,
+  Edition,
+  BadPlan,
+  BadReports,
 }
 
 pub crossing-tells : Telling crossingOf
@@ -59,6 +67,12 @@ refusalFor paper.unknown = Unknown
 refusalFor (paper.early e) = Early e
 refusalFor (paper.badMap l) = BadMap l
 refusalFor (paper.badScenario l) = BadScenario l
+refusalFor (paper.badSurvey l) = BadSurvey l
+refusalFor paper.ended = Ended
+refusalFor paper.longPiece = LongPiece
+refusalFor paper.edition = Edition
+refusalFor (paper.badPlan l) = BadPlan l
+refusalFor (paper.badReports l) = BadReports l
 
 pub refusal-back : (r : Refusal) → refusalFor (refusalOf r) ≡ r
 unfolding refusalFor
@@ -77,6 +91,23 @@ refusal-back Unknown = refl
 refusal-back (Early e) = refl
 refusal-back (BadMap l) = refl
 refusal-back (BadScenario l) = refl
+refusal-back (BadSurvey l) = refl
+refusal-back Ended = refl
+refusal-back LongPiece = refl
+refusal-back Edition = refl
+refusal-back (BadPlan l) = refl
+refusal-back (BadReports l) = refl
 
 pub refusal-tells : Telling refusalOf
 refusal-tells = telling-by refusalOf refusalFor refusal-back
+
+pub verdict-tells : Telling verdictOf
+verdict-tells = telling-by verdictOf verdictFor verdict-back
+  where
+    verdictFor : paper.Verdict → Verdict
+    verdictFor (paper.granted n) = Granted n
+    verdictFor (paper.denied r) = Denied (refusalFor r)
+
+    verdict-back : (v : Verdict) → verdictFor (verdictOf v) ≡ v
+    verdict-back (Granted n) = refl
+    verdict-back (Denied r) = ap Denied (refusal-back r)

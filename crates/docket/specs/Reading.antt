@@ -6,6 +6,8 @@ use Rattle.paper.specs.Yard.{Crossing, crossing}
 use Rattle.paper.specs.Docket as paper
 use Rattle.docket.specs.declared.Crossing.{Crossing as Held}
 use Rattle.docket.specs.declared.Refusal.{Refusal}
+use Rattle.docket.specs.declared.Verdict.{Verdict}
+use Rattle.docket.specs.declared.Verdict.the-variants.{Granted, Denied}
 use Rattle.docket.specs.declared.Refusal.the-variants.{
   Size,
   Rail,
@@ -22,6 +24,12 @@ use Rattle.docket.specs.declared.Refusal.the-variants.{
   Early,
   BadMap,
   BadScenario,
+  BadSurvey,
+  Ended,
+  LongPiece,
+  Edition,
+  BadPlan,
+  BadReports,
 }
 
 abbrev pub crossingOf : Held → Crossing
@@ -43,6 +51,16 @@ refusalOf Unknown = paper.unknown
 refusalOf (Early e) = paper.early e
 refusalOf (BadMap l) = paper.badMap l
 refusalOf (BadScenario l) = paper.badScenario l
+refusalOf (BadSurvey l) = paper.badSurvey l
+refusalOf Ended = paper.ended
+refusalOf LongPiece = paper.longPiece
+refusalOf Edition = paper.edition
+refusalOf (BadPlan l) = paper.badPlan l
+refusalOf (BadReports l) = paper.badReports l
+
+abbrev pub verdictOf : Verdict → paper.Verdict
+verdictOf (Granted n) = paper.granted n
+verdictOf (Denied r) = paper.denied (refusalOf r)
 
 -- there is an answer
 abbrev pub isSome : {A : Type 0} → Option A → Bool

@@ -54,6 +54,18 @@ pub enum Refusal {
     Early(u64),
     BadMap(u64),
     BadScenario(u64),
+    BadSurvey(u64),
+    Ended,
+    LongPiece,
+    Edition,
+    BadPlan(u64),
+    BadReports(u64),
+}
+
+// What a function answers that hands back a number: that number (a length, a count), or why there is none.
+pub enum Verdict {
+    Granted(u64),
+    Denied(Refusal),
 }
 
 // The number in the table's first column.
@@ -76,6 +88,12 @@ pub fn number(r: Refusal) -> u64
         Refusal::Early(_) => 13,
         Refusal::BadMap(_) => 14,
         Refusal::BadScenario(_) => 15,
+        Refusal::BadSurvey(_) => 16,
+        Refusal::Ended => 17,
+        Refusal::LongPiece => 18,
+        Refusal::Edition => 20,
+        Refusal::BadPlan(_) => 26,
+        Refusal::BadReports(_) => 27,
     }
 }
 
@@ -99,6 +117,12 @@ pub fn carried(r: Refusal) -> u64
         Refusal::Early(e) => e,
         Refusal::BadMap(l) => l,
         Refusal::BadScenario(l) => l,
+        Refusal::BadSurvey(l) => l,
+        Refusal::Ended => 0,
+        Refusal::LongPiece => 0,
+        Refusal::Edition => 0,
+        Refusal::BadPlan(l) => l,
+        Refusal::BadReports(l) => l,
     }
 }
 
@@ -122,5 +146,11 @@ pub fn carries(r: Refusal) -> bool
         Refusal::Early(_) => true,
         Refusal::BadMap(_) => true,
         Refusal::BadScenario(_) => true,
+        Refusal::BadSurvey(_) => true,
+        Refusal::Ended => false,
+        Refusal::LongPiece => false,
+        Refusal::Edition => false,
+        Refusal::BadPlan(_) => true,
+        Refusal::BadReports(_) => true,
     }
 }

@@ -2,12 +2,13 @@
 -- nothing, or what a refusal carries.
 -- Assumes nothing.
 use mathlib.Core.Path.{_≡_, refl, sym, _∙_, ap, ap₂}
+use mathlib.Core.Bool.{Bool, true, false}
 use mathlib.Core.Option.{Option, none, some, Option·getD}
-use Prim.Native.Nat.{ℕ, _≤_}
+use Prim.Native.Nat.{ℕ}
 use native.Mathlib.Omega.{arith}
 use lib.Dec.{eqb}
 use Rattle.paper.specs.Basics.{if_then_else_, _or_}
-use Rattle.paper.specs.Docket.{Refusal, size, rail, apart, crowd, start, goal, stopped, room, illegal, missed, mismarked, unknown, early, badMap, badScenario, number, carried}
+use Rattle.paper.specs.Docket.{Refusal, size, rail, apart, crowd, start, goal, stopped, room, illegal, missed, mismarked, unknown, early, badMap, badScenario, badSurvey, ended, longPiece, edition, badPlan, badReports, number, carried, Verdict, granted, denied as verdictDenied}
 use Rattle.paper.specs.Answers.{Report, accept, already, refuse}
 use Rattle.paper.proofs.Determined.{docket-tells}
 use Rattle.paper.proofs.Tests.{never}
@@ -15,7 +16,7 @@ use Rattle.bills.specs.Answering.{Agreement, agrees, differs, refused as unagre
 use Rattle.planner.specs.Statement.{Told, long, denied}
 use Rattle.trips.specs.Shortening.{Shortening, shortened, denied as deniedShort, begun, refusalNumber}
 use Rattle.shorten.specs.Statements.{Told as ToldShort, wrote, refuses, has-begun, tells as toldShort}
-use Rattle.numbers.specs.Numbers.{numberOf, valueOf, planNumber, planValue, already-number, reportNumber, reportValue, agreementNumber, agreementValue, billedNumber, billedValue, begun-number, shortenNumber, shortenValue}
+use Rattle.numbers.specs.Numbers.{numberOf, valueOf, verdictNumber, verdictValue, planNumber, planValue, already-number, reportNumber, reportValue, agreementNumber, agreementValue, billedNumber, billedValue, begun-number, shortenNumber, shortenValue}
 
 -- what a number and its value are read as
 data Read : Type 0 where
@@ -24,7 +25,7 @@ data Read : Type 0 where
   refused : ℕ → Option ℕ → Read
 
 abbrev carriesNothing : ℕ → Option ℕ → Option ℕ
-carriesNothing n v = if eqb n 1 or eqb n 4 or eqb n 11 or eqb n 12 then none else v
+carriesNothing n v = if eqb n 1 or eqb n 4 or eqb n 11 or eqb n 12 or eqb n 17 or eqb n 18 or eqb n 20 then none else v
 
 abbrev read : ℕ → ℕ → Read
 read n v = if eqb n 0 then accepted v else if eqb n already-number then done else refused n (carriesNothing n (some v))
@@ -46,6 +47,12 @@ read-refusal unknown = refl
 read-refusal (early e) = refl
 read-refusal (badMap l) = refl
 read-refusal (badScenario l) = refl
+read-refusal (badSurvey l) = refl
+read-refusal ended = refl
+read-refusal longPiece = refl
+read-refusal edition = refl
+read-refusal (badPlan l) = refl
+read-refusal (badReports l) = refl
 
 -- two refusals of one number and value
 pub refusals-told-apart : (r q : Refusal) → number r ≡ number q → Option·getD (carried r) 0 ≡ Option·getD (carried q) 0 → r ≡ q
@@ -67,6 +74,13 @@ answers-told-apart w none none e f = refl
 answers-told-apart w none (some q) e f = not-accepted q e f
 answers-told-apart w (some r) none e f = not-accepted r (sym e) (sym f)
 answers-told-apart w (some r) (some q) e f = ap some (refusals-told-apart r q e f)
+
+-- A function that hands back a number.
+pub verdicts-told-apart : (a b : Verdict) → verdictNumber a ≡ verdictNumber b → verdictValue a ≡ verdictValue b → a ≡ b
+verdicts-told-apart (granted m) (granted k) e f = ap granted f
+verdicts-told-apart (granted m) (verdictDenied q) e f = not-accepted q e f
+verdicts-told-apart (verdictDenied r) (granted k) e f = not-accepted r (sym e) (sym f)
+verdicts-told-apart (verdictDenied r) (verdictDenied q) e f = ap verdictDenied (refusals-told-apart r q e f)
 
 -- Planning.
 pub plans-told-apart : (a b : Told) → planNumber a ≡ planNumber b → planValue a ≡ planValue b → a ≡ b
@@ -99,28 +113,42 @@ agreements-told-apart (unagreed r) agrees e f = not-accepted r (sym e) (sym f)
 agreements-told-apart (unagreed r) differs e f = not-accepted r (sym e) (sym f)
 agreements-told-apart (unagreed r) (unagreed q) e f = ap unagreed (refusals-told-apart r q e f)
 
--- A report on a running record: 19 is no number of the table, and none that a report has,
-table-low : (r : Refusal) → number r ≤ 15
-table-low size = omega arith
-table-low (rail i) = omega arith
-table-low (apart b) = omega arith
-table-low crowd = omega arith
-table-low (start c) = omega arith
-table-low (goal c) = omega arith
-table-low (stopped c) = omega arith
-table-low (room l) = omega arith
-table-low (illegal i) = omega arith
-table-low (missed c) = omega arith
-table-low mismarked = omega arith
-table-low unknown = omega arith
-table-low (early d) = omega arith
-table-low (badMap l) = omega arith
-table-low (badScenario l) = omega arith
+-- 19 and 25 are no numbers of the table.
+abbrev ownNumber : ℕ → Bool
+ownNumber n = eqb n disagrees-number or eqb n begun-number
 
+table-other : (r : Refusal) → ownNumber (number r) ≡ false
+unfolding _or_
+table-other size = refl
+table-other (rail i) = refl
+table-other (apart b) = refl
+table-other crowd = refl
+table-other (start c) = refl
+table-other (goal c) = refl
+table-other (stopped c) = refl
+table-other (room l) = refl
+table-other (illegal i) = refl
+table-other (missed c) = refl
+table-other mismarked = refl
+table-other unknown = refl
+table-other (early d) = refl
+table-other (badMap l) = refl
+table-other (badScenario l) = refl
+table-other (badSurvey l) = refl
+table-other ended = refl
+table-other longPiece = refl
+table-other edition = refl
+table-other (badPlan l) = refl
+table-other (badReports l) = refl
+
+not-own : {P : Type 0} (r : Refusal) (n : ℕ) → ownNumber n ≡ true → n ≡ number r → P
+not-own r n h e = let same : true ≡ false = sym h ∙ ap ownNumber e ∙ table-other r in never (cc)
+
+-- A report on a running record: 19 is none that a report has,
 not-nineteen : {P : Type 0} (r : Report) → reportNumber r ≡ disagrees-number → P
 not-nineteen accept e = absurd (omega arith)
 not-nineteen already e = absurd (omega arith)
-not-nineteen (refuse r) e = let l = table-low r in absurd (omega arith)
+not-nineteen (refuse r) e = not-own r disagrees-number refl (sym e)
 
 pub bills-told-apart : (a b : Billed) → billedNumber a ≡ billedNumber b → billedValue a ≡ billedValue b → a ≡ b
 bills-told-apart (told r) (told q) e f = ap told (reports-told-apart r q e f)
@@ -130,7 +158,7 @@ bills-told-apart disagrees disagrees e f = refl
 
 -- Shortening: nor is 25,
 not-begun : {P : Type 0} (r : Refusal) → begun-number ≡ number r → P
-not-begun r e = let l = table-low r in absurd (omega arith)
+not-begun r e = not-own r begun-number refl e
 
 pub shortenings-told-apart : (a b : ToldShort) → shortenNumber a ≡ shortenNumber b → shortenValue a ≡ shortenValue b → a ≡ b
 shortenings-told-apart (wrote m) (wrote k) e f = ap wrote f

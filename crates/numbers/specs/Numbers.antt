@@ -2,7 +2,7 @@
 -- Assumes nothing.
 use mathlib.Core.Option.{Option, none, some, Option·getD}
 use Prim.Native.Nat.{ℕ}
-use Rattle.paper.specs.Docket.{Refusal, number, carried}
+use Rattle.paper.specs.Docket.{Refusal, number, carried, Verdict, granted, denied as verdictDenied}
 use Rattle.paper.specs.Answers.{Report, accept, already, refuse}
 use Rattle.bills.specs.Answering.{Agreement, agrees, differs, refused, Billed, told, disagrees, disagrees-number}
 use Rattle.planner.specs.Statement.{Told, long, denied}
@@ -17,6 +17,15 @@ numberOf (some r) = number r
 abbrev pub valueOf : ℕ → Option Refusal → ℕ
 valueOf written none = written
 valueOf written (some r) = Option·getD (carried r) 0
+
+-- of a function that hands back a number
+abbrev pub verdictNumber : Verdict → ℕ
+verdictNumber (granted n) = numberOf none
+verdictNumber (verdictDenied r) = numberOf (some r)
+
+abbrev pub verdictValue : Verdict → ℕ
+verdictValue (granted n) = valueOf n none
+verdictValue (verdictDenied r) = valueOf 0 (some r)
 
 -- of planning, whose acceptance is known by the plan's length
 abbrev pub planNumber : Told → ℕ

@@ -1,16 +1,17 @@
 // The two numbers by which C is told an answer: document 01's number, 0 where it is accepted, and the value that goes with it.
 ghost use mathlib.Core.Option.{none, some};
-ghost use Rattle.docket.specs.Reading.{refusalOf};
+ghost use Rattle.docket.specs.Reading.{refusalOf, verdictOf};
 ghost use Rattle.checker.specs.Reading.{checkedOf};
 ghost use Rattle.marks.specs.Reading.{reportOf};
 ghost use Rattle.reports.specs.Statements.{slottedOf};
 ghost use Rattle.planner.specs.Statement.{plannedOf};
 ghost use Rattle.shorten.specs.Statements.{toldOf};
 ghost use Rattle.ledger.specs.Statements.{agreementOf, billedOf};
-ghost use Rattle.numbers.specs.Numbers.{numberOf, valueOf, planNumber, planValue, reportNumber, reportValue, shortenNumber, shortenValue, agreementNumber, agreementValue, billedNumber, billedValue};
+ghost use Rattle.numbers.specs.Numbers.{numberOf, valueOf, verdictNumber, verdictValue, planNumber, planValue, reportNumber, reportValue, shortenNumber, shortenValue, agreementNumber, agreementValue, billedNumber, billedValue};
 ghost use Rattle.numbers.specs.Tells.{Tells};
 use checker::Checked;
 use docket::Refusal;
+use docket::Verdict;
 use ledger::Agreement;
 use ledger::Billed;
 use marks::Reported;
@@ -41,6 +42,16 @@ fn refused(refusal: Refusal, value: &mut u64) -> u64
 {
     *value = docket::carried(refusal);
     docket::number(refusal)
+}
+
+// The answer of a function that hands back a number.
+pub fn told(answer: Verdict, value: &mut u64) -> u64
+    ensures { λ r. ⌜ Tells (verdictNumber (verdictOf answer)) (verdictValue (verdictOf answer)) r (now (value .exit)) ⌝ }
+{
+    match answer {
+        Verdict::Granted(n) => accepted(n, value),
+        Verdict::Denied(r) => refused(r, value),
+    }
 }
 
 pub fn told_planned(answer: Planned, value: &mut u64) -> u64

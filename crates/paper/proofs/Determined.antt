@@ -8,7 +8,7 @@ use lib.Dec.{eqb}
 use lib.ListN.{length}
 use Rattle.paper.specs.Basics.{if_then_else_}
 use Rattle.paper.specs.Yard.{Bay, Placement}
-use Rattle.paper.specs.Docket.{Refusal, size, rail, apart, crowd, start, goal, stopped, room, illegal, missed, mismarked, unknown, early, badMap, badScenario, number, carried}
+use Rattle.paper.specs.Docket.{Refusal, size, rail, apart, crowd, start, goal, stopped, room, illegal, missed, mismarked, unknown, early, badMap, badScenario, badSurvey, ended, longPiece, edition, badPlan, badReports, number, carried}
 use Rattle.paper.specs.Answers.{Answer, plan, planEnd, check, slotsRefusal, slotsEnd, Report, report, marksEnd}
 
 -- a statement of an answer and of what a lent list holds at the end allows one of each
@@ -64,7 +64,13 @@ from n v =
     else if eqb n 12 then unknown
     else if eqb n 13 then early v
     else if eqb n 14 then badMap v
-    else badScenario v
+    else if eqb n 15 then badScenario v
+    else if eqb n 16 then badSurvey v
+    else if eqb n 17 then ended
+    else if eqb n 18 then longPiece
+    else if eqb n 20 then edition
+    else if eqb n 26 then badPlan v
+    else badReports v
 
 had-back : (r : Refusal) → from (number r) (Option·getD (carried r) 0) ≡ r
 unfolding from
@@ -83,6 +89,12 @@ had-back unknown = refl
 had-back (early e) = refl
 had-back (badMap l) = refl
 had-back (badScenario l) = refl
+had-back (badSurvey l) = refl
+had-back ended = refl
+had-back longPiece = refl
+had-back edition = refl
+had-back (badPlan l) = refl
+had-back (badReports l) = refl
 
 -- A refusal is known by its number and what it carries.
 pub docket-tells : (r q : Refusal) → number r ≡ number q → carried r ≡ carried q → r ≡ q

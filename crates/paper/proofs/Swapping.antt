@@ -13,14 +13,14 @@ use borrow.Author.Tests.{not-true, ltb-true, ltb-false, eqb-true, eqb-false, ne-
 use Rattle.paper.specs.Basics.{_and_, filter, elem, without, upTo, In, Out, NoDup}
 use Rattle.paper.specs.Yard.{Bay, Carrier, Yard, Placement, Crossing, crossing, bayOf, isEmpty, move, after, joined, legal, legalPlan, neighbours, junction}
 use Rattle.paper.specs.Path.{nearestFirst, shortestPath, Free, Route, Way}
-use Rattle.paper.specs.Procedure.{Action, _then_, cross, exchange, undo, Cleared, vacate, bring, clearing, clear, finish, trialLed, trial, swap, clearingHeld, theirBays}
+use Rattle.paper.specs.Procedure.{Action, _then_, cross, exchange, traded, undo, Cleared, vacate, bring, clearing, clear, finish, trialLed, trial, swap, clearingHeld, theirBays}
 use Rattle.paper.proofs.Tests.{by-cases, by-option, not-both, never-some, and-left, and-right}
 use Rattle.paper.proofs.Members.{first-of, nothing-in-nil, In-head, In-tail, In-cases, In-one, In-append, Out-head, nodup-left, nodup-drop, nodup-append, nodup-filter, nodup-take, nodup-count, take-in, filter-in, filter-passes}
 use Rattle.paper.proofs.Rings.{joined-sym, reached-sym, walk-free, reached-walk}
 use Rattle.paper.proofs.Shortest.{shortest-path}
 use Rattle.paper.proofs.Playing.{Apart, Legal, legal-of, after-append, after-length, plan-append, bay-in, move-self, move-other, move-apart, move-empties, move-out, Sound}
 use Rattle.paper.proofs.Vacating.{plan-apart, Vacated, vacate-vacates}
-use Rattle.paper.proofs.Trading.{traded, traded-length, traded-bay, trade-first, trade-second, trade-other, which, undo-undoes}
+use Rattle.paper.proofs.Trading.{traded-length, traded-bay, trade-first, trade-second, trade-other, which, undo-undoes}
 
 pub eqb-comm : (a b : ℕ) → eqb a b ≡ false → eqb b a ≡ false
 eqb-comm a b e = ne-eqb b a (λ q. eqb-false a b e (sym q))

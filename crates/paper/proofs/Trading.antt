@@ -2,21 +2,17 @@
 -- placement: no rule looks at a carrier's name.
 use mathlib.Core.Path.{_≡_, refl, sym, _∙_, ap}
 use mathlib.Core.Bool.{true, false}
-use mathlib.Core.List.{List, [], _∷_, map, map-map, reverse}
+use mathlib.Core.List.{List, [], _∷_, map}
 use Prim.Native.Nat.{_<_}
 use lib.Dec.{eqb}
 use lib.ListN.{length, getD, set, length-set}
 use lib.Seq.{getD-set-same, getD-set-other, ext-getD}
 use borrow.Author.Tests.{eqb-true, eqb-false, eq-eqb}
-use Rattle.paper.specs.Yard.{Carrier, Yard, Placement, Crossing, crossing, bayOf, move, after, legalPlan}
-use Rattle.paper.specs.Procedure.{trade, undo}
+use Rattle.paper.specs.Yard.{Carrier, Yard, Placement, Crossing, bayOf, move, after, reverseOf, legalPlan}
+use Rattle.paper.specs.Procedure.{trade, traded, renamed, undo}
 use Rattle.paper.proofs.Tests.{by-cases}
 use Rattle.paper.proofs.Playing.{Apart, Legal, legal-facts, legal-of, after-length, plan-head, plan-tail, out-of, out-no}
-use Rattle.paper.proofs.Reversing.{flip, back, back-again, back-legal}
-
--- the two have each other's bay
-unfoldable pub traded : Carrier → Carrier → Placement → Placement
-traded L M p = set (set p L (bayOf p M)) M (bayOf p L)
+use Rattle.paper.proofs.Reversing.{reverse-leads-back, reverse-legal}
 
 pub traded-length : (L M : Carrier) (p : Placement) → length (traded L M p) ≡ length p
 unfolding traded
@@ -64,10 +60,6 @@ module _ (L M : Carrier) where
         (λ a b. rw (trade-other c a b)
         (getD-set-other p₁ M c (bayOf p L) 0 (eqb-false c M b) ∙ getD-set-other p L c (bayOf p M) 0 (eqb-false c L a)))
 
--- the crossing, with the two names traded
-abbrev pub renamed : Carrier → Carrier → Crossing → Crossing
-renamed L M x = crossing (trade L M (x .carrier)) (x .from) (x .to)
-
 module _ (Y : Yard) (L M : Carrier) where
   pub renamed-legal : (p : Placement) → L < length p → M < length p → (x : Crossing) → Legal Y p x → Legal Y (traded L M p) (renamed L M x)
   renamed-legal p hL hM x l = record {
@@ -113,13 +105,10 @@ module _ (Y : Yard) (L M : Carrier) where
       let m = renamed-move p hL hM x (l .there) in
       (rw (legal-of Y (traded L M p) (renamed L M x) (renamed-legal p hL hM x l), m) (ih .0), ap (λ q. after q (map (renamed L M) xs)) m ∙ ih .1)
 
-  undo-is : (xs : List Crossing) → undo L M xs ≡ map (renamed L M) (back xs)
-  unfolding undo back
-  undo-is xs = sym (map-map (renamed L M) flip (reverse xs))
-
   -- Undoing from the traded placement is legal and leads to the traded start.
   pub undo-undoes : (p : Placement) → Apart p → L < length p → M < length p → (xs : List Crossing) → legalPlan Y p xs ≡ true
       → (legalPlan Y (traded L M (after p xs)) (undo L M xs) ≡ true) × (after (traded L M (after p xs)) (undo L M xs) ≡ traded L M p)
+  unfolding undo
   undo-undoes p apart hL hM xs h =
-      let r = renamed-plan (after p xs) (rw after-length hL) (rw after-length hM) (back xs) (back-legal Y p xs apart h) in
-      rw undo-is (r .0, r .1 ∙ ap (traded L M) (back-again Y p xs h))
+      let r = renamed-plan (after p xs) (rw after-length hL) (rw after-length hM) (reverseOf xs) (reverse-legal Y p xs apart h) in
+      (r .0, r .1 ∙ ap (traded L M) (reverse-leads-back Y p xs h))

@@ -1,4 +1,6 @@
--- Numbers on a refused docket: the table, one definition a row. Row N is `no-N`: the refusal with what it carries, or none.
+-- Numbers on a refused docket: the table. Rows 1 to 15 are document 01's, one definition each: row N is `no-N`, the refusal with what it
+-- carries, or none. Rows 16 to 20 are document 02's, 26 and 27 are of files that we added; what each is given for stands with its request.
+-- 19 and 25 are cases of their own requests' answers (crates/bills, crates/trips).
 -- Assumes nothing.
 use mathlib.Core.Bool.{Bool, not}
 use mathlib.Core.List.{List, [], _∷_}
@@ -19,7 +21,9 @@ pub data Refusal : Type 0 where
   crowd : Refusal
   start goal stopped room illegal missed : ℕ → Refusal
   mismarked unknown : Refusal
-  early badMap badScenario : ℕ → Refusal
+  early badMap badScenario badSurvey : ℕ → Refusal
+  ended longPiece edition : Refusal
+  badPlan badReports : ℕ → Refusal
 
 abbrev pub number : Refusal → ℕ
 number size = 1
@@ -37,6 +41,12 @@ number unknown = 12
 number (early e) = 13
 number (badMap l) = 14
 number (badScenario l) = 15
+number (badSurvey l) = 16
+number ended = 17
+number longPiece = 18
+number edition = 20
+number (badPlan l) = 26
+number (badReports l) = 27
 
 abbrev pub carried : Refusal → Option ℕ
 carried size = none
@@ -54,6 +64,22 @@ carried unknown = none
 carried (early e) = some e
 carried (badMap l) = some l
 carried (badScenario l) = some l
+carried (badSurvey l) = some l
+carried ended = none
+carried longPiece = none
+carried edition = none
+carried (badPlan l) = some l
+carried (badReports l) = some l
+
+-- What a function answers that hands back a number: granted, with that number (a length, a count), or denied.
+pub data Verdict : Type 0 where
+  granted : ℕ → Verdict
+  denied : Refusal → Verdict
+
+-- denied if there is a refusal, else granted
+abbrev pub unlessDenied : Option Refusal → ℕ → Verdict
+unlessDenied none n = granted n
+unlessDenied (some r) n = denied r
 
 -- the rails, from the list of their ends
 unfoldable pub railsOf : List Bay → List Rail

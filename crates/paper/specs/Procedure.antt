@@ -2,13 +2,13 @@
 -- order, or none where it fails.
 -- Assumes nothing.
 use mathlib.Core.Bool.{not}
-use mathlib.Core.List.{List, [], _∷_, _++_, map, reverse, dropLast}
+use mathlib.Core.List.{List, [], _∷_, _++_, map, dropLast}
 use mathlib.Core.Option.{Option, none, some}
 use Prim.Native.Nat.{ℕ, zero, suc, min, max}
 use lib.Dec.{eqb, ltb, leb}
-use lib.ListN.{length, getD, take, drop}
+use lib.ListN.{length, getD, set, take, drop}
 use Rattle.paper.specs.Basics.{if_then_else_, if-some_then_else_, _and_, _>>=_, orElse, filter, lowestOf, firstOf, elem, without}
-use Rattle.paper.specs.Yard.{Bay, Carrier, Yard, Placement, Crossing, crossing, bayOf, carrierAt, isEmpty, after, neighbours, junction}
+use Rattle.paper.specs.Yard.{Bay, Carrier, Yard, Placement, Crossing, crossing, bayOf, carrierAt, isEmpty, after, reverseOf, neighbours, junction}
 use Rattle.paper.specs.Path.{rings, nearestFirst, shortestPath}
 
 abbrev pub Action : Type 0
@@ -54,9 +54,17 @@ exchange L M v b x y =
 unfoldable pub trade : Carrier → Carrier → Carrier → Carrier
 trade L M c = if eqb c L then M else if eqb c M then L else c
 
+-- the two have each other's bay
+unfoldable pub traded : Carrier → Carrier → Placement → Placement
+traded L M p = set (set p L (bayOf p M)) M (bayOf p L)
+
+-- a crossing with the two names traded
+abbrev pub renamed : Carrier → Carrier → Crossing → Crossing
+renamed L M x = crossing (trade L M (x .carrier)) (x .from) (x .to)
+
 -- 4. Undo: "Steps 1 and 2 backwards, each crossing reversed, with L and M trading places in it."
 unfoldable pub undo : Carrier → Carrier → List Crossing → List Crossing
-undo L M xs = map (λ x. crossing (trade L M (x .carrier)) (x .to) (x .from)) (reverse xs)
+undo L M xs = map (renamed L M) (reverseOf xs)
 
 -- the two carriers' bays
 abbrev pub theirBays : Carrier → Carrier → Placement → List Bay

@@ -1,7 +1,7 @@
 -- The vault and its numbers: yard, placement, crossing, and when a crossing is legal.
 -- Assumes nothing.
 use mathlib.Core.Bool.{Bool, true, false, not}
-use mathlib.Core.List.{List, [], _∷_, map}
+use mathlib.Core.List.{List, [], _∷_, map, reverse}
 use Prim.Native.Nat.{ℕ, _+_, _-_, _*_, _/_, _%_, _^_}
 use lib.Dec.{eqb, ltb, leb}
 use lib.ListN.{length, getD, set}
@@ -69,6 +69,13 @@ pub record Crossing : Type 0 where
 
 abbrev pub crossing : Carrier → Bay → Bay → Crossing
 crossing c a b = record { carrier = c; from = a; to = b }
+
+-- The crossing with from and to exchanged, and the reverse of a list: crossings in reverse order, each exchanged.
+abbrev pub turned : Crossing → Crossing
+turned x = crossing (x .carrier) (x .to) (x .from)
+
+unfoldable pub reverseOf : List Crossing → List Crossing
+reverseOf xs = map turned (reverse xs)
 
 -- Its number in a lent plan: carrier times 2^32, plus from times 2^16, plus to.
 unfoldable pub pack : Crossing → ℕ

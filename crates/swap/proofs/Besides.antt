@@ -13,7 +13,7 @@ use lib.ListN.{length}
 use borrow.Author.Tests.{eqb-false, le-leb, not-true}
 use Rattle.paper.specs.Basics.{_and_, _or_, placeOf, upTo, In, Out}
 use Rattle.paper.specs.Procedure.{exchange, undo, bring, clear, finish, trialLed, trial, swap}
-use Rattle.paper.specs.Yard.{Bay, Carrier, bayOf, after, joined, neighbours, junction}
+use Rattle.paper.specs.Yard.{Bay, Carrier, bayOf, reverseOf, after, joined, neighbours, junction}
 use Rattle.paper.proofs.Members.{In-head, In-tail, in-filter}
 use Rattle.paper.proofs.Playing.{placeOf-bay, placeOf-there, bay-in}
 use Rattle.paper.proofs.Rings.{ring-zero, in-concat}
@@ -107,7 +107,7 @@ module _ {n : ℕ} {table : List ℕ} (t : Tabled n table) {p standing empty : L
   near = near-of b (in-concat (t .yard) u _ 0 in-ring)
 
   own-led : trialLed (t .yard) r s u [] p ≡ some (exchange r s u w x y)
-  unfolding trialLed bring after finish exchange undo
+  unfolding trialLed bring after finish exchange undo reverseOf
   own-led =
       let lo : min x y ≡ x = omega (arith, two .rising) in
       let hi : max x y ≡ y = omega (arith, two .rising) in

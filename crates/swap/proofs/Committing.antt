@@ -13,13 +13,13 @@ use lib.Seq.{getD-set-same, getD-set-other, length-take-le, take-append-le, take
 use borrow.Author.Tests.{ne-eqb}
 use Rattle.paper.specs.Basics.{find, elem, placeOf, upTo, In}
 use Rattle.paper.specs.Path.{nearestFirst}
-use Rattle.paper.specs.Procedure.{trade, trial, swap}
+use Rattle.paper.specs.Procedure.{trade, traded, trial, swap}
 use Rattle.paper.specs.Yard.{Bay, Carrier, Crossing, bayOf, pack}
 use Rattle.paper.proofs.Members.{find-passes, in-count}
 use Rattle.paper.proofs.Playing.{Apart, placeOf-bay, placeOf-there, bay-in}
 use Rattle.paper.proofs.Swapping.{swap-trades}
 use Rattle.paper.proofs.Tests.{by-cases, by-option, not-both, and-right}
-use Rattle.paper.proofs.Trading.{traded, traded-length, trade-first, trade-second, trade-other, trade-twice, trade-there, traded-bay}
+use Rattle.paper.proofs.Trading.{traded-length, trade-first, trade-second, trade-other, trade-twice, trade-there, traded-bay}
 use Rattle.paper.proofs.Vacating.{plan-apart}
 use Rattle.docket.specs.Reading.{isSome}
 use Rattle.swap.specs.Seeking.{Beside, standingTraded, fitting, Logged}

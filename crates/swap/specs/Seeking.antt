@@ -7,10 +7,9 @@ use mathlib.Core.Option.{Option, none, some}
 use Prim.Native.Nat.{ℕ, _≤_, _<_}
 use lib.ListN.{length, getD, set, take}
 use Rattle.paper.specs.Basics.{_and_}
-use Rattle.paper.specs.Procedure.{clear, trial, swap}
+use Rattle.paper.specs.Procedure.{traded, clear, trial, swap}
 use Rattle.paper.specs.Yard.{Bay, Carrier, Yard, Placement, bayOf, Crossing, pack, joined, junction}
 use Rattle.paper.proofs.Playing.{Sound}
-use Rattle.paper.proofs.Trading.{traded}
 use Rattle.docket.specs.Reading.{isSome}
 use Rattle.words.specs.Sets.{span}
 use Rattle.vacate.specs.Placed.{Placed}

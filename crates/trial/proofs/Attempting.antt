@@ -11,7 +11,7 @@ use lib.ListN.{length, getD, take, length-map, set, length-append, List·getD-ma
 use lib.Seq.{getD-set-other, sets, getD-take, getD-append-add, length-take-le}
 use borrow.Author.Tests.{ne-eqb}
 use Rattle.paper.specs.Procedure.{exchange, undo, Cleared, bring, clear, finish, trialLed}
-use Rattle.paper.specs.Yard.{Bay, Carrier, Yard, Placement, bayOf, Crossing, crossing, pack, move, after, joined, legalPlan}
+use Rattle.paper.specs.Yard.{Bay, Carrier, Yard, Placement, bayOf, Crossing, crossing, reverseOf, pack, move, after, joined, legalPlan}
 use Rattle.paper.proofs.Members.{In-head, In-tail}
 use Rattle.paper.proofs.Playing.{legal-facts, after-append, after-length, plan-head, plan-tail, plan-append}
 use Rattle.paper.proofs.Swapping.{Brought, bring-brings, ClearedIs, clear-clears}
@@ -106,8 +106,8 @@ unfolding exchange
 length-exchange L M v b x y = refl
 
 length-undo : (L M : Carrier) (xs : List Crossing) → length (undo L M xs) ≡ length xs
-unfolding undo
-length-undo L M xs = rw (length-map, length-reverse)
+unfolding undo reverseOf
+length-undo L M xs = rw (length-map, length-map, length-reverse)
 
 module _ {Y : Yard} {L M : Carrier} {v : Bay} {path : List Bay} {n : ℕ} {p standing empty out : List ℕ} {at : ℕ} {p′ standing′ empty′ out₁ : List ℕ} {x y c : ℕ}
     (w : Prepared Y L M v path n p out at p′ standing′ empty′ out₁ x y c) (k : Placed n p standing empty) (hL : L < length p) (hM : M < length p) (differ : M ≡ L → ⊥) where

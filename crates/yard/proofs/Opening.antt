@@ -3,7 +3,8 @@ use mathlib.Core.Path.{_≡_, sym, ap, _∙_}
 use mathlib.Core.Bool.{Bool, true, false}
 use mathlib.Core.List.{List, []}
 use mathlib.Core.Option.{none, some}
-use Prim.Native.Nat.{ℕ, _+_, _/_, _≤_, _<_}
+use Prim.Native.Nat.{ℕ, _+_, _-_, _/_, _≤_, _<_}
+use native.Mathlib.Omega.{arith}
 use lib.ListN.{length}
 use borrow.Author.Tests.{lt-ltb, le-ltb}
 use Rattle.paper.specs.Basics.{firstBad}
@@ -57,15 +58,15 @@ module _ (n : ℕ) (ends : List Bay) (s g : Placement) (lent : ℕ) where
   pub past-3 : Past-2 → (f : Found) → Finds (apartBay (yardOf n ends)) n f → f ≡ Nothing → Past-3
   past-3 p f h e = record { past = p; reached = sym (h .which) ∙ ap foundOf e }
 
-  pub past-4 : Past-3 → length s + kept-empty ≤ n → Past-4
-  past-4 p h = record { past = p; uncrowded = h }
-
-  pub past-5 : Past-4 → (f : Found) → Finds (firstBad (badPlace n) 0 [] s) (length s) f → f ≡ Nothing → Past-5
-  past-5 p f h e = record { past = p; starts = sym (h .which) ∙ ap foundOf e }
-
   -- the sizes then
   pub fitting : Past-1 → Sizes n ends s g lent
   fitting p = sizes-of n ends s g lent (p .sizes)
+
+  pub past-4 : Past-3 → length s ≤ n - kept-empty → Past-4
+  past-4 p h = let z = fitting (p .past .past) in record { past = p; uncrowded = omega (arith, h) }
+
+  pub past-5 : Past-4 → (f : Found) → Finds (firstBad (badPlace n) 0 [] s) (length s) f → f ≡ Nothing → Past-5
+  past-5 p f h e = record { past = p; starts = sym (h .which) ∙ ap foundOf e }
 
   pub first-2 : Past-1 → (table : List ℕ) (f : Found) (i : ℕ) → Lays n ends table f → f ≡ At i → firstSix n ends s g lent ≡ some (rail i)
   unfolding firstSix
@@ -75,9 +76,11 @@ module _ (n : ℕ) (ends : List Bay) (s g : Placement) (lent : ℕ) where
   unfolding firstSix
   first-3 p f b l e = let h = sym (l .which) ∙ ap foundOf e in rw (p .past .sizes, p .rails, h)
 
-  pub first-4 : Past-3 → n < length s + kept-empty → firstSix n ends s g lent ≡ some crowd
+  pub first-4 : Past-3 → n - kept-empty < length s → firstSix n ends s g lent ≡ some crowd
   unfolding firstSix
-  first-4 p h = rw (p .past .past .sizes, p .past .rails, p .reached, lt-ltb n (length s + kept-empty) h)
+  first-4 p h =
+      let z = fitting (p .past .past) in
+      rw (p .past .past .sizes, p .past .rails, p .reached, lt-ltb n (length s + kept-empty) (omega (arith, h)))
 
   pub first-5 : Past-4 → (f : Found) (c : ℕ) → Finds (firstBad (badPlace n) 0 [] s) (length s) f → f ≡ At c → firstSix n ends s g lent ≡ some (start c)
   unfolding firstSix

@@ -115,7 +115,8 @@ fn first_six(
     if let Found::At(b) = apart {
         return Opened::Refused(Refusal::Apart(Bay(b as u16)));
     }
-    if n < start.len() + Yard::KEPT_EMPTY {
+    // This way round no length is too long to be compared: 1 has passed, so n is 2 or more.
+    if n - Yard::KEPT_EMPTY < start.len() {
         return Opened::Refused(Refusal::Crowd);
     }
     let from = bad_place(n, start);

@@ -2,7 +2,7 @@
 -- Assumes nothing.
 use mathlib.Core.Path.{refl}
 use borrow.Author.Needs.{needs}
-use Rattle.paper.proofs.Trading.{traded}
+use Rattle.paper.specs.Procedure.{traded}
 use Rattle.swap.proofs.trade.Statement.{statement}
 use Rattle.swap.proofs.trade.Tie as tie
 

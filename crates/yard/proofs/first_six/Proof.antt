@@ -59,8 +59,10 @@ returns-3 c =
 enum-told-2 : tie.Need-enum-told-2
 enum-told-2 c = search needs
 
-add-if2 : tie.Need-add-if2
-add-if2 c = search needs
+sub-if2 : tie.Need-sub-if2
+sub-if2 c =
+    let p1 = past-1 _ _ _ _ _ _ (c .before .before .before .before .before .before .before .before .before .bad-size .ensures) (c .before .before .before .before .before .before .before .before .if1 .left) in
+    let z = fitting _ _ _ _ _ p1 in omega arith
 
 returns-4 : tie.Need-returns-4
 returns-4 c =
@@ -175,7 +177,7 @@ first-six-spec =
     cast-t21
     returns-3
     enum-told-2
-    add-if2
+    sub-if2
     returns-4
     bad-place-requires
     enum-known-from
