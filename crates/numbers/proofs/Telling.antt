@@ -16,7 +16,12 @@ use Rattle.bills.specs.Answering.{Agreement, agrees, differs, refused as unagre
 use Rattle.planner.specs.Statement.{Told, long, denied}
 use Rattle.trips.specs.Shortening.{Shortening, shortened, denied as deniedShort, begun, refusalNumber}
 use Rattle.shorten.specs.Statements.{Told as ToldShort, wrote, refuses, has-begun, tells as toldShort}
+use Rattle.numbers.specs.Tells.{Tells}
 use Rattle.numbers.specs.Numbers.{numberOf, valueOf, verdictNumber, verdictValue, planNumber, planValue, already-number, reportNumber, reportValue, agreementNumber, agreementValue, billedNumber, billedValue, begun-number, shortenNumber, shortenValue}
+
+-- an answer that equals another is told as that one
+pub told-as : {A : Type 0} (number value : A → ℕ) {a b : A} {r v : ℕ} → a ≡ b → Tells (number b) (value b) r v → Tells (number a) (value a) r v
+told-as number value e t = record { numbered = t .numbered ∙ sym (ap number e); valued = t .valued ∙ sym (ap value e) }
 
 -- what a number and its value are read as
 data Read : Type 0 where
@@ -141,6 +146,14 @@ table-other edition = refl
 table-other (badPlan l) = refl
 table-other (badReports l) = refl
 
+own-nineteen : ownNumber disagrees-number ≡ true
+unfolding _or_
+own-nineteen = refl
+
+own-begun : ownNumber begun-number ≡ true
+unfolding _or_
+own-begun = refl
+
 not-own : {P : Type 0} (r : Refusal) (n : ℕ) → ownNumber n ≡ true → n ≡ number r → P
 not-own r n h e = let same : true ≡ false = sym h ∙ ap ownNumber e ∙ table-other r in never (cc)
 
@@ -148,7 +161,7 @@ not-own r n h e = let same : true ≡ false = sym h ∙ ap ownNumber e ∙ table
 not-nineteen : {P : Type 0} (r : Report) → reportNumber r ≡ disagrees-number → P
 not-nineteen accept e = absurd (omega arith)
 not-nineteen already e = absurd (omega arith)
-not-nineteen (refuse r) e = not-own r disagrees-number refl (sym e)
+not-nineteen (refuse r) e = not-own r disagrees-number own-nineteen (sym e)
 
 pub bills-told-apart : (a b : Billed) → billedNumber a ≡ billedNumber b → billedValue a ≡ billedValue b → a ≡ b
 bills-told-apart (told r) (told q) e f = ap told (reports-told-apart r q e f)
@@ -158,7 +171,7 @@ bills-told-apart disagrees disagrees e f = refl
 
 -- Shortening: nor is 25,
 not-begun : {P : Type 0} (r : Refusal) → begun-number ≡ number r → P
-not-begun r e = not-own r begun-number refl e
+not-begun r e = not-own r begun-number own-begun e
 
 pub shortenings-told-apart : (a b : ToldShort) → shortenNumber a ≡ shortenNumber b → shortenValue a ≡ shortenValue b → a ≡ b
 shortenings-told-apart (wrote m) (wrote k) e f = ap wrote f
