@@ -10,7 +10,7 @@ use lib.ListN.{length}
 use Rattle.paper.specs.Basics.{if_then_else_}
 use Rattle.paper.specs.Yard.{Bay, Placement}
 use Rattle.paper.specs.Dependence.{fresh}
-use Rattle.paper.specs.Docket.{Refusal, size, rail, apart, crowd, start, goal, stopped, room, illegal, missed, mismarked, unknown, early, badMap, badScenario}
+use Rattle.paper.specs.Docket.{Refusal, size, rail, apart, crowd, start, goal, stopped, room, illegal, missed, mismarked, unknown, early, badMap, badScenario, badSurvey, ended as noMore, longPiece, edition, badPlan, badReports}
 use Rattle.paper.specs.Answers.{check, accept, already, refuse, accepts}
 use Rattle.paper.specs.Log.{Request}
 use Rattle.paper.proofs.Tests.{not-both}
@@ -60,6 +60,12 @@ zero-accepts (told (refuse unknown)) = refl
 zero-accepts (told (refuse (early e))) = refl
 zero-accepts (told (refuse (badMap l))) = refl
 zero-accepts (told (refuse (badScenario l))) = refl
+zero-accepts (told (refuse (badSurvey l))) = refl
+zero-accepts (told (refuse noMore)) = refl
+zero-accepts (told (refuse longPiece)) = refl
+zero-accepts (told (refuse edition)) = refl
+zero-accepts (told (refuse (badPlan l))) = refl
+zero-accepts (told (refuse (badReports l))) = refl
 zero-accepts disagrees = refl
 
 -- nor is a refusal to open
