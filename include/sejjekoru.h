@@ -21,9 +21,15 @@
 #include <stddef.h>
 #include <stdint.h>
 
+/* The version of this header. A changed signature raises the second number, until the first is 1. */
+#define SEJJEKORU_VERSION "0.2.0"
+
 #ifdef __cplusplus
 extern "C" {
 #endif
+
+/* The version of the library that is linked. */
+const char *sejjekoru_version(void);
 
 /* The answers, each with what `value` then holds. */
 enum {

@@ -308,5 +308,6 @@ int main(void)
     not_opened();
     bills();
     lower_slot();
+    holds("the library's version is the header's", strcmp(sejjekoru_version(), SEJJEKORU_VERSION) == 0);
     return failed;
 }

@@ -1,0 +1,59 @@
+# Makes the library and the program from what the proof compiled, with a C compiler alone: `make`, then `make install`.
+#
+#   FROM     the folder with the assembly: dist (shipped), or build/proved (made here by the proof)
+#   OUT      where the outcome goes
+#   PREFIX   where it is installed; DESTDIR goes before it, for packages
+.POSIX:
+.SUFFIXES:
+
+FROM = dist
+OUT = build/made
+PREFIX = /usr/local
+DESTDIR =
+LIBDIR = $(PREFIX)/lib
+CFLAGS = -O2
+WARNINGS = -std=c99 -Wall -Wextra -pedantic
+# the processor that the C compiler makes code for
+PROCESSOR = $$($(CC) -dumpmachine | sed 's/-.*//; s/^arm64$$/aarch64/; s/^amd64$$/x86_64/')
+VERSION = $$(sed -n 's/^.define SEJJEKORU_VERSION "\(.*\)"$$/\1/p' include/sejjekoru.h)
+# raised when a program that was linked with the library before could no longer run with it
+SONAME = libsejjekoru.so.0
+
+# what a caller gets of it
+PARTS = libsejjekoru.a libsejjekoru.so.0 libsejjekoru.so
+
+all: $(OUT)/libsejjekoru.a $(OUT)/$(SONAME) $(OUT)/libsejjekoru.so
+
+$(OUT)/sejjekoru.o: $(FROM)/sejjekoru-x86_64.s $(FROM)/sejjekoru-aarch64.s
+	mkdir -p $(OUT)
+	$(CC) -c "$(FROM)/sejjekoru-$(PROCESSOR).s" -o $@
+
+$(OUT)/version.o: program/version.c include/sejjekoru.h
+	mkdir -p $(OUT)
+	$(CC) $(WARNINGS) $(CFLAGS) -fPIC -Iinclude -c program/version.c -o $@
+
+$(OUT)/libsejjekoru.a: $(OUT)/sejjekoru.o $(OUT)/version.o
+	rm -f $@
+	$(AR) rcs $@ $(OUT)/sejjekoru.o $(OUT)/version.o
+
+$(OUT)/$(SONAME): $(OUT)/sejjekoru.o $(OUT)/version.o
+	$(CC) $(LDFLAGS) -shared -Wl,-soname,$(SONAME) -Wl,-z,text $(OUT)/sejjekoru.o $(OUT)/version.o -o $@
+
+$(OUT)/libsejjekoru.so: $(OUT)/$(SONAME)
+	ln -sf $(SONAME) $@
+
+$(OUT)/sejjekoru.pc: include/sejjekoru.h
+	printf '%s\n' 'prefix=$(PREFIX)' 'libdir=$(LIBDIR)' 'includedir=$${prefix}/include' '' \
+	  'Name: sejjekoru' 'Description: Planner and bill-proof crossing log for pallet vaults' "Version: $(VERSION)" \
+	  'Cflags: -I$${includedir}' 'Libs: -L$${libdir} -lsejjekoru' >$@
+
+install: all $(OUT)/sejjekoru.pc
+	mkdir -p "$(DESTDIR)$(PREFIX)/include" "$(DESTDIR)$(LIBDIR)/pkgconfig"
+	install -m 644 include/sejjekoru.h "$(DESTDIR)$(PREFIX)/include/sejjekoru.h"
+	install -m 644 $(OUT)/libsejjekoru.a "$(DESTDIR)$(LIBDIR)/libsejjekoru.a"
+	install -m 755 $(OUT)/$(SONAME) "$(DESTDIR)$(LIBDIR)/$(SONAME)"
+	ln -sf $(SONAME) "$(DESTDIR)$(LIBDIR)/libsejjekoru.so"
+	install -m 644 $(OUT)/sejjekoru.pc "$(DESTDIR)$(LIBDIR)/pkgconfig/sejjekoru.pc"
+
+clean:
+	rm -rf $(OUT)
