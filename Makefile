@@ -20,9 +20,9 @@ VERSION = $$(sed -n 's/^.define SEJJEKORU_VERSION "\(.*\)"$$/\1/p' include/sejje
 SONAME = libsejjekoru.so.0
 
 # what a caller gets of it
-PARTS = libsejjekoru.a libsejjekoru.so.0 libsejjekoru.so
+PARTS = libsejjekoru.a libsejjekoru.so.0 libsejjekoru.so lossy_line
 
-all: $(OUT)/libsejjekoru.a $(OUT)/$(SONAME) $(OUT)/libsejjekoru.so
+all: $(OUT)/libsejjekoru.a $(OUT)/$(SONAME) $(OUT)/libsejjekoru.so $(OUT)/lossy_line
 
 $(OUT)/sejjekoru.o: $(FROM)/sejjekoru-x86_64.s $(FROM)/sejjekoru-aarch64.s
 	mkdir -p $(OUT)
@@ -41,6 +41,9 @@ $(OUT)/$(SONAME): $(OUT)/sejjekoru.o $(OUT)/version.o
 
 $(OUT)/libsejjekoru.so: $(OUT)/$(SONAME)
 	ln -sf $(SONAME) $@
+
+$(OUT)/lossy_line: examples/lossy_line.c $(OUT)/libsejjekoru.a
+	$(CC) $(WARNINGS) $(CFLAGS) -Iinclude examples/lossy_line.c $(OUT)/libsejjekoru.a -o $@
 
 $(OUT)/sejjekoru.pc: include/sejjekoru.h
 	printf '%s\n' 'prefix=$(PREFIX)' 'libdir=$(LIBDIR)' 'includedir=$${prefix}/include' '' \
