@@ -5,15 +5,22 @@
  * stores what the refusal carries, or the length written, or the answer of sejjekoru_agrees, and 0 where there is none of these. Each function is
  * proved to do so for every input.
  *
- * What the caller sees to:
+ * What the caller must ensure:
  * - each list has at least as many elements as the length after it says; a list of length 0 may be NULL;
  * - `value` and `record` are not NULL;
  * - what may be written (`plan` of sejjekoru_plan, `slots`, `out`, `marks` of sejjekoru_report and sejjekoru_report_billed, `*record` and `lines` of
- *   sejjekoru_open and sejjekoru_report_billed, `*value`) overlaps no other argument.
+ *   sejjekoru_open and sejjekoru_report_billed, `*value`) overlaps no other argument;
+ * - lengths and numbers are 64 bits wide. A call from another language must say so: with ctypes, for instance, a plain Python int is passed as 32
+ *   bits, and the upper half of a length on the stack is then whatever was there. Set `argtypes` to c_uint64 and pointers;
+ * - the calling thread has the stack that the function needs (below).
  *
- * Nothing is kept between calls and nothing is allocated: threads may call at the same time, each with its own of what may be written. Of the calling
- * thread's stack sejjekoru_plan takes some 800 KiB (measured, for any yard), sejjekoru_shorten some 340 KiB (measured, on 65,536 crossings),
- * sejjekoru_agrees and sejjekoru_report_billed some 35 KiB (measured), the others less than 20 KiB.
+ * Nothing is kept between calls and nothing is allocated: threads may call at the same time, each with its own of what may be written.
+ *
+ * Stack, measured on x86-64 and on ARM: sejjekoru_plan needs 791 KiB, and 521 KiB even for no bays; sejjekoru_shorten 330 KiB; sejjekoru_agrees and
+ * sejjekoru_report_billed 34 KiB; sejjekoru_open 18 KiB; check, slots and report less than 12 KiB. Threads with 512 KiB of stack, as some systems give
+ * by default, cannot plan: give them a megabyte or more. tests/stack measures it again.
+ *
+ * The library of dist/ has unwind tables, so a debugger shows who called; it has no line numbers, since the prover's compiler gives none.
  */
 #ifndef SEJJEKORU_H
 #define SEJJEKORU_H

@@ -1,0 +1,114 @@
+/*
+ * How much stack each function needs: it is called on a stack that was painted before, and then the paint that is left is counted. Ends with 1 if a
+ * function needs more than include/sejjekoru.h says.
+ */
+#include <pthread.h>
+#include <sejjekoru.h>
+#include <stdio.h>
+#include <stdlib.h>
+#include <string.h>
+
+enum { STACK = 8 << 20, PAINT = 0xa5, KIB = 1024, CALLS = 8 };
+
+static uint64_t bays, plan[65536], out[65536], answer, value;
+static uint16_t rails[2048], start[254], goal[254];
+static size_t ends, carriers, crossings;
+static uint32_t slots[65536];
+static uint8_t marks[65536];
+static sejjekoru_record record;
+static sejjekoru_line lines[254];
+
+#define ORDER bays, rails, ends, start, carriers, goal, carriers
+#define PLAN ORDER, plan, crossings
+
+static const char *const names[CALLS] = {"plan", "check", "slots", "report", "shorten", "open", "agrees", "report_billed"};
+static const size_t promised[CALLS] = {796, 12, 12, 12, 332, 18, 34, 34}; /* KiB; a page more than measured where it is near */
+
+static void *call(void *which)
+{
+    switch (*(int *)which) {
+    case 0: answer = sejjekoru_plan(ORDER, out, 65536, &value); break;
+    case 1: answer = sejjekoru_check(PLAN, &value); break;
+    case 2: answer = sejjekoru_slots(PLAN, slots, 65536, &value); break;
+    case 3: answer = sejjekoru_report(PLAN, marks, crossings, 0, &value); break;
+    case 4: answer = sejjekoru_shorten(PLAN, marks, crossings, out, 65536, &value); break;
+    case 5: answer = sejjekoru_open(PLAN, marks, crossings, &record, lines, carriers, &value); break;
+    case 6: answer = sejjekoru_agrees(PLAN, marks, crossings, &record, lines, carriers, &value); break;
+    case 7: answer = sejjekoru_report_billed(PLAN, marks, crossings, 0, &record, lines, carriers, &value); break;
+    default: break;
+    }
+    return NULL;
+}
+
+/* The bytes that a thread needs for a call; -1 calls nothing. */
+static size_t used(int which)
+{
+    static unsigned char *stack;
+    pthread_attr_t attributes;
+    pthread_t thread;
+    size_t left = 0;
+    if (stack == NULL && posix_memalign((void **)&stack, 65536, STACK) != 0)
+        exit(2);
+    memset(stack, PAINT, STACK);
+    pthread_attr_init(&attributes);
+    if (pthread_attr_setstack(&attributes, stack, STACK) != 0 || pthread_create(&thread, &attributes, call, &which) != 0)
+        exit(2);
+    pthread_join(thread, NULL);
+    while (left < STACK && stack[left] == PAINT)
+        left++;
+    return STACK - left;
+}
+
+/* A square grid with so many carriers, each at another's goal. */
+static void yard(unsigned side, size_t count)
+{
+    unsigned x, y;
+    size_t i;
+    bays = side * side;
+    ends = 0;
+    carriers = count;
+    for (y = 0; y < side; y++)
+        for (x = 0; x < side; x++) {
+            unsigned bay = y * side + x;
+            if (x + 1 < side) {
+                rails[ends++] = (uint16_t)bay;
+                rails[ends++] = (uint16_t)(bay + 1);
+            }
+            if (y + 1 < side) {
+                rails[ends++] = (uint16_t)bay;
+                rails[ends++] = (uint16_t)(bay + side);
+            }
+        }
+    for (i = 0; i < count; i++) {
+        start[i] = (uint16_t)i;
+        goal[i] = (uint16_t)((i + count / 2) % count);
+    }
+}
+
+int main(void)
+{
+    static const unsigned sides[] = {0, 4, 16, 16};
+    static const size_t counts[] = {0, 6, 128, 240};
+    size_t most[CALLS] = {0}, base, need;
+    int size, which, bad = 0;
+    base = used(-1);
+    for (size = 0; size < 4; size++) {
+        yard(sides[size], counts[size]);
+        crossings = 0;
+        memset(marks, 0, sizeof marks);
+        for (which = 0; which < CALLS; which++) {
+            need = used(which) - base;
+            if (need > most[which])
+                most[which] = need;
+            if (which == 0 && answer == SEJJEKORU_ACCEPTED) {
+                crossings = (size_t)value;
+                memcpy(plan, out, sizeof plan);
+            }
+        }
+    }
+    for (which = 0; which < CALLS; which++) {
+        printf("sejjekoru_%s %zu bytes\n", names[which], most[which]);
+        bad |= most[which] > promised[which] * KIB;
+    }
+    return bad;
+}
