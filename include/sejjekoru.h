@@ -16,9 +16,9 @@
  *
  * Nothing is kept between calls and nothing is allocated: threads may call at the same time, each with its own of what may be written.
  *
- * Stack, measured on x86-64 and on ARM: sejjekoru_plan needs 791 KiB, and 521 KiB even for no bays; sejjekoru_shorten 330 KiB; sejjekoru_agrees and
- * sejjekoru_report_billed 34 KiB; sejjekoru_open 18 KiB; check, slots and report less than 12 KiB. Threads with 512 KiB of stack, as some systems give
- * by default, cannot plan: give them a megabyte or more. tests/stack measures it again.
+ * Stack, measured on x86-64 and on ARM and rounded up: sejjekoru_plan needs 820 KiB, and more than 512 KiB even for no bays; sejjekoru_shorten 345 KiB;
+ * sejjekoru_agrees and sejjekoru_report_billed 40 KiB; sejjekoru_open 24 KiB; check, slots and report 16 KiB. Threads with 512 KiB of stack, as some
+ * systems give by default, cannot plan: give them a megabyte or more. tests/stack measures it again.
  *
  * The library of dist/ has unwind tables, so a debugger shows who called; it has no line numbers, since the prover's compiler gives none.
  */

@@ -22,7 +22,7 @@ static sejjekoru_line lines[254];
 #define PLAN ORDER, plan, crossings
 
 static const char *const names[CALLS] = {"plan", "check", "slots", "report", "shorten", "open", "agrees", "report_billed"};
-static const size_t promised[CALLS] = {796, 12, 12, 12, 332, 18, 34, 34}; /* KiB; a page more than measured where it is near */
+static const size_t promised[CALLS] = {820, 16, 16, 16, 345, 24, 40, 40}; /* KiB */
 
 static void *call(void *which)
 {
