@@ -167,6 +167,19 @@ uint64_t sejjekoru_report_billed(uint64_t bays,
                                  sejjekoru_line *lines, size_t lines_len,
                                  uint64_t *value);
 
+/*
+ * Compares two lists of crossings, which need not be legal. `*value` is the number of equal leading crossings. The rest of the longer list from there
+ * on is handed back; at equal length, the rest of the first: `*longer` is 1 if it is the first list's, 2 if the second's, 0 on refusal.
+ * `differences` has 254 places, no more and no fewer, else it answers 8 with 254. Place c then holds how many crossings carrier c has in the second
+ * list less how many it has in the first. 5 carries the first carrier number above 253, all of the first list before the second. A refusal leaves
+ * `differences` as it was. `longer` is not NULL; `*longer` and `differences` overlap no other argument. Answers 0, 1, 5, 8.
+ */
+uint64_t sejjekoru_compare(const uint64_t *first, size_t first_len,
+                           const uint64_t *second, size_t second_len,
+                           int64_t *differences, size_t differences_len,
+                           uint64_t *longer,
+                           uint64_t *value);
+
 #ifdef __cplusplus
 }
 #endif
