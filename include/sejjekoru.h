@@ -1,5 +1,6 @@
 /*
- * Planning, plan check, slots, report log, shortening and running bills of a pallet vault, by document 01 and requests E7 and E10 of document 02.
+ * Planning, plan check, slots, report log, shortening, running bills and comparing of a pallet vault, by document 01 and requests E4, E7 and E10 of
+ * document 02.
  *
  * Every function takes any numbers and lists at all, and answers the documents' number: 0 where it accepts, else the refusal's. Through `value` it
  * stores what the refusal carries, or the length written, or the answer of sejjekoru_agrees, and 0 where there is none of these. Each function is
@@ -27,12 +28,12 @@ extern "C" {
 
 /* The answers, each with what `value` then holds. */
 enum {
-    SEJJEKORU_ACCEPTED = 0,   /* plan, slots, shorten: the length written; agrees: 1 for yes, 0 for no; else 0 */
+    SEJJEKORU_ACCEPTED = 0,   /* plan, slots, shorten: the length written; agrees: 1 for yes, 0 for no; compare: the equal leading crossings; else 0 */
     SEJJEKORU_SIZE = 1,       /* 0 */
     SEJJEKORU_RAIL = 2,       /* the first bad rail */
     SEJJEKORU_APART = 3,      /* the lowest bay that cannot be reached from bay 0 */
     SEJJEKORU_CROWD = 4,      /* 0 */
-    SEJJEKORU_START = 5,      /* the first bad carrier */
+    SEJJEKORU_START = 5,      /* the first bad carrier; compare: the first carrier number above 253 */
     SEJJEKORU_GOAL = 6,       /* the first bad carrier */
     SEJJEKORU_STOPPED = 7,    /* the carrier that could not step */
     SEJJEKORU_ROOM = 8,       /* the needed length */
