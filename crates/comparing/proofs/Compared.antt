@@ -5,7 +5,7 @@ use Prim.Native.Nat.{ℕ}
 use lib.IntN.{ℤ, pos, _-ℤ_}
 use lib.ListN.{length}
 use Rattle.comparing.specs.Comparing.{comparison, equalLeading, longerBy, partBy, differences}
-use Rattle.comparing.specs.StandIn.{granted}
+use Rattle.paper.specs.Docket.{granted}
 use Rattle.comparing.specs.Statements.{CompareSays}
 use Rattle.comparing.proofs.Leading.{EqualExactly, equal-exactly, RestOf, rest-of}
 use Rattle.comparing.proofs.Differing.{sumOf, differences-sum}

@@ -8,14 +8,15 @@ use borrow.Author.Tests.{lt-ltb, le-ltb}
 use lib.Dec.{eqb, ltb}
 use lib.ListN.{length, take, drop, length-drop}
 use lib.Seq.{take-all, drop-length}
-use Rattle.paper.specs.Basics.{if_then_else_, if-some_then_else_}
+use Rattle.paper.specs.Basics.{if_then_else_}
 use Rattle.paper.proofs.Tests.{by-option}
+use Rattle.docket.specs.Reading.{verdictOf}
 use Rattle.docket.specs.declared.Refusal.{Refusal}
 use Rattle.comparing.specs.Comparing.{partBy, longerBy, refusal, comparison, equalLeading}
-use Rattle.comparing.specs.StandIn.{Verdict, granted, denied}
-use Rattle.comparing.specs.Statements.{verdictOf, Within}
-use Rattle.comparing.specs.declared.Verdict.{Verdict as Held}
-use Rattle.comparing.specs.declared.Verdict.the-variants.{Granted, Denied}
+use Rattle.paper.specs.Docket.{Verdict, granted, denied}
+use Rattle.comparing.specs.Statements.{Within}
+use Rattle.docket.specs.declared.Verdict.{Verdict as Held}
+use Rattle.docket.specs.declared.Verdict.the-variants.{Granted, Denied}
 use Rattle.comparing.proofs.Leading.{leading-first, leading-second}
 
 to-the-end : (list : List ℕ) (from : ℕ) → take (length list - from) (drop from list) ≡ drop from list

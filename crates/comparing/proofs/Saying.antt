@@ -10,21 +10,20 @@ use lib.Dec.{eqb, ltb}
 use lib.IntN.{ℤ, pos, _-ℤ_}
 use lib.ListN.{length, getD, length-map}
 use lib.Seq.{ext-getD}
-use Rattle.paper.specs.Basics.{_or_, orElse, _>>=_, when, upTo, countFrom, if-some_then_else_}
+use Rattle.paper.specs.Basics.{_or_, orElse, _>>=_, when, upTo, countFrom}
 use Rattle.paper.specs.Yard.{Carrier, crossings, most-crossings}
-use Rattle.paper.specs.Docket as paper
 use Rattle.paper.specs.Dependence.{countOf}
 use Rattle.paper.proofs.Tests.{or-left, or-right, or-neither, none-both}
-use Rattle.docket.specs.Reading.{refusalOf}
+use Rattle.docket.specs.Reading.{refusalOf, verdictOf}
 use Rattle.docket.specs.declared.Carrier.{Carrier as Carried}
 use Rattle.docket.specs.declared.Refusal.{Refusal}
 use Rattle.docket.specs.declared.Refusal.the-variants.{Size, Start, Room}
 use Rattle.comparing.specs.Comparing.{most-carriers, firstAbove, no-1, no-5, no-8, refusal, comparison, equalLeading, difference, differences, differencesBy}
-use Rattle.comparing.specs.StandIn.{Verdict, granted, denied}
-use Rattle.comparing.specs.Statements.{verdictOf, Counts, CountSays, FillSays, DifferSays}
+use Rattle.paper.specs.Docket.{Verdict, granted, denied}
+use Rattle.comparing.specs.Statements.{Counts, CountSays, FillSays, DifferSays}
 use Rattle.comparing.specs.declared.Counted.{Counted}
-use Rattle.comparing.specs.declared.Verdict.{Verdict as Held}
-use Rattle.comparing.specs.declared.Verdict.the-variants.{Granted, Denied}
+use Rattle.docket.specs.declared.Verdict.{Verdict as Held}
+use Rattle.docket.specs.declared.Verdict.the-variants.{Granted, Denied}
 use Rattle.comparing.proofs.Exchanged.{Passed, passed-granted}
 
 -- what is counted for each carrier gives the differences

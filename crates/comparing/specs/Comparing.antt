@@ -2,16 +2,15 @@
 -- Assumes nothing.
 use mathlib.Core.Bool.{not}
 use mathlib.Core.List.{List, [], _∷_, map}
-use mathlib.Core.Option.{Option, some}
+use mathlib.Core.Option.{Option, some, Option·getD}
 use Prim.Native.Nat.{ℕ, zero, suc, _-_}
 use lib.Dec.{eqb, ltb, leb}
 use lib.IntN.{ℤ, pos, _-ℤ_}
 use lib.ListN.{length, drop}
-use Rattle.paper.specs.Basics.{if_then_else_, if-some_then_else_, _or_, _>>=_, orElse, when, find, upTo}
+use Rattle.paper.specs.Basics.{if_then_else_, _or_, _>>=_, orElse, when, find, upTo}
 use Rattle.paper.specs.Yard.{Carrier, unpack, crossings, most-bays, most-crossings, kept-empty}
-use Rattle.paper.specs.Docket.{Refusal, size, start, room}
+use Rattle.paper.specs.Docket.{Refusal, size, start, room, number, carried, Verdict, granted, denied, unlessDenied}
 use Rattle.paper.specs.Dependence.{countOf}
-use Rattle.comparing.specs.StandIn.{Verdict, granted, denied}
 
 -- the carriers of the largest yard, of whose bays two stay empty: their numbers are 0 to 253
 abbrev pub most-carriers : ℕ
@@ -51,7 +50,7 @@ equalLeading (x ∷ xs) [] = zero
 equalLeading (x ∷ xs) (y ∷ ys) = let rest = equalLeading xs ys in if eqb x y then suc rest else zero
 
 unfoldable pub comparison : List ℕ → List ℕ → ℕ → Verdict
-comparison first second lent = if-some refusal first second lent then denied else granted (equalLeading first second)
+comparison first second lent = unlessDenied (refusal first second lent) (equalLeading first second)
 
 -- "whichever of the two lists is longer", "at equal length .. the first": it is told by 1 or 2, no list by 0
 abbrev pub longerOf : List ℕ → List ℕ → ℕ
@@ -82,3 +81,13 @@ differences first second = map (difference first second) (upTo most-carriers)
 abbrev pub differencesBy : List ℕ → List ℕ → List ℤ → Verdict → List ℤ
 differencesBy first second lent (granted equal) = differences first second
 differencesBy first second lent (denied r) = lent
+
+-- ## How the answer is told: its number, 0 where it is granted, and its value
+
+abbrev pub numberBy : Verdict → ℕ
+numberBy (granted equal) = 0
+numberBy (denied r) = number r
+
+abbrev pub valueBy : Verdict → ℕ
+valueBy (granted equal) = equal
+valueBy (denied r) = Option·getD (carried r) 0

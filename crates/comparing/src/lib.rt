@@ -6,17 +6,13 @@ ghost use lib.IntN.{pos, _-ℤ_};
 ghost use lib.ListN.{length, replicate};
 ghost use Rattle.paper.specs.Basics.{orElse};
 ghost use Rattle.paper.specs.Yard.{most-crossings};
-ghost use Rattle.comparing.specs.Comparing.{most-carriers, equalLeading, longerBy, partBy};
-ghost use Rattle.comparing.specs.StandIn.{verdictNumber, verdictValue};
-ghost use Rattle.comparing.specs.Statements.{verdictOf, countedOf, Within, CountSays, FillSays, DifferSays, CompareSays};
+ghost use Rattle.comparing.specs.Comparing.{most-carriers, equalLeading, longerBy, partBy, numberBy, valueBy};
+ghost use Rattle.docket.specs.Reading.{verdictOf};
+ghost use Rattle.comparing.specs.Statements.{countedOf, Within, CountSays, FillSays, DifferSays, CompareSays};
 use docket::Carrier;
 use docket::Refusal;
+use docket::Verdict;
 use yard::Yard;
-
-pub enum Verdict {
-    Granted(u64),
-    Denied(Refusal),
-}
 
 // The carriers of the largest yard.
 const CARRIERS: usize = Yard::BAYS - Yard::KEPT_EMPTY;
@@ -123,7 +119,7 @@ fn differ(first: &[u64], second: &[u64], differences: &mut [i64]) -> Verdict
 
 // What C and Rust are told of the answer: its number, its value, and which list's rest is handed back.
 fn number_of(answer: Verdict) -> u64
-    ensures { λ r. ⌜ r ≡ verdictNumber (verdictOf answer) ⌝ }
+    ensures { λ r. ⌜ r ≡ numberBy (verdictOf answer) ⌝ }
 {
     match answer {
         Verdict::Granted(_) => 0,
@@ -132,7 +128,7 @@ fn number_of(answer: Verdict) -> u64
 }
 
 fn value_of(answer: Verdict) -> u64
-    ensures { λ r. ⌜ r ≡ verdictValue (verdictOf answer) ⌝ }
+    ensures { λ r. ⌜ r ≡ valueBy (verdictOf answer) ⌝ }
 {
     match answer {
         Verdict::Granted(equal) => equal,

@@ -2,8 +2,7 @@
 -- Assumes nothing.
 use mathlib.Core.Path.{_∙_, ap}
 use denote.Ref.{now}
-use Rattle.comparing.specs.Comparing.{partBy, longerBy}
-use Rattle.comparing.specs.StandIn.{verdictNumber, verdictValue}
+use Rattle.comparing.specs.Comparing.{partBy, longerBy, numberBy, valueBy}
 use Rattle.comparing.proofs.Handing.{begins}
 use borrow.Author.Needs.{needs}
 use Rattle.comparing.proofs.compare.Statement.{statement}
@@ -46,8 +45,8 @@ returns c =
     let s = c .before .before .before .before .before .before .before .before .before in
     let says = c .before .before .before .before .before .differ .ensures in
     record {
-      numbered = c .before .before .before .number-of .ensures ∙ ap verdictNumber (says .answers);
-      valued = c .before .before .value-of .ensures ∙ ap verdictValue (says .answers);
+      numbered = c .before .before .before .number-of .ensures ∙ ap numberBy (says .answers);
+      valued = c .before .before .value-of .ensures ∙ ap valueBy (says .answers);
       which = c .before .longer-of .ensures ∙ ap (longerBy (now (s .args .first)) (now (s .args .second))) (says .answers);
       hands-back = c .rest .ensures ∙ ap (partBy (now (s .args .first)) (now (s .args .second))) (says .answers);
       leaves = says .leaves;
