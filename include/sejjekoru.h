@@ -1,5 +1,6 @@
 /*
- * Planning, plan check, slots, report log, shortening and running bills of a pallet vault, by document 01 and requests E7 and E10 of document 02.
+ * Planning, plan check, slots, report log, shortening, running bills and comparing of a pallet vault, by document 01 and requests E4, E7 and E10 of
+ * document 02.
  *
  * Every function takes any numbers and lists at all, and answers the documents' number: 0 where it accepts, else the refusal's. Through `value` it
  * stores what the refusal carries, or the length written, or the answer of sejjekoru_agrees, and 0 where there is none of these. Each function is
@@ -40,12 +41,12 @@ const char *sejjekoru_version(void);
 
 /* The answers, each with what `value` then holds. */
 enum {
-    SEJJEKORU_ACCEPTED = 0,   /* plan, slots, shorten: the length written; agrees: 1 for yes, 0 for no; else 0 */
+    SEJJEKORU_ACCEPTED = 0,   /* plan, slots, shorten: the length written; agrees: 1 for yes, 0 for no; compare: the equal leading crossings; else 0 */
     SEJJEKORU_SIZE = 1,       /* 0 */
     SEJJEKORU_RAIL = 2,       /* the first bad rail */
     SEJJEKORU_APART = 3,      /* the lowest bay that cannot be reached from bay 0 */
     SEJJEKORU_CROWD = 4,      /* 0 */
-    SEJJEKORU_START = 5,      /* the first bad carrier */
+    SEJJEKORU_START = 5,      /* the first bad carrier; compare: the first carrier number above 253 */
     SEJJEKORU_GOAL = 6,       /* the first bad carrier */
     SEJJEKORU_STOPPED = 7,    /* the carrier that could not step */
     SEJJEKORU_ROOM = 8,       /* the needed length */
@@ -179,6 +180,19 @@ uint64_t sejjekoru_report_billed(uint64_t bays,
                                  sejjekoru_record *record,
                                  sejjekoru_line *lines, size_t lines_len,
                                  uint64_t *value);
+
+/*
+ * Compares two lists of crossings, which need not be legal. `*value` is the number of equal leading crossings. The rest of the longer list from there
+ * on is handed back; at equal length, the rest of the first: `*longer` is 1 if it is the first list's, 2 if the second's, 0 on refusal.
+ * `differences` has 254 places, no more and no fewer, else it answers 8 with 254. Place c then holds how many crossings carrier c has in the second
+ * list less how many it has in the first. 5 carries the first carrier number above 253, all of the first list before the second. A refusal leaves
+ * `differences` as it was. `longer` is not NULL; `*longer` and `differences` overlap no other argument. Answers 0, 1, 5, 8.
+ */
+uint64_t sejjekoru_compare(const uint64_t *first, size_t first_len,
+                           const uint64_t *second, size_t second_len,
+                           int64_t *differences, size_t differences_len,
+                           uint64_t *longer,
+                           uint64_t *value);
 
 #ifdef __cplusplus
 }

@@ -1,7 +1,8 @@
 /*
  * What a C caller may do that no other test does: lists of length 0 as NULL, and a `value` that holds something already; and the layout of the
  * structs that C and the library share. The answers are document 01's: Y8 and Y9, and what its table says of an empty yard, a plan too many and a
- * name too many; request E10's for a trip there and back; and request E7's for the books of Y1.
+ * name too many; request E10's for a trip there and back; request E7's for the books of Y1; and request E4's for
+ * two lists compared.
  */
 #include <inttypes.h>
 #include <stddef.h>
@@ -292,6 +293,37 @@ static void lower_slot(void)
     }
 }
 
+/* Request E4: two lists compared, by its refusals in order, and what stands in the list of differences then. */
+static void compare(void)
+{
+    const uint64_t first[3] = {0x000010002, 0x100000001, 0xfd00000000};
+    const uint64_t second[4] = {0x000010002, 0x100000001, 0x100010003, 0x100030001};
+    const uint64_t above[2] = {0xfe00000000, 0xff00000000};
+    static const uint64_t long_list[65537];
+    int64_t differences[255];
+    uint64_t longer = 77;
+    size_t i;
+    for (i = 0; i < 255; i++) {
+        differences[i] = 5;
+    }
+    told("compare nothing", sejjekoru_compare(NULL, 0, NULL, 0, NULL, 0, &longer, &value), 8, 254);
+    told("compare: first too long", sejjekoru_compare(long_list, 65537, above, 2, NULL, 0, &longer, &value), 1, 0);
+    told("compare: second too long", sejjekoru_compare(above, 2, long_list, 65537, NULL, 0, &longer, &value), 1, 0);
+    told("compare: carrier in the first", sejjekoru_compare(above, 1, above + 1, 1, NULL, 0, &longer, &value), 5, 254);
+    told("compare: carrier in the second", sejjekoru_compare(first, 3, above + 1, 1, NULL, 0, &longer, &value), 5, 255);
+    told("compare: a difference too many", sejjekoru_compare(first, 3, second, 4, differences, 255, &longer, &value), 8, 254);
+    holds("compare: a refusal told of a list or wrote", longer == 0 && differences[0] == 5 && differences[254] == 5);
+    told("compare", sejjekoru_compare(first, 3, second, 4, differences, 254, &longer, &value), 0, 2);
+    holds("compare: the second is longer", longer == 2);
+    holds("compare: second less first",
+          differences[0] == 0 && differences[1] == 2 && differences[2] == 0 && differences[253] == -1 && differences[254] == 5);
+    told("compare exchanged", sejjekoru_compare(second, 4, first, 3, differences, 254, &longer, &value), 0, 2);
+    holds("compare exchanged: negated", longer == 1 && differences[1] == -2 && differences[253] == 1);
+    told("compare equal", sejjekoru_compare(first, 3, first, 3, differences, 254, &longer, &value), 0, 3);
+    holds("compare equal: no difference", longer == 1 && differences[1] == 0 && differences[253] == 0);
+    told("compare empty lists", sejjekoru_compare(NULL, 0, NULL, 0, differences, 254, &longer, &value), 0, 0);
+}
+
 int main(void)
 {
     nothing(0, 1, 0);
@@ -309,5 +341,6 @@ int main(void)
     bills();
     lower_slot();
     holds("the library's version is the header's", strcmp(sejjekoru_version(), SEJJEKORU_VERSION) == 0);
+    compare();
     return failed;
 }

@@ -4,6 +4,7 @@
 
 mod bills;
 mod books;
+mod compare;
 mod files;
 mod lent;
 mod orders;
@@ -24,6 +25,7 @@ fn main() {
     tallies.push(shortening());
     tallies.extend(bills::one_by_one());
     tallies.push(bills::runs());
+    tallies.push(compare::run());
     if let Some(program) = std::env::args().nth(1) {
         tallies.push(files::run(&program));
     }

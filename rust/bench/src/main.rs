@@ -2,6 +2,7 @@
 //! A time is that of the thread on its core, the least of several repeats; of several yards the middle one is shown. Nothing here passes or fails by the clock.
 
 mod bills;
+mod compare;
 mod plans;
 mod reports;
 mod shortening;
@@ -10,17 +11,19 @@ mod timing;
 use sejjekoru::Yard;
 use yards::Order;
 
-/// With the argument `shortening` or `bills` that table alone.
+/// With the argument `shortening`, `bills` or `compare` that table alone.
 fn main() {
     match std::env::args().nth(1).as_deref() {
         Some("shortening") => return shortening::tables(),
         Some("bills") => return bills::tables(),
+        Some("compare") => return compare::tables(),
         _ => {}
     }
     plans::tables();
     reports::tables();
     shortening::tables();
     bills::tables();
+    compare::tables();
 }
 
 fn yard(order: &Order) -> Yard<'_> {

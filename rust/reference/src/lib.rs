@@ -6,6 +6,7 @@
 
 mod bays;
 mod bills;
+mod compare;
 mod crossing;
 mod distances;
 mod docket;
@@ -75,4 +76,15 @@ pub fn report_billed(job: Job, marks: &mut [u8], name: u64, record: &mut Record,
         Billed::Told(answer) => told(answer),
         Billed::Disagrees => (DISAGREES, 0),
     }))
+}
+
+/// Compares two lists of crossings: number, value, which is the number of equal leading crossings, and the rest that is handed back.
+pub fn compare<'a>(first: &'a [u64], second: &'a [u64], differences: &mut [i64]) -> (u64, u64, &'a [u64]) {
+    let mut part = &first[..0];
+    let answer = compare::compare(first, second, differences).map(|(equal, rest)| {
+        part = rest;
+        (ACCEPTED, equal)
+    });
+    let (number, value) = docket(answer);
+    (number, value, part)
 }

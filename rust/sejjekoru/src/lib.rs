@@ -4,12 +4,14 @@
 
 mod answers;
 mod bills;
+mod compare;
 mod crossing;
 pub mod numbers;
 pub mod raw;
 
 pub use answers::{Refusal, Reported};
 pub use bills::{Line, Record, UNTOUCHED};
+pub use compare::{compare, compare_numbers, Compared};
 pub use crossing::{Bay, Carrier, Crossing};
 
 use answers::{reported, told};

@@ -1,0 +1,93 @@
+-- Comparing two lists of crossings: what is refused, the equal leading crossings, the rest of the longer list, and each carrier's difference.
+-- Assumes nothing.
+use mathlib.Core.Bool.{not}
+use mathlib.Core.List.{List, [], _∷_, map}
+use mathlib.Core.Option.{Option, some, Option·getD}
+use Prim.Native.Nat.{ℕ, zero, suc, _-_}
+use lib.Dec.{eqb, ltb, leb}
+use lib.IntN.{ℤ, pos, _-ℤ_}
+use lib.ListN.{length, drop}
+use Rattle.paper.specs.Basics.{if_then_else_, _or_, _>>=_, orElse, when, find, upTo}
+use Rattle.paper.specs.Yard.{Carrier, unpack, crossings, most-bays, most-crossings, kept-empty}
+use Rattle.paper.specs.Docket.{Refusal, size, start, room, number, carried, Verdict, granted, denied, unlessDenied}
+use Rattle.paper.specs.Dependence.{countOf}
+
+-- the carriers of the largest yard, of whose bays two stay empty: their numbers are 0 to 253
+abbrev pub most-carriers : ℕ
+most-carriers = most-bays - kept-empty
+
+-- ## What is refused
+
+abbrev pub carrierOf : ℕ → Carrier
+carrierOf w = unpack w .carrier
+
+-- "the first carrier number above 253"
+abbrev pub firstAbove : List ℕ → Option Carrier
+firstAbove list = find (leb most-carriers) (map carrierOf list)
+
+-- "1, a list over 65,536 crossings"
+abbrev pub no-1 : List ℕ → List ℕ → Option Refusal
+no-1 first second = when (ltb most-crossings (length first) or ltb most-crossings (length second)) size
+
+-- "5, with the first carrier number above 253, first list first"
+abbrev pub no-5 : List ℕ → List ℕ → Option Refusal
+no-5 first second = orElse (firstAbove first) (firstAbove second) >>= λ c. some (start c)
+
+-- "8, carrying 254, if the lent list has another length"
+abbrev pub no-8 : ℕ → Option Refusal
+no-8 lent = when (not (eqb lent most-carriers)) (room most-carriers)
+
+-- "Refusals, in order"; `lent` is the length of the list of differences
+unfoldable pub refusal : List ℕ → List ℕ → ℕ → Option Refusal
+refusal first second lent = orElse (no-1 first second) (orElse (no-5 first second) (no-8 lent))
+
+-- ## The answer
+
+-- "the number of equal leading crossings"
+unfoldable pub equalLeading : List ℕ → List ℕ → ℕ
+equalLeading [] ys = zero
+equalLeading (x ∷ xs) [] = zero
+equalLeading (x ∷ xs) (y ∷ ys) = let rest = equalLeading xs ys in if eqb x y then suc rest else zero
+
+unfoldable pub comparison : List ℕ → List ℕ → ℕ → Verdict
+comparison first second lent = unlessDenied (refusal first second lent) (equalLeading first second)
+
+-- "whichever of the two lists is longer", "at equal length .. the first": it is told by 1 or 2, no list by 0
+abbrev pub longerOf : List ℕ → List ℕ → ℕ
+longerOf first second = if ltb (length first) (length second) then 2 else 1
+
+abbrev pub listOf : List ℕ → List ℕ → ℕ → List ℕ
+listOf first second which = if eqb which 2 then second else first
+
+abbrev pub longerBy : List ℕ → List ℕ → Verdict → ℕ
+longerBy first second (granted equal) = longerOf first second
+longerBy first second (denied r) = 0
+
+-- "the rest .. from the first difference on", "on refusal, an empty part"
+abbrev pub partBy : List ℕ → List ℕ → Verdict → List ℕ
+partBy first second (granted equal) = drop equal (listOf first second (longerOf first second))
+partBy first second (denied r) = []
+
+-- ## Carrier by carrier
+
+-- "the signed difference of crossings, second less first"
+abbrev pub difference : List ℕ → List ℕ → Carrier → ℤ
+difference first second c = pos (countOf c (crossings second)) -ℤ pos (countOf c (crossings first))
+
+abbrev pub differences : List ℕ → List ℕ → List ℤ
+differences first second = map (difference first second) (upTo most-carriers)
+
+-- what stands in the lent list at the end: a refusal leaves it as it was
+abbrev pub differencesBy : List ℕ → List ℕ → List ℤ → Verdict → List ℤ
+differencesBy first second lent (granted equal) = differences first second
+differencesBy first second lent (denied r) = lent
+
+-- ## How the answer is told: its number, 0 where it is granted, and its value
+
+abbrev pub numberBy : Verdict → ℕ
+numberBy (granted equal) = 0
+numberBy (denied r) = number r
+
+abbrev pub valueBy : Verdict → ℕ
+valueBy (granted equal) = equal
+valueBy (denied r) = Option·getD (carried r) 0

@@ -1,0 +1,181 @@
+// Two lists of crossings compared: how many leading crossings are equal, the rest of the longer list, and each carrier's difference.
+// All is tested and counted before anything is written, so a refusal leaves the differences as they were.
+ghost use mathlib.Core.Path.{_≡_};
+ghost use Prim.Native.Nat.{_≤_, min};
+ghost use lib.IntN.{pos, _-ℤ_};
+ghost use lib.ListN.{length, replicate};
+ghost use Rattle.paper.specs.Basics.{orElse};
+ghost use Rattle.paper.specs.Yard.{most-crossings};
+ghost use Rattle.comparing.specs.Comparing.{most-carriers, equalLeading, longerBy, partBy, numberBy, valueBy};
+ghost use Rattle.docket.specs.Reading.{verdictOf};
+ghost use Rattle.comparing.specs.Statements.{countedOf, Within, CountSays, FillSays, DifferSays, CompareSays};
+use docket::Carrier;
+use docket::Refusal;
+use docket::Verdict;
+use yard::Yard;
+
+// The carriers of the largest yard.
+const CARRIERS: usize = Yard::BAYS - Yard::KEPT_EMPTY;
+
+// What counting a list answers: each carrier has its count, or the first carrier number that has none.
+enum Counted {
+    All,
+    Above(Carrier),
+}
+
+// Counts each carrier's crossings, up to the first carrier number above 253.
+fn count(list: &[u64], counts: &mut [u32; CARRIERS]) -> Counted
+    requires { ⌜ (length (now list) ≤ most-crossings) × (now counts ≡ replicate most-carriers 0) ⌝ }
+    ensures { λ r. ⌜ CountSays (now (list .entry)) r (now (counts .exit)) ⌝ }
+{
+    let mut i = 0;
+    while i < list.len() {
+        let x = docket::unpack(list[i]);
+        let carrier = x.carrier;
+        let place = carrier.0 as usize;
+        if CARRIERS <= place {
+            return Counted::Above(carrier);
+        }
+        counts[place] += 1;
+        i += 1;
+    }
+    Counted::All
+}
+
+// The carrier number that the one list stops at, or else the other.
+fn earlier(one: Counted, other: Counted) -> Counted
+    ensures { λ r. ⌜ countedOf r ≡ orElse (countedOf one) (countedOf other) ⌝ }
+{
+    match one {
+        Counted::Above(carrier) => Counted::Above(carrier),
+        Counted::All => other,
+    }
+}
+
+// The one count less the other, with its sign.
+fn less(count: u32, other: u32) -> i64
+    ensures { λ r. ⌜ r ≡ pos count -ℤ pos other ⌝ }
+{
+    count as i64 - other as i64
+}
+
+// Second less first, carrier by carrier.
+fn fill(firsts: &[u32; CARRIERS], seconds: &[u32; CARRIERS], differences: &mut [i64])
+    requires { ⌜ length (now differences) ≡ most-carriers ⌝ }
+    ensures { λ _. ⌜ FillSays (now (seconds .entry)) (now (firsts .entry)) (now (differences .exit)) ⌝ }
+{
+    let mut c = 0;
+    while c < CARRIERS {
+        differences[c] = less(seconds[c], firsts[c]);
+        c += 1;
+    }
+}
+
+fn lower(a: usize, b: usize) -> usize
+    ensures { λ r. ⌜ r ≡ min a b ⌝ }
+{
+    if a < b { a } else { b }
+}
+
+// How many leading crossings are equal.
+fn equal_leading(first: &[u64], second: &[u64]) -> usize
+    ensures { λ r. ⌜ r ≡ equalLeading (now (first .entry)) (now (second .entry)) ⌝ }
+{
+    let both = lower(first.len(), second.len());
+    let mut equal = 0;
+    while equal < both {
+        if first[equal] != second[equal] {
+            return equal;
+        }
+        equal += 1;
+    }
+    equal
+}
+
+// The number of equal leading crossings, with the differences written, or why there is none.
+fn differ(first: &[u64], second: &[u64], differences: &mut [i64]) -> Verdict
+    ensures { λ r. ⌜ DifferSays (now (first .entry)) (now (second .entry)) (now (differences .entry)) r (now (differences .exit)) ⌝ }
+{
+    if Yard::CROSSINGS < first.len() {
+        return Verdict::Denied(Refusal::Size);
+    }
+    if Yard::CROSSINGS < second.len() {
+        return Verdict::Denied(Refusal::Size);
+    }
+    let mut firsts = [0u32; CARRIERS];
+    let of_first = count(first, &mut firsts);
+    let mut seconds = [0u32; CARRIERS];
+    let of_second = count(second, &mut seconds);
+    let of_both = earlier(of_first, of_second);
+    if let Counted::Above(carrier) = of_both {
+        return Verdict::Denied(Refusal::Start(carrier));
+    }
+    if differences.len() != CARRIERS {
+        return Verdict::Denied(Refusal::Room(CARRIERS as u64));
+    }
+    fill(&firsts, &seconds, differences);
+    Verdict::Granted(equal_leading(first, second) as u64)
+}
+
+// What C and Rust are told of the answer: its number, its value, and which list's rest is handed back.
+fn number_of(answer: Verdict) -> u64
+    ensures { λ r. ⌜ r ≡ numberBy (verdictOf answer) ⌝ }
+{
+    match answer {
+        Verdict::Granted(_) => 0,
+        Verdict::Denied(r) => docket::number(r),
+    }
+}
+
+fn value_of(answer: Verdict) -> u64
+    ensures { λ r. ⌜ r ≡ valueBy (verdictOf answer) ⌝ }
+{
+    match answer {
+        Verdict::Granted(equal) => equal,
+        Verdict::Denied(r) => docket::carried(r),
+    }
+}
+
+// Which list's rest is handed back: 1, 2, or 0 for none.
+fn longer_of(first: &[u64], second: &[u64], answer: Verdict) -> u64
+    ensures { λ r. ⌜ r ≡ longerBy (now (first .entry)) (now (second .entry)) (verdictOf answer) ⌝ }
+{
+    match answer {
+        Verdict::Granted(_) => { if first.len() < second.len() { 2 } else { 1 } }
+        Verdict::Denied(_) => 0,
+    }
+}
+
+// The rest of the longer list, from the first difference on.
+fn rest<'a>(first: &'a [u64], second: &'a [u64], answer: Verdict) -> &'a [u64]
+    requires { ⌜ Within (now first) (now second) (verdictOf answer) ⌝ }
+    ensures { λ r. ⌜ now r ≡ partBy (now (first .entry)) (now (second .entry)) (verdictOf answer) ⌝ }
+{
+    let Verdict::Granted(equal) = answer else {
+        return &first[first.len()..];
+    };
+    let from = equal as usize;
+    if first.len() < second.len() {
+        &second[from..]
+    } else {
+        &first[from..]
+    }
+}
+
+// Compares: hands back the rest of the longer list, an empty part on refusal, and stores the answer's number, its value and which list it is.
+pub fn compare<'a>(
+    first: &'a [u64],
+    second: &'a [u64],
+    differences: &mut [i64],
+    number: &mut u64,
+    value: &mut u64,
+    longer: &mut u64,
+) -> &'a [u64]
+    ensures { λ r. ⌜ CompareSays (now (first .entry)) (now (second .entry)) (now (differences .entry)) (now r) (now (number .exit)) (now (value .exit)) (now (longer .exit)) (now (differences .exit)) ⌝ }
+{
+    let answer = differ(first, second, differences);
+    *number = number_of(answer);
+    *value = value_of(answer);
+    *longer = longer_of(first, second, answer);
+    rest(first, second, answer)
+}
