@@ -11,7 +11,7 @@ use yards::Order;
 const AROUND: usize = 16;
 
 /// What stands in a guard place.
-trait Guard: Copy + PartialEq {
+pub trait Guard: Copy + PartialEq {
     const GUARD: Self;
 }
 
@@ -40,32 +40,32 @@ impl Guard for Line {
 }
 
 /// A list between guard places, all of them cells, so that a store through its pointer, wanted or not, is seen.
-struct Lent<T> {
+pub struct Lent<T> {
     places: Vec<Cell<T>>,
     length: usize,
 }
 
 impl<T: Guard> Lent<T> {
-    fn new(list: &[T]) -> Lent<T> {
+    pub fn new(list: &[T]) -> Lent<T> {
         let around = [T::GUARD; AROUND];
         let places = around.iter().chain(list).chain(&around).map(|&place| Cell::new(place)).collect();
         Lent { places, length: list.len() }
     }
 
     /// Room for so many.
-    fn room(length: usize) -> Lent<T> {
+    pub fn room(length: usize) -> Lent<T> {
         Lent::new(&vec![T::GUARD; length])
     }
 
-    fn as_ptr(&self) -> *mut T {
+    pub fn as_ptr(&self) -> *mut T {
         self.places[AROUND..].as_ptr() as *mut T
     }
 
-    fn len(&self) -> usize {
+    pub fn len(&self) -> usize {
         self.length
     }
 
-    fn is(&self, list: &[T]) -> bool {
+    pub fn is(&self, list: &[T]) -> bool {
         let (before, rest) = self.places.split_at(AROUND);
         let (middle, after) = rest.split_at(self.length);
         middle.iter().map(Cell::get).eq(list.iter().copied()) && before.iter().chain(after).all(|place| place.get() == T::GUARD)

@@ -8,6 +8,7 @@ mod files;
 mod lent;
 mod orders;
 mod plans;
+mod reverse;
 mod tally;
 
 use lent::Asked;
@@ -24,6 +25,7 @@ fn main() {
     tallies.push(shortening());
     tallies.extend(bills::one_by_one());
     tallies.push(bills::runs());
+    tallies.push(reverse::lists());
     if let Some(program) = std::env::args().nth(1) {
         tallies.push(files::run(&program));
     }

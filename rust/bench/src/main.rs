@@ -4,23 +4,26 @@
 mod bills;
 mod plans;
 mod reports;
+mod reversing;
 mod shortening;
 mod timing;
 
 use sejjekoru::Yard;
 use yards::Order;
 
-/// With the argument `shortening` or `bills` that table alone.
+/// With the argument `shortening`, `bills` or `reversing` that table alone.
 fn main() {
     match std::env::args().nth(1).as_deref() {
         Some("shortening") => return shortening::tables(),
         Some("bills") => return bills::tables(),
+        Some("reversing") => return reversing::table(),
         _ => {}
     }
     plans::tables();
     reports::tables();
     shortening::tables();
     bills::tables();
+    reversing::table();
 }
 
 fn yard(order: &Order) -> Yard<'_> {
