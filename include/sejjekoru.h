@@ -41,7 +41,7 @@ const char *sejjekoru_version(void);
 
 /* The answers, each with what `value` then holds. */
 enum {
-    SEJJEKORU_ACCEPTED = 0,   /* plan, slots, shorten: the length written; agrees: 1 for yes, 0 for no; compare: the equal leading crossings; else 0 */
+    SEJJEKORU_ACCEPTED = 0,   /* what was written or counted, as each function says below, else 0 */
     SEJJEKORU_SIZE = 1,       /* 0 */
     SEJJEKORU_RAIL = 2,       /* the first bad rail */
     SEJJEKORU_APART = 3,      /* the lowest bay that cannot be reached from bay 0 */
@@ -192,6 +192,15 @@ uint64_t sejjekoru_compare(const uint64_t *first, size_t first_len,
                            const uint64_t *second, size_t second_len,
                            int64_t *differences, size_t differences_len,
                            uint64_t *longer,
+                           uint64_t *value);
+
+/*
+ * Plays a plan backwards: writes the reverse of `list` to the first places of `out`, that is its crossings in reverse order, from and to exchanged. It
+ * takes no yard, and the list may hold any numbers. If a plan passes sejjekoru_check from start to goal, its reverse passes from goal to start.
+ * Answers 0, 1 (more than 65,536 crossings) and 8.
+ */
+uint64_t sejjekoru_reverse(const uint64_t *list, size_t list_len,
+                           uint64_t *out, size_t out_len,
                            uint64_t *value);
 
 #ifdef __cplusplus

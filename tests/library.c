@@ -1,8 +1,7 @@
 /*
  * What a C caller may do that no other test does: lists of length 0 as NULL, and a `value` that holds something already; and the layout of the
  * structs that C and the library share. The answers are document 01's: Y8 and Y9, and what its table says of an empty yard, a plan too many and a
- * name too many; request E10's for a trip there and back; request E7's for the books of Y1; and request E4's for
- * two lists compared.
+ * name too many, and for each later request what it says itself.
  */
 #include <inttypes.h>
 #include <stddef.h>
@@ -324,6 +323,34 @@ static void compare(void)
     told("compare empty lists", sejjekoru_compare(NULL, 0, NULL, 0, differences, 254, &longer, &value), 0, 0);
 }
 
+/* Y1's plan backwards, from goal to start, and back again; numbers of any size; 1 before 8; and a refusal writes nothing. */
+static void backwards(void)
+{
+    static const uint64_t rollback[CROSSINGS] = {
+        0x100010003, 0x000000001, 0x000010002, 0x100030001, 0x100010000, 0x000020001};
+    static uint64_t list[65537], room[65537];
+    uint64_t out[CROSSINGS + 1];
+    const uint64_t any = 0xfedcba9876543210;
+    memset(out, 0xa5, sizeof out);
+    told("no list", sejjekoru_reverse(NULL, 0, NULL, 0, &value), 0, 0);
+    told("no room", sejjekoru_reverse(y1_plan, CROSSINGS, out, CROSSINGS - 1, &value), SEJJEKORU_ROOM, CROSSINGS);
+    holds("a refusal wrote", out[0] == 0xa5a5a5a5a5a5a5a5);
+    told("backwards", sejjekoru_reverse(y1_plan, CROSSINGS, out, CROSSINGS + 1, &value), 0, CROSSINGS);
+    holds("the rollback", memcmp(out, rollback, sizeof rollback) == 0 && out[CROSSINGS] == 0xa5a5a5a5a5a5a5a5);
+    told("the rollback's check",
+         sejjekoru_check(4, y1_rails, 6, y1_goal, CARRIERS, y1_start, CARRIERS, out, CROSSINGS, &value), 0, 0);
+    told("back again", sejjekoru_reverse(rollback, CROSSINGS, out, CROSSINGS, &value), 0, CROSSINGS);
+    holds("the plan again", memcmp(out, y1_plan, sizeof y1_plan) == 0);
+    told("any number", sejjekoru_reverse(&any, 1, out, 1, &value), 0, 1);
+    holds("a number's bays exchanged", out[0] == 0xfedcba9832107654);
+    list[0] = any;
+    told("1 before 8", sejjekoru_reverse(list, 65537, NULL, 0, &value), SEJJEKORU_SIZE, 0);
+    told("1 with room", sejjekoru_reverse(list, 65537, room, 65537, &value), SEJJEKORU_SIZE, 0);
+    holds("a refusal wrote", room[65536] == 0);
+    told("the longest list", sejjekoru_reverse(list, 65536, room, 65537, &value), 0, 65536);
+    holds("the longest list's end", room[65535] == 0xfedcba9832107654 && room[65534] == 0 && room[65536] == 0);
+}
+
 int main(void)
 {
     nothing(0, 1, 0);
@@ -340,6 +367,7 @@ int main(void)
     not_opened();
     bills();
     lower_slot();
+    backwards();
     holds("the library's version is the header's", strcmp(sejjekoru_version(), SEJJEKORU_VERSION) == 0);
     compare();
     return failed;

@@ -8,6 +8,7 @@ use Rattle.paper.proofs.Determined.{Determined}
 use Rattle.bills.specs.declared.Line.{Line}
 use Rattle.bills.specs.declared.Record.{Record}
 use Rattle.sejjekoru.specs.Bills.{OpenTells, AgreesTells, ReportBilledTells}
+use Rattle.sejjekoru.specs.Reverse.{ReverseTells}
 use Rattle.numbers.specs.Tells.{Tells}
 use Rattle.sejjekoru.specs.Statements.{TellsAndLeaves, PlanTells, CheckTells, SlotsTell, ReportTells, ShortenTells}
 
@@ -59,3 +60,6 @@ module _ (n : ℕ) (ends : List Bay) (starts goals : Placement) where
       let recs = s .record-then ∙ sym (t .record-then) in
       let lists = s .lines-then ∙ sym (t .lines-then) in
       (λ i. (same .0 i, same .1 i), λ i. (marked i, (recs i, lists i)))
+
+pub reverse-determined : (list out : List ℕ) → Determined (Paired (ReverseTells list out))
+reverse-determined list out = left-determined

@@ -5,18 +5,20 @@ mod bills;
 mod compare;
 mod plans;
 mod reports;
+mod reversing;
 mod shortening;
 mod timing;
 
 use sejjekoru::Yard;
 use yards::Order;
 
-/// With the argument `shortening`, `bills` or `compare` that table alone.
+/// With a table's name as the argument that table alone.
 fn main() {
     match std::env::args().nth(1).as_deref() {
         Some("shortening") => return shortening::tables(),
         Some("bills") => return bills::tables(),
         Some("compare") => return compare::tables(),
+        Some("reversing") => return reversing::table(),
         _ => {}
     }
     plans::tables();
@@ -24,6 +26,7 @@ fn main() {
     shortening::tables();
     bills::tables();
     compare::tables();
+    reversing::table();
 }
 
 fn yard(order: &Order) -> Yard<'_> {

@@ -13,12 +13,14 @@ mod docket;
 mod files;
 mod log;
 mod planner;
+mod reverse;
 mod search;
 mod shorten;
 mod yard;
 
 pub use bills::{Job, Line, Record, UNTOUCHED};
 pub use files::{program, program_short};
+pub use reverse::reverse;
 
 use bills::Billed;
 use docket::{docket, ACCEPTED, ALREADY, BEGUN, DISAGREES};

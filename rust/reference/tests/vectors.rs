@@ -3,7 +3,7 @@
 
 use reference::{check, plan, program, report, slots};
 use std::path::{Path, PathBuf};
-use yards::vectors::plans;
+use yards::vectors::{plans, reverses};
 
 fn here(name: &str) -> PathBuf {
     Path::new(env!("CARGO_MANIFEST_DIR")).join(name)
@@ -38,6 +38,11 @@ fn plans_of_the_vectors() {
 #[test]
 fn large_plans_of_the_vectors() {
     assert_eq!(plans(&text("tests/data/plan-large.txt"), plan), (7, 0));
+}
+
+#[test]
+fn reverses_of_the_vectors() {
+    assert_eq!(reverses(&text("../../tests/vectors/02/reverse.txt"), reference::reverse), (89, 61));
 }
 
 #[test]

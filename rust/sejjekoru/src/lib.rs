@@ -8,11 +8,13 @@ mod compare;
 mod crossing;
 pub mod numbers;
 pub mod raw;
+mod reverse;
 
 pub use answers::{Refusal, Reported};
 pub use bills::{Line, Record, UNTOUCHED};
 pub use compare::{compare, compare_numbers, Compared};
 pub use crossing::{Bay, Carrier, Crossing};
+pub use reverse::reverse;
 
 use answers::{reported, told};
 

@@ -1,6 +1,6 @@
 //! The functions over slices, with the answer as the library tells it: the documents' number and the value that goes with it.
 
-use crate::{ask, Line, Record, Yard};
+use crate::{ask, raw, Line, Record, Yard};
 
 pub fn plan(yard: Yard, room: &mut [u64]) -> (u64, u64) {
     // SAFETY: each pointer comes with its own slice's length, and what is written is borrowed alone.
@@ -40,4 +40,11 @@ pub fn agrees(yard: Yard, plan: &[u64], marks: &[u8], record: &Record, lines: &[
 pub fn report_billed(yard: Yard, plan: &[u64], marks: &mut [u8], name: u64, record: &mut Record, lines: &mut [Line]) -> (u64, u64) {
     // SAFETY: as in `plan`.
     unsafe { ask!(sejjekoru_report_billed, yard, [plan], [mut marks], name, record, [mut lines]) }
+}
+
+pub fn reverse(list: &[u64], room: &mut [u64]) -> (u64, u64) {
+    let mut value = u64::MAX;
+    // SAFETY: as in `plan`.
+    let number = unsafe { raw::sejjekoru_reverse(list.as_ptr(), list.len(), room.as_mut_ptr(), room.len(), &mut value) };
+    (number, value)
 }

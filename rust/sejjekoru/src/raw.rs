@@ -38,6 +38,11 @@ declare! {
     );
 }
 
+// Functions that are handed no yard.
+extern "C" {
+    pub fn sejjekoru_reverse(list: *const u64, list_len: usize, out: *mut u64, out_len: usize, value: *mut u64) -> u64;
+}
+
 /// Calls one of the functions with a yard, then what is the function's own; number and value are answered. A list in brackets, `[list]` or
 /// `[mut list]`, goes as its pointer and its length. The yard has the fields of [`crate::Yard`]. `value` begins as a number that no answer has,
 /// so that it shows if none is stored.

@@ -1,7 +1,7 @@
-//! The vectors of planning, the large ones too, through the library.
+//! The vectors of planning, the large ones too, and of reversing, through the library.
 
 use sejjekoru::{numbers, Yard};
-use yards::vectors::plans;
+use yards::vectors::{plans, reverses};
 
 fn plan(bays: u64, rails: &[u16], start: &[u16], goal: &[u16], room: &mut [u64]) -> (u64, u64) {
     numbers::plan(Yard { bays, rails, start, goal }, room)
@@ -15,4 +15,9 @@ fn plans_of_the_vectors() {
 #[test]
 fn large_plans_of_the_vectors() {
     assert_eq!(plans(include_str!("../../reference/tests/data/plan-large.txt"), plan), (7, 0));
+}
+
+#[test]
+fn reverses_of_the_vectors() {
+    assert_eq!(reverses(include_str!("../../../tests/vectors/02/reverse.txt"), numbers::reverse), (89, 61));
 }

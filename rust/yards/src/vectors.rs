@@ -1,4 +1,8 @@
-//! The vectors of planning, one case a line, `REQUEST => ANSWER`: run and compared whole.
+//! The vectors, one case a line, `REQUEST => ANSWER`: run and compared whole. Those of planning stand here.
+
+mod reverse;
+
+pub use reverse::reverses;
 
 /// The numbers of a field; none where one does not fit.
 fn fitting<T: TryFrom<u64>>(field: &str) -> Option<Vec<T>> {
