@@ -8,6 +8,7 @@ mod compare;
 mod files;
 mod lent;
 mod orders;
+mod placement;
 mod plans;
 mod tally;
 
@@ -26,6 +27,7 @@ fn main() {
     tallies.extend(bills::one_by_one());
     tallies.push(bills::runs());
     tallies.push(compare::run());
+    tallies.push(placement::run());
     if let Some(program) = std::env::args().nth(1) {
         tallies.push(files::run(&program));
     }
