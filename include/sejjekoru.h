@@ -9,7 +9,7 @@
  * What the caller must ensure:
  * - each list has at least as many elements as the length after it says; a list of length 0 may be NULL;
  * - `value` and `record` are not NULL;
- * - what may be written (`plan` of sejjekoru_plan, `slots`, `out`, `marks` of sejjekoru_report and sejjekoru_report_billed, `*record` and `lines` of
+ * - what may be written (`plan` of sejjekoru_plan, `slots`, `out`, `at`, `marks` of sejjekoru_report and sejjekoru_report_billed, `*record` and `lines` of
  *   sejjekoru_open and sejjekoru_report_billed, `*value`) overlaps no other argument;
  * - lengths and numbers are 64 bits wide. A call from another language must say so: with ctypes, for instance, a plain Python int is passed as 32
  *   bits, and the upper half of a length on the stack is then whatever was there. Set `argtypes` to c_uint64 and pointers;
@@ -18,7 +18,7 @@
  * Nothing is kept between calls and nothing is allocated: threads may call at the same time, each with its own of what may be written.
  *
  * Stack, measured on x86-64 and on ARM and rounded up: sejjekoru_plan needs 820 KiB, and more than 512 KiB even for no bays; sejjekoru_shorten 345 KiB;
- * sejjekoru_agrees and sejjekoru_report_billed 40 KiB; sejjekoru_open 24 KiB; check, slots and report 16 KiB. Threads with 512 KiB of stack, as some
+ * sejjekoru_agrees and sejjekoru_report_billed 40 KiB; sejjekoru_open 24 KiB; check, slots, report and placement 16 KiB; sejjekoru_compare 4 KiB. Threads with 512 KiB of stack, as some
  * systems give by default, cannot plan: give them a megabyte or more. tests/stack measures it again.
  *
  * The library of dist/ has unwind tables, so a debugger shows who called; it has no line numbers, since the prover's compiler gives none.
@@ -137,6 +137,20 @@ uint64_t sejjekoru_shorten(uint64_t bays,
                            const uint8_t *marks, size_t marks_len,
                            uint64_t *out, size_t out_len,
                            uint64_t *value);
+
+/*
+ * Where the carriers stand, by the marks: the start, and then the done crossings in plan order. Writes the bay of each carrier to the first places of
+ * `at`; `*value` is their number. After reports it is where the accepted crossings left the carriers. A list with fewer places is refused with 8 and the
+ * number of carriers. A refusal changes nothing. Answers 0 to 6, 8 to 11.
+ */
+uint64_t sejjekoru_placement(uint64_t bays,
+                             const uint16_t *rails, size_t rails_len,
+                             const uint16_t *start, size_t start_len,
+                             const uint16_t *goal, size_t goal_len,
+                             const uint64_t *plan, size_t plan_len,
+                             const uint8_t *marks, size_t marks_len,
+                             uint16_t *at, size_t at_len,
+                             uint64_t *value);
 
 /*
  * Opens the books of a plan, at any of its marks: builds record and lines from plan, start and marks. There is one line for each carrier, no more and

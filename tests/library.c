@@ -351,6 +351,26 @@ static void backwards(void)
     holds("the longest list's end", room[65535] == 0xfedcba9832107654 && room[65534] == 0 && room[65536] == 0);
 }
 
+/* Y1: where the carriers stand after each report; 11 and 8 in this order. */
+static void placement(void)
+{
+    static const uint16_t standing[CROSSINGS + 1][CARRIERS] = {{1, 0}, {2, 0}, {2, 1}, {2, 3}, {1, 3}, {0, 3}, {0, 1}};
+    uint8_t marks[CROSSINGS] = {0};
+    uint16_t at[CARRIERS + 1] = {77, 77, 77};
+    size_t i;
+    told("placement of nothing", sejjekoru_placement(2, NULL, 0, NULL, 0, NULL, 0, NULL, 0, NULL, 0, NULL, 0, &value), 3, 1);
+    told("placement: a mark too few", sejjekoru_placement(Y1, marks, CROSSINGS - 1, at, 1, &value), 11, 0);
+    told("placement: a place too few", sejjekoru_placement(Y1, marks, CROSSINGS, at, 1, &value), 8, CARRIERS);
+    holds("placement: a refusal wrote", at[0] == 77 && at[1] == 77);
+    for (i = 0; i <= CROSSINGS; i++) {
+        told("placement", sejjekoru_placement(Y1, marks, CROSSINGS, at, CARRIERS + 1, &value), 0, CARRIERS);
+        holds("placement: a carrier stands elsewhere", at[0] == standing[i][0] && at[1] == standing[i][1] && at[2] == 77);
+        if (i < CROSSINGS) {
+            told("report", sejjekoru_report(Y1, marks, CROSSINGS, i, &value), 0, 0);
+        }
+    }
+}
+
 int main(void)
 {
     nothing(0, 1, 0);
@@ -370,5 +390,6 @@ int main(void)
     backwards();
     holds("the library's version is the header's", strcmp(sejjekoru_version(), SEJJEKORU_VERSION) == 0);
     compare();
+    placement();
     return failed;
 }

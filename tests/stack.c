@@ -8,7 +8,7 @@
 #include <stdlib.h>
 #include <string.h>
 
-enum { STACK = 8 << 20, PAINT = 0xa5, KIB = 1024, CALLS = 8 };
+enum { STACK = 8 << 20, PAINT = 0xa5, KIB = 1024, CALLS = 10 };
 
 static uint64_t bays, plan[65536], out[65536], answer, value;
 static uint16_t rails[2048], start[254], goal[254];
@@ -17,12 +17,16 @@ static uint32_t slots[65536];
 static uint8_t marks[65536];
 static sejjekoru_record record;
 static sejjekoru_line lines[254];
+static int64_t differences[254];
+static uint16_t at[254];
+static uint64_t longer;
 
 #define ORDER bays, rails, ends, start, carriers, goal, carriers
 #define PLAN ORDER, plan, crossings
 
-static const char *const names[CALLS] = {"plan", "check", "slots", "report", "shorten", "open", "agrees", "report_billed"};
-static const size_t promised[CALLS] = {820, 16, 16, 16, 345, 24, 40, 40}; /* KiB */
+static const char *const names[CALLS] = {"plan", "check", "slots", "report", "shorten", "open", "agrees", "report_billed",
+                                         "compare", "placement"};
+static const size_t promised[CALLS] = {820, 16, 16, 16, 345, 24, 40, 40, 4, 16}; /* KiB */
 
 static void *call(void *which)
 {
@@ -35,6 +39,8 @@ static void *call(void *which)
     case 5: answer = sejjekoru_open(PLAN, marks, crossings, &record, lines, carriers, &value); break;
     case 6: answer = sejjekoru_agrees(PLAN, marks, crossings, &record, lines, carriers, &value); break;
     case 7: answer = sejjekoru_report_billed(PLAN, marks, crossings, 0, &record, lines, carriers, &value); break;
+    case 8: answer = sejjekoru_compare(plan, crossings, plan, crossings, differences, 254, &longer, &value); break;
+    case 9: answer = sejjekoru_placement(PLAN, marks, crossings, at, carriers, &value); break;
     default: break;
     }
     return NULL;

@@ -6,3 +6,4 @@ pub mod Passing
 pub mod Shared
 pub mod Billed
 pub mod Compared
+pub mod Placed

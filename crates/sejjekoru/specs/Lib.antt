@@ -2,3 +2,4 @@ pub mod Statements
 pub mod Bills
 pub mod Compare
 pub mod Reverse
+pub mod Standing

@@ -2,6 +2,7 @@
 // that goes with it. include/sejjekoru.h declares them.
 mod compare;
 mod reverse;
+mod standing;
 
 ghost use Rattle.sejjekoru.specs.Statements.{PlanTells, CheckTells, SlotsTell, ReportTells, ShortenTells};
 ghost use Rattle.sejjekoru.specs.Bills.{OpenOn, AgreesOn, ReportOn, OpenTells, AgreesTells, ReportBilledTells};

@@ -184,6 +184,17 @@ impl<'a> Asked<'a> {
         self.agreed("shorten", told, answer, kept, &(plan, marks, room))
     }
 
+    pub fn placement(&self, plan: &[u64], marks: &[u8], room: usize) -> u64 {
+        let Order { bays, rails, start, goal } = self.order;
+        let mut expected = vec![u16::GUARD; room];
+        let answer = reference::placement(*bays, rails, start, goal, plan, marks, &mut expected);
+        let (lists, lent, lent_marks, at) = (self.lists(), Lent::new(plan), Lent::new(marks), Lent::room(room));
+        // SAFETY: as in `plan`.
+        let told = unsafe { ask!(sejjekoru_placement, lists, [lent], [lent_marks], [at]) };
+        let kept = self.kept(&lists) && lent.is(plan) && lent_marks.is(marks) && at.is(&expected);
+        self.agreed("placement", told, answer, kept, &(plan, marks, room))
+    }
+
     /// The number, and the books as they are then.
     pub fn open(&self, plan: &[u64], books: &Books) -> (u64, Books) {
         let mut then = books.clone();

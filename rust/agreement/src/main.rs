@@ -8,6 +8,7 @@ mod compare;
 mod files;
 mod lent;
 mod orders;
+mod placement;
 mod plans;
 mod reverse;
 mod tally;
@@ -28,6 +29,7 @@ fn main() {
     tallies.push(bills::runs());
     tallies.push(compare::run());
     tallies.push(reverse::lists());
+    tallies.push(placement::run());
     if let Some(program) = std::env::args().nth(1) {
         tallies.push(files::run(&program));
     }

@@ -12,6 +12,7 @@ mod distances;
 mod docket;
 mod files;
 mod log;
+mod placement;
 mod planner;
 mod reverse;
 mod search;
@@ -89,4 +90,9 @@ pub fn compare<'a>(first: &'a [u64], second: &'a [u64], differences: &mut [i64])
     });
     let (number, value) = docket(answer);
     (number, value, part)
+}
+
+/// Where the carriers stand, by the marks; the value of an acceptance is their number.
+pub fn placement(bays: u64, rails: &[u16], start: &[u16], goal: &[u16], plan: &[u64], marks: &[u8], at: &mut [u16]) -> (u64, u64) {
+    docket(placement::placement(bays, rails, start, goal, plan, marks, at).map(|carriers| (ACCEPTED, carriers)))
 }

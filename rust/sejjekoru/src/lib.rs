@@ -54,6 +54,11 @@ pub fn shorten(yard: Yard, plan: &[u64], marks: &[u8], room: &mut [u64]) -> Resu
     told(numbers::shorten(yard, plan, marks, room)).map(|written| written as usize)
 }
 
+/// Where the carriers stand, by the marks: writes the bay of each to the first places of `at`. The answer is their number.
+pub fn placement(yard: Yard, plan: &[u64], marks: &[u8], at: &mut [u16]) -> Result<usize, Refusal> {
+    told(numbers::placement(yard, plan, marks, at)).map(|carriers| carriers as usize)
+}
+
 /// Builds record and lines from plan, start and marks. There is one line for each carrier, no more and no fewer.
 pub fn open(yard: Yard, plan: &[u64], marks: &[u8], record: &mut Record, lines: &mut [Line]) -> Result<(), Refusal> {
     told(numbers::open(yard, plan, marks, record, lines)).map(|_| ())

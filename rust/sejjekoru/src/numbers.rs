@@ -27,6 +27,11 @@ pub fn shorten(yard: Yard, plan: &[u64], marks: &[u8], room: &mut [u64]) -> (u64
     unsafe { ask!(sejjekoru_shorten, yard, [plan], [marks], [mut room]) }
 }
 
+pub fn placement(yard: Yard, plan: &[u64], marks: &[u8], at: &mut [u16]) -> (u64, u64) {
+    // SAFETY: as in `plan`.
+    unsafe { ask!(sejjekoru_placement, yard, [plan], [marks], [mut at]) }
+}
+
 pub fn open(yard: Yard, plan: &[u64], marks: &[u8], record: &mut Record, lines: &mut [Line]) -> (u64, u64) {
     // SAFETY: as in `plan`.
     unsafe { ask!(sejjekoru_open, yard, [plan], [marks], record, [mut lines]) }

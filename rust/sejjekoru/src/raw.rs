@@ -27,6 +27,7 @@ declare! {
     sejjekoru_slots(plan: *const u64, plan_len: usize, slots: *mut u32, slots_len: usize);
     sejjekoru_report(plan: *const u64, plan_len: usize, marks: *mut u8, marks_len: usize, name: u64);
     sejjekoru_shorten(plan: *const u64, plan_len: usize, marks: *const u8, marks_len: usize, out: *mut u64, out_len: usize);
+    sejjekoru_placement(plan: *const u64, plan_len: usize, marks: *const u8, marks_len: usize, at: *mut u16, at_len: usize);
     sejjekoru_open(
         plan: *const u64, plan_len: usize, marks: *const u8, marks_len: usize, record: *mut Record, lines: *mut Line, lines_len: usize
     );

@@ -1,0 +1,49 @@
+-- The placement is where the accepted crossings leave the carriers, in whatever order they were accepted: demand 3 says so of the done crossings in plan order.
+use mathlib.Core.Path.{_≡_, refl, sym, _∙_, ap}
+use mathlib.Core.Bool.{true, false}
+use mathlib.Core.List.{List, _++_}
+use mathlib.Core.Option.{none, some}
+use Prim.Native.Nat.{ℕ, _≤_}
+use borrow.Author.Tests.{le-ltb}
+use lib.Dec.{ltb}
+use lib.ListN.{length, take, drop}
+use lib.Seq.{take-at, drop-at}
+use Rattle.paper.specs.Basics.{orElse, when}
+use Rattle.paper.specs.Yard.{Bay, Placement, crossings, after}
+use Rattle.paper.specs.Docket.{yardOf, badMarks, no-11, room, granted, denied, unlessDenied}
+use Rattle.paper.specs.Dependence.{doneOf, placementBy}
+use Rattle.paper.specs.Answers.{check}
+use Rattle.paper.specs.Log.{Request, marksOf, namesOf, acceptedOf}
+use Rattle.paper.proofs.Playing.{after-length}
+use Rattle.paper.proofs.Checking.{check-passed}
+use Rattle.paper.proofs.Logging.{fine, kept-from-fresh}
+use Rattle.paper.proofs.Demands.{demand-3}
+use Rattle.docket.specs.declared.Verdict.{Verdict as Held}
+use Rattle.placement.specs.Standing.{refusal, standing, standingEnd, PlacementSays}
+
+-- what is handed out after any reports on a plan that passes the check, from fresh marks
+pub record Stands (starts : Placement) (plan : List ℕ) (qs : List Request) (lent lent′ : List Bay) : Type 0 where
+  pub left : take (length starts) lent′ ≡ after starts (acceptedOf plan qs)
+  pub behind : drop (length starts) lent′ ≡ drop (length starts) lent
+
+module _ (n : ℕ) (ends : List Bay) (starts goals : Placement) (plan : List ℕ) (passes : check n ends starts goals plan ≡ none) (qs : List Request) where
+  in-order : badMarks (crossings plan) (marksOf plan qs) ≡ false
+  in-order =
+      fine (yardOf n ends) starts (crossings plan) (check-passed n ends starts goals plan passes .lawful) (marksOf plan qs) (namesOf plan qs)
+      (kept-from-fresh n ends starts goals plan passes qs)
+
+  pub granted-then : (lent : ℕ) → length starts ≤ lent → standing n ends starts goals plan (marksOf plan qs) lent ≡ granted (length starts)
+  unfolding standing refusal
+  granted-then lent h = rw (passes, in-order, le-ltb lent (length starts) h)
+
+  pub stands : (lent : List Bay) → length starts ≤ length lent → (answer : Held) (lent′ : List Bay)
+      → PlacementSays n ends starts goals plan (marksOf plan qs) lent answer lent′ → Stands starts plan qs lent lent′
+  stands lent h answer lent′ says =
+      let at = placementBy starts (crossings plan) (marksOf plan qs) in
+      let end : lent′ ≡ at ++ drop (length starts) lent =
+      says .leaves ∙ ap (standingEnd n ends starts goals plan (marksOf plan qs) lent) (granted-then (length lent) h) in
+      let long = after-length starts (doneOf (crossings plan) (marksOf plan qs)) in
+      record {
+        left = ap (take (length starts)) end ∙ take-at at (drop (length starts) lent) (length starts) long ∙ sym (demand-3 n ends starts goals plan passes qs .same);
+        behind = ap (drop (length starts)) end ∙ drop-at at (drop (length starts) lent) (length starts) long;
+      }

@@ -1,0 +1,3 @@
+pub mod Behind
+pub mod Saying
+pub mod Left
