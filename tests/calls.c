@@ -2,17 +2,17 @@
  * Calls of the library, on the vectors and on random inputs from fixed seeds, each written down with all that was lent to it before and after. So the
  * same calls can be made again of another build, and compared: tests/wasm does it for the WebAssembly.
  *
- *   calls TRACE CALLS PLANS CHECKS SLOTS REPORTS
+ *   calls TRACE CALLS PLANS CHECKS SLOTS REPORTS PRINT..
  *
- * writes the calls to TRACE: first those of the vectors, whose answers are compared too, then so many random ones. It ends with 1 if an answer is not
- * the vectors'. A case whose numbers the library's types cannot hold is left out, and counted.
+ * writes the calls to TRACE: first those of the vectors, whose answers are compared too, then those of the file pairs, each named by its print, then so
+ * many random ones. It ends with 1 if an answer is not the vectors'. A case whose numbers the library's types cannot hold is left out, and counted.
  */
 #include <sejjekoru.h>
 #include <stdio.h>
 #include <stdlib.h>
 #include <string.h>
 
-enum { MOST = 70000, ARGUMENTS = 20 };
+enum { MOST = 70000, ARGUMENTS = 20, TEXT = 400000 };
 
 /* ## The trace */
 
@@ -194,6 +194,203 @@ static uint64_t call_billed(void)
     LIST(lines, line_count);
     POINTER(&value);
     return end(sejjekoru_report_billed(ORDER, plan, crossings, marks, mark_count, name, &record, lines, line_count, &value));
+}
+
+/* ## Files and lists, and the functions over them. A library that has not got one of them yet is not asked. */
+
+#define IF_THERE __attribute__((weak))
+IF_THERE uint64_t sejjekoru_map(const uint8_t *, size_t, uint64_t *, uint16_t *, size_t, uint64_t *);
+IF_THERE uint64_t sejjekoru_scenario(const uint8_t *, size_t, const uint8_t *, size_t, uint16_t *, size_t, uint16_t *, size_t, uint64_t *);
+IF_THERE uint64_t sejjekoru_program(const uint8_t *, size_t, uint64_t, const uint8_t *, size_t, uint64_t, uint64_t, uint8_t *, size_t, uint64_t *);
+IF_THERE uint64_t sejjekoru_program_timed(uint64_t, const uint8_t *, size_t, uint64_t, const uint8_t *, size_t, uint64_t, uint64_t, uint8_t *, size_t,
+                                          uint64_t *);
+IF_THERE uint64_t sejjekoru_print_plan(const uint64_t *, size_t, uint8_t *, size_t, uint64_t *);
+IF_THERE uint64_t sejjekoru_read_plan(const uint8_t *, size_t, uint64_t *, size_t, uint64_t *);
+IF_THERE uint64_t sejjekoru_read_reports(const uint8_t *, size_t, uint64_t *, size_t, uint64_t *);
+IF_THERE uint64_t sejjekoru_reverse(const uint64_t *, size_t, uint64_t *, size_t, uint64_t *);
+IF_THERE uint64_t sejjekoru_compare(const uint64_t *, size_t, const uint64_t *, size_t, int64_t *, size_t, uint64_t *, uint64_t *);
+IF_THERE uint64_t sejjekoru_slots_of(uint64_t, uint64_t, const uint16_t *, size_t, const uint16_t *, size_t, const uint16_t *, size_t, const uint64_t *,
+                                     size_t, uint32_t *, size_t, uint64_t *);
+IF_THERE uint64_t sejjekoru_read_survey(const uint8_t *, size_t, uint64_t *, uint16_t *, size_t, uint64_t *);
+IF_THERE uint64_t sejjekoru_write_survey(uint64_t, const uint16_t *, size_t, uint8_t *, size_t, uint64_t *);
+
+typedef struct {
+    uint8_t bytes[TEXT];
+    size_t length;
+} text;
+
+static text map_file, scenario_file, print_file, printed, written;
+
+static void read_text(text *into, const char *path)
+{
+    FILE *from = fopen(path, "rb");
+    if (from == NULL) {
+        perror(path);
+        exit(2);
+    }
+    into->length = fread(into->bytes, 1, TEXT, from);
+    fclose(from);
+}
+
+static void call_map(size_t room)
+{
+    uint64_t found = 77;
+    begin("sejjekoru_map");
+    value = 77;
+    LIST(map_file.bytes, map_file.length);
+    POINTER(&found);
+    LIST(rails, room);
+    POINTER(&value);
+    if (end(sejjekoru_map(map_file.bytes, map_file.length, &found, rails, room, &value)) == 0) {
+        bays = found;
+        ends = (size_t)value;
+    }
+}
+
+static void call_scenario(size_t room)
+{
+    begin("sejjekoru_scenario");
+    value = 77;
+    LIST(map_file.bytes, map_file.length);
+    LIST(scenario_file.bytes, scenario_file.length);
+    LIST(start, room);
+    LIST(goal, room);
+    POINTER(&value);
+    if (end(sejjekoru_scenario(map_file.bytes, map_file.length, scenario_file.bytes, scenario_file.length, start, room, goal, room, &value)) == 0)
+        starts = goals = (size_t)value;
+}
+
+/* The print goes to `printed`, in room that is `more` than it needs. */
+static void call_program(uint64_t map_read, uint64_t scenario_read, uint64_t shorten, int more)
+{
+    size_t room;
+    sejjekoru_program(map_file.bytes, map_file.length, map_read, scenario_file.bytes, scenario_file.length, scenario_read, shorten, NULL, 0, &value);
+    room = (size_t)value + (size_t)more;
+    begin("sejjekoru_program");
+    value = 77;
+    LIST(map_file.bytes, map_file.length);
+    number(map_read);
+    LIST(scenario_file.bytes, scenario_file.length);
+    number(scenario_read);
+    number(shorten);
+    LIST(printed.bytes, room);
+    POINTER(&value);
+    if (end(sejjekoru_program(map_file.bytes, map_file.length, map_read, scenario_file.bytes, scenario_file.length, scenario_read, shorten, printed.bytes,
+                              room, &value)) == 0)
+        printed.length = (size_t)value;
+}
+
+static void call_timed(uint64_t edition, uint64_t shorten)
+{
+    size_t room;
+    sejjekoru_program_timed(edition, map_file.bytes, map_file.length, 1, scenario_file.bytes, scenario_file.length, 1, shorten, NULL, 0, &value);
+    room = (size_t)value;
+    begin("sejjekoru_program_timed");
+    value = 77;
+    number(edition);
+    LIST(map_file.bytes, map_file.length);
+    number(1);
+    LIST(scenario_file.bytes, scenario_file.length);
+    number(1);
+    number(shorten);
+    LIST(written.bytes, room);
+    POINTER(&value);
+    end(sejjekoru_program_timed(edition, map_file.bytes, map_file.length, 1, scenario_file.bytes, scenario_file.length, 1, shorten, written.bytes, room,
+                                &value));
+}
+
+static void call_read_plan(const text *from, size_t room)
+{
+    begin("sejjekoru_read_plan");
+    value = 77;
+    LIST((uint8_t *)from->bytes, from->length);
+    LIST(other, room);
+    POINTER(&value);
+    end(sejjekoru_read_plan(from->bytes, from->length, other, room, &value));
+}
+
+static void call_read_reports(const text *from, size_t room)
+{
+    begin("sejjekoru_read_reports");
+    value = 77;
+    LIST((uint8_t *)from->bytes, from->length);
+    LIST(other, room);
+    POINTER(&value);
+    end(sejjekoru_read_reports(from->bytes, from->length, other, room, &value));
+}
+
+static void call_print_plan(size_t room)
+{
+    begin("sejjekoru_print_plan");
+    value = 77;
+    LIST(plan, crossings);
+    LIST(printed.bytes, room);
+    POINTER(&value);
+    if (end(sejjekoru_print_plan(plan, crossings, printed.bytes, room, &value)) == 0)
+        printed.length = (size_t)value;
+}
+
+static void call_reverse(size_t room)
+{
+    begin("sejjekoru_reverse");
+    value = 77;
+    LIST(plan, crossings);
+    LIST(other, room);
+    POINTER(&value);
+    end(sejjekoru_reverse(plan, crossings, other, room, &value));
+}
+
+static void call_compare(size_t others, size_t room)
+{
+    static int64_t differences[300];
+    uint64_t longer = 77;
+    begin("sejjekoru_compare");
+    value = 77;
+    LIST(plan, crossings);
+    LIST(other, others);
+    LIST(differences, room);
+    POINTER(&longer);
+    POINTER(&value);
+    end(sejjekoru_compare(plan, crossings, other, others, differences, room, &longer, &value));
+}
+
+static void call_slots_of(uint64_t edition, size_t room)
+{
+    begin("sejjekoru_slots_of");
+    value = 77;
+    number(edition);
+    number(bays);
+    LIST(rails, ends);
+    LIST(start, starts);
+    LIST(goal, goals);
+    LIST(plan, crossings);
+    LIST(slots, room);
+    POINTER(&value);
+    end(sejjekoru_slots_of(edition, ORDER, plan, crossings, slots, room, &value));
+}
+
+static void call_write_survey(size_t room)
+{
+    begin("sejjekoru_write_survey");
+    value = 77;
+    number(bays);
+    LIST(rails, ends);
+    LIST(written.bytes, room);
+    POINTER(&value);
+    if (end(sejjekoru_write_survey(bays, rails, ends, written.bytes, room, &value)) == 0)
+        written.length = (size_t)value;
+}
+
+static void call_read_survey(size_t room)
+{
+    uint64_t found = 77;
+    begin("sejjekoru_read_survey");
+    value = 77;
+    LIST(written.bytes, written.length);
+    POINTER(&found);
+    LIST(start, room);
+    POINTER(&value);
+    end(sejjekoru_read_survey(written.bytes, written.length, &found, start, room, &value));
 }
 
 /* ## The vectors */
@@ -381,7 +578,6 @@ static void plan_vector(char *text, unsigned long place)
         return;
     }
     text += strlen("> ");
-    answer = call_plan(room);
     head[0] = head[1] = 0;
     if (strncmp(text, "ok ", 3) == 0) {
         text += 3;
@@ -391,6 +587,10 @@ static void plan_vector(char *text, unsigned long place)
         text += strlen("refused ");
         field(&text, '\n', head);
     }
+    /* what is lent is written down, so no more is lent than shows what is asked: the plan, and some places behind it */
+    if (head[0] != SEJJEKORU_ROOM && room > written + 64)
+        room = written + 64;
+    answer = call_plan(room);
     agree("plan", place, answer, head[0], head[1]);
     same("plan", place, memcmp(other, right, written * sizeof *right) == 0);
 }
@@ -403,6 +603,36 @@ static void plan_vectors(const char *path)
     while (fgets(line, sizeof line, vectors) != NULL)
         plan_vector(line, place++);
     fclose(vectors);
+}
+
+/* A pair of files, and the print that is right for it. */
+static void file_vector(const char *print, unsigned long place)
+{
+    char path[1000];
+    size_t stem = strlen(print) - strlen(".out");
+    read_text(&print_file, print);
+    sprintf(path, "%.*s.map", (int)stem, print);
+    read_text(&map_file, path);
+    sprintf(path, "%.*s.scen", (int)stem, print);
+    read_text(&scenario_file, path);
+    if (sejjekoru_program != NULL) {
+        call_program(1, 1, 0, 5);
+        same("program", place, printed.length == print_file.length && memcmp(printed.bytes, print_file.bytes, printed.length) == 0);
+        call_program(1, 1, 1, 0);
+        call_program(1, place % 2, place % 3, place % 5 == 0 ? -1 : 3);
+        call_program(place % 2, 1, 0, 3);
+    }
+    if (sejjekoru_program_timed != NULL) {
+        call_timed(1, 0);
+        call_timed(2, place % 2);
+        call_timed(3 + place, 0);
+    }
+    if (sejjekoru_map != NULL)
+        call_map(place % 7 == 0 ? 3 : 4000);
+    if (sejjekoru_scenario != NULL)
+        call_scenario(place % 7 == 1 ? 1 : 254);
+    if (sejjekoru_read_plan != NULL)
+        call_read_plan(&print_file, place % 7 == 2 ? 3 : 8192);
 }
 
 /* ## Random calls */
@@ -517,11 +747,63 @@ static void random_calls(void)
     call_billed();
 }
 
+/* Names, one a line, now and then with a byte that does not belong there. */
+static void random_reports(void)
+{
+    uint64_t i, count = roll(12);
+    written.length = 0;
+    for (i = 0; i < count; i++) {
+        int length = sprintf((char *)written.bytes + written.length, "%llu%s", (unsigned long long)roll(roll(5) == 0 ? 1u << 31 : 100),
+                             roll(3) == 0 ? "\r\n" : "\n");
+        written.length += (size_t)length;
+    }
+    if (roll(2) == 0 && written.length > 0)
+        written.bytes[roll(written.length)] = (uint8_t)roll(128);
+}
+
+/* The functions over lists and texts, on the plan and the yard of the calls before. */
+static void random_texts(void)
+{
+    size_t others = crossings;
+    if (sejjekoru_slots_of != NULL)
+        call_slots_of(roll(8) == 0 ? roll(9) : 1 + roll(2), crossings + 1 - (roll(10) == 0 && crossings > 0 ? 2 : 0));
+    if (sejjekoru_reverse != NULL)
+        call_reverse(crossings + 2 - (size_t)roll(4) % (crossings + 3));
+    memcpy(other, plan, crossings * sizeof *plan);
+    if (others > 0 && roll(2) == 0)
+        other[roll(others)] ^= 1u << roll(20);
+    if (others > 0 && roll(3) == 0)
+        others = (size_t)roll(others);
+    if (others > 0 && roll(20) == 0)
+        other[roll(others)] = UINT64_MAX;
+    if (sejjekoru_compare != NULL)
+        call_compare(others, roll(20) == 0 ? 253 : 254);
+    if (sejjekoru_print_plan != NULL)
+        call_print_plan(roll(10) == 0 ? (size_t)roll(40) : 33 * crossings + 40);
+    if (sejjekoru_print_plan != NULL && sejjekoru_read_plan != NULL) {
+        if (roll(2) == 0 && printed.length > 0)
+            printed.bytes[roll(printed.length)] = (uint8_t)roll(128);
+        call_read_plan(&printed, crossings + 1);
+    }
+    if (sejjekoru_read_reports != NULL) {
+        random_reports();
+        call_read_reports(&written, 10);
+    }
+    if (sejjekoru_write_survey != NULL && sejjekoru_read_survey != NULL) {
+        written.length = 0;
+        call_write_survey(roll(10) == 0 ? (size_t)roll(60) : 12 * ends + 40);
+        if (roll(2) == 0 && written.length > 0)
+            written.bytes[roll(written.length)] = (uint8_t)roll(128);
+        call_read_survey(roll(10) == 0 ? 2 : ends + 2);
+    }
+}
+
 int main(int count, char **words)
 {
     unsigned long before;
-    if (count != 7) {
-        fprintf(stderr, "usage: calls TRACE CALLS PLANS CHECKS SLOTS REPORTS\n");
+    int i;
+    if (count < 7) {
+        fprintf(stderr, "usage: calls TRACE CALLS PLANS CHECKS SLOTS REPORTS PRINT..\n");
         return 2;
     }
     trace = fopen(words[1], "wb");
@@ -533,10 +815,14 @@ int main(int count, char **words)
     check_vectors(words[4]);
     slot_vectors(words[5]);
     report_vectors(words[6]);
+    for (i = 7; i < count; i++)
+        file_vector(words[i], (unsigned long)i);
     printf("calls: %lu of the vectors (%lu left out: 16 bits do not hold a bay)", calls, left_out);
     before = calls;
-    while (calls - before < strtoul(words[2], NULL, 10))
+    while (calls - before < strtoul(words[2], NULL, 10)) {
         random_calls();
+        random_texts();
+    }
     printf(", %lu random ones; %lu disagree with the vectors\n", calls - before, disagreed);
     if (fclose(trace) != 0) {
         perror(words[1]);
