@@ -1,10 +1,10 @@
--- `whole::print` meets its contract, by the flag.
+-- `printout::print` meets its contract, by the flag.
 -- Assumes nothing.
 use borrow.Author.Needs.{needs}
-use Rattle.whole.proofs.print.Statement.{statement}
-use Rattle.whole.proofs.print.Tie as tie
-use Rattle.whole.proofs.print.Reads as reads
-use Rattle.whole.proofs.print.Lts as lts
+use Rattle.printout.proofs.print.Statement.{statement}
+use Rattle.printout.proofs.print.Tie as tie
+use Rattle.printout.proofs.print.Reads as reads
+use Rattle.printout.proofs.print.Lts as lts
 use Rattle.program.proofs.program.Reads as program-reads
 use Rattle.program.proofs.program_short.Reads as program-short-reads
 

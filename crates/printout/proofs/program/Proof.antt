@@ -1,16 +1,16 @@
--- `whole::program` meets its contract: every print fits into the room, so what is handed over is all of it.
+-- `printout::program` meets its contract: every print fits into the room, so what is handed over is all of it.
 -- Assumes nothing.
 use mathlib.Core.Path.{sym}
 use native.Mathlib.Omega.{arith}
 use lib.Seq.{length-take-le}
 use Rattle.handing.proofs.Fitting.{hands-part}
 use borrow.Author.Needs.{needs}
-use Rattle.whole.proofs.program.Statement.{statement}
-use Rattle.whole.proofs.program.Tie as tie
-use Rattle.whole.proofs.program.Reads as reads
-use Rattle.whole.proofs.program.Lts as lts
+use Rattle.printout.proofs.program.Statement.{statement}
+use Rattle.printout.proofs.program.Tie as tie
+use Rattle.printout.proofs.program.Reads as reads
+use Rattle.printout.proofs.program.Lts as lts
 use Rattle.handing.proofs.text.Reads as text-reads
-use Rattle.whole.proofs.print.Reads as print-reads
+use Rattle.printout.proofs.print.Reads as print-reads
 
 -- src/lib.rt:38:57
 slice-aggregate-print : tie.Need-slice-aggregate-print

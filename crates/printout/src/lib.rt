@@ -4,7 +4,7 @@ ghost use Rattle.stores.specs.Writing.{Wrote};
 ghost use Rattle.filing.specs.Filing.{fileOf};
 ghost use Rattle.program.specs.Printout.{print-room};
 ghost use Rattle.handing.specs.Handing.{Hands};
-ghost use Rattle.whole.specs.Whole.{printFor};
+ghost use Rattle.printout.specs.Whole.{printFor};
 
 // All that is printed, as far as there is room; answers how many bytes that takes, which are never more than 180,250.
 pub fn print(
