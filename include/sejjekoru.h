@@ -217,6 +217,31 @@ uint64_t sejjekoru_reverse(const uint64_t *list, size_t list_len,
                            uint64_t *out, size_t out_len,
                            uint64_t *value);
 
+/*
+ * The functions below work on the bytes of files. Lengths are 64 bits wide, as everywhere here. A text is handed over whole, or `out` stays as it
+ * was and the answer is 8 with the number of bytes needed.
+ */
+
+/*
+ * All that the program prints for a map file and a scenario file: the plan, or one line with the refusal. `map_read` and `scenario_read` say whether
+ * the file could be read: 0 for no, and then its bytes do not count. With `shorten` other than 0 the plan is printed without its there-and-back
+ * trips. Answers 0 with the number of bytes written, also where what is printed is a refusal; or 8. No print takes more than 180,250 bytes. Of a map
+ * its first 4,264 bytes decide, of a scenario its first 49,036. `out` overlaps neither file. Uses some 2 MiB of stack.
+ */
+uint64_t sejjekoru_program(const uint8_t *map, size_t map_len, uint64_t map_read,
+                           const uint8_t *scenario, size_t scenario_len, uint64_t scenario_read,
+                           uint64_t shorten,
+                           uint8_t *out, size_t out_len,
+                           uint64_t *value);
+
+/*
+ * The print of any list of crossings, legal or not: one action a line, then the cost as a comment. A line takes at most 33 bytes. Answers 0 with the
+ * number of bytes written; 1 for a list over 65,536 crossings; 8. `out` does not overlap `plan`.
+ */
+uint64_t sejjekoru_print_plan(const uint64_t *plan, size_t plan_len,
+                              uint8_t *out, size_t out_len,
+                              uint64_t *value);
+
 #ifdef __cplusplus
 }
 #endif

@@ -371,6 +371,60 @@ static void placement(void)
     }
 }
 
+/* Document 01's own files: the map rows `...` and `@.@`, and what it says is printed for them. */
+static const char t_map[] = "type octile\nheight 2\nwidth 3\nmap\n...\n@.@\n";
+static const char t_scenario[] =
+    "version 1\n0\tt.map\t3\t2\t1\t0\t0\t0\t1\n0\tt.map\t3\t2\t0\t0\t1\t0\t1\n";
+static const char t_print[] = "(move c0 b1 b2)\n(move c1 b0 b1)\n(move c1 b1 b3)\n(move c0 b2 b1)\n(move c0 b1 b0)\n(move c1 b3 b1)\n"
+                              "; cost = 6 (unit cost)\n";
+
+static uint64_t program(uint64_t map_read, uint64_t scenario_read, uint64_t shorten, char *out, size_t out_len)
+{
+    return sejjekoru_program((const uint8_t *)t_map, sizeof t_map - 1, map_read, (const uint8_t *)t_scenario, sizeof t_scenario - 1,
+                             scenario_read, shorten, (uint8_t *)out, out_len, &value);
+}
+
+/* The program on bytes: in room that just fits, in room one byte short, with files that could not be read. */
+static void whole_program(void)
+{
+    char out[200];
+    const size_t due = sizeof t_print - 1;
+    memset(out, '#', sizeof out);
+    told("program without room", program(1, 1, 0, NULL, 0), SEJJEKORU_ROOM, due);
+    told("program one byte short", program(1, 1, 0, out, due - 1), SEJJEKORU_ROOM, due);
+    holds("a short list stays as it was", out[0] == '#' && out[due - 2] == '#');
+    told("program", program(1, 1, 0, out, due), 0, due);
+    holds("document 01's print", memcmp(out, t_print, due) == 0 && out[due] == '#');
+    memset(out, '#', sizeof out);
+    told("program, any number is a yes", program(2, UINT64_MAX, 1, out, sizeof out), 0, due);
+    holds("nothing to shorten", memcmp(out, t_print, due) == 0 && out[due] == '#');
+    told("program, no map", program(0, 1, 0, out, sizeof out), 0, 15);
+    holds("14 with line 0", memcmp(out, "; refused 14 0\n", 15) == 0 && out[15] == t_print[15]);
+    told("program, no scenario", program(1, 0, 0, out, sizeof out), 0, 15);
+    holds("15 with line 0", memcmp(out, "; refused 15 0\n", 15) == 0);
+    told("program of nothing", sejjekoru_program(NULL, 0, 1, NULL, 0, 1, 0, (uint8_t *)out, sizeof out, &value), 0, 15);
+    holds("14 with line 1", memcmp(out, "; refused 14 1\n", 15) == 0);
+}
+
+/* The print of a list, with the largest numbers, and of none. */
+static void print_plan(void)
+{
+    static const char due[] = "(move c4294967295 b65535 b65535)\n(move c0 b0 b0)\n; cost = 2 (unit cost)\n";
+    static uint64_t many[65537];
+    const uint64_t plan[2] = {UINT64_MAX, 0};
+    char out[100];
+    memset(out, '#', sizeof out);
+    told("print without room", sejjekoru_print_plan(plan, 2, NULL, 0, &value), SEJJEKORU_ROOM, sizeof due - 1);
+    told("print one byte short", sejjekoru_print_plan(plan, 2, (uint8_t *)out, sizeof due - 2, &value), SEJJEKORU_ROOM, sizeof due - 1);
+    holds("a short list stays as it was", out[0] == '#');
+    told("print", sejjekoru_print_plan(plan, 2, (uint8_t *)out, sizeof due - 1, &value), 0, sizeof due - 1);
+    holds("the print", memcmp(out, due, sizeof due - 1) == 0 && out[sizeof due - 1] == '#');
+    told("print of nothing", sejjekoru_print_plan(NULL, 0, (uint8_t *)out, sizeof out, &value), 0, 23);
+    holds("the cost alone", memcmp(out, "; cost = 0 (unit cost)\n", 23) == 0);
+    told("65,536 crossings", sejjekoru_print_plan(many, 65536, NULL, 0, &value), SEJJEKORU_ROOM, 65536 * 16 + 27);
+    told("one too many", sejjekoru_print_plan(many, 65537, (uint8_t *)out, sizeof out, &value), SEJJEKORU_SIZE, 0);
+}
+
 int main(void)
 {
     nothing(0, 1, 0);
@@ -391,5 +445,7 @@ int main(void)
     holds("the library's version is the header's", strcmp(sejjekoru_version(), SEJJEKORU_VERSION) == 0);
     compare();
     placement();
+    whole_program();
+    print_plan();
     return failed;
 }

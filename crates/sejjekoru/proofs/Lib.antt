@@ -7,3 +7,4 @@ pub mod Shared
 pub mod Billed
 pub mod Compared
 pub mod Placed
+mod Handed

@@ -3,3 +3,4 @@ pub mod Bills
 pub mod Compare
 pub mod Reverse
 pub mod Standing
+pub mod Whole

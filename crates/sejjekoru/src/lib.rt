@@ -3,6 +3,7 @@
 mod compare;
 mod reverse;
 mod standing;
+mod whole;
 
 ghost use Rattle.sejjekoru.specs.Statements.{PlanTells, CheckTells, SlotsTell, ReportTells, ShortenTells};
 ghost use Rattle.sejjekoru.specs.Bills.{OpenOn, AgreesOn, ReportOn, OpenTells, AgreesTells, ReportBilledTells};

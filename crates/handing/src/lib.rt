@@ -1,0 +1,43 @@
+// A text handed over in a lent list: whole, or not at all where it does not fit. Either way the caller learns how many bytes it takes.
+ghost use mathlib.Core.Path.{_≡_};
+ghost use mathlib.Core.List.{_++_};
+ghost use Prim.Native.Nat.{_≤_};
+ghost use lib.ListN.{length, drop};
+ghost use Rattle.paper.specs.Print.{printed};
+ghost use Rattle.printing.specs.Parts.{handed};
+ghost use Rattle.handing.specs.Handing.{Hands};
+
+// Bytes copied to the front of a list.
+fn copy(to: &mut [u8], from: &[u8])
+    requires { ⌜ length (now from) ≤ length (now to) ⌝ }
+    ensures { λ _. ⌜ now (to .exit) ≡ now (from .entry) ++ drop (length (now (from .entry))) (now (to .entry)) ⌝ }
+{
+    let mut i = 0;
+    while i < from.len() {
+        to[i] = from[i];
+        i += 1;
+    }
+}
+
+// A text that is there already.
+pub fn text(from: &[u8], out: &mut [u8]) -> usize
+    ensures { λ r. ⌜ Hands (now (from .entry)) (now (out .entry)) (now (out .exit)) r ⌝ }
+{
+    let n = from.len();
+    if n <= out.len() {
+        copy(out, from);
+    }
+    n
+}
+
+// The print of a lent plan, which may take megabytes. It is counted first, so that a list that is too short stays as it was.
+pub fn plan(plan: &[u64], out: &mut [u8]) -> usize
+    ensures { λ r. ⌜ Hands (printed (handed (now (plan .entry)))) (now (out .entry)) (now (out .exit)) r ⌝ }
+{
+    let mut none = [0u8; 1];
+    let n = printing::plan(plan, &mut none);
+    if n <= out.len() {
+        return printing::plan(plan, out);
+    }
+    n
+}

@@ -1,0 +1,30 @@
+-- `sejjekoru_program` meets its contract: what is printed is handed over, and its length is told.
+-- Assumes nothing.
+use Rattle.sejjekoru.proofs.Handed.{text-tells}
+use borrow.Author.Needs.{needs}
+use Rattle.sejjekoru.proofs.whole.sejjekoru_program.Statement.{statement}
+use Rattle.sejjekoru.proofs.whole.sejjekoru_program.Tie as tie
+use Rattle.sejjekoru.proofs.whole.sejjekoru_program.Reads as reads
+use Rattle.sejjekoru.proofs.whole.sejjekoru_program.Lts as lts
+use Rattle.printout.proofs.program.Reads as program-reads
+use Rattle.numbers.proofs.told_planned.Reads as told-planned-reads
+use Rattle.sejjekoru.proofs.whole.handed.Reads as handed-reads
+
+program-requires : tie.Need-program-requires
+program-requires c κs = search needs
+
+handed-requires : tie.Need-handed-requires
+handed-requires c κs = search needs
+
+told-planned-requires : tie.Need-told-planned-requires
+told-planned-requires c κs = search needs
+
+same-length : tie.Need-same-length
+same-length c = search needs
+
+returns : tie.Need-returns
+returns c = text-tells (c .before .before .before .before .before .program .ensures) (c .before .before .handed .ensures) (c .told-planned .ensures)
+
+pub sejjekoru-program-spec : {M : Type 1} → statement M
+sejjekoru-program-spec =
+    tie.close (tie.spec program-requires handed-requires told-planned-requires same-length returns)
