@@ -72,7 +72,8 @@ fn asked(first: &[u64], second: &[u64], room: usize) -> u64 {
     // SAFETY: the list has so many places, and nothing else points there.
     let differences = unsafe { std::slice::from_raw_parts_mut(lent.as_ptr(), room) };
     // SAFETY: as above, and nobody writes there.
-    let (list, another) = unsafe { (std::slice::from_raw_parts(one.as_ptr(), first.len()), std::slice::from_raw_parts(other.as_ptr(), second.len())) };
+    let (list, another) =
+        unsafe { (std::slice::from_raw_parts(one.as_ptr(), first.len()), std::slice::from_raw_parts(other.as_ptr(), second.len())) };
     let told = compare_numbers(list, another, differences);
     let kept = one.is(first) && other.is(second) && lent.is(&expected);
     let mut again = vec![i64::GUARD; room];

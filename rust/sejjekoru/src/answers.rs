@@ -1,7 +1,7 @@
 //! The documents' answers, read from the two numbers by which the library tells them.
 
 use crate::{Bay, Carrier};
-use std::{error, fmt};
+use core::{error, fmt};
 
 /// Why a docket is refused, with what the refusal carries.
 #[derive(Clone, Copy, Debug, PartialEq, Eq, Hash)]
@@ -83,6 +83,14 @@ pub(crate) fn told((number, value): (u64, u64)) -> Result<u64, Refusal> {
 
 impl Refusal {
     /// The number in document 01's table; 19 and 25 are document 02's.
+    ///
+    /// ```
+    /// use sejjekoru::{Carrier, Refusal};
+    ///
+    /// let refusal = Refusal::Stopped(Carrier(1));
+    /// assert_eq!((refusal.number(), refusal.carried()), (7, Some(1)));
+    /// assert_eq!(refusal.to_string(), "refused 7: the procedure found no next step for carrier 1");
+    /// ```
     pub fn number(self) -> u64 {
         match self {
             Refusal::Size => 1,
@@ -114,13 +122,26 @@ impl Refusal {
     }
 }
 
-/// As the docket prints it: `refused N`, and what is carried after a space.
+/// `refused N: `, then in words what is wrong, with what is carried.
 impl fmt::Display for Refusal {
     fn fmt(&self, f: &mut fmt::Formatter<'_>) -> fmt::Result {
-        write!(f, "refused {}", self.number())?;
-        match self.carried() {
-            Some(value) => write!(f, " {value}"),
-            None => Ok(()),
+        write!(f, "refused {}: ", self.number())?;
+        match *self {
+            Refusal::Size => write!(f, "the yard, the placements or the plan have a size that is not allowed"),
+            Refusal::Rail(rail) => write!(f, "rail {rail} joins no two different bays of the yard, or two that are joined already"),
+            Refusal::Apart(Bay(bay)) => write!(f, "bay {bay} cannot be reached from bay 0"),
+            Refusal::Crowd => write!(f, "two bays must stay empty"),
+            Refusal::Start(Carrier(carrier)) => write!(f, "carrier {carrier} starts in no bay of the yard, or in another carrier's"),
+            Refusal::Goal(Carrier(carrier)) => write!(f, "the goal of carrier {carrier} is no bay of the yard, or another carrier's goal"),
+            Refusal::Stopped(Carrier(carrier)) => write!(f, "the procedure found no next step for carrier {carrier}"),
+            Refusal::Room(needed) => write!(f, "the result has {needed} places, which is more than there is room for"),
+            Refusal::Illegal(name) => write!(f, "crossing {name} is not legal"),
+            Refusal::Missed(Carrier(carrier)) => write!(f, "carrier {carrier} does not end at its goal"),
+            Refusal::Mismarked => write!(f, "the marks do not fit the plan"),
+            Refusal::Unknown => write!(f, "no crossing of the plan has this name"),
+            Refusal::Early(name) => write!(f, "crossing {name}, on which this one depends, is not done"),
+            Refusal::Disagrees => write!(f, "record and lines are not what plan and marks give"),
+            Refusal::Begun => write!(f, "a crossing of the plan is done already"),
         }
     }
 }

@@ -6,7 +6,9 @@
 pub struct Record {
     /// The bay of each carrier; 0 beyond the carriers.
     pub at: [u16; 256],
+    /// How many crossings are done.
     pub done: u32,
+    /// The highest slot in which anything is done, or 0.
     pub highest: u32,
 }
 
@@ -21,8 +23,11 @@ impl Default for Record {
 #[repr(C)]
 #[derive(Clone, Copy, Debug, Default, PartialEq, Eq)]
 pub struct Line {
+    /// Line c is carrier c's.
     pub carrier: u32,
+    /// Its crossings that are done.
     pub billed: u32,
+    /// The last of their names, or [`UNTOUCHED`].
     pub last: u32,
 }
 

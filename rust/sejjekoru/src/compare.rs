@@ -25,7 +25,22 @@ pub struct Compared<'a> {
 }
 
 /// Compares two lists of crossings, legal or not. `differences` has 254 places: place c then holds how many crossings more carrier c has in the
-/// second list than in the first. A carrier number above 253 is refused by [`Refusal::Start`].
+/// second list than in the first.
+///
+/// # Errors
+///
+/// [`Refusal::Size`] for a list of more than 65,536 crossings; then [`Refusal::Start`] with the first carrier number above 253; then
+/// [`Refusal::Room`] with 254 if `differences` has another length.
+///
+/// ```
+/// use sejjekoru::compare;
+///
+/// let mut differences = [0; 254];
+/// let compared = compare(&[1, 2, 3 << 32], &[1, 2], &mut differences)?;
+/// assert_eq!((compared.equal, compared.rest), (2, &[3 << 32][..]));
+/// assert_eq!(differences[3], -1);
+/// # Ok::<(), sejjekoru::Refusal>(())
+/// ```
 pub fn compare<'a>(first: &'a [u64], second: &'a [u64], differences: &mut [i64]) -> Result<Compared<'a>, Refusal> {
     let (number, value, longer) = compare_numbers(first, second, differences);
     let equal = told((number, value))? as usize;

@@ -8,11 +8,22 @@ pub struct Bay(pub u16);
 #[derive(Clone, Copy, Debug, PartialEq, Eq, PartialOrd, Ord, Hash)]
 pub struct Carrier(pub u32);
 
-/// A carrier's move from one bay to another.
+/// A carrier's move from one bay to another. Every number of a plan reads as one, and the other way round.
+///
+/// ```
+/// use sejjekoru::{Bay, Carrier, Crossing};
+///
+/// let crossing = Crossing { carrier: Carrier(1), from: Bay(0), to: Bay(3) };
+/// assert_eq!(u64::from(crossing), 1 << 32 | 3);
+/// assert_eq!(Crossing::from(1 << 32 | 3), crossing);
+/// ```
 #[derive(Clone, Copy, Debug, PartialEq, Eq, Hash)]
 pub struct Crossing {
+    /// Who crosses.
     pub carrier: Carrier,
+    /// The bay that it leaves.
     pub from: Bay,
+    /// The bay that it enters.
     pub to: Bay,
 }
 

@@ -6,7 +6,9 @@ use crate::{Line, Record};
 macro_rules! declare {
     ($($function:ident($($own:ident: $kind:ty),*);)*) => {
         extern "C" {
-            $(pub fn $function(
+            $(
+            /// As `include/sejjekoru.h` declares it.
+            pub fn $function(
                 bays: u64,
                 rails: *const u16,
                 rails_len: usize,
@@ -16,7 +18,8 @@ macro_rules! declare {
                 goal_len: usize,
                 $($own: $kind,)*
                 value: *mut u64,
-            ) -> u64;)*
+            ) -> u64;
+            )*
         }
     };
 }
@@ -41,12 +44,14 @@ declare! {
 
 // Functions that are handed no yard.
 extern "C" {
+    /// As `include/sejjekoru.h` declares it.
     pub fn sejjekoru_reverse(list: *const u64, list_len: usize, out: *mut u64, out_len: usize, value: *mut u64) -> u64;
 }
 
 /// Calls one of the functions with a yard, then what is the function's own; number and value are answered. A list in brackets, `[list]` or
 /// `[mut list]`, goes as its pointer and its length. The yard has the fields of [`crate::Yard`]. `value` begins as a number that no answer has,
 /// so that it shows if none is stored.
+#[doc(hidden)]
 #[macro_export]
 macro_rules! ask {
     (@$function:ident $yard:ident ($($own:expr,)*) [mut $list:expr], $($rest:tt)*) => {

@@ -204,3 +204,68 @@ fn a_line_for_each_carrier() {
     assert_eq!(report_billed(yard.yard(), &plan, marks, 0, record, &mut lines[..1]), Err(Refusal::Disagrees));
     assert_eq!(books.report(0), Ok(Reported::Accepted));
 }
+
+/// The books that own their lists, from opening to all done, with a repeat and a restart after each report.
+#[test]
+fn owned_books_of_y1() {
+    let owned = t([1, 0], [0, 1]);
+    let yard = owned.yard();
+    let mut books = sejjekoru::Books::open(yard, sejjekoru::plan_vec(yard).unwrap()).unwrap();
+    assert_eq!(books.plan(), crossed(&SWAP));
+    for name in 0..6 {
+        assert_eq!(books.report(name + 1), Err(if name < 5 { Refusal::Early(name) } else { Refusal::Unknown }));
+        assert_eq!(books.report(name), Ok(Reported::Accepted));
+        assert_eq!(books.report(name), Ok(Reported::Already));
+        assert!(books.agree());
+        let again = sejjekoru::Books::reopen(yard, books.plan().to_vec(), books.marks().to_vec()).unwrap();
+        assert_eq!((again.record(), again.lines()), (books.record(), books.lines()));
+    }
+    assert!(books.all_done());
+    assert_eq!(books.lines().iter().map(|line| line.billed).collect::<Vec<_>>(), [3, 3]);
+    let refused = |books: Result<sejjekoru::Books, Refusal>| books.err();
+    assert_eq!(refused(sejjekoru::Books::reopen(yard, crossed(&SWAP), vec![0; 5])), Some(Refusal::Mismarked));
+    assert_eq!(refused(sejjekoru::Books::open(yard, crossed(&SWAP[..1]))), Some(Refusal::Missed(Carrier(0))));
+}
+
+/// Y1's plan backwards leads from goal to start, and backwards again it is the plan.
+#[test]
+fn rollback_of_y1() {
+    let (there, back) = (t([1, 0], [0, 1]), t([0, 1], [1, 0]));
+    let plan = there.plan(64).unwrap();
+    let mut rollback = vec![GUARD; 7];
+    assert_eq!(sejjekoru::reverse(&plan, &mut rollback[..5]), Err(Refusal::Room(6)));
+    assert_eq!(rollback, [GUARD; 7]);
+    assert_eq!(sejjekoru::reverse(&plan, &mut rollback), Ok(6));
+    assert_eq!(rollback.pop(), Some(GUARD));
+    assert_eq!(rollback, crossed(&[(1, 1, 3), (0, 0, 1), (0, 1, 2), (1, 3, 1), (1, 1, 0), (0, 2, 1)]));
+    assert_eq!(check(back.yard(), &rollback), Ok(()));
+    assert_eq!(sejjekoru::reverse_vec(&rollback), Ok(plan));
+    assert_eq!(sejjekoru::reverse_vec(&vec![0; 65_537]), Err(Refusal::Size));
+}
+
+/// Every refusal says in words what is wrong, with what it carries and its number.
+#[test]
+fn refusals_in_words() {
+    let all = [
+        Refusal::Size,
+        Refusal::Rail(41),
+        Refusal::Apart(Bay(41)),
+        Refusal::Crowd,
+        Refusal::Start(Carrier(41)),
+        Refusal::Goal(Carrier(41)),
+        Refusal::Stopped(Carrier(41)),
+        Refusal::Room(41),
+        Refusal::Illegal(41),
+        Refusal::Missed(Carrier(41)),
+        Refusal::Mismarked,
+        Refusal::Unknown,
+        Refusal::Early(41),
+        Refusal::Disagrees,
+        Refusal::Begun,
+    ];
+    for refusal in all {
+        let words = refusal.to_string();
+        let said = words.strip_prefix(&format!("refused {}: ", refusal.number())).expect(&words);
+        assert_eq!(said.contains("41"), refusal.carried().is_some(), "{words}");
+    }
+}
