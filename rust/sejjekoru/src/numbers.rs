@@ -32,6 +32,7 @@ pub fn shorten(yard: Yard, plan: &[u64], marks: &[u8], room: &mut [u64]) -> (u64
     unsafe { ask!(sejjekoru_shorten, yard, [plan], [marks], [mut room]) }
 }
 
+/// As [`crate::placement`].
 pub fn placement(yard: Yard, plan: &[u64], marks: &[u8], at: &mut [u16]) -> (u64, u64) {
     // SAFETY: as in `plan`.
     unsafe { ask!(sejjekoru_placement, yard, [plan], [marks], [mut at]) }
