@@ -91,7 +91,7 @@ module _ (s : Reading) where
   answer-good e f = rw (e, f)
 
   -- what the file gives, with the carriers counted
-  answer-is : (cs : List (Bay × Bay)) → length cs ≡ s .count → answerBy s ≡ countRead (readOf s cs)
+  pub answer-is : (cs : List (Bay × Bay)) → length cs ≡ s .count → answerBy s ≡ countRead (readOf s cs)
   answer-is cs l =
       by-cases (s .version)
       (λ e. by-cases (s .failed) (λ f. rw (e, f)) (λ f. rw (e, f)))
@@ -205,7 +205,7 @@ reads-bad file G t n a b e =
     (λ cs q. let y : badLine n ≡ good (length cs) = rw q at e in never (cc))
     (λ m q. record { answer = e; startsLeft = rw q refl; goalsLeft = rw q refl })
 
-read-good : (r : Reading) (cs : List (Bay × Bay)) (k : ℕ) → good k ≡ countRead (readOf r cs) → readOf r cs ≡ good cs
+pub read-good : (r : Reading) (cs : List (Bay × Bay)) (k : ℕ) → good k ≡ countRead (readOf r cs) → readOf r cs ≡ good cs
 read-good r cs k e =
     by-cases (r .failed)
     (λ f. let y : good k ≡ badLine (lineNo (r .version) (r .count)) = rw f at e in never (cc))
