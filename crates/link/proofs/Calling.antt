@@ -77,18 +77,18 @@ module _ (l : Link) (bytes : Text) where
   piece-more e h r w =
       let o = eq-eqb (l .phase) 1 e in
       let s = le-leb (length bytes) 256 h in
-      record { answers = rw (o, s); leaves = rw (o, s) (w .leaves); means = λ a b. w .means }
+      record { answers = rw (o, s); after = record { leaves = rw (o, s) (w .leaves); means = λ a b. w .means } }
 
   pub piece-long : l .phase ≡ 1 → 256 < length bytes → PieceSays l bytes (record { said = said.Told (verdict.Denied docket.Mismarked); link = l })
   piece-long e h =
       let o = eq-eqb (l .phase) 1 e in
       let s = lt-leb (length bytes) 256 h in
-      record { answers = rw (o, s); leaves = rw (o, s); means = λ a b. not-both b s }
+      record { answers = rw (o, s); after = record { leaves = rw (o, s); means = λ a b. not-both b s } }
 
   pub piece-ended : (l .phase ≡ 1 → ⊥) → PieceSays l bytes (record { said = said.Told (verdict.Denied docket.Unknown); link = l })
   piece-ended h =
       let o = ne-eqb (l .phase) 1 h in
-      record { answers = rw o; leaves = rw o; means = λ a b. not-both a o }
+      record { answers = rw o; after = record { leaves = rw o; means = λ a b. not-both a o } }
 
 -- ## The end
 abbrev ended : Link → List ℕ → List ℕ → Link
@@ -138,10 +138,10 @@ module _ (l : Link) (m : length (l .start) ≡ 254) (n : length (l .goal) ≡ 25
 
 module _ (l : Link) where
   pub end-open : l .phase ≡ 1 → (r : Turn) → OverSays l r → EndSays l r
-  end-open e r w = let o = eq-eqb (l .phase) 1 e in record { answers = rw o (w .answers); leaves = rw o (w .leaves); holds = λ a. w .holds }
+  end-open e r w = let o = eq-eqb (l .phase) 1 e in record { answers = rw o (w .answers); after = record { leaves = rw o (w .leaves); holds = λ a. w .holds } }
 
   pub end-ended : (l .phase ≡ 1 → ⊥) → EndSays l (record { said = said.Told (verdict.Denied docket.Unknown); link = l })
-  end-ended h = let o = ne-eqb (l .phase) 1 h in record { answers = rw o; leaves = rw o; holds = λ a. not-both a o }
+  end-ended h = let o = ne-eqb (l .phase) 1 h in record { answers = rw o; after = record { leaves = rw o; holds = λ a. not-both a o } }
 
 -- ## The beginning
 module _ {map before table : List ℕ} {x : MapRead} (w : Reads map before x table) (l : Link) where

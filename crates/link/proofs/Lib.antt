@@ -1,3 +1,4 @@
 pub mod Standing
 pub mod Calling
 pub mod Making
+pub mod Linked

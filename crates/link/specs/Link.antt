@@ -165,10 +165,13 @@ pieceLink false short l bytes = l
 pieceLink true false l bytes = l
 pieceLink true true l bytes = linkBy l (foldl (stepIn l) (stateIn l) bytes)
 
+pub record PieceLeaves (l : Link) (bytes : Text) (r : Link) : Type 0 where
+  pub leaves : r ≡ pieceLink (isOpen l) (leb (length bytes) 256) l bytes
+  pub means : isOpen l ≡ true → leb (length bytes) 256 ≡ true → stateIn r ≡ foldl (stepIn l) (stateIn l) bytes
+
 pub record PieceSays (l : Link) (bytes : Text) (r : Turn) : Type 0 where
   pub answers : sayingOf (r .said) ≡ pieceSaying (isOpen l) (leb (length bytes) 256)
-  pub leaves : r .link ≡ pieceLink (isOpen l) (leb (length bytes) 256) l bytes
-  pub means : isOpen l ≡ true → leb (length bytes) 256 ≡ true → stateIn (r .link) ≡ foldl (stepIn l) (stateIn l) bytes
+  pub after : PieceLeaves l bytes (r .link)
 
 -- the end
 abbrev pub finishIn : Link → Read (List (Bay × Bay))
@@ -211,7 +214,10 @@ abbrev pub endLink : Bool → Link → Link
 endLink false l = l
 endLink true l = overLink l (finishIn l)
 
+pub record EndLeaves (l r : Link) : Type 0 where
+  pub leaves : r ≡ endLink (isOpen l) l
+  pub holds : isOpen l ≡ true → Holds r (carriersRead (finishIn l))
+
 pub record EndSays (l : Link) (r : Turn) : Type 0 where
   pub answers : sayingOf (r .said) ≡ endSaying (isOpen l) (finishIn l)
-  pub leaves : r .link ≡ endLink (isOpen l) l
-  pub holds : isOpen l ≡ true → Holds (r .link) (carriersRead (finishIn l))
+  pub after : EndLeaves l (r .link)
