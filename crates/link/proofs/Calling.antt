@@ -23,8 +23,8 @@ use Rattle.scenario.specs.declared.ScenarioRead.{ScenarioRead}
 use Rattle.scenario.specs.declared.ScenarioRead.the-variants as scenario-read
 use Rattle.scenario.specs.Under.{stateOf, startsOf, goalsOf, dueOf, readOf, answerOf, answerBy, countRead, Came, Feeds, Over, Ends}
 use Rattle.scenario.proofs.Ending.{answer-is, read-good}
-use Rattle.readers.specs.declared.Verdict.the-variants as verdict
-use Rattle.readers.specs.Reading.{granted}
+use Rattle.docket.specs.declared.Verdict.the-variants as verdict
+use Rattle.paper.specs.Docket.{granted}
 use Rattle.readers.proofs.Whole.{by-read, map-bad}
 use Rattle.link.specs.declared.Kept.{Kept}
 use Rattle.link.specs.declared.Link.{Link}
@@ -79,13 +79,13 @@ module _ (l : Link) (bytes : Text) where
       let s = le-leb (length bytes) 256 h in
       record { answers = rw (o, s); after = record { leaves = rw (o, s) (w .leaves); means = λ a b. w .means } }
 
-  pub piece-long : l .phase ≡ 1 → 256 < length bytes → PieceSays l bytes (record { said = said.Told (verdict.Denied docket.Mismarked); link = l })
+  pub piece-long : l .phase ≡ 1 → 256 < length bytes → PieceSays l bytes (record { said = said.Told (verdict.Denied docket.LongPiece); link = l })
   piece-long e h =
       let o = eq-eqb (l .phase) 1 e in
       let s = lt-leb (length bytes) 256 h in
       record { answers = rw (o, s); after = record { leaves = rw (o, s); means = λ a b. not-both b s } }
 
-  pub piece-ended : (l .phase ≡ 1 → ⊥) → PieceSays l bytes (record { said = said.Told (verdict.Denied docket.Unknown); link = l })
+  pub piece-ended : (l .phase ≡ 1 → ⊥) → PieceSays l bytes (record { said = said.Told (verdict.Denied docket.Ended); link = l })
   piece-ended h =
       let o = ne-eqb (l .phase) 1 h in
       record { answers = rw o; after = record { leaves = rw o; means = λ a b. not-both a o } }
@@ -140,7 +140,7 @@ module _ (l : Link) where
   pub end-open : l .phase ≡ 1 → (r : Turn) → OverSays l r → EndSays l r
   end-open e r w = let o = eq-eqb (l .phase) 1 e in record { answers = rw o (w .answers); after = record { leaves = rw o (w .leaves); holds = λ a. w .holds } }
 
-  pub end-ended : (l .phase ≡ 1 → ⊥) → EndSays l (record { said = said.Told (verdict.Denied docket.Unknown); link = l })
+  pub end-ended : (l .phase ≡ 1 → ⊥) → EndSays l (record { said = said.Told (verdict.Denied docket.Ended); link = l })
   end-ended h = let o = ne-eqb (l .phase) 1 h in record { answers = rw o; after = record { leaves = rw o; holds = λ a. not-both a o } }
 
 -- ## The beginning

@@ -18,13 +18,13 @@ use Rattle.paper.specs.Text.{Text, Read, good, badLine}
 use Rattle.paper.specs.Map.{Grid, readMap, cells, bayIn}
 use Rattle.paper.specs.Scenario.{readScenario}
 use Rattle.paper.specs.Bytes.{State, Under, scenarioStep, scenarioFinish, unread}
-use Rattle.paper.specs.Docket.{badMap}
+use Rattle.paper.specs.Docket.{badMap, Verdict, granted, denied}
 use Rattle.paper.proofs.Stepping.{stepped}
 use Rattle.paper.proofs.Tests.{never}
 use Rattle.gridmap.specs.Cells.{numbering, bayFound}
 use Rattle.gridmap.proofs.Good.{map-sized}
 use Rattle.scenario.proofs.OfMap.{reads-of-map}
-use Rattle.readers.specs.Reading.{Verdict, granted, denied, Listing, listed, unlisted, listing, listingIn}
+use Rattle.readers.specs.Reading.{Listing, listed, unlisted, listing, listingIn}
 use Rattle.readers.proofs.Whole.{by-read}
 use Rattle.link.specs.declared.Link.{Link}
 use Rattle.link.specs.declared.Turn.{Turn}

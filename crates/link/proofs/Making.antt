@@ -22,7 +22,13 @@ counted-above v n e h = rw (e, le-ltb n 254 h)
 pub reading-is : (k : Kept) {v f b h a w d p l g : Bool} {n : ℕ} → v ≡ yesOf (k .version) → f ≡ yesOf (k .failed) → b ≡ yesOf (k .begun) → h ≡ yesOf (k .held) → n ≡ countIn v (k .count)
     → a ≡ yesOf (k .agrees) → w ≡ yesOf (k .well) → d ≡ yesOf (k .digits) → p ≡ yesOf (k .point) → l ≡ yesOf (k .plain) → g ≡ yesOf (k .figure)
     → _≡_ {A = Reading} (record {
-      failed = f; version = v; begun = b; held = h; count = n; start = 0; goal = 0;
+      failed = f;
+      version = v;
+      begun = b;
+      held = h;
+      count = n;
+      start = 0;
+      goal = 0;
       text = record { place = k .place; agrees = a };
       past = record { index = k .index; well = w; sx = k .sx; sy = k .sy; gx = k .gx; gy = k .gy };
       field = record { place = k .size; number = k .number; digits = d; point = p; plain = l; figure = g };
@@ -30,7 +36,13 @@ pub reading-is : (k : Kept) {v f b h a w d p l g : Bool} {n : ℕ} → v ≡ yes
 reading-is k ev ef eb eh en ea ew ed ep el eg =
     let em = en ∙ ap (λ (x : Bool). countIn x (k .count)) ev in
     λ i. record {
-      failed = ef i; version = ev i; begun = eb i; held = eh i; count = em i; start = 0; goal = 0;
+      failed = ef i;
+      version = ev i;
+      begun = eb i;
+      held = eh i;
+      count = em i;
+      start = 0;
+      goal = 0;
       text = record { place = k .place; agrees = ea i };
       past = record { index = k .index; well = ew i; sx = k .sx; sy = k .sy; gx = k .gx; gy = k .gy };
       field = record { place = k .size; number = k .number; digits = ed i; point = ep i; plain = el i; figure = eg i };
@@ -46,20 +58,96 @@ module _ (r : Reading) {f v : ℕ} (ef : f ≡ bitOf (r .failed)) (ev : v ≡ bi
 
     pub keep-version : r .version ≡ true → {g : ℕ} → g ≡ bitOf (r .text .agrees)
         → _≡_ {A = Kept} (record {
-          sx = 0; sy = 0; gx = 0; gy = 0; number = 0; count = r .count; failed = f; version = v; begun = b; held = h; place = r .text .place; agrees = g; index = 0; well = 0; size = 0; digits = 0; point = 0; plain = 0; figure = 0;
+          sx = 0;
+          sy = 0;
+          gx = 0;
+          gy = 0;
+          number = 0;
+          count = r .count;
+          failed = f;
+          version = v;
+          begun = b;
+          held = h;
+          place = r .text .place;
+          agrees = g;
+          index = 0;
+          well = 0;
+          spare = 0;
+          size = 0;
+          digits = 0;
+          point = 0;
+          plain = 0;
+          figure = 0;
         }) (keptOf r)
     keep-version q eg =
         let a : v ≡ 1 = ev ∙ ap bitOf q in
         rw (e, q) (λ i. record {
-          sx = 0; sy = 0; gx = 0; gy = 0; number = 0; count = r .count; failed = none i; version = a i; begun = eb i; held = eh i; place = r .text .place; agrees = eg i; index = 0; well = 0; size = 0; digits = 0; point = 0; plain = 0; figure = 0;
+          sx = 0;
+          sy = 0;
+          gx = 0;
+          gy = 0;
+          number = 0;
+          count = r .count;
+          failed = none i;
+          version = a i;
+          begun = eb i;
+          held = eh i;
+          place = r .text .place;
+          agrees = eg i;
+          index = 0;
+          well = 0;
+          spare = 0;
+          size = 0;
+          digits = 0;
+          point = 0;
+          plain = 0;
+          figure = 0;
         })
 
     pub keep-carrier : r .version ≡ false → {w d p l g : ℕ} → w ≡ bitOf (r .past .well) → d ≡ bitOf (r .field .digits) → p ≡ bitOf (r .field .point) → l ≡ bitOf (r .field .plain) → g ≡ bitOf (r .field .figure)
         → _≡_ {A = Kept} (record {
-          sx = r .past .sx; sy = r .past .sy; gx = r .past .gx; gy = r .past .gy; number = r .field .number; count = r .count; failed = f; version = v; begun = b; held = h; place = 0; agrees = 0; index = r .past .index; well = w; size = r .field .place; digits = d; point = p; plain = l; figure = g;
+          sx = r .past .sx;
+          sy = r .past .sy;
+          gx = r .past .gx;
+          gy = r .past .gy;
+          number = r .field .number;
+          count = r .count;
+          failed = f;
+          version = v;
+          begun = b;
+          held = h;
+          place = 0;
+          agrees = 0;
+          index = r .past .index;
+          well = w;
+          spare = 0;
+          size = r .field .place;
+          digits = d;
+          point = p;
+          plain = l;
+          figure = g;
         }) (keptOf r)
     keep-carrier q ew ed ep el eg =
         let a : v ≡ 0 = ev ∙ ap bitOf q in
         rw (e, q) (λ i. record {
-          sx = r .past .sx; sy = r .past .sy; gx = r .past .gx; gy = r .past .gy; number = r .field .number; count = r .count; failed = none i; version = a i; begun = eb i; held = eh i; place = 0; agrees = 0; index = r .past .index; well = ew i; size = r .field .place; digits = ed i; point = ep i; plain = el i; figure = eg i;
+          sx = r .past .sx;
+          sy = r .past .sy;
+          gx = r .past .gx;
+          gy = r .past .gy;
+          number = r .field .number;
+          count = r .count;
+          failed = none i;
+          version = a i;
+          begun = eb i;
+          held = eh i;
+          place = 0;
+          agrees = 0;
+          index = r .past .index;
+          well = ew i;
+          spare = 0;
+          size = r .field .place;
+          digits = ed i;
+          point = ep i;
+          plain = el i;
+          figure = eg i;
         })

@@ -9,14 +9,14 @@ use lib.ListN.{length, take, replicate}
 use lib.Seq.{sets}
 use Rattle.paper.specs.Basics.{if_then_else_}
 use Rattle.paper.specs.Yard.{Bay}
-use Rattle.paper.specs.Docket.{no-14, no-15, unknown as ended, mismarked as longPiece}
+use Rattle.paper.specs.Docket.{no-14, no-15, ended, longPiece, Verdict, granted, denied}
 use Rattle.paper.specs.Text.{Text, Read, good, badLine}
 use Rattle.paper.specs.Map.{Grid, cells}
 use Rattle.paper.specs.Bytes.{State, failed, going, Under, inVersion, inCarrier, scenarioStep, scenarioFinish, unread}
 use Rattle.gridmap.specs.Cells.{numbering, bayFound}
 use Rattle.scenario.specs.declared.Reading.{Reading}
 use Rattle.scenario.specs.Under.{stateOf, startsOf, goalsOf}
-use Rattle.readers.specs.Reading.{Verdict, granted, denied, verdictOf}
+use Rattle.docket.specs.Reading.{verdictOf}
 use Rattle.link.specs.declared.Kept.{Kept}
 use Rattle.link.specs.declared.Link.{Link}
 use Rattle.link.specs.declared.Said.{Said}
@@ -70,27 +70,122 @@ isOpen l = eqb (l .phase) 1
 
 abbrev pub blankKept : ℕ → ℕ → ℕ → Kept
 blankKept f v k = record {
-  sx = 0; sy = 0; gx = 0; gy = 0; number = 0; count = k; failed = f; version = v; begun = 0; held = 0; place = 0; agrees = 0; index = 0; well = 0; size = 0; digits = 0; point = 0; plain = 0; figure = 0;
+  sx = 0;
+  sy = 0;
+  gx = 0;
+  gy = 0;
+  number = 0;
+  count = k;
+  failed = f;
+  version = v;
+  begun = 0;
+  held = 0;
+  place = 0;
+  agrees = 0;
+  index = 0;
+  well = 0;
+  spare = 0;
+  size = 0;
+  digits = 0;
+  point = 0;
+  plain = 0;
+  figure = 0;
 }
 
 abbrev pub keptOf : Reading → Kept
 keptOf r =
     if r .failed then blankKept 1 (bitOf (r .version)) (r .count)
     else if r .version then record {
-      sx = 0; sy = 0; gx = 0; gy = 0; number = 0; count = r .count; failed = 0; version = 1; begun = bitOf (r .begun); held = bitOf (r .held); place = r .text .place; agrees = bitOf (r .text .agrees); index = 0; well = 0; size = 0; digits = 0; point = 0; plain = 0; figure = 0;
+      sx = 0;
+      sy = 0;
+      gx = 0;
+      gy = 0;
+      number = 0;
+      count = r .count;
+      failed = 0;
+      version = 1;
+      begun = bitOf (r .begun);
+      held = bitOf (r .held);
+      place = r .text .place;
+      agrees = bitOf (r .text .agrees);
+      index = 0;
+      well = 0;
+      spare = 0;
+      size = 0;
+      digits = 0;
+      point = 0;
+      plain = 0;
+      figure = 0;
     }
     else record {
-      sx = r .past .sx; sy = r .past .sy; gx = r .past .gx; gy = r .past .gy; number = r .field .number; count = r .count; failed = 0; version = 0; begun = bitOf (r .begun); held = bitOf (r .held); place = 0; agrees = 0; index = r .past .index; well = bitOf (r .past .well); size = r .field .place; digits = bitOf (r .field .digits); point = bitOf (r .field .point); plain = bitOf (r .field .plain); figure = bitOf (r .field .figure);
+      sx = r .past .sx;
+      sy = r .past .sy;
+      gx = r .past .gx;
+      gy = r .past .gy;
+      number = r .field .number;
+      count = r .count;
+      failed = 0;
+      version = 0;
+      begun = bitOf (r .begun);
+      held = bitOf (r .held);
+      place = 0;
+      agrees = 0;
+      index = r .past .index;
+      well = bitOf (r .past .well);
+      spare = 0;
+      size = r .field .place;
+      digits = bitOf (r .field .digits);
+      point = bitOf (r .field .point);
+      plain = bitOf (r .field .plain);
+      figure = bitOf (r .field .figure);
     }
 
 -- the same, of the paper's state
 abbrev pub keptBy : State Under → Kept
 keptBy (failed n) = blankKept 1 (bitOf (eqb n 1)) (n - 2)
 keptBy (going n begun held (inVersion m)) = record {
-  sx = 0; sy = 0; gx = 0; gy = 0; number = 0; count = 0; failed = 0; version = 1; begun = bitOf begun; held = bitOf held; place = m .place; agrees = bitOf (m .agrees); index = 0; well = 0; size = 0; digits = 0; point = 0; plain = 0; figure = 0;
+  sx = 0;
+  sy = 0;
+  gx = 0;
+  gy = 0;
+  number = 0;
+  count = 0;
+  failed = 0;
+  version = 1;
+  begun = bitOf begun;
+  held = bitOf held;
+  place = m .place;
+  agrees = bitOf (m .agrees);
+  index = 0;
+  well = 0;
+  spare = 0;
+  size = 0;
+  digits = 0;
+  point = 0;
+  plain = 0;
+  figure = 0;
 }
 keptBy (going n begun held (inCarrier cs p m)) = record {
-  sx = p .sx; sy = p .sy; gx = p .gx; gy = p .gy; number = m .number; count = length cs; failed = 0; version = 0; begun = bitOf begun; held = bitOf held; place = 0; agrees = 0; index = p .index; well = bitOf (p .well); size = m .place; digits = bitOf (m .digits); point = bitOf (m .point); plain = bitOf (m .plain); figure = bitOf (m .figure);
+  sx = p .sx;
+  sy = p .sy;
+  gx = p .gx;
+  gy = p .gy;
+  number = m .number;
+  count = length cs;
+  failed = 0;
+  version = 0;
+  begun = bitOf begun;
+  held = bitOf held;
+  place = 0;
+  agrees = 0;
+  index = p .index;
+  well = bitOf (p .well);
+  spare = 0;
+  size = m .place;
+  digits = bitOf (m .digits);
+  point = bitOf (m .point);
+  plain = bitOf (m .plain);
+  figure = bitOf (m .figure);
 }
 
 -- the carriers of a state whose layout is not broken

@@ -1,19 +1,20 @@
 // A scenario over the serial link, in pieces of at most 256 bytes: its state by value, and the three calls, begin, piece and end. The
 // state is plain numbers, so that any bytes which a caller lends are some state.
 use docket::Refusal;
+use docket::Verdict;
 use fields::FieldSeen;
 use fields::FieldsPast;
 use fields::TextSeen;
 use gridmap::Grid;
 use gridmap::MapRead;
-use readers::Verdict;
 use scenario::Reading;
 use scenario::ScenarioRead;
 ghost use mathlib.Core.Path.{_≡_};
 ghost use Rattle.paper.specs.Map.{readMap};
 ghost use Rattle.link.specs.Link.{yesOf, bitOf, countIn, readingIn, keptOf, FedSays, OverSays, BeginSays, PieceSays, EndSays};
 
-// What is known of the line under way. A number that says yes or no says no where it is 0.
+// What is known of the line under way. A number that says yes or no says no where it is 0. The spare byte is 0: with it the struct has no gaps,
+// so that a caller may compare two states byte by byte.
 #[repr(C)]
 pub struct Kept {
     pub sx: u32,
@@ -31,6 +32,7 @@ pub struct Kept {
     pub index: u8,
     pub well: u8,
     pub size: u8,
+    pub spare: u8,
     pub digits: u8,
     pub point: u8,
     pub plain: u8,
@@ -45,7 +47,7 @@ pub struct Link {
     pub goal: [u16; 254],
     pub cells: [u16; 4096],
     pub kept: Kept,
-    pub phase: u8,
+    pub phase: u16,
     pub height: u8,
     pub width: u8,
 }
@@ -140,6 +142,7 @@ fn keep(r: Reading) -> Kept
         index: 0,
         well: 0,
         size: 0,
+        spare: 0,
         digits: 0,
         point: 0,
         plain: 0,
@@ -243,12 +246,12 @@ pub fn piece(link: Link, bytes: &[u8]) -> Turn
             };
         }
         return Turn {
-            said: Said::Told(Verdict::Denied(Refusal::Mismarked)),
+            said: Said::Told(Verdict::Denied(Refusal::LongPiece)),
             link: link,
         };
     }
     Turn {
-        said: Said::Told(Verdict::Denied(Refusal::Unknown)),
+        said: Said::Told(Verdict::Denied(Refusal::Ended)),
         link: link,
     }
 }
@@ -265,13 +268,7 @@ fn over(link: Link) -> Turn
         width: link.width,
         bays: 0,
     };
-    let r = scenario::finish(
-        reading(link.kept),
-        grid,
-        &cells,
-        &mut starts,
-        &mut goals,
-    );
+    let r = scenario::finish(reading(link.kept), grid, &cells, &mut starts, &mut goals);
     let found = scenario::answer(r);
     let mut next = link;
     next.phase = 2;
@@ -299,7 +296,7 @@ pub fn end(link: Link) -> Turn
         return over(link);
     }
     Turn {
-        said: Said::Told(Verdict::Denied(Refusal::Unknown)),
+        said: Said::Told(Verdict::Denied(Refusal::Ended)),
         link: link,
     }
 }

@@ -10,7 +10,7 @@ use lib.Seq.{sets}
 use borrow.Author.Tests.{lt-ltb, le-ltb}
 use Rattle.paper.specs.Basics.{_or_}
 use Rattle.paper.specs.Yard.{Bay}
-use Rattle.paper.specs.Docket.{room, badMap, badScenario}
+use Rattle.paper.specs.Docket.{room, badMap, badScenario, Verdict, granted, denied}
 use Rattle.paper.specs.Text.{Text, Read, good, badLine}
 use Rattle.paper.specs.Map.{Grid}
 use Rattle.paper.proofs.Tests.{never, or-left, or-right, or-neither}
@@ -20,7 +20,7 @@ use Rattle.gridmap.specs.declared.Grid.{Grid as Held}
 use Rattle.scenario.specs.declared.ScenarioRead.{ScenarioRead}
 use Rattle.scenario.specs.declared.ScenarioRead.the-variants as scenario-read
 use Rattle.scenario.specs.Under.{bayBy, startsOf, goalsOf, Reads}
-use Rattle.readers.specs.Reading.{Verdict, granted, denied, Laid, laid, laying, Listing, listing, listingIn, short, MapSays, ScenarioSays}
+use Rattle.readers.specs.Reading.{Laid, laid, laying, Listing, listing, listingIn, short, MapSays, ScenarioSays}
 use Rattle.readers.proofs.Whole.{by-read}
 
 module _ (n : ℕ) (ends before : List ℕ) (needed : ℕ) (counted : needed ≡ 0 + length ends) where

@@ -9,22 +9,11 @@ use lib.ListN.{length}
 use lib.Seq.{sets}
 use Rattle.paper.specs.Basics.{_or_}
 use Rattle.paper.specs.Yard.{Bay}
-use Rattle.paper.specs.Docket.{Refusal, room, no-14, no-15}
+use Rattle.paper.specs.Docket.{Refusal, room, no-14, no-15, Verdict, granted, denied}
 use Rattle.paper.specs.Text.{Text, Read, good, badLine}
 use Rattle.paper.specs.Map.{Grid, bayCount, bayIn, railEnds}
 use Rattle.paper.specs.Scenario.{readScenario}
-use Rattle.docket.specs.Reading.{refusalOf}
 use Rattle.scenario.specs.Under.{startsOf, goalsOf}
-use Rattle.readers.specs.declared.Verdict.{Verdict as Held}
-use Rattle.readers.specs.declared.Verdict.the-variants as held
-
-pub data Verdict : Type 0 where
-  granted : ℕ → Verdict
-  denied : Refusal → Verdict
-
-abbrev pub verdictOf : Held → Verdict
-verdictOf (held.Granted k) = granted k
-verdictOf (held.Denied r) = denied (refusalOf r)
 
 -- so many numbers are written, or do not fit: "the result is longer than the lent list"
 abbrev pub fitting : Bool → ℕ → Verdict

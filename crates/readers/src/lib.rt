@@ -1,6 +1,7 @@
 // The whole reading of a map and of a scenario, for a caller that has files and no reader: bays and rails, starts and goals, or refusal 14 or 15;
 // and 8 where what was read is longer than the lent lists. A refusal changes no list.
 use docket::Refusal;
+use docket::Verdict;
 use gridmap::Grid;
 use gridmap::MapRead;
 use scenario::ScenarioRead;
@@ -8,12 +9,8 @@ ghost use Rattle.paper.specs.Map.{readMap};
 ghost use Rattle.paper.specs.Scenario.{readScenario};
 ghost use Rattle.gridmap.specs.Cells.{railsIn};
 ghost use Rattle.scenario.specs.Under.{bayBy};
-ghost use Rattle.readers.specs.Reading.{verdictOf, laid, laying, listing, listingIn, MapSays, ScenarioSays};
-
-pub enum Verdict {
-    Granted(u64),
-    Denied(Refusal),
-}
+ghost use Rattle.docket.specs.Reading.{verdictOf};
+ghost use Rattle.readers.specs.Reading.{laid, laying, listing, listingIn, MapSays, ScenarioSays};
 
 // The bays and rails of a map whose cells are numbered.
 fn lay(grid: Grid, cells: &[u16], bays: &mut u64, rails: &mut [u16]) -> Verdict

@@ -5,3 +5,4 @@ pub mod Billing
 pub mod Passing
 pub mod Shared
 pub mod Billed
+pub mod Linked

@@ -1,2 +1,4 @@
 pub mod Statements
 pub mod Bills
+pub mod Files
+pub mod Serial

@@ -6,6 +6,7 @@ mod bills;
 mod books;
 mod files;
 mod lent;
+mod link;
 mod orders;
 mod plans;
 mod tally;
@@ -24,6 +25,7 @@ fn main() {
     tallies.push(shortening());
     tallies.extend(bills::one_by_one());
     tallies.push(bills::runs());
+    tallies.extend(link::run());
     if let Some(program) = std::env::args().nth(1) {
         tallies.push(files::run(&program));
     }

@@ -10,6 +10,7 @@ mod crossing;
 mod distances;
 mod docket;
 mod files;
+pub mod link;
 mod log;
 mod planner;
 mod search;

@@ -5,12 +5,14 @@
 mod answers;
 mod bills;
 mod crossing;
+pub mod files;
 pub mod numbers;
 pub mod raw;
 
 pub use answers::{Refusal, Reported};
 pub use bills::{Line, Record, UNTOUCHED};
 pub use crossing::{Bay, Carrier, Crossing};
+pub use files::Link;
 
 use answers::{reported, told};
 
