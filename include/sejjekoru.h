@@ -8,7 +8,7 @@
  *
  * What the caller must ensure:
  * - each list has at least as many elements as the length after it says; a list of length 0 may be NULL;
- * - `value` and `record` are not NULL;
+ * - `value`, `record`, `bays` of sejjekoru_map and `link` are not NULL;
  * - what may be written (`plan` of sejjekoru_plan, `slots`, `out`, `at`, `marks` of sejjekoru_report and sejjekoru_report_billed, `*record` and `lines` of
  *   sejjekoru_open and sejjekoru_report_billed, `*value`) overlaps no other argument;
  * - lengths and numbers are 64 bits wide. A call from another language must say so: with ctypes, for instance, a plain Python int is passed as 32
@@ -55,9 +55,14 @@ enum {
     SEJJEKORU_MARKS = 11,     /* 0 */
     SEJJEKORU_UNKNOWN = 12,   /* 0 */
     SEJJEKORU_EARLY = 13,     /* the lowest undone name that it depends on */
+    SEJJEKORU_MAP = 14,       /* the first bad line of the map, from 1 */
+    SEJJEKORU_SCENARIO = 15,  /* the first bad line of the scenario, from 1 */
+    SEJJEKORU_ENDED = 17,     /* 0; the scenario over this link has ended */
+    SEJJEKORU_LONG_PIECE = 18, /* 0; a piece of a scenario has more than 256 bytes */
     SEJJEKORU_DISAGREES = 19, /* 0; record and lines are not what plan, start and marks give */
     SEJJEKORU_BEGUN = 25,     /* 0; some crossing of the plan to be shortened is done */
-    SEJJEKORU_ALREADY = 100   /* 0; a report of a crossing that is done */
+    SEJJEKORU_ALREADY = 100,  /* 0; a report of a crossing that is done */
+    SEJJEKORU_MORE = 101      /* 0; a piece was read, and more may come */
 };
 
 /*
@@ -241,6 +246,71 @@ uint64_t sejjekoru_program(const uint8_t *map, size_t map_len, uint64_t map_read
 uint64_t sejjekoru_print_plan(const uint64_t *plan, size_t plan_len,
                               uint8_t *out, size_t out_len,
                               uint64_t *value);
+
+/*
+ * Reads a map file from its bytes. `*bays` gets the number of bays, `rails` the two ends of each rail, as the other functions take them, and `value`
+ * the number of ends written, which is twice the number of rails. If `rails` is too short it answers 8 with the number of ends needed: call with
+ * length 0 to learn it, or lend 16,384. A refusal sets `*bays` to 0 and does not change `rails`. `bays` is not NULL and overlaps no other argument.
+ * Answers 0, 8, 14.
+ */
+uint64_t sejjekoru_map(const uint8_t *map, size_t map_len,
+                       uint64_t *bays,
+                       uint16_t *rails, size_t rails_len,
+                       uint64_t *value);
+
+/*
+ * Reads a scenario file from its bytes, for the map whose bytes are given with it. `start` and `goal` get the bay of each carrier, and `value` the
+ * number of carriers. If either list is too short it answers 8 with the length needed; 254 is always enough. A refusal changes neither list. 14 is
+ * tested before 15. Answers 0, 8, 14, 15.
+ */
+uint64_t sejjekoru_scenario(const uint8_t *map, size_t map_len,
+                            const uint8_t *scenario, size_t scenario_len,
+                            uint16_t *start, size_t start_len,
+                            uint16_t *goal, size_t goal_len,
+                            uint64_t *value);
+
+/*
+ * A scenario that comes over a serial link in pieces. After sejjekoru_link_end answered 0 with k, the first k places of `start` and of `goal` hold
+ * the carriers. The other fields are the library's own. Any bytes are some state: the link is open if `phase` is 1, and has ended if `phase` is
+ * anything else; an open link that no call left is read as far as its numbers go, with at most 254 carriers and none before the version line.
+ * So a struct of zero bytes has ended, until sejjekoru_link_begin opens it. `goal` begins at byte 508, `cells` at 1,016, `own` at 9,208, `count` at
+ * 9,228, `line` at 9,230, `phase` at 9,244; the whole has 9,248 bytes.
+ */
+typedef struct {
+    uint16_t start[254];
+    uint16_t goal[254];
+    uint16_t cells[4096];
+    uint32_t own[5];
+    uint16_t count;
+    uint8_t line[14];
+    uint16_t phase;
+    uint8_t height;
+    uint8_t width;
+} sejjekoru_link;
+
+/*
+ * In the three functions `link` is not NULL and overlaps no other argument.
+ *
+ * Opens the link for a scenario on this map, whatever the link was before. A refusal leaves the link as it was. Answers 0, 14.
+ */
+uint64_t sejjekoru_link_begin(const uint8_t *map, size_t map_len,
+                              sejjekoru_link *link,
+                              uint64_t *value);
+
+/*
+ * The next 0 to 256 bytes of the scenario. Lines may be broken anywhere. A refusal leaves the link as it was; 17 is tested before 18. The time depends
+ * on the bytes of the piece alone, not on what came before. Answers 17, 18, 101.
+ */
+uint64_t sejjekoru_link_piece(sejjekoru_link *link,
+                              const uint8_t *piece, size_t piece_len,
+                              uint64_t *value);
+
+/*
+ * The scenario is over. Answers what sejjekoru_scenario answers to all pieces together: 0 with the number of carriers, or 15. Either way the link has
+ * ended. 17 if it had ended before, and then it stays as it was. Answers 0, 15, 17.
+ */
+uint64_t sejjekoru_link_end(sejjekoru_link *link,
+                            uint64_t *value);
 
 #ifdef __cplusplus
 }

@@ -63,7 +63,7 @@ module _ (t : List ℕ) (G : Grid) (s : Reading) where
       → Closes t G s r
   unfolding lineClosed
   closes-broken o r q f = record {
-    sound = record { first = λ v. q .count ∙ o .first (sym (q .version) ∙ v) };
+    sound = record { first = λ v. q .count ∙ o .first (sym (q .version) ∙ v); few = omega (arith, q .count, o .few) };
     counts = λ cs l. rw (eq-eqb (r .count) (s .count) (q .count), q .count) l;
     closes = λ cs l. rw (f cs l, q .failed, q .version, q .count);
   }
@@ -72,7 +72,7 @@ module _ (t : List ℕ) (G : Grid) (s : Reading) where
   unfolding lineClosed closeLine beginLine
   closes-version o r e v m =
       rw e (record {
-        sound = record { first = λ q. refl };
+        sound = record { first = λ q. refl; few = omega arith };
         counts = λ cs l. let z = o .first v in rw (no-length cs (l ∙ z), z);
         closes = λ cs l. let z = o .first v in rw (no-length cs (l ∙ z), v, m, z);
       })
@@ -81,7 +81,7 @@ module _ (t : List ℕ) (G : Grid) (s : Reading) where
   unfolding lineClosed closeLine beginLine
   closes-carrier r a g e v k f =
       rw e (record {
-        sound = record { first = λ q. not-both q refl };
+        sound = record { first = λ q. not-both q refl; few = omega (arith, k) };
         counts = λ cs l. rw (ne-eqb (s .count + 1) (s .count) (omega arith), length-append) (ap (λ k. k + 1) l);
         closes = λ cs l. rw (v, l, lt-ltb (s .count) 254 k, ← f, ne-eqb (s .count + 1) (s .count) (omega arith), add-one (s .count));
       })

@@ -7,7 +7,7 @@ use Prim.Native.Nat.{ℕ, suc, _+_, _<_}
 use native.Mathlib.Omega.{arith}
 use native.Mathlib.Numerals.{add-one}
 use lib.Dec.{eqb}
-use lib.ListN.{length, set, take, getD, length-append}
+use lib.ListN.{length, set, take, getD, length-append, length-set}
 use lib.Seq.{sets, take-suc}
 use borrow.Author.Tests.{eq-eqb, ne-eqb, eqb-true}
 use Rattle.paper.specs.Basics.{if_then_else_}
@@ -23,7 +23,7 @@ use Rattle.gridmap.specs.declared.Grid.{Grid}
 use Rattle.scenario.specs.declared.Reading.{Reading}
 use Rattle.scenario.specs.declared.ScenarioRead.{ScenarioRead}
 use Rattle.scenario.specs.declared.ScenarioRead.the-variants as answer
-use Rattle.scenario.specs.Under.{bayBy, Sound, lineNo, stateOf, carriersAfter, dueOf, readOf, answerOf, answerBy, countRead, kept, Stored, Ended, Reads, startsAfter, goalsAfter, Closes, Steps, Released, Finishes}
+use Rattle.scenario.specs.Under.{bayBy, Sound, lineNo, stateOf, carriersAfter, dueOf, readOf, answerOf, answerBy, countRead, kept, Stored, Feeds, Ends, Ended, Reads, startsAfter, goalsAfter, Closes, Steps, Released, Finishes}
 
 module _ (W H : ℕ) (bay : ℕ → ℕ → Option Bay) where
   -- what a state without a line under way gives
@@ -45,17 +45,19 @@ module _ (t : List ℕ) (G : Grid) (s : Reading) where
   same-after : (cs : List (Bay × Bay)) → carriersAfter s s cs ≡ cs
   same-after cs = rw (eq-eqb (s .count) (s .count) refl)
 
-  pub finishes-failed : s .failed ≡ true → Finishes t G s s
+  pub finishes-failed : Sound s → s .failed ≡ true → Finishes t G s s
   unfolding scenarioFinish finishFile
-  finishes-failed e = record {
+  finishes-failed o e = record {
+    sound = o;
     counts = λ cs l. rw (same-after cs) l;
     finishes = λ cs l. rw (same-after cs, e);
   }
 
   module _ (e : s .failed ≡ false) where
-    pub finishes-between : s .begun ≡ false → Finishes t G s s
+    pub finishes-between : Sound s → s .begun ≡ false → Finishes t G s s
     unfolding scenarioFinish finishFile
-    finishes-between f = record {
+    finishes-between o f = record {
+      sound = o;
       counts = λ cs l. rw (same-after cs) l;
       finishes = λ cs l. rw (same-after cs) (read-rest (G .width) (G .height) (bayBy t G) s cs ∙ rw (e, f));
     }
@@ -63,10 +65,11 @@ module _ (t : List ℕ) (G : Grid) (s : Reading) where
     pub finishes-line : s .begun ≡ true → Sound s → (u : Reading) → Released G s u → (r : Reading) → (Sound u → Closes t G u r) → Finishes t G s r
     unfolding scenarioFinish finishFile
     finishes-line f o u k r c =
-        let q : Closes t G u r = c (record { first = λ v. k .count ∙ o .first (sym (k .version) ∙ v) }) in
+        let q : Closes t G u r = c (record { first = λ v. k .count ∙ o .first (sym (k .version) ∙ v); few = omega (arith, k .count, o .few) }) in
         let same : (cs : List (Bay × Bay)) → carriersAfter s r cs ≡ carriersAfter u r cs = λ cs. rw (k .count) in
         let here : lineNo (u .version) (u .count) ≡ lineNo (s .version) (s .count) = rw (k .version, k .count) in
         record {
+          sound = q .sound;
           counts = λ cs l. ap length (same cs) ∙ q .counts cs (l ∙ sym (k .count));
           finishes = λ cs l.
               ap (readOf r) (same cs) ∙ (read-rest (G .width) (G .height) (bayBy t G) r (carriersAfter u r cs)
@@ -88,7 +91,7 @@ module _ (s : Reading) where
   answer-good e f = rw (e, f)
 
   -- what the file gives, with the carriers counted
-  answer-is : (cs : List (Bay × Bay)) → length cs ≡ s .count → answerBy s ≡ countRead (readOf s cs)
+  pub answer-is : (cs : List (Bay × Bay)) → length cs ≡ s .count → answerBy s ≡ countRead (readOf s cs)
   answer-is cs l =
       by-cases (s .version)
       (λ e. by-cases (s .failed) (λ f. rw (e, f)) (λ f. rw (e, f)))
@@ -134,39 +137,58 @@ module _ (s r : Reading) where
   }
 
 -- ## The bytes so far
-pub record Came (t : List ℕ) (G : Grid) (bs : Text) (s : Reading) (starts₀ starts goals₀ goals : List ℕ) : Type 0 where
-  pub carriers : List (Bay × Bay)
-  pub stored : Stored carriers s starts₀ starts goals₀ goals
-  pub sound : Sound s
-  pub state : stateOf s carriers ≡ foldl (scenarioStep (G .width) (G .height) (bayBy t G)) (unread (G .width) (G .height) (bayBy t G)) bs
+pub kept-length : (s r : Reading) (x : ℕ) (l m : List ℕ) → m ≡ kept s r x l → length m ≡ length l
+unfolding kept
+kept-length s r x l m e =
+    by-cases (eqb (r .count) (s .count))
+    (λ t. let q : m ≡ l = e ∙ rw t in ap length q)
+    (λ t. let q : m ≡ set l (s .count) x = e ∙ rw t in ap length q ∙ length-set l (s .count) x)
 
-pub came-none : (t : List ℕ) (G : Grid) (s : Reading) (a b : List ℕ) → s ≡ dueOf true 0 0 0 → Came t G [] s a a b b
-came-none t G s a b e =
-    rw e (record {
-      carriers = [];
-      stored = record { count = refl; startsWrote = record { left = refl; counted = refl }; goalsWrote = record { left = refl; counted = refl } };
-      sound = record { first = λ v. refl };
-      state = refl;
-    })
+pub feeds-none : (t : List ℕ) (G : Grid) (s : Reading) (b b′ : List ℕ) → Feeds t G s [] s b b b′ b′
+feeds-none t G s b b′ = record { feeds = λ o cs a a′ w. record { carriers = cs; stored = w; sound = o; state = refl } }
 
-abbrev pub came-next : (t : List ℕ) (G : Grid) (file : Text) (i : ℕ) (s r : Reading) {a b c a′ b′ d : List ℕ} → i < length file → Came t G (take i file) s a b a′ b′ → (Sound s → Steps t G s (getD file i 0) r) → c ≡ kept s r (r .start) b → d ≡ kept s r (r .goal) b′ → Came t G (take (i + 1) file) r a c a′ d
-came-next t G file i s r {a} {b} {c} {a′} {b′} {d} h w f e g =
-    let k = f (w .sound) in
-    let cs = w .carriers in
+pub feeds-next : (t : List ℕ) (G : Grid) (s₀ : Reading) (file : Text) (i : ℕ) (s r : Reading) {a b c a′ b′ d : List ℕ} → i < length file
+    → Feeds t G s₀ (take i file) s a b a′ b′ → (Sound s → Steps t G s (getD file i 0) r) → c ≡ kept s r (r .start) b → d ≡ kept s r (r .goal) b′ → Feeds t G s₀ (take (i + 1) file) r a c a′ d
+feeds-next t G s₀ file i s r h w f e g =
     rw (add-one i, take-suc file i 0 h) (record {
-      carriers = carriersAfter s r (w .carriers);
-      stored = stored-next s r (w .carriers) (w .stored) (k .counts (w .carriers) (w .stored .count)) e g;
-      sound = k .sound;
-      state = k .steps (w .carriers) (w .stored .count) ∙ ap (λ q. scenarioStep (G .width) (G .height) (bayBy t G) q (getD file i 0)) (w .state) ∙ sym (foldl-append (scenarioStep (G .width) (G .height) (bayBy t G)) (unread (G .width) (G .height) (bayBy t G)) (take i file) (getD file i 0 ∷ []));
+      feeds = λ o cs l l′ q.
+          let v = w .feeds o cs l l′ q in
+          let k = f (v .sound) in
+          record {
+            carriers = carriersAfter s r (v .carriers);
+            stored = stored-next s r (v .carriers) (v .stored) (k .counts (v .carriers) (v .stored .count)) e g;
+            sound = k .sound;
+            state = k .steps (v .carriers) (v .stored .count) ∙ ap (λ q. scenarioStep (G .width) (G .height) (bayBy t G) q (getD file i 0)) (v .state) ∙ sym (foldl-append (scenarioStep (G .width) (G .height) (bayBy t G)) (stateOf s₀ cs) (take i file) (getD file i 0 ∷ []));
+          };
     })
 
-pub came-all : (t : List ℕ) (G : Grid) (file : Text) (s r : Reading) {a b c a′ b′ d : List ℕ} → Came t G file s a b a′ b′ → (Sound s → Finishes t G s r) → c ≡ kept s r (r .start) b → d ≡ kept s r (r .goal) b′ → Ended file G t r a c a′ d
-came-all t G file s r w f e g =
-    let k = f (w .sound) in
+pub ends-now : (t : List ℕ) (G : Grid) (s r : Reading) {b c b′ d : List ℕ} → (Sound s → Finishes t G s r) → c ≡ kept s r (r .start) b → d ≡ kept s r (r .goal) b′ → Ends t G s r b c b′ d
+ends-now t G s r f e g = record {
+  ends = λ o cs l l′ q.
+      let k = f o in
+      record {
+        carriers = carriersAfter s r cs;
+        stored = stored-next s r cs q (k .counts cs (q .count)) e g;
+        sound = k .sound;
+        reads = k .finishes cs (q .count);
+      };
+}
+
+pub sound-first : (s : Reading) → s ≡ dueOf true 0 0 0 → Sound s
+sound-first s e = rw e (record { first = λ v. refl; few = omega arith })
+
+stored-first : (s : Reading) (a b : List ℕ) → s ≡ dueOf true 0 0 0 → Stored [] s a a b b
+stored-first s a b e = rw e (record { count = refl; startsWrote = record { left = refl; counted = refl }; goalsWrote = record { left = refl; counted = refl } })
+
+pub came-all : (t : List ℕ) (G : Grid) (file : Text) (s₀ s r : Reading) {a b c a′ b′ d : List ℕ} → s₀ ≡ dueOf true 0 0 0 → Feeds t G s₀ file s a b a′ b′ → Ends t G s r b c b′ d → Ended file G t r a c a′ d
+came-all t G file s₀ s r {a} {b} {c} {a′} {b′} {d} e w f =
+    let v = w .feeds (sound-first s₀ e) [] a a′ (stored-first s₀ a a′ e) in
+    let k = f .ends (v .sound) (v .carriers) a a′ (v .stored) in
+    let here : stateOf s₀ [] ≡ unread (G .width) (G .height) (bayBy t G) = rw e in
     record {
-      carriers = carriersAfter s r (w .carriers);
-      stored = stored-next s r (w .carriers) (w .stored) (k .counts (w .carriers) (w .stored .count)) e g;
-      reads = k .finishes (w .carriers) (w .stored .count) ∙ ap (scenarioFinish (G .width) (G .height) (bayBy t G)) (w .state) ∙ stepped (G .width) (G .height) (bayBy t G) file;
+      carriers = k .carriers;
+      stored = k .stored;
+      reads = k .reads ∙ ap (scenarioFinish (G .width) (G .height) (bayBy t G)) (v .state ∙ ap (λ q. foldl (scenarioStep (G .width) (G .height) (bayBy t G)) q file) here) ∙ stepped (G .width) (G .height) (bayBy t G) file;
     }
 
 -- ## The whole file
@@ -183,7 +205,7 @@ reads-bad file G t n a b e =
     (λ cs q. let y : badLine n ≡ good (length cs) = rw q at e in never (cc))
     (λ m q. record { answer = e; startsLeft = rw q refl; goalsLeft = rw q refl })
 
-read-good : (r : Reading) (cs : List (Bay × Bay)) (k : ℕ) → good k ≡ countRead (readOf r cs) → readOf r cs ≡ good cs
+pub read-good : (r : Reading) (cs : List (Bay × Bay)) (k : ℕ) → good k ≡ countRead (readOf r cs) → readOf r cs ≡ good cs
 read-good r cs k e =
     by-cases (r .failed)
     (λ f. let y : good k ≡ badLine (lineNo (r .version) (r .count)) = rw f at e in never (cc))

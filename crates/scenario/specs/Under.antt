@@ -1,10 +1,10 @@
 -- How the code's state reads as the state of the scenario's step, and what each function makes of it.
 -- Assumes nothing.
 use mathlib.Core.Bool.{Bool, true, false}
-use mathlib.Core.List.{List, [], _∷_, _++_, map}
+use mathlib.Core.List.{List, [], _∷_, _++_, map, foldl}
 use mathlib.Core.Option.{Option, none, some}
 use mathlib.Core.Path.{_≡_}
-use Prim.Native.Nat.{ℕ, suc, _+_}
+use Prim.Native.Nat.{ℕ, suc, _+_, _≤_}
 use lib.Dec.{eqb}
 use lib.ListN.{length, set}
 use lib.Seq.{sets}
@@ -44,9 +44,10 @@ stateOf s cs =
 abbrev pub carriersAfter : Reading → Reading → List (Bay × Bay) → List (Bay × Bay)
 carriersAfter s r cs = if eqb (r .count) (s .count) then cs else cs ++ ((r .start, r .goal) ∷ [])
 
--- no carrier is read before the version
+-- no carrier is read before the version, and no 255th
 pub record Sound (s : Reading) : Type 0 where
   pub first : s .version ≡ true → s .count ≡ 0
+  pub few : s .count ≤ 254
 
 abbrev pub carrierIs : Found → Option (Bay × Bay)
 carrierIs (Carrier s g) = some (s, g)
@@ -116,6 +117,7 @@ abbrev pub readOf : Reading → List (Bay × Bay) → Read (List (Bay × Bay))
 readOf s cs = if s .failed then badLine (lineNo (s .version) (s .count)) else if s .version then badLine (lineNo (s .version) (s .count)) else good cs
 
 pub record Finishes (table : List ℕ) (G : Grid) (s r : Reading) : Type 0 where
+  pub sound : Sound r
   pub counts : (cs : List (Bay × Bay)) → length cs ≡ s .count → length (carriersAfter s r cs) ≡ r .count
   pub finishes : (cs : List (Bay × Bay)) → length cs ≡ s .count
       → readOf r (carriersAfter s r cs) ≡ scenarioFinish (G .width) (G .height) (bayBy table G) (stateOf s cs)
@@ -147,6 +149,27 @@ pub record Stored (cs : List (Bay × Bay)) (s : Reading) (starts₀ starts goals
   pub count : length cs ≡ s .count
   pub startsWrote : Wrote starts₀ 0 (startsOf cs) starts (s .count)
   pub goalsWrote : Wrote goals₀ 0 (goalsOf cs) goals (s .count)
+
+-- these bytes came after a state
+pub record Came (table : List ℕ) (G : Grid) (from : State Under) (bs : Text) (s : Reading) (starts₀ starts goals₀ goals : List ℕ) : Type 0 where
+  pub carriers : List (Bay × Bay)
+  pub stored : Stored carriers s starts₀ starts goals₀ goals
+  pub sound : Sound s
+  pub state : stateOf s carriers ≡ foldl (scenarioStep (G .width) (G .height) (bayBy table G)) from bs
+
+-- whatever carriers were stored before, in whatever lists
+pub record Feeds (table : List ℕ) (G : Grid) (s : Reading) (bs : Text) (r : Reading) (starts starts′ goals goals′ : List ℕ) : Type 0 where
+  pub feeds : Sound s → (cs : List (Bay × Bay)) (starts₀ goals₀ : List ℕ) → Stored cs s starts₀ starts goals₀ goals → Came table G (stateOf s cs) bs r starts₀ starts′ goals₀ goals′
+
+-- the file ended after a state
+pub record Over (table : List ℕ) (G : Grid) (from : State Under) (r : Reading) (starts₀ starts goals₀ goals : List ℕ) : Type 0 where
+  pub carriers : List (Bay × Bay)
+  pub stored : Stored carriers r starts₀ starts goals₀ goals
+  pub sound : Sound r
+  pub reads : readOf r carriers ≡ scenarioFinish (G .width) (G .height) (bayBy table G) from
+
+pub record Ends (table : List ℕ) (G : Grid) (s r : Reading) (starts starts′ goals goals′ : List ℕ) : Type 0 where
+  pub ends : Sound s → (cs : List (Bay × Bay)) (starts₀ goals₀ : List ℕ) → Stored cs s starts₀ starts goals₀ goals → Over table G (stateOf s cs) r starts₀ starts′ goals₀ goals′
 
 -- the whole file was read
 pub record Ended (file : Text) (G : Grid) (table : List ℕ) (r : Reading) (starts₀ starts goals₀ goals : List ℕ) : Type 0 where

@@ -10,7 +10,7 @@ ghost use mathlib.Core.Bool.{true, false};
 ghost use Prim.Native.Nat.{_<_};
 ghost use Rattle.paper.specs.Bytes.{carrierOf};
 ghost use Rattle.fields.specs.Kept.{pastOf};
-ghost use Rattle.scenario.specs.Under.{bayBy, Sound, carrierIs, dueOf, Broken, Closes, Steps, On, Released, Marked, Finishes, answerOf, answerBy, kept, Ended, Reads};
+ghost use Rattle.scenario.specs.Under.{bayBy, Sound, carrierIs, dueOf, Broken, Closes, Steps, On, Released, Marked, Finishes, answerOf, answerBy, kept, Feeds, Ends, Ended, Reads};
 
 // The scenario under way: whether it broke its layout, whether the version is due, whether the line has begun, whether a CR is held
 // back, how many carriers were read, the last one's start and goal, and what is known of the line.
@@ -190,7 +190,7 @@ fn finished(s: Reading, grid: Grid, cells: &[u16]) -> Reading
 }
 
 // What was read, once the file has ended.
-fn answer(s: Reading) -> ScenarioRead
+pub fn answer(s: Reading) -> ScenarioRead
     ensures { λ r. ⌜ answerOf r ≡ answerBy s ⌝ }
 {
     if s.version {
@@ -231,21 +231,49 @@ pub fn step(s: Reading, b: u8, grid: Grid, cells: &[u16]) -> Reading
     marked(on_byte(u, b, grid), false)
 }
 
-// All bytes of the scenario, and its end. Starts and goals are stored as far as there is room for them.
-fn fold(file: &[u8], grid: Grid, cells: &[u16], starts: &mut [u16], goals: &mut [u16]) -> Reading
-    ensures { λ r. ⌜ Ended (now (file .entry)) grid (now (cells .entry)) r (now (starts .entry)) (now (starts .exit)) (now (goals .entry)) (now (goals .exit)) ⌝ }
+// Bytes of the scenario, from a state on: the whole file, or a piece of it. Starts and goals are stored as far as there is room for them.
+pub fn feed(
+    s: Reading,
+    bytes: &[u8],
+    grid: Grid,
+    cells: &[u16],
+    starts: &mut [u16],
+    goals: &mut [u16],
+) -> Reading
+    ensures { λ r. ⌜ Feeds (now (cells .entry)) grid s (now (bytes .entry)) r (now (starts .entry)) (now (starts .exit)) (now (goals .entry)) (now (goals .exit)) ⌝ }
 {
-    let mut s = start();
+    let mut at = s;
     let mut i = 0;
-    while i < file.len() {
-        let r = step(s, file[i], grid, cells);
-        keep(s, r, starts, goals);
-        s = r;
+    while i < bytes.len() {
+        let r = step(at, bytes[i], grid, cells);
+        keep(at, r, starts, goals);
+        at = r;
         i += 1;
     }
+    at
+}
+
+// The end of the scenario, likewise.
+pub fn finish(
+    s: Reading,
+    grid: Grid,
+    cells: &[u16],
+    starts: &mut [u16],
+    goals: &mut [u16],
+) -> Reading
+    ensures { λ r. ⌜ Ends (now (cells .entry)) grid s r (now (starts .entry)) (now (starts .exit)) (now (goals .entry)) (now (goals .exit)) ⌝ }
+{
     let r = finished(s, grid, cells);
     keep(s, r, starts, goals);
     r
+}
+
+// All bytes of the scenario, and its end.
+fn fold(file: &[u8], grid: Grid, cells: &[u16], starts: &mut [u16], goals: &mut [u16]) -> Reading
+    ensures { λ r. ⌜ Ended (now (file .entry)) grid (now (cells .entry)) r (now (starts .entry)) (now (starts .exit)) (now (goals .entry)) (now (goals .exit)) ⌝ }
+{
+    let s = feed(start(), file, grid, cells, starts, goals);
+    finish(s, grid, cells, starts, goals)
 }
 
 // The scenario: how many carriers, with their starts and goals in the lent lists, or the first bad line, which changes neither.

@@ -8,3 +8,4 @@ pub mod Billed
 pub mod Compared
 pub mod Placed
 mod Handed
+pub mod Linked

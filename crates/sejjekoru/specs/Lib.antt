@@ -4,3 +4,5 @@ pub mod Compare
 pub mod Reverse
 pub mod Standing
 pub mod Whole
+pub mod Files
+pub mod Serial

@@ -1,7 +1,9 @@
 // The library for C: each function hands its arguments to a proved one and tells the answer by two numbers, document 01's own and the value
 // that goes with it. include/sejjekoru.h declares them.
 mod compare;
+mod files;
 mod reverse;
+mod serial;
 mod standing;
 mod whole;
 

@@ -44,9 +44,9 @@ fn compare(program: &str, room: &Path, map: Option<&[u8]>, scenario: Option<&[u8
     words.strip_prefix("; refused ").map_or(0, |rest| rest.split_whitespace().next().unwrap().parse().unwrap())
 }
 
-type File = Option<Vec<u8>>;
+pub type File = Option<Vec<u8>>;
 
-fn pair(dice: &mut Dice) -> (File, File) {
+pub fn pair(dice: &mut Dice) -> (File, File) {
     let high = dice.pick(&[2, 4, 4, 8, 16, 16, 64]);
     let (height, width) = (dice.from_to(1, high), dice.from_to(1, high));
     let walls = dice.pick(&[0, 0, 0, 5, 25]);

@@ -7,6 +7,7 @@ mod books;
 mod compare;
 mod files;
 mod lent;
+mod link;
 mod orders;
 mod placement;
 mod plans;
@@ -30,6 +31,7 @@ fn main() {
     tallies.push(compare::run());
     tallies.push(reverse::lists());
     tallies.push(placement::run());
+    tallies.extend(link::run());
     if let Some(program) = std::env::args().nth(1) {
         tallies.push(files::run(&program));
     }

@@ -77,15 +77,15 @@ fn number(digits: &[u8], most: usize) -> Option<usize> {
     Some(digits.iter().fold(0, |value, digit| value * 10 + (digit - b'0') as usize))
 }
 
-struct Map {
+pub(crate) struct Map {
     height: usize,
     width: usize,
     /// The bay of each cell, row by row; none at a wall.
     cells: Vec<Option<u16>>,
-    bays: usize,
+    pub(crate) bays: usize,
 }
 
-fn map_of(text: &[u8]) -> Result<Map, Refusal> {
+pub(crate) fn map_of(text: &[u8]) -> Result<Map, Refusal> {
     let lines = lines(text);
     let line = |number: usize| lines.get(number - 1).copied().ok_or(Refusal::Map(number as u64));
     let bad = |number: usize| Refusal::Map(number as u64);
@@ -135,7 +135,7 @@ impl Map {
 
     /// Bays side by side or above each other. The bay to the right is the next number and the one below comes later, so cell by cell
     /// the rails rise by lower, then higher bay.
-    fn rails(&self) -> Vec<u16> {
+    pub(crate) fn rails(&self) -> Vec<u16> {
         let mut rails = Vec::new();
         for y in 0..self.height {
             for x in 0..self.width {
@@ -149,7 +149,7 @@ impl Map {
 }
 
 /// The starts and the goals of the carriers.
-fn scenario_of(text: &[u8], map: &Map) -> Result<(Vec<u16>, Vec<u16>), Refusal> {
+pub(crate) fn scenario_of(text: &[u8], map: &Map) -> Result<(Vec<u16>, Vec<u16>), Refusal> {
     let lines = lines(text);
     let (mut start, mut goal) = (Vec::new(), Vec::new());
     match lines.first() {

@@ -11,6 +11,7 @@ mod crossing;
 mod distances;
 mod docket;
 mod files;
+pub mod link;
 mod log;
 mod placement;
 mod planner;

@@ -32,6 +32,14 @@ pub enum Refusal {
     Unknown,
     /// 13: the lowest undone name that the reported crossing depends on.
     Early(u64),
+    /// 14: the first bad line of the map, from 1.
+    BadMap(u64),
+    /// 15: the first bad line of the scenario, from 1.
+    BadScenario(u64),
+    /// 17: the scenario over this link has ended.
+    Ended,
+    /// 18: a piece of a scenario has more than 256 bytes.
+    LongPiece,
     /// 19: record and lines are not those of this plan, start and marks.
     Disagrees,
     /// 25: a crossing of the plan to be shortened is done.
@@ -75,6 +83,10 @@ pub(crate) fn told((number, value): (u64, u64)) -> Result<u64, Refusal> {
         11 => Refusal::Mismarked,
         12 => Refusal::Unknown,
         13 => Refusal::Early(value),
+        14 => Refusal::BadMap(value),
+        15 => Refusal::BadScenario(value),
+        17 => Refusal::Ended,
+        18 => Refusal::LongPiece,
         19 => Refusal::Disagrees,
         25 => Refusal::Begun,
         _ => unreachable!("the library is proved to answer no other number"),
@@ -82,7 +94,7 @@ pub(crate) fn told((number, value): (u64, u64)) -> Result<u64, Refusal> {
 }
 
 impl Refusal {
-    /// The number in document 01's table; 19 and 25 are document 02's.
+    /// The number in document 01's table; those from 16 to 25 are document 02's.
     ///
     /// ```
     /// use sejjekoru::{Carrier, Refusal};
@@ -106,6 +118,10 @@ impl Refusal {
             Refusal::Mismarked => 11,
             Refusal::Unknown => 12,
             Refusal::Early(_) => 13,
+            Refusal::BadMap(_) => 14,
+            Refusal::BadScenario(_) => 15,
+            Refusal::Ended => 17,
+            Refusal::LongPiece => 18,
             Refusal::Disagrees => 19,
             Refusal::Begun => 25,
         }
@@ -114,10 +130,12 @@ impl Refusal {
     /// What it carries, if anything.
     pub fn carried(self) -> Option<u64> {
         match self {
-            Refusal::Size | Refusal::Crowd | Refusal::Mismarked | Refusal::Unknown | Refusal::Disagrees | Refusal::Begun => None,
+            Refusal::Size | Refusal::Crowd | Refusal::Mismarked | Refusal::Unknown => None,
+            Refusal::Ended | Refusal::LongPiece | Refusal::Disagrees | Refusal::Begun => None,
             Refusal::Apart(bay) => Some(u64::from(bay.0)),
             Refusal::Start(c) | Refusal::Goal(c) | Refusal::Stopped(c) | Refusal::Missed(c) => Some(u64::from(c.0)),
             Refusal::Rail(v) | Refusal::Room(v) | Refusal::Illegal(v) | Refusal::Early(v) => Some(v),
+            Refusal::BadMap(v) | Refusal::BadScenario(v) => Some(v),
         }
     }
 }

@@ -33,6 +33,7 @@ mod bills;
 mod books;
 mod compare;
 mod crossing;
+pub mod files;
 pub mod numbers;
 pub mod raw;
 mod reverse;
@@ -44,6 +45,7 @@ pub use books::{plan_vec, reverse_vec, Books};
 pub use compare::{compare, compare_numbers, Compared};
 pub use crossing::{Bay, Carrier, Crossing};
 pub use reverse::reverse;
+pub use files::Link;
 
 use answers::{reported, told};
 

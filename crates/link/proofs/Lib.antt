@@ -1,0 +1,4 @@
+pub mod Standing
+pub mod Calling
+pub mod Making
+pub mod Linked

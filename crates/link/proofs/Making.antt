@@ -1,0 +1,153 @@
+-- What the small functions make: yes and no, the count, a reading of the numbers, and the numbers of a reading, field by field.
+use mathlib.Core.Path.{_≡_, _∙_, ap}
+use mathlib.Core.Bool.{Bool, true, false}
+use Prim.Native.Nat.{ℕ, _≤_, _<_}
+use borrow.Author.Tests.{ne-eqb, lt-ltb, le-ltb}
+use Rattle.scenario.specs.declared.Reading.{Reading}
+use Rattle.link.specs.declared.Kept.{Kept}
+use Rattle.link.specs.Link.{yesOf, bitOf, countIn, readingIn, blankKept, keptOf}
+
+pub yes-none : (n : ℕ) → n ≡ 0 → false ≡ yesOf n
+yes-none n e = rw e
+
+pub yes-some : (n : ℕ) → (n ≡ 0 → ⊥) → true ≡ yesOf n
+yes-some n h = rw (ne-eqb n 0 h)
+
+pub counted-below : (v : Bool) (n : ℕ) → v ≡ false → n < 254 → n ≡ countIn v n
+counted-below v n e h = rw (e, lt-ltb n 254 h)
+
+pub counted-above : (v : Bool) (n : ℕ) → v ≡ false → 254 ≤ n → 254 ≡ countIn v n
+counted-above v n e h = rw (e, le-ltb n 254 h)
+
+pub reading-is : (k : Kept) {v f b h a w d p l g : Bool} {n : ℕ} → v ≡ yesOf (k .version) → f ≡ yesOf (k .failed) → b ≡ yesOf (k .begun) → h ≡ yesOf (k .held) → n ≡ countIn v (k .count)
+    → a ≡ yesOf (k .agrees) → w ≡ yesOf (k .well) → d ≡ yesOf (k .digits) → p ≡ yesOf (k .point) → l ≡ yesOf (k .plain) → g ≡ yesOf (k .figure)
+    → _≡_ {A = Reading} (record {
+      failed = f;
+      version = v;
+      begun = b;
+      held = h;
+      count = n;
+      start = 0;
+      goal = 0;
+      text = record { place = k .place; agrees = a };
+      past = record { index = k .index; well = w; sx = k .sx; sy = k .sy; gx = k .gx; gy = k .gy };
+      field = record { place = k .size; number = k .number; digits = d; point = p; plain = l; figure = g };
+    }) (readingIn k)
+reading-is k ev ef eb eh en ea ew ed ep el eg =
+    let em = en ∙ ap (λ (x : Bool). countIn x (k .count)) ev in
+    λ i. record {
+      failed = ef i;
+      version = ev i;
+      begun = eb i;
+      held = eh i;
+      count = em i;
+      start = 0;
+      goal = 0;
+      text = record { place = k .place; agrees = ea i };
+      past = record { index = k .index; well = ew i; sx = k .sx; sy = k .sy; gx = k .gx; gy = k .gy };
+      field = record { place = k .size; number = k .number; digits = ed i; point = ep i; plain = el i; figure = eg i };
+    }
+
+module _ (r : Reading) {f v : ℕ} (ef : f ≡ bitOf (r .failed)) (ev : v ≡ bitOf (r .version)) where
+  pub keep-broken : r .failed ≡ true → blankKept f v (r .count) ≡ keptOf r
+  keep-broken e = let a : f ≡ 1 = ef ∙ ap bitOf e in rw e (λ i. blankKept (a i) (ev i) (r .count))
+
+  module _ (e : r .failed ≡ false) {b h : ℕ} (eb : b ≡ bitOf (r .begun)) (eh : h ≡ bitOf (r .held)) where
+    none : f ≡ 0
+    none = ef ∙ ap bitOf e
+
+    pub keep-version : r .version ≡ true → {g : ℕ} → g ≡ bitOf (r .text .agrees)
+        → _≡_ {A = Kept} (record {
+          sx = 0;
+          sy = 0;
+          gx = 0;
+          gy = 0;
+          number = 0;
+          count = r .count;
+          failed = f;
+          version = v;
+          begun = b;
+          held = h;
+          place = r .text .place;
+          agrees = g;
+          index = 0;
+          well = 0;
+          spare = 0;
+          size = 0;
+          digits = 0;
+          point = 0;
+          plain = 0;
+          figure = 0;
+        }) (keptOf r)
+    keep-version q eg =
+        let a : v ≡ 1 = ev ∙ ap bitOf q in
+        rw (e, q) (λ i. record {
+          sx = 0;
+          sy = 0;
+          gx = 0;
+          gy = 0;
+          number = 0;
+          count = r .count;
+          failed = none i;
+          version = a i;
+          begun = eb i;
+          held = eh i;
+          place = r .text .place;
+          agrees = eg i;
+          index = 0;
+          well = 0;
+          spare = 0;
+          size = 0;
+          digits = 0;
+          point = 0;
+          plain = 0;
+          figure = 0;
+        })
+
+    pub keep-carrier : r .version ≡ false → {w d p l g : ℕ} → w ≡ bitOf (r .past .well) → d ≡ bitOf (r .field .digits) → p ≡ bitOf (r .field .point) → l ≡ bitOf (r .field .plain) → g ≡ bitOf (r .field .figure)
+        → _≡_ {A = Kept} (record {
+          sx = r .past .sx;
+          sy = r .past .sy;
+          gx = r .past .gx;
+          gy = r .past .gy;
+          number = r .field .number;
+          count = r .count;
+          failed = f;
+          version = v;
+          begun = b;
+          held = h;
+          place = 0;
+          agrees = 0;
+          index = r .past .index;
+          well = w;
+          spare = 0;
+          size = r .field .place;
+          digits = d;
+          point = p;
+          plain = l;
+          figure = g;
+        }) (keptOf r)
+    keep-carrier q ew ed ep el eg =
+        let a : v ≡ 0 = ev ∙ ap bitOf q in
+        rw (e, q) (λ i. record {
+          sx = r .past .sx;
+          sy = r .past .sy;
+          gx = r .past .gx;
+          gy = r .past .gy;
+          number = r .field .number;
+          count = r .count;
+          failed = none i;
+          version = a i;
+          begun = eb i;
+          held = eh i;
+          place = 0;
+          agrees = 0;
+          index = r .past .index;
+          well = ew i;
+          spare = 0;
+          size = r .field .place;
+          digits = ed i;
+          point = ep i;
+          plain = el i;
+          figure = eg i;
+        })

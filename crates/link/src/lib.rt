@@ -1,0 +1,302 @@
+// A scenario over the serial link, in pieces of at most 256 bytes: its state by value, and the three calls, begin, piece and end. The
+// state is plain numbers, so that any bytes which a caller lends are some state.
+use docket::Refusal;
+use docket::Verdict;
+use fields::FieldSeen;
+use fields::FieldsPast;
+use fields::TextSeen;
+use gridmap::Grid;
+use gridmap::MapRead;
+use scenario::Reading;
+use scenario::ScenarioRead;
+ghost use mathlib.Core.Path.{_≡_};
+ghost use Rattle.paper.specs.Map.{readMap};
+ghost use Rattle.link.specs.Link.{yesOf, bitOf, countIn, readingIn, keptOf, FedSays, OverSays, BeginSays, PieceSays, EndSays};
+
+// What is known of the line under way. A number that says yes or no says no where it is 0. The spare byte is 0: with it the struct has no gaps,
+// so that a caller may compare two states byte by byte.
+#[repr(C)]
+pub struct Kept {
+    pub sx: u32,
+    pub sy: u32,
+    pub gx: u32,
+    pub gy: u32,
+    pub number: u32,
+    pub count: u16,
+    pub failed: u8,
+    pub version: u8,
+    pub begun: u8,
+    pub held: u8,
+    pub place: u8,
+    pub agrees: u8,
+    pub index: u8,
+    pub well: u8,
+    pub size: u8,
+    pub spare: u8,
+    pub digits: u8,
+    pub point: u8,
+    pub plain: u8,
+    pub figure: u8,
+}
+
+// The carriers read so far, the map's cells and sides, and the line under way. It is open where the phase is 1, and has ended where it
+// is anything else.
+#[repr(C)]
+pub struct Link {
+    pub start: [u16; 254],
+    pub goal: [u16; 254],
+    pub cells: [u16; 4096],
+    pub kept: Kept,
+    pub phase: u16,
+    pub height: u8,
+    pub width: u8,
+}
+
+// What a call answers: more is due, or a verdict.
+pub enum Said {
+    More,
+    Told(Verdict),
+}
+
+// What a call answers and leaves.
+pub struct Turn {
+    pub said: Said,
+    pub link: Link,
+}
+
+fn yes(n: u8) -> bool
+    ensures { λ r. ⌜ r ≡ yesOf n ⌝ }
+{
+    if n == 0 { false } else { true }
+}
+
+fn bit(b: bool) -> u8
+    ensures { λ r. ⌜ r ≡ bitOf b ⌝ }
+{
+    if b { 1 } else { 0 }
+}
+
+// The carriers that a state says, at most 254, and none before the version.
+fn counted(version: bool, count: u16) -> u16
+    ensures { λ r. ⌜ r ≡ countIn version count ⌝ }
+{
+    if version {
+        return 0;
+    }
+    if count < 254 { count } else { 254 }
+}
+
+// The reading that the numbers stand for.
+fn reading(k: Kept) -> Reading
+    ensures { λ r. ⌜ r ≡ readingIn k ⌝ }
+{
+    let version = yes(k.version);
+    Reading {
+        failed: yes(k.failed),
+        version: version,
+        begun: yes(k.begun),
+        held: yes(k.held),
+        count: counted(version, k.count),
+        start: 0,
+        goal: 0,
+        text: TextSeen {
+            place: k.place,
+            agrees: yes(k.agrees),
+        },
+        past: FieldsPast {
+            index: k.index,
+            well: yes(k.well),
+            sx: k.sx,
+            sy: k.sy,
+            gx: k.gx,
+            gy: k.gy,
+        },
+        field: FieldSeen {
+            place: k.size,
+            number: k.number,
+            digits: yes(k.digits),
+            point: yes(k.point),
+            plain: yes(k.plain),
+            figure: yes(k.figure),
+        },
+    }
+}
+
+// The numbers of a reading, 0 where nothing of it is read any more.
+fn keep(r: Reading) -> Kept
+    ensures { λ k. ⌜ k ≡ keptOf r ⌝ }
+{
+    let mut k = Kept {
+        sx: 0,
+        sy: 0,
+        gx: 0,
+        gy: 0,
+        number: 0,
+        count: r.count,
+        failed: bit(r.failed),
+        version: bit(r.version),
+        begun: 0,
+        held: 0,
+        place: 0,
+        agrees: 0,
+        index: 0,
+        well: 0,
+        size: 0,
+        spare: 0,
+        digits: 0,
+        point: 0,
+        plain: 0,
+        figure: 0,
+    };
+    if r.failed {
+        return k;
+    }
+    k.begun = bit(r.begun);
+    k.held = bit(r.held);
+    if r.version {
+        k.place = r.text.place;
+        k.agrees = bit(r.text.agrees);
+        return k;
+    }
+    k.index = r.past.index;
+    k.well = bit(r.past.well);
+    k.sx = r.past.sx;
+    k.sy = r.past.sy;
+    k.gx = r.past.gx;
+    k.gy = r.past.gy;
+    k.size = r.field.place;
+    k.number = r.field.number;
+    k.digits = bit(r.field.digits);
+    k.point = bit(r.field.point);
+    k.plain = bit(r.field.plain);
+    k.figure = bit(r.field.figure);
+    k
+}
+
+// The scenario is due, on this map. A map that breaks its layout leaves the link as it was.
+pub fn begin(link: Link, map: &[u8]) -> Turn
+    ensures { λ r. ⌜ BeginSays (readMap (now (map .entry))) link r ⌝ }
+{
+    let mut cells = [0u16; 4096];
+    let found = gridmap::read(map, &mut cells);
+    match found {
+        MapRead::Grid(grid) => {
+            let start = [0u16; 254];
+            let goal = [0u16; 254];
+            Turn {
+                said: Said::Told(Verdict::Granted(0)),
+                link: Link {
+                    start: start,
+                    goal: goal,
+                    cells: cells,
+                    kept: keep(scenario::start()),
+                    phase: 1,
+                    height: grid.height,
+                    width: grid.width,
+                },
+            }
+        }
+        MapRead::Bad(line) => Turn {
+            said: Said::Told(Verdict::Denied(Refusal::BadMap(line))),
+            link: link,
+        },
+    }
+}
+
+// The bytes of a piece are read on. Once the layout is broken no carrier is stored any more.
+fn fed(link: Link, bytes: &[u8]) -> Link
+    ensures { λ r. ⌜ FedSays link (now (bytes .entry)) r ⌝ }
+{
+    let mut starts = link.start;
+    let mut goals = link.goal;
+    let cells = link.cells;
+    let grid = Grid {
+        height: link.height,
+        width: link.width,
+        bays: 0,
+    };
+    let r = scenario::feed(
+        reading(link.kept),
+        bytes,
+        grid,
+        &cells,
+        &mut starts,
+        &mut goals,
+    );
+    let k = keep(r);
+    let mut next = link;
+    next.kept = k;
+    if r.failed {
+        return next;
+    }
+    next.start = starts;
+    next.goal = goals;
+    next
+}
+
+// A piece: 17, then 18, then it is read and more is due.
+pub fn piece(link: Link, bytes: &[u8]) -> Turn
+    ensures { λ r. ⌜ PieceSays link (now (bytes .entry)) r ⌝ }
+{
+    if link.phase == 1 {
+        if bytes.len() <= 256 {
+            return Turn {
+                said: Said::More,
+                link: fed(link, bytes),
+            };
+        }
+        return Turn {
+            said: Said::Told(Verdict::Denied(Refusal::LongPiece)),
+            link: link,
+        };
+    }
+    Turn {
+        said: Said::Told(Verdict::Denied(Refusal::Ended)),
+        link: link,
+    }
+}
+
+// The scenario is over: what the whole file gives.
+fn over(link: Link) -> Turn
+    ensures { λ r. ⌜ OverSays link r ⌝ }
+{
+    let mut starts = link.start;
+    let mut goals = link.goal;
+    let cells = link.cells;
+    let grid = Grid {
+        height: link.height,
+        width: link.width,
+        bays: 0,
+    };
+    let r = scenario::finish(reading(link.kept), grid, &cells, &mut starts, &mut goals);
+    let found = scenario::answer(r);
+    let mut next = link;
+    next.phase = 2;
+    match found {
+        ScenarioRead::Carriers(carriers) => {
+            next.start = starts;
+            next.goal = goals;
+            Turn {
+                said: Said::Told(Verdict::Granted(carriers as u64)),
+                link: next,
+            }
+        }
+        ScenarioRead::Bad(line) => Turn {
+            said: Said::Told(Verdict::Denied(Refusal::BadScenario(line))),
+            link: next,
+        },
+    }
+}
+
+// The end: 17, or what the whole file gives.
+pub fn end(link: Link) -> Turn
+    ensures { λ r. ⌜ EndSays link r ⌝ }
+{
+    if link.phase == 1 {
+        return over(link);
+    }
+    Turn {
+        said: Said::Told(Verdict::Denied(Refusal::Ended)),
+        link: link,
+    }
+}
