@@ -2,6 +2,8 @@
 use docket::Bay;
 use docket::Carrier;
 use docket::Crossing;
+use docket::Refusal;
+use docket::Verdict;
 use lines::Line;
 ghost use mathlib.Core.Path.{_≡_};
 ghost use Prim.Native.Nat.{_+_, _<_, _^_};
@@ -12,23 +14,24 @@ ghost use Rattle.paper.specs.Basics.{_and_};
 ghost use Rattle.paper.specs.Text.{SPACE, value, split};
 ghost use Rattle.paper.specs.Print.{numberAfter, readAction};
 ghost use Rattle.readback.specs.Entries.{entryOf, planEntry, numeral, reportEntry, entryIn};
+ghost use Rattle.readback.specs.Files.{Gives, PlanRead, ReportsRead};
 ghost use Rattle.readback.specs.Steps.{figure, digitOn, capped, Cut, toEntry, fromEntry, carrierEntry, wordsEntry, numbersOf, isBroken, Folds};
 
 // What a line says.
-pub enum Entry {
+enum Entry {
     Number(u64),
     Comment,
     Broken,
 }
 
 // Digits that spell a number within its limit, or no such number.
-pub enum Figure {
+enum Figure {
     Spells(u32),
     Nothing,
 }
 
 // How many numbers a file has, or its first bad line.
-pub enum Found {
+enum Found {
     Numbers(usize),
     Bad(u64),
 }
@@ -236,7 +239,7 @@ fn is_broken(said: Entry) -> bool
 }
 
 // All lines of a file, their numbers stored as far as there is room.
-pub fn fold(reports: bool, file: &[u8], out: &mut [u64]) -> Found
+fn fold(reports: bool, file: &[u8], out: &mut [u64]) -> Found
     ensures { λ r. ⌜ Folds reports (now (file .entry)) (now (out .entry)) r (now (out .exit)) ⌝ }
 {
     let mut at = 0;
@@ -253,5 +256,46 @@ pub fn fold(reports: bool, file: &[u8], out: &mut [u64]) -> Found
         count = keep(said, out, count);
         at = next;
         line += 1;
+    }
+}
+
+// The numbers of a good file, of which there are so many, handed over.
+fn give(reports: bool, file: &[u8], count: usize, out: &mut [u64]) -> Verdict
+    ensures { λ r. ⌜ Gives reports (now (file .entry)) count (now (out .entry)) r (now (out .exit)) ⌝ }
+{
+    let n = count as u64;
+    if count <= out.len() {
+        fold(reports, file, out);
+        return Verdict::Granted(n);
+    }
+    Verdict::Denied(Refusal::Room(n))
+}
+
+// A printed plan. It is read once without room, so that a refusal changes nothing.
+pub fn plan(file: &[u8], out: &mut [u64]) -> Verdict
+    ensures { λ r. ⌜ PlanRead (now (file .entry)) (now (out .entry)) r (now (out .exit)) ⌝ }
+{
+    let mut none = [0u64; 1];
+    let found = fold(false, file, &mut none);
+    match found {
+        Found::Numbers(count) => {
+            if 65536 < count {
+                return Verdict::Denied(Refusal::Size);
+            }
+            give(false, file, count, out)
+        }
+        Found::Bad(line) => Verdict::Denied(Refusal::BadPlan(line)),
+    }
+}
+
+// Reported names, read in the same way.
+pub fn reports(file: &[u8], out: &mut [u64]) -> Verdict
+    ensures { λ r. ⌜ ReportsRead (now (file .entry)) (now (out .entry)) r (now (out .exit)) ⌝ }
+{
+    let mut none = [0u64; 1];
+    let found = fold(true, file, &mut none);
+    match found {
+        Found::Numbers(count) => give(true, file, count, out),
+        Found::Bad(line) => Verdict::Denied(Refusal::BadReports(line)),
     }
 }

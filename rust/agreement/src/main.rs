@@ -8,6 +8,7 @@ mod files;
 mod lent;
 mod orders;
 mod plans;
+mod readback;
 mod tally;
 
 use lent::Asked;
@@ -19,6 +20,7 @@ const PLANS: u64 = 60_000;
 
 fn main() {
     let mut tallies = Vec::new();
+    readback::run();
     tallies.push(planning());
     tallies.extend(plan_by_plan());
     tallies.push(shortening());

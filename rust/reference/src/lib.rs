@@ -12,12 +12,14 @@ mod docket;
 mod files;
 mod log;
 mod planner;
+mod readback;
 mod search;
 mod shorten;
 mod yard;
 
 pub use bills::{Job, Line, Record, UNTOUCHED};
 pub use files::{program, program_short};
+pub use readback::{read_plan, read_reports};
 
 use bills::Billed;
 use docket::{docket, ACCEPTED, ALREADY, BEGUN, DISAGREES};

@@ -5,6 +5,7 @@
 mod answers;
 mod bills;
 mod crossing;
+pub mod files;
 pub mod numbers;
 pub mod raw;
 
