@@ -61,6 +61,8 @@ enum {
     SEJJEKORU_LONG_PIECE = 18, /* 0; a piece of a scenario has more than 256 bytes */
     SEJJEKORU_DISAGREES = 19, /* 0; record and lines are not what plan, start and marks give */
     SEJJEKORU_BEGUN = 25,     /* 0; some crossing of the plan to be shortened is done */
+    SEJJEKORU_BAD_PLAN = 26,  /* the first bad line of a printed plan */
+    SEJJEKORU_BAD_REPORTS = 27, /* the first bad line of a file of reports */
     SEJJEKORU_ALREADY = 100,  /* 0; a report of a crossing that is done */
     SEJJEKORU_MORE = 101      /* 0; a piece was read, and more may come */
 };
@@ -311,6 +313,26 @@ uint64_t sejjekoru_link_piece(sejjekoru_link *link,
  */
 uint64_t sejjekoru_link_end(sejjekoru_link *link,
                             uint64_t *value);
+
+/*
+ * Reads a printed plan into the first places of `plan`: lines `(move cC bA bB)`, and comment lines that begin with `;`. Lines end in LF or CR LF; the
+ * last end may be missing; an empty line breaks the layout. A number is one digit or more, leading zeros too; a carrier of 2^32 or more and a bay of
+ * 2^16 or more break the layout. What sejjekoru_print_plan wrote reads back as the list it was lent. Answers 0 with the number of crossings; 26 with
+ * the first bad line, from 1; 1 for more than 65,536 crossings; 8 with the number of crossings if `plan` is short. A refusal changes nothing. `plan`
+ * does not overlap `file`.
+ */
+uint64_t sejjekoru_read_plan(const uint8_t *file, size_t file_len,
+                             uint64_t *plan, size_t plan_len,
+                             uint64_t *value);
+
+/*
+ * Reads reported names, one a line and nothing else, into the first places of `names`. Lines and numbers are as in sejjekoru_read_plan; a name is
+ * below 2^32. Answers 0 with the number of names; 27 with the first bad line, from 1; 8 with the number of names if `names` is short. A refusal
+ * changes nothing. `names` does not overlap `file`.
+ */
+uint64_t sejjekoru_read_reports(const uint8_t *file, size_t file_len,
+                                uint64_t *names, size_t names_len,
+                                uint64_t *value);
 
 #ifdef __cplusplus
 }

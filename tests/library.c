@@ -499,6 +499,64 @@ static void over_the_link(void)
     value = 77;
 }
 
+static void read_plan(const char *what, const char *file, size_t room, uint64_t due, uint64_t due_value, uint64_t first)
+{
+    uint64_t plan[3] = {7, 7, 7};
+    told(what, sejjekoru_read_plan((const uint8_t *)file, strlen(file), plan, room, &value), due, due_value);
+    holds(what, plan[0] == first && plan[2] == 7);
+}
+
+static void read_names(const char *what, const char *file, size_t room, uint64_t due, uint64_t due_value, uint64_t first)
+{
+    uint64_t names[3] = {7, 7, 7};
+    told(what, sejjekoru_read_reports((const uint8_t *)file, strlen(file), names, room, &value), due, due_value);
+    holds(what, names[0] == first && names[2] == 7);
+}
+
+/* A printed plan read back, files that keep the layout in other ways, and files that break it. */
+static void reading(void)
+{
+    const uint64_t plan[2] = {UINT64_MAX, 0x500060007};
+    static uint64_t many[65537], back[65537];
+    static uint8_t print[65537 * 17];
+    uint64_t two[2];
+    uint8_t out[100];
+    size_t i;
+    told("print", sejjekoru_print_plan(plan, 2, out, sizeof out, &value), 0, 73);
+    told("read back", sejjekoru_read_plan(out, 73, two, 2, &value), 0, 2);
+    holds("the same list", memcmp(two, plan, sizeof plan) == 0);
+    told("print of many", sejjekoru_print_plan(many, 65536, print, sizeof print, &value), 0, 65536 * 16 + 27);
+    memset(back, 1, sizeof back);
+    told("many read back", sejjekoru_read_plan(print, 65536 * 16 + 27, back, 65537, &value), 0, 65536);
+    holds("the same list", memcmp(back, many, 65536 * 8) == 0 && back[65536] != 0);
+    for (i = 0; i < 65537; i++)
+        memcpy(print + 16 * i, "(move c1 b2 b3)\n", 16);
+    told("one too many", sejjekoru_read_plan(print, 65537 * 16, back, 65537, &value), SEJJEKORU_SIZE, 0);
+    read_plan("CR LF", "(move c1 b2 b3)\r\n; cost = 1 (unit cost)\r\n", 3, 0, 1, 0x100020003);
+    read_plan("no last end", "; first\n(move c1 b2 b3)", 1, 0, 1, 0x100020003);
+    read_plan("leading zeros", "(move c00000000001 b000002 b3)\n", 1, 0, 1, 0x100020003);
+    read_plan("nothing", "", 0, 0, 0, 7);
+    read_plan("too short", "(move c1 b2 b3)\n(move c1 b2 b3)\n", 1, SEJJEKORU_ROOM, 2, 7);
+    read_plan("an empty line", "; a\n\n(move c1 b2 b3)\n", 3, SEJJEKORU_BAD_PLAN, 2, 7);
+    read_plan("a CR that ends no line", "(move c1 b2 b3)\r", 3, SEJJEKORU_BAD_PLAN, 1, 7);
+    read_plan("a bay too high", "(move c1 b2 b3)\n(move c1 b65536 b3)\n", 3, SEJJEKORU_BAD_PLAN, 2, 7);
+    read_plan("a carrier too high", "(move c4294967296 b2 b3)\n", 3, SEJJEKORU_BAD_PLAN, 1, 7);
+    read_plan("a far too high one", "(move c1 b2 b36893488147419103235)\n", 3, SEJJEKORU_BAD_PLAN, 1, 7);
+    read_plan("no digits", "(move c b2 b3)\n", 3, SEJJEKORU_BAD_PLAN, 1, 7);
+    read_plan("two spaces", "(move  c1 b2 b3)\n", 3, SEJJEKORU_BAD_PLAN, 1, 7);
+    read_plan("a word more", "(move c1 b2 b3 b4)\n", 3, SEJJEKORU_BAD_PLAN, 1, 7);
+    read_plan("something behind", "(move c1 b2 b3) \n", 3, SEJJEKORU_BAD_PLAN, 1, 7);
+    read_plan("no bracket", "(move c1 b2 b3\n", 3, SEJJEKORU_BAD_PLAN, 1, 7);
+    read_plan("a carrier for a bay", "(move c1 c2 b3)\n", 3, SEJJEKORU_BAD_PLAN, 1, 7);
+    read_names("names", "3\n4294967295\r\n", 2, 0, 2, 3);
+    read_names("no last end", "003", 1, 0, 1, 3);
+    read_names("no name", "", 0, 0, 0, 7);
+    read_names("too short", "3\n3\n", 1, SEJJEKORU_ROOM, 2, 7);
+    read_names("an empty line", "3\n\n", 3, SEJJEKORU_BAD_REPORTS, 2, 7);
+    read_names("no number", "3\n4\nc5\n", 3, SEJJEKORU_BAD_REPORTS, 3, 7);
+    read_names("too high", "4294967296\n", 3, SEJJEKORU_BAD_REPORTS, 1, 7);
+}
+
 int main(void)
 {
     nothing(0, 1, 0);
@@ -523,5 +581,6 @@ int main(void)
     placement();
     whole_program();
     print_plan();
+    reading();
     return failed;
 }

@@ -9,7 +9,8 @@ use lib.Seq.{sets-eq}
 use borrow.Author.Tests.{le-leb, lt-leb}
 use Rattle.stores.specs.Writing.{Wrote}
 use Rattle.stores.proofs.Stores.{wrote-stands}
-use Rattle.handing.specs.Handing.{fitted, Hands}
+use Rattle.paper.specs.Docket.{granted, denied, room}
+use Rattle.handing.specs.Handing.{fitted, Hands, handed}
 
 pub fits : (t out : List ℕ) → length t ≤ length out → t ++ drop (length t) out ≡ fitted t out
 unfolding fitted
@@ -32,3 +33,12 @@ short-hands {t} {out} {n} e h = record { counted = e; leaves = short t out (omeg
 -- what was written and fits is handed over from where it stands
 pub hands-part : {l m t before after : List ℕ} {n r : ℕ} → Wrote l 0 t m n → n ≤ length l → Hands (take n m) before after r → Hands t before after r
 hands-part w h k = rw (wrote-stands w h) at k
+
+-- ## What is answered
+pub handed-fits : (needed has : ℕ) → needed ≤ has → granted needed ≡ handed needed has
+unfolding handed
+handed-fits needed has h = rw (le-leb needed has h)
+
+pub handed-short : (needed has : ℕ) → has < needed → denied (room needed) ≡ handed needed has
+unfolding handed
+handed-short needed has h = rw (lt-leb needed has h)

@@ -6,6 +6,7 @@ use Prim.Native.Nat.{ℕ}
 use lib.Dec.{leb}
 use lib.ListN.{length, drop}
 use Rattle.paper.specs.Basics.{if_then_else_}
+use Rattle.paper.specs.Docket.{Verdict, granted, denied, room}
 
 -- the text at the front of the list, if it fits; "a refusal changes no lent list"
 unfoldable pub fitted : List ℕ → List ℕ → List ℕ
@@ -15,3 +16,7 @@ fitted t out = if leb (length t) (length out) then t ++ drop (length t) out else
 pub record Hands (t before after : List ℕ) (needed : ℕ) : Type 0 where
   pub counted : needed ≡ length t
   pub leaves : after ≡ fitted t before
+
+-- so many are written; or 8, with as many as are needed
+unfoldable pub handed : ℕ → ℕ → Verdict
+handed needed has = if leb needed has then granted needed else denied (room needed)

@@ -1,11 +1,14 @@
 // A text handed over in a lent list: whole, or not at all where it does not fit. Either way the caller learns how many bytes it takes.
+use docket::Refusal;
+use docket::Verdict;
 ghost use mathlib.Core.Path.{_≡_};
 ghost use mathlib.Core.List.{_++_};
 ghost use Prim.Native.Nat.{_≤_};
 ghost use lib.ListN.{length, drop};
 ghost use Rattle.paper.specs.Print.{printed};
-ghost use Rattle.printing.specs.Parts.{handed};
-ghost use Rattle.handing.specs.Handing.{Hands};
+ghost use Rattle.docket.specs.Reading.{verdictOf};
+ghost use Rattle.printing.specs.Parts.{handed as lent};
+ghost use Rattle.handing.specs.Handing.{Hands, handed};
 
 // Bytes copied to the front of a list.
 fn copy(to: &mut [u8], from: &[u8])
@@ -32,7 +35,7 @@ pub fn text(from: &[u8], out: &mut [u8]) -> usize
 
 // The print of a lent plan, which may take megabytes. It is counted first, so that a list that is too short stays as it was.
 pub fn plan(plan: &[u64], out: &mut [u8]) -> usize
-    ensures { λ r. ⌜ Hands (printed (handed (now (plan .entry)))) (now (out .entry)) (now (out .exit)) r ⌝ }
+    ensures { λ r. ⌜ Hands (printed (lent (now (plan .entry)))) (now (out .entry)) (now (out .exit)) r ⌝ }
 {
     let mut none = [0u8; 1];
     let n = printing::plan(plan, &mut none);
@@ -40,4 +43,15 @@ pub fn plan(plan: &[u64], out: &mut [u8]) -> usize
         return printing::plan(plan, out);
     }
     n
+}
+
+// What is answered then: so many were written, or so many are needed.
+pub fn answer(needed: usize, has: usize) -> Verdict
+    ensures { λ r. ⌜ verdictOf r ≡ handed needed has ⌝ }
+{
+    let n = needed as u64;
+    if needed <= has {
+        return Verdict::Granted(n);
+    }
+    Verdict::Denied(Refusal::Room(n))
 }

@@ -1,20 +1,8 @@
-// The program whole and the print of any plan, over bytes: for programs that only read files, call and write.
+// The functions on the bytes of files: the program whole, the print of any plan, and reading a printed plan and reported names. For programs that
+// only read files, call and write.
 use docket::Refusal;
-use planner::Planned;
-ghost use mathlib.Core.Path.{_≡_};
-ghost use Rattle.planner.specs.Statement.{plannedOf};
-ghost use Rattle.sejjekoru.specs.Whole.{handed as handedAnswer, ProgramTells, PrintPlanTells};
-
-// So many bytes were written, or so many are needed.
-fn handed(needed: usize, has: usize) -> Planned
-    ensures { λ r. ⌜ plannedOf r ≡ handedAnswer needed has ⌝ }
-{
-    let bytes = needed as u64;
-    if needed <= has {
-        return Planned::Accepted(bytes);
-    }
-    Planned::Refused(Refusal::Room(bytes))
-}
+use docket::Verdict;
+ghost use Rattle.sejjekoru.specs.Whole.{ProgramTells, PrintPlanTells, ReadPlanTells, ReadReportsTells};
 
 #[no_mangle]
 pub extern "C" fn sejjekoru_program(
@@ -37,7 +25,7 @@ pub extern "C" fn sejjekoru_program(
         scenario_read != 0,
         out,
     );
-    numbers::told_planned(handed(needed, has), value)
+    numbers::told(handing::answer(needed, has), value)
 }
 
 #[no_mangle]
@@ -45,9 +33,25 @@ pub extern "C" fn sejjekoru_print_plan(plan: &[u64], out: &mut [u8], value: &mut
     ensures { λ r. ⌜ PrintPlanTells (now (plan .entry)) (now (out .entry)) r (now (value .exit)) (now (out .exit)) ⌝ }
 {
     if 65536 < plan.len() {
-        return numbers::told_planned(Planned::Refused(Refusal::Size), value);
+        return numbers::told(Verdict::Denied(Refusal::Size), value);
     }
     let has = out.len();
     let needed = handing::plan(plan, out);
-    numbers::told_planned(handed(needed, has), value)
+    numbers::told(handing::answer(needed, has), value)
+}
+
+#[no_mangle]
+pub extern "C" fn sejjekoru_read_plan(file: &[u8], plan: &mut [u64], value: &mut u64) -> u64
+    ensures { λ r. ⌜ ReadPlanTells (now (file .entry)) (now (plan .entry)) r (now (value .exit)) (now (plan .exit)) ⌝ }
+{
+    let answer = readback::plan(file, plan);
+    numbers::told(answer, value)
+}
+
+#[no_mangle]
+pub extern "C" fn sejjekoru_read_reports(file: &[u8], names: &mut [u64], value: &mut u64) -> u64
+    ensures { λ r. ⌜ ReadReportsTells (now (file .entry)) (now (names .entry)) r (now (value .exit)) (now (names .exit)) ⌝ }
+{
+    let answer = readback::reports(file, names);
+    numbers::told(answer, value)
 }

@@ -11,6 +11,7 @@ mod link;
 mod orders;
 mod placement;
 mod plans;
+mod readback;
 mod reverse;
 mod tally;
 
@@ -23,6 +24,7 @@ const PLANS: u64 = 60_000;
 
 fn main() {
     let mut tallies = Vec::new();
+    readback::run();
     tallies.push(planning());
     tallies.extend(plan_by_plan());
     tallies.push(shortening());

@@ -15,6 +15,7 @@ pub mod link;
 mod log;
 mod placement;
 mod planner;
+mod readback;
 mod reverse;
 mod search;
 mod shorten;
@@ -22,6 +23,7 @@ mod yard;
 
 pub use bills::{Job, Line, Record, UNTOUCHED};
 pub use files::{program, program_short};
+pub use readback::{read_plan, read_reports};
 pub use reverse::reverse;
 
 use bills::Billed;

@@ -31,6 +31,7 @@ pub const MORE: u64 = 101;
 
 /// The most bytes of a piece, and the most carriers of a scenario.
 pub const PIECE: usize = 256;
+/// The carrier lines that a scenario may have.
 pub const CARRIERS: usize = 254;
 
 /// A scenario that comes over a serial link, laid out as `include/sejjekoru.h` says. After an accepted end the carriers stand in `start` and

@@ -35,6 +35,7 @@ mod compare;
 mod crossing;
 pub mod files;
 pub mod numbers;
+pub mod prints;
 pub mod raw;
 mod reverse;
 

@@ -7,24 +7,24 @@ use Rattle.sejjekoru.proofs.whole.sejjekoru_program.Tie as tie
 use Rattle.sejjekoru.proofs.whole.sejjekoru_program.Reads as reads
 use Rattle.sejjekoru.proofs.whole.sejjekoru_program.Lts as lts
 use Rattle.printout.proofs.program.Reads as program-reads
-use Rattle.numbers.proofs.told_planned.Reads as told-planned-reads
-use Rattle.sejjekoru.proofs.whole.handed.Reads as handed-reads
+use Rattle.numbers.proofs.told.Reads as told-reads
+use Rattle.handing.proofs.answer.Reads as answer-reads
 
 program-requires : tie.Need-program-requires
 program-requires c κs = search needs
 
-handed-requires : tie.Need-handed-requires
-handed-requires c κs = search needs
+answer-requires : tie.Need-answer-requires
+answer-requires c κs = search needs
 
-told-planned-requires : tie.Need-told-planned-requires
-told-planned-requires c κs = search needs
+told-requires : tie.Need-told-requires
+told-requires c κs = search needs
 
 same-length : tie.Need-same-length
 same-length c = search needs
 
 returns : tie.Need-returns
-returns c = text-tells (c .before .before .before .before .before .program .ensures) (c .before .before .handed .ensures) (c .told-planned .ensures)
+returns c = text-tells (c .before .before .before .before .before .program .ensures) (c .before .before .answer .ensures) (c .told .ensures)
 
 pub sejjekoru-program-spec : {M : Type 1} → statement M
 sejjekoru-program-spec =
-    tie.close (tie.spec program-requires handed-requires told-planned-requires same-length returns)
+    tie.close (tie.spec program-requires answer-requires told-requires same-length returns)

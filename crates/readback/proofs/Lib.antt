@@ -1,0 +1,5 @@
+pub mod Numbers
+pub mod Pieces
+pub mod Folding
+pub mod Giving
+pub mod RoundTrip

@@ -1,0 +1,47 @@
+-- `readback::number_after` meets its contract.
+-- Assumes nothing.
+use Rattle.readback.proofs.Numbers.{after-none, after-letter, after-other}
+use mathlib.Core.Path.{_≡_, sym, _∙_, ap}
+use borrow.Author.Needs.{needs}
+use Rattle.readback.proofs.number_after.Statement.{statement}
+use Rattle.readback.proofs.number_after.Tie as tie
+use Rattle.readback.proofs.number_after.Reads as reads
+use Rattle.readback.proofs.number_after.Lts as lts
+use Rattle.readback.proofs.number.Reads as number-reads
+
+returns : tie.Need-returns
+returns c = after-none _ _ _ (c .if1 .taken)
+
+shared-slice-read-if2 : tie.Need-shared-slice-read-if2
+shared-slice-read-if2 c = search needs
+
+sub-number : tie.Need-sub-number
+sub-number c = search needs
+
+part-number-start : tie.Need-part-number-start
+part-number-start c = search needs
+
+part-number-end : tie.Need-part-number-end
+part-number-end c = search needs
+
+number-requires : tie.Need-number-requires
+number-requires c κs = search needs
+
+returns-2 : tie.Need-returns-2
+returns-2 c = c .number .ensures ∙ after-letter (c .before .before .before .before .before .before .args .most) (c .before .before .before .before .before .before .args .letter) (c .before .before .before .before .before .before .args .word .now) (c .before .before .before .before .if1 .left) (c .before .before .if2 .taken)
+
+returns-3 : tie.Need-returns-3
+returns-3 c = after-other _ _ _ (c .if2 .left)
+
+pub number-after-spec : {M : Type 1} → statement M
+number-after-spec =
+    tie.close
+    (tie.spec
+    returns
+    shared-slice-read-if2
+    sub-number
+    part-number-start
+    part-number-end
+    number-requires
+    returns-2
+    returns-3)

@@ -1,0 +1,51 @@
+-- `readback::plan` meets its contract, by what the first reading found.
+-- Assumes nothing.
+use Rattle.readback.proofs.Giving.{plan-bad, plan-over, plan-gives}
+use borrow.Author.Needs.{needs}
+use Rattle.readback.proofs.plan.Statement.{statement}
+use Rattle.readback.proofs.plan.Tie as tie
+use Rattle.readback.proofs.plan.Reads as reads
+use Rattle.readback.proofs.plan.Lts as lts
+use Rattle.readback.proofs.fold.Reads as fold-reads
+use Rattle.readback.proofs.give.Reads as give-reads
+
+slice-aggregate-fold : tie.Need-slice-aggregate-fold
+slice-aggregate-fold c = search needs
+
+fold-requires : tie.Need-fold-requires
+fold-requires c κs = search needs
+
+enum-known-found : tie.Need-enum-known-found
+enum-known-found c = search needs
+
+returns : tie.Need-returns
+returns c = plan-over (c .before .before .before .before .before .before .before .before .before .args .file .now) (c .before .before .before .before .before .before .before .before .before .args .out .now) (c .before .before .before .before .before .fold .ensures) (c .before .before .found .given .0 .0) (c .before .before .found .given .1) (c .if1 .taken)
+
+give-requires : tie.Need-give-requires
+give-requires c κs = search needs
+
+enum-known-found-2 : tie.Need-enum-known-found-2
+enum-known-found-2 c = search needs
+
+same-length : tie.Need-same-length
+same-length c = search needs
+
+returns-2 : tie.Need-returns-2
+returns-2 c = plan-gives (c .before .before .before .before .before .before .before .before .before .before .before .before .before .args .file .now) (c .before .before .before .before .before .before .before .before .before .before .before .before .before .args .out .now) (c .before .before .before .before .before .before .before .before .before .fold .ensures) (c .before .before .before .before .before .before .found .given .0 .0) (c .before .before .before .before .before .before .found .given .1) (c .before .before .before .before .if1 .left) (c .before .before .give .ensures)
+
+returns-3 : tie.Need-returns-3
+returns-3 c = plan-bad (c .before .before .before .before .before .before .before .before .args .file .now) (c .before .before .before .before .before .before .before .before .args .out .now) (c .before .before .before .before .fold .ensures) (c .before .found2 .given .0 .0) (c .before .found2 .given .1)
+
+pub plan-spec : {M : Type 1} → statement M
+plan-spec =
+    tie.close
+    (tie.spec
+    slice-aggregate-fold
+    fold-requires
+    enum-known-found
+    returns
+    give-requires
+    enum-known-found-2
+    same-length
+    returns-2
+    returns-3)

@@ -1,0 +1,29 @@
+-- `readback::plan_entry` meets its contract.
+-- Assumes nothing.
+use Rattle.readback.proofs.Pieces.{line-none, line-comment, line-action}
+use mathlib.Core.Path.{_≡_, sym, _∙_, ap}
+use borrow.Author.Needs.{needs}
+use Rattle.readback.proofs.plan_entry.Statement.{statement}
+use Rattle.readback.proofs.plan_entry.Tie as tie
+use Rattle.readback.proofs.plan_entry.Reads as reads
+use Rattle.readback.proofs.plan_entry.Lts as lts
+use Rattle.readback.proofs.action.Reads as action-reads
+
+returns : tie.Need-returns
+returns c = line-none _ (c .if1 .taken)
+
+shared-slice-read-if2 : tie.Need-shared-slice-read-if2
+shared-slice-read-if2 c = search needs
+
+returns-2 : tie.Need-returns-2
+returns-2 c = line-comment _ (c .if2 .taken)
+
+action-requires : tie.Need-action-requires
+action-requires c κs = search needs
+
+returns-3 : tie.Need-returns-3
+returns-3 c = c .action .ensures ∙ line-action _ (c .before .if2 .left)
+
+pub plan-entry-spec : {M : Type 1} → statement M
+plan-entry-spec =
+    tie.close (tie.spec returns shared-slice-read-if2 returns-2 action-requires returns-3)
