@@ -4,11 +4,11 @@ use mathlib.Core.Path.{_≡_, refl, sym, _∙_, ap}
 use mathlib.Core.Bool.{Bool, true, false}
 use mathlib.Core.List.{List, [], _∷_, _++_, map}
 use mathlib.Core.Option.{Option, none, some}
-use Prim.Native.Nat.{ℕ, suc, _+_, _≤_, _<_, min}
+use Prim.Native.Nat.{ℕ, suc, _+_, _%_, _≤_, _<_, min}
 use native.Mathlib.Omega.{arith}
 use lib.Dec.{leb, ltb}
 use lib.ListN.{length, length-map}
-use borrow.Author.Tests.{le-leb, lt-leb, leb-true, leb-false, le-ltb}
+use borrow.Author.Tests.{le-leb, lt-leb, leb-true, leb-false, le-ltb, eqb-false}
 use Rattle.paper.specs.Basics.{_or_, _>>=_, orElse, when, firstBad}
 use Rattle.paper.specs.Yard.{Bay, Rail}
 use Rattle.paper.specs.Docket.{Refusal, size, rail, railsOf, yardOf, badSize, badRail, no-1, no-2, no-3, no-4, no-5, no-6}
@@ -17,6 +17,7 @@ use Rattle.paper.proofs.Tests.{by-cases, by-option, or-none, or-left, or-right,
 use Rattle.paper.proofs.Admitted.{sizes-of}
 use Rattle.survey.specs.Survey.{firstThree}
 use Rattle.survey.specs.Narrow.{narrow}
+use Rattle.survey.proofs.Written.{Below, Passes, passes}
 
 -- ## No carriers
 pub three-are-six : (n : ℕ) (ends : List Bay) → firstSix n ends [] [] 0 ≡ firstThree n ends
@@ -90,3 +91,22 @@ narrow-three n ends =
   where
     sizes : length (map narrow ends) ≡ length ends → badSize n (map narrow ends) [] [] 0 ≡ badSize n ends [] [] 0
     sizes h = rw h
+
+-- the ends of a yard that passes 1 to 3 fit in 16 bits
+pub narrow-same : (n : ℕ) (ends : List Bay) → firstThree n ends ≡ none → map narrow ends ≡ ends
+narrow-same n ends h = let p = passes n ends h in each ends (p .even) (p .below)
+  where
+    fits : (x : ℕ) → x < n → narrow x ≡ x
+    fits x l = low n x (omega (arith, passes n ends h .few-bays)) (lt-leb n x l)
+
+    each : (es : List Bay) → length es % 2 ≡ 0 → Below n es → map narrow es ≡ es
+    each [] e b = refl
+    each (x ∷ []) e b = absurd (omega arith)
+    each (x ∷ y ∷ es) e b = rw (fits x (b .0), fits y (b .1 .0), each es (omega arith) (b .1 .1))
+
+-- more ends than the most rails have are 1
+pub long-size : (n : ℕ) (ends : List Bay) → 2048 < length ends → firstThree n ends ≡ some size
+unfolding firstThree
+long-size n ends h =
+    by-cases (badSize n ends [] [] 0) (λ e. rw e)
+    (λ e. let s = sizes-of n ends [] [] 0 e in absurd (omega (arith, s .few-rails, eqb-false (length ends % 2) 1 (s .even-ends))))

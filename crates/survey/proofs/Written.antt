@@ -96,23 +96,35 @@ pub written-lines : (n : ℕ) (ends : List Bay) → lines (surveyOf n ends) ≡ 
 unfolding surveyOf
 written-lines n ends = lines-ended _ (head-plain n (length ends / 2), rails-plain (railsOf ends))
 
--- Reading what was written gives the same yard, rails in the order held.
-pub read-written : (n : ℕ) (ends : List Bay) → firstThree n ends ≡ none → readSurvey (surveyOf n ends) ≡ good (n, ends)
-unfolding readSurvey readLines firstThree
-read-written n ends h =
+-- what a yard that passes 1 to 3 is
+pub record Passes (n : ℕ) (ends : List Bay) : Type 0 where
+  pub few-bays : n ≤ 256
+  pub few-ends : length ends ≤ 2048
+  pub even : length ends % 2 ≡ 0
+  pub below : Below n ends
+
+pub passes : (n : ℕ) (ends : List Bay) → firstThree n ends ≡ none → Passes n ends
+unfolding firstThree
+passes n ends h =
     let p = none-both (no-1 n ends [] [] 0) _ h in
     let q = none-both (no-2 n ends) (no-3 n ends) (p .1) in
     let s = sizes-of n ends [] [] 0 (none-when _ size (p .0)) in
-    let below = below-of n 0 [] ends (none-from rail _ (q .0)) in
-    let even : length ends % 2 ≡ 0 = even-of (length ends) (s .even-ends) in
-    rw (written-lines n ends, head-back n (length ends / 2) (omega (arith, s .few-bays), omega (arith, s .few-rails)))
-    (rails-back n (length ends / 2) 2 [] ends (omega (arith, s .few-bays)) below even (omega arith))
+    let two : length ends % 2 ≡ 0 = even-of (length ends) (s .even-ends) in
+    record { few-bays = s .few-bays; few-ends = omega (arith, s .few-rails); even = two; below = below-of n 0 [] ends (none-from rail _ (q .0)) }
   where
+    one-of : (k : ℕ) → eqb (k % 2) 1 ≡ false → eqb (k % 2) 0 ≡ false → ⊥
+    one-of k e f = omega (arith, eqb-false (k % 2) 1 e, eqb-false (k % 2) 0 f)
+
     even-of : (k : ℕ) → eqb (k % 2) 1 ≡ false → k % 2 ≡ 0
     even-of k e = by-cases (eqb (k % 2) 0) (λ f. eqb-true (k % 2) 0 f) (λ f. absurd (one-of k e f))
-      where
-        one-of : (k : ℕ) → eqb (k % 2) 1 ≡ false → eqb (k % 2) 0 ≡ false → ⊥
-        one-of k e f = omega (arith, eqb-false (k % 2) 1 e, eqb-false (k % 2) 0 f)
+
+-- Reading what was written gives the same yard, rails in the order held.
+pub read-written : (n : ℕ) (ends : List Bay) → firstThree n ends ≡ none → readSurvey (surveyOf n ends) ≡ good (n, ends)
+unfolding readSurvey readLines
+read-written n ends h =
+    let p = passes n ends h in
+    rw (written-lines n ends, head-back n (length ends / 2) (omega (arith, p .few-bays), omega (arith, p .few-ends)))
+    (rails-back n (length ends / 2) 2 [] ends (omega (arith, p .few-bays)) (p .below) (p .even) (omega (arith, p .even)))
 
 -- A file is canonical where it is the file of what it reads as.
 abbrev pub Canonical : Text → Type 0
