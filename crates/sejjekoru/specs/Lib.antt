@@ -1,3 +1,4 @@
 pub mod Statements
 pub mod Bills
 pub mod Compare
+pub mod Surveys

@@ -9,6 +9,7 @@ mod files;
 mod lent;
 mod orders;
 mod plans;
+mod survey;
 mod tally;
 
 use lent::Asked;
@@ -26,6 +27,7 @@ fn main() {
     tallies.extend(bills::one_by_one());
     tallies.push(bills::runs());
     tallies.push(compare::run());
+    tallies.extend(survey::run());
     if let Some(program) = std::env::args().nth(1) {
         tallies.push(files::run(&program));
     }

@@ -4,7 +4,7 @@ pub struct Tally {
     name: &'static str,
     calls: u64,
     /// By number; 19, 25 and "already" stand last.
-    counts: [u64; 19],
+    counts: [u64; 20],
     expected: Vec<u64>,
 }
 
@@ -14,9 +14,9 @@ const ALREADY: u64 = 100;
 
 fn place(number: u64) -> usize {
     match number {
-        DISAGREES => 16,
-        BEGUN => 17,
-        ALREADY => 18,
+        DISAGREES => 17,
+        BEGUN => 18,
+        ALREADY => 19,
         _ => number as usize,
     }
 }
@@ -24,7 +24,7 @@ fn place(number: u64) -> usize {
 impl Tally {
     /// `expected` are the numbers that have to come up.
     pub fn new(name: &'static str, expected: &[u64]) -> Tally {
-        Tally { name, calls: 0, counts: [0; 19], expected: expected.to_vec() }
+        Tally { name, calls: 0, counts: [0; 20], expected: expected.to_vec() }
     }
 
     pub fn add(&mut self, number: u64) {
@@ -35,9 +35,9 @@ impl Tally {
 
 /// A table of all, and whether every expected number came up.
 pub fn print(tallies: &[Tally]) -> bool {
-    let numbers: Vec<String> = (0..16).map(|number| number.to_string()).collect();
+    let numbers: Vec<String> = (0..17).map(|number| number.to_string()).collect();
     println!("| answers agree | calls | {} | 19 | 25 | already |", numbers.join(" | "));
-    println!("|---{}|", "|---".repeat(20));
+    println!("|---{}|", "|---".repeat(21));
     for tally in tallies {
         let counts: Vec<String> = tally.counts.iter().map(u64::to_string).collect();
         println!("| {} | {} | {} |", tally.name, tally.calls, counts.join(" | "));

@@ -32,6 +32,8 @@ pub enum Refusal {
     Unknown,
     /// 13: the lowest undone name that the reported crossing depends on.
     Early(u64),
+    /// 16: the first line of a surveyors' file that breaks its layout or is missing, from 1.
+    BadSurvey(u64),
     /// 19: record and lines are not those of this plan, start and marks.
     Disagrees,
     /// 25: a crossing of the plan to be shortened is done.
@@ -75,6 +77,7 @@ pub(crate) fn told((number, value): (u64, u64)) -> Result<u64, Refusal> {
         11 => Refusal::Mismarked,
         12 => Refusal::Unknown,
         13 => Refusal::Early(value),
+        16 => Refusal::BadSurvey(value),
         19 => Refusal::Disagrees,
         25 => Refusal::Begun,
         _ => unreachable!("the library is proved to answer no other number"),
@@ -82,7 +85,7 @@ pub(crate) fn told((number, value): (u64, u64)) -> Result<u64, Refusal> {
 }
 
 impl Refusal {
-    /// The number in document 01's table; 19 and 25 are document 02's.
+    /// The number in document 01's table; 16, 19 and 25 are document 02's.
     pub fn number(self) -> u64 {
         match self {
             Refusal::Size => 1,
@@ -98,6 +101,7 @@ impl Refusal {
             Refusal::Mismarked => 11,
             Refusal::Unknown => 12,
             Refusal::Early(_) => 13,
+            Refusal::BadSurvey(_) => 16,
             Refusal::Disagrees => 19,
             Refusal::Begun => 25,
         }
@@ -109,7 +113,7 @@ impl Refusal {
             Refusal::Size | Refusal::Crowd | Refusal::Mismarked | Refusal::Unknown | Refusal::Disagrees | Refusal::Begun => None,
             Refusal::Apart(bay) => Some(u64::from(bay.0)),
             Refusal::Start(c) | Refusal::Goal(c) | Refusal::Stopped(c) | Refusal::Missed(c) => Some(u64::from(c.0)),
-            Refusal::Rail(v) | Refusal::Room(v) | Refusal::Illegal(v) | Refusal::Early(v) => Some(v),
+            Refusal::Rail(v) | Refusal::Room(v) | Refusal::Illegal(v) | Refusal::Early(v) | Refusal::BadSurvey(v) => Some(v),
         }
     }
 }

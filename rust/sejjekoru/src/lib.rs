@@ -8,11 +8,13 @@ mod compare;
 mod crossing;
 pub mod numbers;
 pub mod raw;
+mod survey;
 
 pub use answers::{Refusal, Reported};
 pub use bills::{Line, Record, UNTOUCHED};
 pub use compare::{compare, compare_numbers, Compared};
 pub use crossing::{Bay, Carrier, Crossing};
+pub use survey::{read_survey, read_survey_numbers, write_survey, write_survey_numbers, Surveyed};
 
 use answers::{reported, told};
 
