@@ -24,7 +24,7 @@ fn comments_of_any_length() {
 }
 
 #[test]
-fn the_longest_file_of_a_yard() {
+fn a_yard_with_the_most_rails() {
     // A path through all bays, and chords from bay 256 and 255 on down, until there are 1,024 rails.
     let mut rails: Vec<u16> = (0..255).flat_map(|bay| [bay, bay + 1]).collect();
     let chords = (0..256u16).rev().flat_map(|to| (0..to.saturating_sub(1)).rev().map(move |from| [from, to]));
