@@ -59,6 +59,7 @@ enum {
     SEJJEKORU_SCENARIO = 15,  /* the first bad line of the scenario, from 1 */
     SEJJEKORU_ENDED = 17,     /* 0; the scenario over this link has ended */
     SEJJEKORU_LONG_PIECE = 18, /* 0; a piece of a scenario has more than 256 bytes */
+    SEJJEKORU_SURVEY = 16,    /* the first line of a surveyors' file that breaks its layout or is missing, from 1 */
     SEJJEKORU_DISAGREES = 19, /* 0; record and lines are not what plan, start and marks give */
     SEJJEKORU_BEGUN = 25,     /* 0; some crossing of the plan to be shortened is done */
     SEJJEKORU_BAD_PLAN = 26,  /* the first bad line of a printed plan */
@@ -332,6 +333,27 @@ uint64_t sejjekoru_read_plan(const uint8_t *file, size_t file_len,
  */
 uint64_t sejjekoru_read_reports(const uint8_t *file, size_t file_len,
                                 uint64_t *names, size_t names_len,
+                                uint64_t *value);
+
+/*
+ * Reads a surveyors' file (DIMACS edge file) into a yard: `*bays` is its number of bays, and its rail ends, counted from 0, go to the first places
+ * of `rails` in the file's order. `*value` is the number of ends. 2048 places are enough for every yard. A refusal stores 0 in `*bays` and leaves
+ * `rails` as it was; 8 carries the number of ends needed. The file may have any length. `bays` is not NULL; `*bays` and `rails` overlap no other
+ * argument. Answers 0 to 3, 8, 16, tested in the order 16, 1, 2, 3, 8.
+ */
+uint64_t sejjekoru_read_survey(const uint8_t *file, size_t file_len,
+                               uint64_t *bays,
+                               uint16_t *rails, size_t rails_len,
+                               uint64_t *value);
+
+/*
+ * Writes a yard as a surveyors' file to the first places of `out`: no comments, no leading zeros, LF after every line, rails in the order held.
+ * `*value` is its length in bytes, at most 10256. A refusal leaves `out` as it was; 8 carries the length needed. `out` overlaps no other argument.
+ * Answers 0 to 3, 8.
+ */
+uint64_t sejjekoru_write_survey(uint64_t bays,
+                                const uint16_t *rails, size_t rails_len,
+                                uint8_t *out, size_t out_len,
                                 uint64_t *value);
 
 #ifdef __cplusplus

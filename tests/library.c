@@ -557,6 +557,35 @@ static void reading(void)
     read_names("too high", "4294967296\n", 3, SEJJEKORU_BAD_REPORTS, 1, 7);
 }
 
+/* Request E1: a surveyors' file read and written, by its refusals in order, and what stands in the lent lists then. */
+static void survey(void)
+{
+    static const char dressed[] = "c T\r\np edge 00004 3\r\ne 1 2\r\nc\r\ne 2 3\r\ne 02 4";
+    static const char canonical[] = "p edge 4 3\ne 1 2\ne 2 3\ne 2 4\n";
+    static const char apart[] = "p edge 4 2\ne 1 2\ne 2 3\n";
+    static const char above[] = "p edge 4 3\ne 1 2\ne 2 99999\ne 2 4\n";
+    static const char missing[] = "p edge 4 3\ne 1 2\ne 2 3\nc\n";
+    const uint16_t ends[6] = {0, 1, 1, 2, 1, 3};
+    uint16_t rails[8] = {9, 9, 9, 9, 9, 9, 9, 9};
+    uint8_t out[40];
+    uint64_t bays = 77;
+    memset(out, '?', sizeof out);
+    told("survey: nothing", sejjekoru_read_survey(NULL, 0, &bays, NULL, 0, &value), 16, 1);
+    told("survey: a line missing", sejjekoru_read_survey((const uint8_t *)missing, sizeof missing - 1, &bays, rails, 8, &value), 16, 5);
+    told("survey: apart", sejjekoru_read_survey((const uint8_t *)apart, sizeof apart - 1, &bays, NULL, 0, &value), 3, 3);
+    told("survey: a bay above N", sejjekoru_read_survey((const uint8_t *)above, sizeof above - 1, &bays, rails, 8, &value), 2, 1);
+    told("survey: no room", sejjekoru_read_survey((const uint8_t *)dressed, sizeof dressed - 1, &bays, rails, 5, &value), 8, 6);
+    holds("survey: a refusal told bays or wrote", bays == 0 && rails[0] == 9 && rails[7] == 9);
+    told("survey", sejjekoru_read_survey((const uint8_t *)dressed, sizeof dressed - 1, &bays, rails, 8, &value), 0, 6);
+    holds("survey: bays and ends", bays == 4 && memcmp(rails, ends, sizeof ends) == 0 && rails[6] == 9 && rails[7] == 9);
+    told("survey: too many bays", sejjekoru_write_survey(257, ends, 6, out, sizeof out, &value), 1, 0);
+    told("survey: an end too many", sejjekoru_write_survey(4, ends, 5, out, sizeof out, &value), 1, 0);
+    told("survey: no room for bytes", sejjekoru_write_survey(4, ends, 6, out, sizeof canonical - 2, &value), 8, sizeof canonical - 1);
+    holds("survey: a refusal wrote", out[0] == '?');
+    told("survey written", sejjekoru_write_survey(4, ends, 6, out, sizeof out, &value), 0, sizeof canonical - 1);
+    holds("survey: canonical", memcmp(out, canonical, sizeof canonical - 1) == 0 && out[sizeof canonical - 1] == '?');
+}
+
 int main(void)
 {
     nothing(0, 1, 0);
@@ -582,5 +611,7 @@ int main(void)
     whole_program();
     print_plan();
     reading();
+
+    survey();
     return failed;
 }

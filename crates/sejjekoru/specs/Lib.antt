@@ -6,3 +6,4 @@ pub mod Standing
 pub mod Whole
 pub mod Files
 pub mod Serial
+pub mod Surveys

@@ -5,6 +5,7 @@ mod files;
 mod reverse;
 mod serial;
 mod standing;
+mod surveys;
 mod whole;
 
 ghost use Rattle.sejjekoru.specs.Statements.{PlanTells, CheckTells, SlotsTell, ReportTells, ShortenTells};

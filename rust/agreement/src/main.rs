@@ -13,6 +13,7 @@ mod placement;
 mod plans;
 mod readback;
 mod reverse;
+mod survey;
 mod tally;
 
 use lent::Asked;
@@ -34,6 +35,7 @@ fn main() {
     tallies.push(reverse::lists());
     tallies.push(placement::run());
     tallies.extend(link::run());
+    tallies.extend(survey::run());
     if let Some(program) = std::env::args().nth(1) {
         tallies.push(files::run(&program));
     }

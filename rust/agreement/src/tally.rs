@@ -1,28 +1,22 @@
 //! How often each number was answered.
 
+/// A column for each number of the refusal table, then those that are no refusals.
+const TABLE: usize = 28;
+const ALREADY: u64 = 100;
+const MORE: u64 = 101;
+const PLACES: usize = TABLE + 2;
+
 pub struct Tally {
     name: &'static str,
     calls: u64,
-    /// By number; 17, 18, 19, 25, "already" and "more" stand last.
-    counts: [u64; 22],
+    counts: [u64; PLACES],
     expected: Vec<u64>,
 }
 
-const ENDED: u64 = 17;
-const LONG_PIECE: u64 = 18;
-const DISAGREES: u64 = 19;
-const BEGUN: u64 = 25;
-const ALREADY: u64 = 100;
-const MORE: u64 = 101;
-
 fn place(number: u64) -> usize {
     match number {
-        ENDED => 16,
-        LONG_PIECE => 17,
-        DISAGREES => 18,
-        BEGUN => 19,
-        ALREADY => 20,
-        MORE => 21,
+        ALREADY => TABLE,
+        MORE => TABLE + 1,
         _ => number as usize,
     }
 }
@@ -30,7 +24,7 @@ fn place(number: u64) -> usize {
 impl Tally {
     /// `expected` are the numbers that have to come up.
     pub fn new(name: &'static str, expected: &[u64]) -> Tally {
-        Tally { name, calls: 0, counts: [0; 22], expected: expected.to_vec() }
+        Tally { name, calls: 0, counts: [0; PLACES], expected: expected.to_vec() }
     }
 
     pub fn add(&mut self, number: u64) {
@@ -41,9 +35,9 @@ impl Tally {
 
 /// A table of all, and whether every expected number came up.
 pub fn print(tallies: &[Tally]) -> bool {
-    let numbers: Vec<String> = (0..16).map(|number| number.to_string()).collect();
-    println!("| answers agree | calls | {} | 17 | 18 | 19 | 25 | already | more |", numbers.join(" | "));
-    println!("|---{}|", "|---".repeat(23));
+    let numbers: Vec<String> = (0..TABLE).map(|number| number.to_string()).collect();
+    println!("| answers agree | calls | {} | already | more |", numbers.join(" | "));
+    println!("|---{}|", "|---".repeat(PLACES + 1));
     for tally in tallies {
         let counts: Vec<String> = tally.counts.iter().map(u64::to_string).collect();
         println!("| {} | {} | {} |", tally.name, tally.calls, counts.join(" | "));

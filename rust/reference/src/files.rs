@@ -53,7 +53,7 @@ fn print_refusal(refusal: Refusal) -> Vec<u8> {
 }
 
 /// Lines end in LF or CR LF; the last end may be missing.
-fn lines(text: &[u8]) -> Vec<&[u8]> {
+pub(crate) fn lines(text: &[u8]) -> Vec<&[u8]> {
     let mut lines: Vec<&[u8]> = text.split_inclusive(|&byte| byte == b'\n').collect();
     for line in &mut lines {
         if let Some(bare) = line.strip_suffix(b"\n") {
@@ -70,7 +70,7 @@ fn side(line: &[u8], word: &[u8]) -> Option<usize> {
 }
 
 /// One to `most` digits and nothing else.
-fn number(digits: &[u8], most: usize) -> Option<usize> {
+pub(crate) fn number(digits: &[u8], most: usize) -> Option<usize> {
     if digits.is_empty() || digits.len() > most || !digits.iter().all(u8::is_ascii_digit) {
         return None;
     }

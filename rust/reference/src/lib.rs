@@ -19,6 +19,7 @@ mod readback;
 mod reverse;
 mod search;
 mod shorten;
+mod survey;
 mod yard;
 
 pub use bills::{Job, Line, Record, UNTOUCHED};
@@ -98,4 +99,17 @@ pub fn compare<'a>(first: &'a [u64], second: &'a [u64], differences: &mut [i64])
 /// Where the carriers stand, by the marks; the value of an acceptance is their number.
 pub fn placement(bays: u64, rails: &[u16], start: &[u16], goal: &[u16], plan: &[u64], marks: &[u8], at: &mut [u16]) -> (u64, u64) {
     docket(placement::placement(bays, rails, start, goal, plan, marks, at).map(|carriers| (ACCEPTED, carriers)))
+}
+
+/// Reads a surveyors' file: number, value, which is the number of rail ends written, and the bays, 0 where it is refused.
+pub fn read_survey(file: &[u8], rails: &mut [u16]) -> (u64, u64, u64) {
+    let answer = survey::read(file, rails);
+    let bays = answer.map_or(0, |(bays, _)| bays);
+    let (number, value) = docket(answer.map(|(_, ends)| (ACCEPTED, ends)));
+    (number, value, bays)
+}
+
+/// Writes a yard as a surveyors' file; the value of an acceptance is the number of bytes written.
+pub fn write_survey(bays: u64, rails: &[u16], out: &mut [u8]) -> (u64, u64) {
+    docket(survey::write(bays, rails, out).map(|length| (ACCEPTED, length)))
 }

@@ -40,6 +40,8 @@ pub enum Refusal {
     Ended,
     /// 18: a piece of a scenario has more than 256 bytes.
     LongPiece,
+    /// 16: the first line of a surveyors' file that breaks its layout or is missing, from 1.
+    BadSurvey(u64),
     /// 19: record and lines are not those of this plan, start and marks.
     Disagrees,
     /// 25: a crossing of the plan to be shortened is done.
@@ -87,6 +89,7 @@ pub(crate) fn told((number, value): (u64, u64)) -> Result<u64, Refusal> {
         15 => Refusal::BadScenario(value),
         17 => Refusal::Ended,
         18 => Refusal::LongPiece,
+        16 => Refusal::BadSurvey(value),
         19 => Refusal::Disagrees,
         25 => Refusal::Begun,
         _ => unreachable!("the library is proved to answer no other number"),
@@ -122,6 +125,7 @@ impl Refusal {
             Refusal::BadScenario(_) => 15,
             Refusal::Ended => 17,
             Refusal::LongPiece => 18,
+            Refusal::BadSurvey(_) => 16,
             Refusal::Disagrees => 19,
             Refusal::Begun => 25,
         }
@@ -135,7 +139,7 @@ impl Refusal {
             Refusal::Apart(bay) => Some(u64::from(bay.0)),
             Refusal::Start(c) | Refusal::Goal(c) | Refusal::Stopped(c) | Refusal::Missed(c) => Some(u64::from(c.0)),
             Refusal::Rail(v) | Refusal::Room(v) | Refusal::Illegal(v) | Refusal::Early(v) => Some(v),
-            Refusal::BadMap(v) | Refusal::BadScenario(v) => Some(v),
+            Refusal::BadMap(v) | Refusal::BadScenario(v) | Refusal::BadSurvey(v) => Some(v),
         }
     }
 }
@@ -160,6 +164,7 @@ impl fmt::Display for Refusal {
             Refusal::Early(name) => write!(f, "crossing {name}, on which this one depends, is not done"),
             Refusal::BadMap(line) => write!(f, "line {line} of the map breaks its layout"),
             Refusal::BadScenario(line) => write!(f, "line {line} of the scenario breaks its layout"),
+            Refusal::BadSurvey(line) => write!(f, "line {line} of the survey breaks its layout"),
             Refusal::Ended => write!(f, "the scenario over this link has ended"),
             Refusal::LongPiece => write!(f, "a piece has more than 256 bytes"),
             Refusal::Disagrees => write!(f, "record and lines are not what plan and marks give"),

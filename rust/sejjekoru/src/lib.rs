@@ -38,6 +38,7 @@ pub mod numbers;
 pub mod prints;
 pub mod raw;
 mod reverse;
+mod survey;
 
 pub use answers::{Refusal, Reported};
 pub use bills::{Line, Record, UNTOUCHED};
@@ -47,6 +48,7 @@ pub use compare::{compare, compare_numbers, Compared};
 pub use crossing::{Bay, Carrier, Crossing};
 pub use files::Link;
 pub use reverse::reverse;
+pub use survey::{read_survey, read_survey_numbers, write_survey, write_survey_numbers, Surveyed};
 
 use answers::{reported, told};
 

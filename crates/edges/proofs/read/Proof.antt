@@ -1,0 +1,30 @@
+-- `edges::read` meets its contract.
+-- Assumes nothing.
+use mathlib.Core.List.{[]}
+use native.Mathlib.Omega.{arith}
+use borrow.Author.Needs.{needs}
+use Rattle.edges.proofs.read.Statement.{statement}
+use Rattle.edges.proofs.read.Tie as tie
+use Rattle.edges.proofs.read.Reads as reads
+use Rattle.edges.proofs.read.Lts as lts
+use Rattle.edges.proofs.feed.Reads as feed-reads
+use Rattle.edges.proofs.finish.Reads as finish-reads
+use Rattle.edges.proofs.start.Reads as start-reads
+
+start-requires : tie.Need-start-requires
+start-requires c κs = search needs
+
+feed-requires : tie.Need-feed-requires
+feed-requires c κs = search needs
+
+finish-requires : tie.Need-finish-requires
+finish-requires c κs = search needs
+
+same-length : tie.Need-same-length
+same-length c = search needs
+
+returns : tie.Need-returns
+returns c = c .before .before .finish .ensures .ends (c .before .before .before .before .before .before .before .before .before .before .before .args .file .now) (c .before .before .before .before .before .before .before .before .before .before .before .args .ends .now) (omega arith) (c .before .before .before .before .before .before .feed .ensures .feeds [] (c .before .before .before .before .before .before .before .before .before .before .before .args .ends .now) (omega arith) (c .before .before .before .before .before .before .before .before .start .ensures (c .before .before .before .before .before .before .before .before .before .before .before .args .ends .now)))
+
+pub read-spec : {M : Type 1} → statement M
+read-spec = tie.close (tie.spec start-requires feed-requires finish-requires same-length returns)

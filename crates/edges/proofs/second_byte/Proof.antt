@@ -1,0 +1,33 @@
+-- `edges::second_byte` meets its contract.
+-- Assumes nothing.
+use mathlib.Core.Path.{sym, _∙_}
+use borrow.Author.Needs.{needs}
+use Rattle.edges.proofs.Parts.{second-on, second-other, second-long}
+use Rattle.edges.proofs.second_byte.Statement.{statement}
+use Rattle.edges.proofs.second_byte.Tie as tie
+use Rattle.edges.proofs.second_byte.Reads as reads
+use Rattle.edges.proofs.second_byte.Lts as lts
+use Rattle.edges.proofs.is_digit.Reads as is-digit-reads
+use Rattle.edges.proofs.tallied.Reads as tallied-reads
+
+is-digit-requires : tie.Need-is-digit-requires
+is-digit-requires c κs = search needs
+
+add-t7 : tie.Need-add-t7
+add-t7 c = search needs
+
+tallied-requires : tie.Need-tallied-requires
+tallied-requires c κs = search needs
+
+returns : tie.Need-returns
+returns c = λ w. second-on w (c .before .before .before .before .args .k) (c .before .before .before .before .args .n) (c .before .before .before .before .args .b) (c .before .before .before .before .args .p) (c .before .before .before .if1 .taken) (sym (c .before .before .is-digit .ensures) ∙ c .before .if2 .taken) _ (c .tallied .ensures)
+
+returns-2 : tie.Need-returns-2
+returns-2 c = λ w. second-other w (c .before .before .before .args .k) (c .before .before .before .args .n) (c .before .before .before .args .b) (c .before .before .before .args .p) (sym (c .before .is-digit .ensures) ∙ c .if2 .left)
+
+returns-3 : tie.Need-returns-3
+returns-3 c = λ w. second-long w (c .before .args .k) (c .before .args .n) (c .before .args .b) (c .before .args .p) (c .if1 .left)
+
+pub second-byte-spec : {M : Type 1} → statement M
+second-byte-spec =
+    tie.close (tie.spec is-digit-requires add-t7 tallied-requires returns returns-2 returns-3)

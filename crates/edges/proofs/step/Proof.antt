@@ -1,0 +1,53 @@
+-- `edges::step` meets its contract.
+-- Assumes nothing.
+use borrow.Author.Needs.{needs}
+use Rattle.edges.proofs.Stepping.{steps-failed, steps-end, steps-cr, steps-on}
+use Rattle.edges.proofs.step.Statement.{statement}
+use Rattle.edges.proofs.step.Tie as tie
+use Rattle.edges.proofs.step.Reads as reads
+use Rattle.edges.proofs.step.Lts as lts
+use Rattle.edges.proofs.closed.Reads as closed-reads
+use Rattle.edges.proofs.marked.Reads as marked-reads
+use Rattle.edges.proofs.on_byte.Reads as on-byte-reads
+use Rattle.edges.proofs.released.Reads as released-reads
+
+returns : tie.Need-returns
+returns c = steps-failed (c .before .args .s) (c .before .args .b) (c .if1 .taken)
+
+closed-requires : tie.Need-closed-requires
+closed-requires c κs = search needs
+
+returns-2 : tie.Need-returns-2
+returns-2 c = steps-end (c .before .before .before .args .s) (c .before .before .before .args .b) (c .before .before .if1 .left) (c .before .if2 .taken) _ (c .closed .ensures)
+
+released-requires : tie.Need-released-requires
+released-requires c κs = search needs
+
+marked-requires : tie.Need-marked-requires
+marked-requires c κs = search needs
+
+returns-3 : tie.Need-returns-3
+returns-3 c = steps-cr (c .before .before .before .before .before .args .s) (c .before .before .before .before .before .args .b) (c .before .before .before .before .if1 .left) (c .before .before .before .if2 .left) _ (c .before .before .released .ensures) (c .before .if3 .taken) _ (c .marked .ensures)
+
+on-byte-requires : tie.Need-on-byte-requires
+on-byte-requires c κs = search needs
+
+marked-requires-2 : tie.Need-marked-requires-2
+marked-requires-2 c κs = search needs
+
+returns-4 : tie.Need-returns-4
+returns-4 c = steps-on (c .before .before .before .before .before .before .args .s) (c .before .before .before .before .before .before .args .b) (c .before .before .before .before .before .if1 .left) (c .before .before .before .before .if2 .left) (c .before .before .before .released .result) (c .before .before .before .released .ensures) (c .before .before .if3 .left) _ (c .before .on-byte .ensures) _ (c .marked2 .ensures)
+
+pub step-spec : {M : Type 1} → statement M
+step-spec =
+    tie.close
+    (tie.spec
+    returns
+    closed-requires
+    returns-2
+    released-requires
+    marked-requires
+    returns-3
+    on-byte-requires
+    marked-requires-2
+    returns-4)

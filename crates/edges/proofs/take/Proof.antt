@@ -1,0 +1,75 @@
+-- `edges::take` meets its contract.
+-- Assumes nothing.
+use borrow.Author.Needs.{needs}
+use Rattle.edges.proofs.Closing.{takes-head, takes-more, takes-zero, takes-zero-2, takes-rail}
+use Rattle.edges.proofs.take.Statement.{statement}
+use Rattle.edges.proofs.take.Tie as tie
+use Rattle.edges.proofs.take.Reads as reads
+use Rattle.edges.proofs.take.Lts as lts
+use Rattle.edges.proofs.broken.Reads as broken-reads
+use Rattle.edges.proofs.opened.Reads as opened-reads
+
+enum-told : tie.Need-enum-told
+enum-told c = search needs
+
+opened-requires : tie.Need-opened-requires
+opened-requires c κs = search needs
+
+enum-known-due : tie.Need-enum-known-due
+enum-known-due c = search needs
+
+cast-if1 : tie.Need-cast-if1
+cast-if1 c = search needs
+
+mul-if1 : tie.Need-mul-if1
+mul-if1 c = search needs
+
+add-t15 : tie.Need-add-t15
+add-t15 c = search needs
+
+opened-requires-2 : tie.Need-opened-requires-2
+opened-requires-2 c κs = search needs
+
+returns : tie.Need-returns
+returns c = takes-rail (c .before .before .before .before .before .before .before .args .s) _ (c .before .before .before .before .before .before .before .args .p) (c .before .before .before .before .before .before .before .args .n) _ _ _ (c .before .before .before .before .before .due .given .1) (c .before .before .before .if1 .taken) (c .before .before .if2 .taken) (c .before .if3 .taken) (c .opened2 .ensures)
+
+broken-requires : tie.Need-broken-requires
+broken-requires c κs = search needs
+
+returns-2 : tie.Need-returns-2
+returns-2 c = takes-zero-2 (c .before .before .before .before .before .before .before .args .s) _ (c .before .before .before .before .before .before .before .args .p) (c .before .before .before .before .before .before .before .args .n) _ _ _ (c .before .before .before .before .before .due .given .1) (c .before .if3 .left) (c .broken .ensures)
+
+broken-requires-2 : tie.Need-broken-requires-2
+broken-requires-2 c κs = search needs
+
+returns-3 : tie.Need-returns-3
+returns-3 c = takes-zero (c .before .before .before .before .before .before .args .s) _ (c .before .before .before .before .before .before .args .p) (c .before .before .before .before .before .before .args .n) _ _ _ (c .before .before .before .before .due .given .1) (c .before .if2 .left) (c .broken2 .ensures)
+
+broken-requires-3 : tie.Need-broken-requires-3
+broken-requires-3 c κs = search needs
+
+returns-4 : tie.Need-returns-4
+returns-4 c = takes-head (c .before .before .before .args .s) _ (c .before .before .before .args .p) (c .before .before .before .args .n) _ _ (c .before .enum-told .given .1) (c .opened .ensures)
+
+returns-5 : tie.Need-returns-5
+returns-5 c = takes-more (c .before .before .before .before .before .args .s) _ (c .before .before .before .before .before .args .p) (c .before .before .before .before .before .args .n) _ _ _ (c .before .before .before .due .given .1) (c .before .if1 .left) (c .broken3 .ensures)
+
+pub take-spec : {M : Type 1} → statement M
+take-spec =
+    tie.close
+    (tie.spec
+    enum-told
+    opened-requires
+    enum-known-due
+    cast-if1
+    mul-if1
+    add-t15
+    opened-requires-2
+    returns
+    broken-requires
+    returns-2
+    broken-requires-2
+    returns-3
+    broken-requires-3
+    returns-4
+    returns-5)

@@ -1,0 +1,26 @@
+-- `sejjekoru::surveys::sejjekoru_write_survey` meets its contract. The answer is the request's, so what is told of the one is told of the other.
+-- Assumes nothing.
+use borrow.Author.Needs.{needs}
+use Rattle.numbers.specs.Numbers.{verdictNumber, verdictValue}
+use Rattle.sejjekoru.proofs.Saying.{told-as}
+use Rattle.numbers.proofs.told.Reads as told-reads
+use Rattle.surveying.proofs.write.Reads as write-reads
+use Rattle.sejjekoru.proofs.surveys.sejjekoru_write_survey.Statement.{statement}
+use Rattle.sejjekoru.proofs.surveys.sejjekoru_write_survey.Tie as tie
+use Rattle.sejjekoru.proofs.surveys.sejjekoru_write_survey.Reads as reads
+use Rattle.sejjekoru.proofs.surveys.sejjekoru_write_survey.Lts as lts
+
+write-requires : tie.Need-write-requires
+write-requires c κs = search needs
+
+told-requires : tie.Need-told-requires
+told-requires c κs = search needs
+
+same-length : tie.Need-same-length
+same-length c = search needs
+
+returns : tie.Need-returns
+returns c = let says = c .before .before .before .before .write .ensures in record { tells = told-as verdictNumber verdictValue (says .answer) (c .told .ensures); leaves = says .left }
+
+pub sejjekoru-write-survey-spec : {M : Type 1} → statement M
+sejjekoru-write-survey-spec = tie.close (tie.spec write-requires told-requires same-length returns)

@@ -1,0 +1,3 @@
+pub mod Survey
+pub mod Bytes
+pub mod Narrow

@@ -1,0 +1,59 @@
+-- `surveying::accept` meets its contract.
+-- Assumes nothing.
+use mathlib.Core.Path.{refl, sym, _∙_, ap}
+use borrow.Author.Needs.{needs}
+use Rattle.docket.specs.Reading.{verdictOf}
+use Rattle.surveying.specs.Says.{testedOf}
+use Rattle.surveying.proofs.Telling.{accept-refused, accept-room, accept-all}
+use Rattle.surveying.proofs.Telling.{accept-refused, accept-room, accept-all}
+use Rattle.surveying.proofs.accept.Statement.{statement}
+use Rattle.surveying.proofs.accept.Tie as tie
+use Rattle.surveying.proofs.accept.Reads as reads
+use Rattle.surveying.proofs.accept.Lts as lts
+use Rattle.surveying.proofs.refused.Reads as refused-reads
+use Rattle.surveying.proofs.test.Reads as test-reads
+
+test-requires : tie.Need-test-requires
+test-requires c κs = search needs
+
+enum-known-tested : tie.Need-enum-known-tested
+enum-known-tested c = search needs
+
+refused-requires : tie.Need-refused-requires
+refused-requires c κs = search needs
+
+returns : tie.Need-returns
+returns c = accept-refused (c .before .before .before .before .before .before .before .args .bays) (c .before .before .before .before .before .before .before .args .ends .now) (c .before .before .before .before .before .before .before .args .rails .now) _ _ (ap testedOf (sym (c .before .before .tested .given .1)) ∙ c .before .before .before .before .test .ensures) (c .refused .ensures .0) (ap verdictOf (c .refused .ensures .1))
+
+enum-told : tie.Need-enum-told
+enum-told c = search needs
+
+refused-requires-2 : tie.Need-refused-requires-2
+refused-requires-2 c κs = search needs
+
+returns-2 : tie.Need-returns-2
+returns-2 c = accept-room (c .before .before .before .before .before .before .before .args .bays) (c .before .before .before .before .before .before .before .args .ends .now) (c .before .before .before .before .before .before .before .args .rails .now) _ (ap testedOf (sym (c .before .before .enum-told .given .1)) ∙ c .before .before .before .before .test .ensures) (c .before .if1 .taken) (c .refused2 .ensures .0) (ap verdictOf (c .refused2 .ensures .1))
+
+shorts-requires : tie.Need-shorts-requires
+shorts-requires c κs = search needs
+
+same-length : tie.Need-same-length
+same-length c = search needs
+
+returns-3 : tie.Need-returns-3
+returns-3 c = accept-all (c .before .before .before .before .before .before .before .before .before .before .args .bays) (c .before .before .before .before .before .before .before .before .before .before .args .ends .now) (c .before .before .before .before .before .before .before .before .before .before .args .rails .now) _ (ap testedOf (sym (c .before .before .before .before .before .enum-told .given .1)) ∙ c .before .before .before .before .before .before .before .test .ensures) _ (c .before .before .before .before .if1 .left) refl refl (c .before .before .shorts .ensures)
+
+pub accept-spec : {M : Type 1} → statement M
+accept-spec =
+    tie.close
+    (tie.spec
+    test-requires
+    enum-known-tested
+    refused-requires
+    returns
+    enum-told
+    refused-requires-2
+    returns-2
+    shorts-requires
+    same-length
+    returns-3)

@@ -1,0 +1,33 @@
+-- `surveying::test` meets its contract.
+-- Assumes nothing.
+use mathlib.Core.Path.{sym, _∙_, ap}
+use borrow.Author.Needs.{needs}
+use Rattle.yard.specs.Opening.{openedOf}
+use Rattle.survey.proofs.Three.{three-are-six}
+use Rattle.surveying.proofs.test.Statement.{statement}
+use Rattle.surveying.proofs.test.Tie as tie
+use Rattle.surveying.proofs.test.Reads as reads
+use Rattle.surveying.proofs.test.Lts as lts
+
+slice-aggregate-nobody : tie.Need-slice-aggregate-nobody
+slice-aggregate-nobody c = search needs
+
+open-requires : tie.Need-open-requires
+open-requires c κs = search needs
+
+enum-known-opened : tie.Need-enum-known-opened
+enum-known-opened c = search needs
+
+returns : tie.Need-returns
+returns c = ap openedOf (sym (c .before .opened .given .1)) ∙ c .before .before .before .«open» .ensures .answer ∙ three-are-six (c .before .before .before .before .before .before .before .args .bays) (c .before .before .before .before .before .before .before .args .rails .now)
+
+enum-told : tie.Need-enum-told
+enum-told c = search needs
+
+returns-2 : tie.Need-returns-2
+returns-2 c = ap openedOf (sym (c .enum-told .given .1)) ∙ c .before .before .«open» .ensures .answer ∙ three-are-six (c .before .before .before .before .before .before .args .bays) (c .before .before .before .before .before .before .args .rails .now)
+
+pub test-spec : {M : Type 1} → statement M
+test-spec =
+    tie.close
+    (tie.spec slice-aggregate-nobody open-requires enum-known-opened returns enum-told returns-2)
