@@ -87,6 +87,9 @@ export class Books {
    * @returns {Uint16Array}
    */
   byMarks() {
+    const said = this.library.placement(this.yard, this.orders, this.plan, this.marks);
+    if (said.answer === ACCEPTED) return said.at;
+    // an older module has no function for it alone, and says it when the books are opened
     return recordOf(this.library.open(this.yard, this.orders, this.plan, this.marks).books.record, this.orders.start.length).at;
   }
 

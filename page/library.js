@@ -197,6 +197,22 @@ export class Library {
   }
 
   /**
+   * Where the carriers stand by the marks: the start, then the done crossings in plan order.
+   * @param {Yard} yard @param {Orders} orders @param {BigUint64Array} plan @param {Uint8Array} marks
+   * @returns {Answer & { at: Uint16Array }}
+   */
+  placement(yard, orders, plan, marks) {
+    const k = orders.start.length;
+    let at = 0;
+    const said = this.ask('sejjekoru_placement', () => {
+      const args = [...this.yard(yard, orders), this.lend(plan), BigInt(plan.length), this.lend(marks), BigInt(marks.length)];
+      at = this.room(k * 2);
+      return [...args, at, BigInt(k)];
+    });
+    return { ...said, at: new Uint16Array(this.copy(at, said.answer === ACCEPTED ? k * 2 : 0)) };
+  }
+
+  /**
    * Record and lines as plan, start and marks give them.
    * @param {Yard} yard @param {Orders} orders @param {BigUint64Array} plan @param {Uint8Array} marks
    * @returns {Answer & { books: Bytes }}

@@ -79,6 +79,14 @@ test('reports are answered, billed and played as document 01\'s Y7 says', () => 
   assert.ok(!books.agrees(), 'a crossing too many in a line is seen');
 });
 
+test('the placement by the marks alone is where the crossings of document 01\'s Y1 lead', () => {
+  const at = [[1, 0], [2, 0], [2, 1], [2, 3], [1, 3], [0, 3], [0, 1]];
+  at.forEach((wanted, done) => {
+    const marks = Uint8Array.from({ length: 6 }, (_, i) => (i < done ? 1 : 0));
+    assert.deepEqual([...library.placement(T, Y1, packed(Y1_PLAN), marks).at], wanted);
+  });
+}, ['sejjekoru_placement']);
+
 test('marks that do not fit are refused and change nothing', () => {
   const plan = packed(Y1_PLAN);
   const books = new Books(library, T, Y1, plan, crossingsOf(plan));
