@@ -6,6 +6,7 @@
 .POSIX:
 .SUFFIXES:
 
+CC = cc
 FROM = dist
 OUT = build/made
 PREFIX = /usr/local
@@ -20,9 +21,9 @@ VERSION = $$(sed -n 's/^.define SEJJEKORU_VERSION "\(.*\)"$$/\1/p' include/sejje
 SONAME = libsejjekoru.so.0
 
 # what a caller gets of it
-PARTS = libsejjekoru.a libsejjekoru.so.0 libsejjekoru.so lossy_line
+PARTS = libsejjekoru.a libsejjekoru.so.0 libsejjekoru.so vault lossy_line
 
-all: $(OUT)/libsejjekoru.a $(OUT)/$(SONAME) $(OUT)/libsejjekoru.so $(OUT)/lossy_line
+all: $(OUT)/libsejjekoru.a $(OUT)/$(SONAME) $(OUT)/libsejjekoru.so $(OUT)/vault $(OUT)/lossy_line
 
 $(OUT)/sejjekoru.o: $(FROM)/sejjekoru-x86_64.s $(FROM)/sejjekoru-aarch64.s
 	mkdir -p $(OUT)
@@ -42,8 +43,17 @@ $(OUT)/$(SONAME): $(OUT)/sejjekoru.o $(OUT)/version.o
 $(OUT)/libsejjekoru.so: $(OUT)/$(SONAME)
 	ln -sf $(SONAME) $@
 
+PROGRAM = program/vault.c program/desk.c program/order.c program/words.c program/file_words.c program/lines.c program/refusals.c program/files.c \
+  program/plans.c program/books.c program/reverses.c program/timed.c program/surveys.c
+# -DHAS_x for each function sejjekoru_x that the header declares
+HAS = $$(sed -n 's/^uint64_t sejjekoru_\([a-z_]*\)(.*/-DHAS_\1/p' include/sejjekoru.h)
+HEADERS = program/desk.h program/order.h program/words.h program/lines.h program/refusals.h program/files.h
+
+$(OUT)/vault: $(PROGRAM) $(HEADERS) include/sejjekoru.h $(OUT)/libsejjekoru.a
+	$(CC) $(WARNINGS) $(CFLAGS) $(LDFLAGS) -D_XOPEN_SOURCE=700 $(HAS) -Iinclude $(PROGRAM) $(OUT)/libsejjekoru.a -o $@
+
 $(OUT)/lossy_line: examples/lossy_line.c $(OUT)/libsejjekoru.a
-	$(CC) $(WARNINGS) $(CFLAGS) -Iinclude examples/lossy_line.c $(OUT)/libsejjekoru.a -o $@
+	$(CC) $(WARNINGS) $(CFLAGS) $(LDFLAGS) -Iinclude examples/lossy_line.c $(OUT)/libsejjekoru.a -o $@
 
 $(OUT)/sejjekoru.pc: include/sejjekoru.h
 	printf '%s\n' 'prefix=$(PREFIX)' 'libdir=$(LIBDIR)' 'includedir=$${prefix}/include' '' \
@@ -51,7 +61,8 @@ $(OUT)/sejjekoru.pc: include/sejjekoru.h
 	  'Cflags: -I$${includedir}' 'Libs: -L$${libdir} -lsejjekoru' >$@
 
 install: all $(OUT)/sejjekoru.pc
-	mkdir -p "$(DESTDIR)$(PREFIX)/include" "$(DESTDIR)$(LIBDIR)/pkgconfig"
+	mkdir -p "$(DESTDIR)$(PREFIX)/bin" "$(DESTDIR)$(PREFIX)/include" "$(DESTDIR)$(LIBDIR)/pkgconfig"
+	install -m 755 $(OUT)/vault "$(DESTDIR)$(PREFIX)/bin/vault"
 	install -m 644 include/sejjekoru.h "$(DESTDIR)$(PREFIX)/include/sejjekoru.h"
 	install -m 644 $(OUT)/libsejjekoru.a "$(DESTDIR)$(LIBDIR)/libsejjekoru.a"
 	install -m 755 $(OUT)/$(SONAME) "$(DESTDIR)$(LIBDIR)/$(SONAME)"

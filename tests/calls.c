@@ -152,6 +152,17 @@ static uint64_t call_report(void)
     return end(sejjekoru_report(ORDER, plan, crossings, marks, mark_count, name, &value));
 }
 
+static void call_placement(size_t room)
+{
+    static uint16_t at[300];
+    order_arguments("sejjekoru_placement");
+    LIST(plan, crossings);
+    LIST(marks, mark_count);
+    LIST(at, room);
+    POINTER(&value);
+    end(sejjekoru_placement(ORDER, plan, crossings, marks, mark_count, at, room, &value));
+}
+
 static uint64_t call_shorten(size_t room)
 {
     order_arguments("sejjekoru_shorten");
@@ -737,6 +748,7 @@ static void random_calls(void)
     call_check();
     call_slots(crossings + 1 - (roll(10) == 0 && crossings > 0 ? 2 : 0));
     call_report();
+    call_placement(starts + 1 - (roll(10) == 0 && starts > 0 ? 2 : 0));
     call_shorten(crossings);
     call_open();
     if (roll(10) == 0 && line_count > 0)
