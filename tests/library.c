@@ -468,7 +468,7 @@ static void over_the_link(void)
     holds("link: layout", sizeof link == 9248 && offsetof(sejjekoru_link, goal) == 508
           && offsetof(sejjekoru_link, cells) == 1016 && offsetof(sejjekoru_link, own) == 9208
           && offsetof(sejjekoru_link, count) == 9228 && offsetof(sejjekoru_link, line) == 9230
-          && offsetof(sejjekoru_link, phase) == 9244 && offsetof(sejjekoru_link, width) == 9246);
+          && offsetof(sejjekoru_link, phase) == 9244 && offsetof(sejjekoru_link, width) == 9247);
     told("link of zeros: piece", sejjekoru_link_piece(&link, longest, 257, &value), 17, 0);
     told("link of zeros: end", sejjekoru_link_end(&link, &value), 17, 0);
     memset(&link, 0xff, sizeof link);
