@@ -9,7 +9,8 @@
  * What the caller must ensure:
  * - each list has at least as many elements as the length after it says; a list of length 0 may be NULL;
  * - `value`, `record`, `bays` of sejjekoru_map and `link` are not NULL;
- * - what may be written (`plan` of sejjekoru_plan, `slots`, `out`, `at`, `marks` of sejjekoru_report and sejjekoru_report_billed, `*record` and `lines` of
+ * - what may be written (`plan` of sejjekoru_plan, `slots`, `out`, `at`, `*bays` and `rails` of sejjekoru_map, `start` and `goal` of
+ *   sejjekoru_scenario, `*link`, `marks` of sejjekoru_report and sejjekoru_report_billed, `*record` and `lines` of
  *   sejjekoru_open and sejjekoru_report_billed, `*value`) overlaps no other argument;
  * - lengths and numbers are 64 bits wide. A call from another language must say so: with ctypes, for instance, a plain Python int is passed as 32
  *   bits, and the upper half of a length on the stack is then whatever was there. Set `argtypes` to c_uint64 and pointers;
@@ -18,7 +19,8 @@
  * Nothing is kept between calls and nothing is allocated: threads may call at the same time, each with its own of what may be written.
  *
  * Stack, measured on x86-64 and on ARM and rounded up: sejjekoru_plan needs 820 KiB, and more than 512 KiB even for no bays; sejjekoru_shorten 345 KiB;
- * sejjekoru_agrees and sejjekoru_report_billed 40 KiB; sejjekoru_open 24 KiB; check, slots, report and placement 16 KiB; sejjekoru_compare 4 KiB. Threads with 512 KiB of stack, as some
+ * sejjekoru_agrees and sejjekoru_report_billed 40 KiB; sejjekoru_open 24 KiB; check, slots, report and placement 16 KiB; sejjekoru_compare 4 KiB; the
+ * functions on a link 24 KiB, map and scenario 16 KiB (measured on ARM). Threads with 512 KiB of stack, as some
  * systems give by default, cannot plan: give them a megabyte or more. tests/stack measures it again.
  *
  * The library of dist/ has unwind tables, so a debugger shows who called; it has no line numbers, since the prover's compiler gives none.

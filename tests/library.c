@@ -426,10 +426,10 @@ static void print_plan(void)
 }
 
 /* Document 01's own map and scenario: the yard T, carrier 0 from (1,0) to (0,0), carrier 1 from (0,0) to (1,0). */
-static const char t_map[] = "type octile\nheight 2\nwidth 3\nmap\n...\n@.@\n";
-static const char t_scenario[] = "version 1\r\n0\tt\t3\t2\t1\t0\t0\t0\t1\n1\tt\t3\t2\t0\t0\t1\t0\t1.5";
+static const char link_map[] = "type octile\nheight 2\nwidth 3\nmap\n...\n@.@\n";
+static const char link_scenario[] = "version 1\r\n0\tt\t3\t2\t1\t0\t0\t0\t1\n1\tt\t3\t2\t0\t0\t1\t0\t1.5";
 
-#define BYTES(text) (const uint8_t *)(text), strlen(text)
+#define WITH_LENGTH(text) (const uint8_t *)(text), strlen(text)
 
 static void read_files(void)
 {
@@ -438,24 +438,24 @@ static void read_files(void)
     uint16_t start[3] = {9, 9, 9};
     uint16_t goal[3] = {9, 9, 9};
     uint64_t bays = 5;
-    told("map T", sejjekoru_map(BYTES(t_map), &bays, rails, 8, &value), 0, 6);
+    told("map T", sejjekoru_map(WITH_LENGTH(link_map), &bays, rails, 8, &value), 0, 6);
     holds("map T: bays and rails", bays == 4 && memcmp(rails, t_rails, sizeof t_rails) == 0 && rails[6] == 9);
     rails[0] = 9;
-    told("map T, short", sejjekoru_map(BYTES(t_map), &bays, rails, 5, &value), 8, 6);
+    told("map T, short", sejjekoru_map(WITH_LENGTH(link_map), &bays, rails, 5, &value), 8, 6);
     holds("map T, short: nothing written", bays == 0 && rails[0] == 9);
     bays = 5;
-    told("map without a row", sejjekoru_map((const uint8_t *)t_map, strlen(t_map) - 4, &bays, rails, 8, &value), 14, 6);
+    told("map without a row", sejjekoru_map((const uint8_t *)link_map, strlen(link_map) - 4, &bays, rails, 8, &value), 14, 6);
     holds("map without a row: no bays", bays == 0);
     told("no map", sejjekoru_map(NULL, 0, &bays, NULL, 0, &value), 14, 1);
 
-    told("scenario of T", sejjekoru_scenario(BYTES(t_map), BYTES(t_scenario), start, 3, goal, 3, &value), 0, 2);
+    told("scenario of T", sejjekoru_scenario(WITH_LENGTH(link_map), WITH_LENGTH(link_scenario), start, 3, goal, 3, &value), 0, 2);
     holds("scenario of T: carriers", start[0] == 1 && start[1] == 0 && goal[0] == 0 && goal[1] == 1 && start[2] == 9);
     start[0] = 9;
-    told("scenario, short start", sejjekoru_scenario(BYTES(t_map), BYTES(t_scenario), start, 1, goal, 3, &value), 8, 2);
-    told("scenario, short goal", sejjekoru_scenario(BYTES(t_map), BYTES(t_scenario), start, 3, goal, 1, &value), 8, 2);
+    told("scenario, short start", sejjekoru_scenario(WITH_LENGTH(link_map), WITH_LENGTH(link_scenario), start, 1, goal, 3, &value), 8, 2);
+    told("scenario, short goal", sejjekoru_scenario(WITH_LENGTH(link_map), WITH_LENGTH(link_scenario), start, 3, goal, 1, &value), 8, 2);
     told("scenario, no map", sejjekoru_scenario(NULL, 0, NULL, 0, start, 3, goal, 3, &value), 14, 1);
-    told("no scenario", sejjekoru_scenario(BYTES(t_map), NULL, 0, start, 3, goal, 3, &value), 15, 1);
-    told("scenario without line 3", sejjekoru_scenario(BYTES(t_map), BYTES("version 1\n\n"), start, 3, goal, 3, &value), 15, 2);
+    told("no scenario", sejjekoru_scenario(WITH_LENGTH(link_map), NULL, 0, start, 3, goal, 3, &value), 15, 1);
+    told("scenario without line 3", sejjekoru_scenario(WITH_LENGTH(link_map), WITH_LENGTH("version 1\n\n"), start, 3, goal, 3, &value), 15, 2);
     holds("refused scenarios: nothing written", start[0] == 9 && goal[0] == 0);
 }
 
@@ -468,16 +468,16 @@ static void over_the_link(void)
     holds("link: layout", sizeof link == 9248 && offsetof(sejjekoru_link, goal) == 508
           && offsetof(sejjekoru_link, cells) == 1016 && offsetof(sejjekoru_link, own) == 9208
           && offsetof(sejjekoru_link, count) == 9228 && offsetof(sejjekoru_link, line) == 9230
-          && offsetof(sejjekoru_link, phase) == 9244 && offsetof(sejjekoru_link, width) == 9246);
+          && offsetof(sejjekoru_link, phase) == 9244 && offsetof(sejjekoru_link, width) == 9247);
     told("link of zeros: piece", sejjekoru_link_piece(&link, longest, 257, &value), 17, 0);
     told("link of zeros: end", sejjekoru_link_end(&link, &value), 17, 0);
     memset(&link, 0xff, sizeof link);
     before = link;
-    told("link, bad map", sejjekoru_link_begin(BYTES("type octile\nheight 0\n"), &link, &value), 14, 2);
+    told("link, bad map", sejjekoru_link_begin(WITH_LENGTH("type octile\nheight 0\n"), &link, &value), 14, 2);
     holds("link, bad map: as it was", memcmp(&link, &before, sizeof link) == 0);
-    told("link of T", sejjekoru_link_begin(BYTES(t_map), &link, &value), 0, 0);
-    for (i = 0; i < strlen(t_scenario); i++)
-        told("link of T: piece", sejjekoru_link_piece(&link, (const uint8_t *)t_scenario + i, 1, &value), 101, 0);
+    told("link of T", sejjekoru_link_begin(WITH_LENGTH(link_map), &link, &value), 0, 0);
+    for (i = 0; i < strlen(link_scenario); i++)
+        told("link of T: piece", sejjekoru_link_piece(&link, (const uint8_t *)link_scenario + i, 1, &value), 101, 0);
     told("link of T: nothing", sejjekoru_link_piece(&link, NULL, 0, &value), 101, 0);
     before = link;
     told("link of T: too long", sejjekoru_link_piece(&link, longest, 257, &value), 18, 0);
@@ -489,7 +489,7 @@ static void over_the_link(void)
     told("link of T: second end", sejjekoru_link_end(&link, &value), 17, 0);
     holds("link of T: after the end, as it was", memcmp(&link, &before, sizeof link) == 0);
 
-    told("link, 256 bytes", sejjekoru_link_begin(BYTES(t_map), &link, &value), 0, 0);
+    told("link, 256 bytes", sejjekoru_link_begin(WITH_LENGTH(link_map), &link, &value), 0, 0);
     told("link, 256 bytes: piece", sejjekoru_link_piece(&link, longest, 256, &value), 101, 0);
     told("link, 256 bytes: end", sejjekoru_link_end(&link, &value), 15, 1);
     memset(&link, 0xff, sizeof link);

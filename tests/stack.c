@@ -8,7 +8,7 @@
 #include <stdlib.h>
 #include <string.h>
 
-enum { STACK = 8 << 20, PAINT = 0xa5, KIB = 1024, CALLS = 10 };
+enum { STACK = 8 << 20, PAINT = 0xa5, KIB = 1024, CALLS = 15 };
 
 static uint64_t bays, plan[65536], out[65536], answer, value;
 static uint16_t rails[2048], start[254], goal[254];
@@ -20,13 +20,16 @@ static sejjekoru_line lines[254];
 static int64_t differences[254];
 static uint16_t at[254];
 static uint64_t longer;
+static sejjekoru_link over;
+static const char map[] = "type octile\nheight 1\nwidth 3\nmap\n...\n", scenario[] = "version 1\n0\tt\t3\t1\t1\t0\t0\t0\t1\n";
 
 #define ORDER bays, rails, ends, start, carriers, goal, carriers
 #define PLAN ORDER, plan, crossings
+#define BYTES(text) (const uint8_t *)text, sizeof text - 1
 
 static const char *const names[CALLS] = {"plan", "check", "slots", "report", "shorten", "open", "agrees", "report_billed",
-                                         "compare", "placement"};
-static const size_t promised[CALLS] = {820, 16, 16, 16, 345, 24, 40, 40, 4, 16}; /* KiB */
+                                         "compare", "placement", "map", "scenario", "link_begin", "link_piece", "link_end"};
+static const size_t promised[CALLS] = {820, 16, 16, 16, 345, 24, 40, 40, 4, 16, 16, 16, 24, 24, 24}; /* KiB */
 
 static void *call(void *which)
 {
@@ -41,6 +44,11 @@ static void *call(void *which)
     case 7: answer = sejjekoru_report_billed(PLAN, marks, crossings, 0, &record, lines, carriers, &value); break;
     case 8: answer = sejjekoru_compare(plan, crossings, plan, crossings, differences, 254, &longer, &value); break;
     case 9: answer = sejjekoru_placement(PLAN, marks, crossings, at, carriers, &value); break;
+    case 10: answer = sejjekoru_map(BYTES(map), &bays, rails, 2048, &value); break;
+    case 11: answer = sejjekoru_scenario(BYTES(map), BYTES(scenario), start, 254, goal, 254, &value); break;
+    case 12: answer = sejjekoru_link_begin(BYTES(map), &over, &value); break;
+    case 13: answer = sejjekoru_link_piece(&over, BYTES(scenario), &value); break;
+    case 14: answer = sejjekoru_link_end(&over, &value); break;
     default: break;
     }
     return NULL;

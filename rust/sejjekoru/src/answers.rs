@@ -166,7 +166,7 @@ impl fmt::Display for Refusal {
             Refusal::BadScenario(line) => write!(f, "line {line} of the scenario breaks its layout"),
             Refusal::BadSurvey(line) => write!(f, "line {line} of the survey breaks its layout"),
             Refusal::Ended => write!(f, "the scenario over this link has ended"),
-            Refusal::LongPiece => write!(f, "a piece has more than 256 bytes"),
+            Refusal::LongPiece => write!(f, "the piece has more than 256 bytes"),
             Refusal::Disagrees => write!(f, "record and lines are not what plan and marks give"),
             Refusal::Begun => write!(f, "a crossing of the plan is done already"),
         }
