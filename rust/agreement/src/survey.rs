@@ -82,7 +82,11 @@ fn dress(dice: &mut Dice, lines: &mut Vec<String>) {
             0 => drop(lines.remove(line)),
             1 => lines.insert(line, lines[line].clone()),
             2 => lines.swap(0, line),
-            3 => lines[line] = dice.pick(&["", " ", "p edge 3 2", "e 1 2", "e 0 1", "e 1 99999", "e 65536 65537", "e 1  2", "e 1 2 3", "p col 3 2"]).to_string(),
+            3 => {
+                lines[line] = dice
+                    .pick(&["", " ", "p edge 3 2", "e 1 2", "e 0 1", "e 1 99999", "e 65536 65537", "e 1  2", "e 1 2 3", "p col 3 2"])
+                    .to_string()
+            }
             4 => lines[line].push(' '),
             5 => lines[line].insert(0, ' '),
             _ => lines.truncate(line),

@@ -5,10 +5,7 @@ use yards::surveys::surveys;
 
 #[test]
 fn surveys_of_the_vectors() {
-    assert_eq!(
-        surveys(include_str!("../../../tests/vectors/02/dimacs.txt"), read_survey_numbers, write_survey_numbers),
-        (300, 173)
-    );
+    assert_eq!(surveys(include_str!("../../../tests/vectors/02/dimacs.txt"), read_survey_numbers, write_survey_numbers), (300, 173));
 }
 
 #[test]
