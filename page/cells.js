@@ -1,6 +1,8 @@
 // @ts-check
 // Where each bay of a map is drawn. The library says which cell is which bay: it is asked to read a scenario of one carrier that stands there.
 
+import { ACCEPTED, MISSING } from './library.js';
+
 /** @typedef {{ width: number, height: number, bayAt: Int32Array, cellOf: Uint16Array }} Cells bayAt is -1 for a wall */
 
 const text = new TextEncoder();
@@ -25,8 +27,8 @@ export function cellsOf(library, map, bays) {
     const x = cell % width;
     const y = (cell - x) / width;
     const said = library.scenario(map, text.encode(`version 1\n${carrierLine(cells, 'm', x, y, x, y)}`));
-    if (said.answer === -1) return null;
-    if (said.answer !== 0) continue;
+    if (said.answer === MISSING) return null;
+    if (said.answer !== ACCEPTED) continue;
     const bay = said.orders.start[0];
     cells.bayAt[cell] = bay;
     cells.cellOf[bay] = cell;

@@ -1,7 +1,7 @@
 // @ts-check
 // The page: what is loaded, which plan is shown, and who hears of a change.
 
-import { ACCEPTED, Library } from './library.js';
+import { ACCEPTED, Library, MISSING } from './library.js';
 import { cellWords, cellsOf, scenarioFile } from './cells.js';
 import { download, el, make, picked, radio, say, seldom } from './dom.js';
 import { billOf, kindOf, lineOf, reportsOf } from './files.js';
@@ -152,8 +152,9 @@ export class App {
     this.map = file.bytes;
     this.yard = said.yard;
     this.cells = cellsOf(this.library, file.bytes, said.yard.bays);
-    if (!this.cells) this.refuse({ answer: -1, value: 0 }, 'sejjekoru_scenario');
-    this.makePlan();
+    if (this.cells) return this.makePlan();
+    this.changed();
+    this.refuse({ answer: MISSING, value: 0 }, 'sejjekoru_scenario');
   }
 
   /** @param {Handed} file */
@@ -288,7 +289,7 @@ export class App {
     if (!this.plan?.can(this.by)) this.by = 'name';
     radio('by', this.by).checked = true;
     const second = this.plan?.second;
-    radio('by', 'train').title = second && second.answer === -1 ? 'The module in this page has no sejjekoru_slots_of.' : '';
+    radio('by', 'train').title = second && second.answer === MISSING ? 'The module in this page has no sejjekoru_slots_of.' : '';
     el('save-plan').disabled = this.plan?.printed.answer !== ACCEPTED;
     const lacks = [...this.library.missing];
     say(el('lacks'), lacks.length ? `The module in this page lacks ${lacks.join(', ')}: what needs it is switched off.` : '');
