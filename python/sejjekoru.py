@@ -19,13 +19,28 @@ keeps its libraries. Planning uses about 800 KiB of stack: see threading.stack_s
 import ctypes
 import ctypes.util
 import os
-from typing import List, NamedTuple, Optional, Sequence, Tuple
+from typing import Dict, List, NamedTuple, Optional, Sequence, Tuple
 
-__all__ = ["Order", "Crossing", "Line", "Refused", "Books", "plan", "check", "slots", "shorten", "version"]
+__all__ = [
+    "Order",
+    "Crossing",
+    "Line",
+    "Compared",
+    "Refused",
+    "Books",
+    "plan",
+    "check",
+    "slots",
+    "shorten",
+    "reverse",
+    "compare",
+    "version",
+]
 
 MOST_CROSSINGS = 65536
 _UNTOUCHED = 65536
 _ALREADY = 100
+_CARRIERS = 254
 
 _WORDS = {
     1: "the yard, the placements or the plan have a size that is not allowed",
@@ -85,6 +100,15 @@ class Line(NamedTuple):
     last: Optional[int]
 
 
+class Compared(NamedTuple):
+    """Two lists of crossings compared: how many leading ones are equal, the rest of the longer list from there on (of the first at equal length), and for
+    each carrier that has more or fewer crossings in the second list than in the first, how many."""
+
+    equal: int
+    rest: List[Crossing]
+    differences: Dict[int, int]
+
+
 class _Record(ctypes.Structure):
     _fields_ = [("at", ctypes.c_uint16 * 256), ("done", ctypes.c_uint32), ("highest", ctypes.c_uint32)]
 
@@ -135,6 +159,8 @@ _shorten = _declare("sejjekoru_shorten", *_order, *_long, *_mark, *_long, _value
 _open = _declare("sejjekoru_open", *_order, *_long, *_mark, _record, *_line, _value)
 _agrees = _declare("sejjekoru_agrees", *_order, *_long, *_mark, _record, *_line, _value)
 _report = _declare("sejjekoru_report_billed", *_order, *_long, *_mark, _number, _record, *_line, _value)
+_reverse = _declare("sejjekoru_reverse", *_long, *_long, _value)
+_compare = _declare("sejjekoru_compare", *_long, *_long, ctypes.POINTER(ctypes.c_int64), _length, _value, _value)
 _version = _library.sejjekoru_version
 _version.argtypes = ()
 _version.restype = ctypes.c_char_p
@@ -200,6 +226,26 @@ def shorten(order: Order, crossings: Sequence[Crossing]) -> List[Crossing]:
     marks, out = (ctypes.c_uint8 * len(packed))(), (ctypes.c_uint64 * len(packed))()
     words = (packed, len(packed), marks, len(packed), out, len(packed), ctypes.byref(value))
     return _unpack(out[: _told(_shorten(*_order_words(order), *words), value)])
+
+
+def reverse(crossings: Sequence[Crossing]) -> List[Crossing]:
+    """A plan played backwards: its crossings in reverse order, each from where it went to. Any crossings will do.
+
+    If a plan passes the check from start to goal, its reverse passes from goal to start. Raises Refused, 1, for more than 65,536 crossings.
+    """
+    value, packed = ctypes.c_uint64(), _pack(crossings)
+    out = (ctypes.c_uint64 * len(packed))()
+    return _unpack(out[: _told(_reverse(packed, len(packed), out, len(packed), ctypes.byref(value)), value)])
+
+
+def compare(first: Sequence[Crossing], second: Sequence[Crossing]) -> Compared:
+    """Compares two lists of crossings, legal or not. Raises Refused: 1 for a list of more than 65,536 crossings, 5 with the first carrier above 253."""
+    value, longer, one, two = ctypes.c_uint64(), ctypes.c_uint64(), _pack(first), _pack(second)
+    held = (ctypes.c_int64 * _CARRIERS)()
+    words = (one, len(one), two, len(two), held, _CARRIERS, ctypes.byref(longer), ctypes.byref(value))
+    equal = _told(_compare(*words), value)
+    rest = (two if longer.value == 2 else one)[equal:]
+    return Compared(equal, _unpack(rest), {carrier: difference for carrier, difference in enumerate(held) if difference})
 
 
 def version() -> str:

@@ -134,6 +134,10 @@ pub fn shorten(yard: Yard, plan: &[u64], marks: &[u8], room: &mut [u64]) -> Resu
 }
 
 /// Where the carriers stand, by the marks: writes the bay of each to the first places of `at`. The answer is their number.
+///
+/// # Errors
+///
+/// As [`check`]; then [`Refusal::Mismarked`]; then [`Refusal::Room`] with the number of carriers.
 pub fn placement(yard: Yard, plan: &[u64], marks: &[u8], at: &mut [u16]) -> Result<usize, Refusal> {
     told(numbers::placement(yard, plan, marks, at)).map(|carriers| carriers as usize)
 }
