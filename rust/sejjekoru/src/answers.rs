@@ -158,6 +158,10 @@ impl fmt::Display for Refusal {
             Refusal::Mismarked => write!(f, "the marks do not fit the plan"),
             Refusal::Unknown => write!(f, "no crossing of the plan has this name"),
             Refusal::Early(name) => write!(f, "crossing {name}, on which this one depends, is not done"),
+            Refusal::BadMap(line) => write!(f, "line {line} of the map breaks its layout"),
+            Refusal::BadScenario(line) => write!(f, "line {line} of the scenario breaks its layout"),
+            Refusal::Ended => write!(f, "the scenario has ended already"),
+            Refusal::LongPiece => write!(f, "a piece has more than 256 bytes"),
             Refusal::Disagrees => write!(f, "record and lines are not what plan and marks give"),
             Refusal::Begun => write!(f, "a crossing of the plan is done already"),
         }

@@ -29,8 +29,9 @@ mod raw {
 /// "more" is no refusal.
 pub const MORE: u64 = 101;
 
-/// The most bytes of a piece, and the most carriers of a scenario.
+/// The most bytes of a piece.
 pub const PIECE: usize = 256;
+/// The most carriers of a scenario.
 pub const CARRIERS: usize = 254;
 
 /// A scenario that comes over a serial link, laid out as `include/sejjekoru.h` says. After an accepted end the carriers stand in `start` and
@@ -38,7 +39,9 @@ pub const CARRIERS: usize = 254;
 #[repr(C)]
 #[derive(Clone, Debug, PartialEq, Eq)]
 pub struct Link {
+    /// The bay of each carrier at the start.
     pub start: [u16; CARRIERS],
+    /// The bay of each carrier at the goal.
     pub goal: [u16; CARRIERS],
     cells: [u16; 4096],
     own: [u32; 5],
@@ -59,6 +62,7 @@ impl Default for Link {
 
 /// The calls with the answer as the library tells it. `value` begins as a number that no answer has.
 impl Link {
+    /// As [`Link::begin`].
     pub fn begin_told(&mut self, map: &[u8]) -> (u64, u64) {
         let mut value = u64::MAX;
         // SAFETY: the pointer comes with its own slice's length, and what is written is borrowed alone.
@@ -66,6 +70,7 @@ impl Link {
         (number, value)
     }
 
+    /// As [`Link::piece`].
     pub fn piece_told(&mut self, piece: &[u8]) -> (u64, u64) {
         let mut value = u64::MAX;
         // SAFETY: as in `begin_told`.
@@ -73,6 +78,7 @@ impl Link {
         (number, value)
     }
 
+    /// As [`Link::end`].
     pub fn end_told(&mut self) -> (u64, u64) {
         let mut value = u64::MAX;
         // SAFETY: as in `begin_told`.
@@ -107,6 +113,7 @@ pub fn map_told(map: &[u8], rails: &mut [u16]) -> (u64, u64, u64) {
     (number, value, bays)
 }
 
+/// Number and value, as the library tells them.
 pub fn scenario_told(map: &[u8], scenario: &[u8], start: &mut [u16], goal: &mut [u16]) -> (u64, u64) {
     let mut value = u64::MAX;
     // SAFETY: as in `map_told`.

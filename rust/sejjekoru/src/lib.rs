@@ -44,8 +44,8 @@ pub use bills::{Line, Record, UNTOUCHED};
 pub use books::{plan_vec, reverse_vec, Books};
 pub use compare::{compare, compare_numbers, Compared};
 pub use crossing::{Bay, Carrier, Crossing};
-pub use reverse::reverse;
 pub use files::Link;
+pub use reverse::reverse;
 
 use answers::{reported, told};
 
