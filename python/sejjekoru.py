@@ -56,6 +56,10 @@ _WORDS = {
     11: "the marks do not fit the plan",
     12: "no crossing of the plan has this name",
     13: "crossing {}, on which this one depends, is not done",
+    14: "line {} of the map breaks its layout",
+    15: "line {} of the scenario breaks its layout",
+    17: "the scenario has ended already",
+    18: "a piece has more than 256 bytes",
     19: "record and lines are not what plan and marks give",
     25: "a crossing of the plan is done already",
 }

@@ -260,6 +260,10 @@ fn refusals_in_words() {
         Refusal::Mismarked,
         Refusal::Unknown,
         Refusal::Early(41),
+        Refusal::BadMap(41),
+        Refusal::BadScenario(41),
+        Refusal::Ended,
+        Refusal::LongPiece,
         Refusal::Disagrees,
         Refusal::Begun,
     ];
