@@ -11,6 +11,7 @@ extern "C" {
 /// What reading a file answers.
 #[derive(Clone, Copy, Debug, PartialEq, Eq, Hash)]
 pub struct Surveyed {
+    /// The number of bays.
     pub bays: u64,
     /// How many rail ends were written.
     pub ends: usize,
