@@ -1,0 +1,4 @@
+pub mod Meeting
+pub mod Lowest
+pub mod Rolling
+pub mod Trains
