@@ -2,3 +2,4 @@ pub mod Meeting
 pub mod Lowest
 pub mod Rolling
 pub mod Trains
+pub mod OnePass

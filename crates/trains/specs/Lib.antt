@@ -1,3 +1,4 @@
 pub mod Slots
 pub mod Rules
 pub mod Rolling
+pub mod OnePass
