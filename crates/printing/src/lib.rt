@@ -13,7 +13,7 @@ ghost use Rattle.stores.specs.Writing.{Wrote};
 ghost use Rattle.printing.specs.Parts.{named, actionLines, handed};
 
 // A text; answers the place after it.
-fn put_text(out: &mut [u8], at: usize, text: &[u8]) -> usize
+pub fn put_text(out: &mut [u8], at: usize, text: &[u8]) -> usize
     requires { ⌜ at + length (now text) < 2 ^ 63 ⌝ }
     ensures { λ r. ⌜ Wrote (now (out .entry)) at (now (text .entry)) (now (out .exit)) r ⌝ }
 {
@@ -26,7 +26,7 @@ fn put_text(out: &mut [u8], at: usize, text: &[u8]) -> usize
 }
 
 // A number's digits, the higher ones first.
-fn put_number(out: &mut [u8], at: usize, n: u64) -> usize
+pub fn put_number(out: &mut [u8], at: usize, n: u64) -> usize
     requires { ⌜ at + 20 < 2 ^ 63 ⌝ }
     ensures { λ r. ⌜ Wrote (now (out .entry)) at (decimal n) (now (out .exit)) r ⌝ }
 {
@@ -40,7 +40,7 @@ fn put_number(out: &mut [u8], at: usize, n: u64) -> usize
 }
 
 // A text and a number behind it.
-fn put_named(out: &mut [u8], at: usize, text: &[u8], n: u64) -> usize
+pub fn put_named(out: &mut [u8], at: usize, text: &[u8], n: u64) -> usize
     requires { ⌜ at + length (now text) + 20 < 2 ^ 63 ⌝ }
     ensures { λ r. ⌜ Wrote (now (out .entry)) at (named (now (text .entry)) n) (now (out .exit)) r ⌝ }
 {
@@ -60,7 +60,7 @@ fn action(out: &mut [u8], at: usize, x: Crossing) -> usize
 }
 
 // The comment behind the actions.
-fn cost(out: &mut [u8], at: usize, n: u64) -> usize
+pub fn cost(out: &mut [u8], at: usize, n: u64) -> usize
     requires { ⌜ at + 100 < 2 ^ 63 ⌝ }
     ensures { λ r. ⌜ Wrote (now (out .entry)) at (ended (costLine n ∷ [])) (now (out .exit)) r ⌝ }
 {
