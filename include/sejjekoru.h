@@ -55,6 +55,7 @@ enum {
     SEJJEKORU_UNKNOWN = 12,   /* 0 */
     SEJJEKORU_EARLY = 13,     /* the lowest undone name that it depends on */
     SEJJEKORU_DISAGREES = 19, /* 0; record and lines are not what plan, start and marks give */
+    SEJJEKORU_EDITION = 20,   /* 0; slots have two editions, 1 and 2 */
     SEJJEKORU_BEGUN = 25,     /* 0; some crossing of the plan to be shortened is done */
     SEJJEKORU_ALREADY = 100   /* 0; a report of a crossing that is done */
 };
@@ -179,6 +180,20 @@ uint64_t sejjekoru_report_billed(uint64_t bays,
                                  sejjekoru_record *record,
                                  sejjekoru_line *lines, size_t lines_len,
                                  uint64_t *value);
+
+/*
+ * As sejjekoru_slots, by the edition that the caller names, 1 or 2; another number is refused before all else. Edition 1 is sejjekoru_slots, by
+ * which reports and bills go on. By edition 2 a carrier may roll into a bay in the slot in which another rolls out: all crossings of a slot are done at
+ * once. Answers 0 to 6, 8, 9, 10, 20.
+ */
+uint64_t sejjekoru_slots_of(uint64_t edition,
+                            uint64_t bays,
+                            const uint16_t *rails, size_t rails_len,
+                            const uint16_t *start, size_t start_len,
+                            const uint16_t *goal, size_t goal_len,
+                            const uint64_t *plan, size_t plan_len,
+                            uint32_t *slots, size_t slots_len,
+                            uint64_t *value);
 
 #ifdef __cplusplus
 }

@@ -1,2 +1,3 @@
 pub mod Statements
 pub mod Bills
+pub mod ByEdition

@@ -1,5 +1,7 @@
 // The library for C: each function hands its arguments to a proved one and tells the answer by two numbers, document 01's own and the value
 // that goes with it. include/sejjekoru.h declares them.
+mod by_edition;
+
 ghost use Rattle.sejjekoru.specs.Statements.{PlanTells, CheckTells, SlotsTell, ReportTells, ShortenTells};
 ghost use Rattle.sejjekoru.specs.Bills.{OpenOn, AgreesOn, ReportOn, OpenTells, AgreesTells, ReportBilledTells};
 use bills::Line;

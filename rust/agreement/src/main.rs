@@ -9,6 +9,7 @@ mod lent;
 mod orders;
 mod plans;
 mod tally;
+mod trains;
 
 use lent::Asked;
 use tally::Tally;
@@ -22,6 +23,7 @@ fn main() {
     tallies.push(planning());
     tallies.extend(plan_by_plan());
     tallies.push(shortening());
+    tallies.push(trains::slots_of());
     tallies.extend(bills::one_by_one());
     tallies.push(bills::runs());
     if let Some(program) = std::env::args().nth(1) {

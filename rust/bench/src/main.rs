@@ -6,21 +6,24 @@ mod plans;
 mod reports;
 mod shortening;
 mod timing;
+mod trains;
 
 use sejjekoru::Yard;
 use yards::Order;
 
-/// With the argument `shortening` or `bills` that table alone.
+/// With the argument `shortening`, `bills` or `trains` that table alone.
 fn main() {
     match std::env::args().nth(1).as_deref() {
         Some("shortening") => return shortening::tables(),
         Some("bills") => return bills::tables(),
+        Some("trains") => return trains::tables(),
         _ => {}
     }
     plans::tables();
     reports::tables();
     shortening::tables();
     bills::tables();
+    trains::tables();
 }
 
 fn yard(order: &Order) -> Yard<'_> {

@@ -22,6 +22,7 @@ pub enum Refusal {
     Early(u64),
     Map(u64),
     Scenario(u64),
+    Edition,
 }
 
 impl Refusal {
@@ -43,6 +44,7 @@ impl Refusal {
             Refusal::Early(name) => (13, Some(name)),
             Refusal::Map(line) => (14, Some(line)),
             Refusal::Scenario(line) => (15, Some(line)),
+            Refusal::Edition => (20, None),
         }
     }
 }

@@ -34,6 +34,8 @@ pub enum Refusal {
     Early(u64),
     /// 19: record and lines are not those of this plan, start and marks.
     Disagrees,
+    /// 20: slots have two editions, 1 and 2.
+    Edition,
     /// 25: a crossing of the plan to be shortened is done.
     Begun,
 }
@@ -76,13 +78,14 @@ pub(crate) fn told((number, value): (u64, u64)) -> Result<u64, Refusal> {
         12 => Refusal::Unknown,
         13 => Refusal::Early(value),
         19 => Refusal::Disagrees,
+        20 => Refusal::Edition,
         25 => Refusal::Begun,
         _ => unreachable!("the library is proved to answer no other number"),
     })
 }
 
 impl Refusal {
-    /// The number in document 01's table; 19 and 25 are document 02's.
+    /// The number in document 01's table; 19, 20 and 25 are document 02's.
     pub fn number(self) -> u64 {
         match self {
             Refusal::Size => 1,
@@ -99,6 +102,7 @@ impl Refusal {
             Refusal::Unknown => 12,
             Refusal::Early(_) => 13,
             Refusal::Disagrees => 19,
+            Refusal::Edition => 20,
             Refusal::Begun => 25,
         }
     }
@@ -106,7 +110,13 @@ impl Refusal {
     /// What it carries, if anything.
     pub fn carried(self) -> Option<u64> {
         match self {
-            Refusal::Size | Refusal::Crowd | Refusal::Mismarked | Refusal::Unknown | Refusal::Disagrees | Refusal::Begun => None,
+            Refusal::Size
+            | Refusal::Crowd
+            | Refusal::Mismarked
+            | Refusal::Unknown
+            | Refusal::Disagrees
+            | Refusal::Edition
+            | Refusal::Begun => None,
             Refusal::Apart(bay) => Some(u64::from(bay.0)),
             Refusal::Start(c) | Refusal::Goal(c) | Refusal::Stopped(c) | Refusal::Missed(c) => Some(u64::from(c.0)),
             Refusal::Rail(v) | Refusal::Room(v) | Refusal::Illegal(v) | Refusal::Early(v) => Some(v),

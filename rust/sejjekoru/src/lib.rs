@@ -7,10 +7,12 @@ mod bills;
 mod crossing;
 pub mod numbers;
 pub mod raw;
+pub mod trains;
 
 pub use answers::{Refusal, Reported};
 pub use bills::{Line, Record, UNTOUCHED};
 pub use crossing::{Bay, Carrier, Crossing};
+pub use trains::slots_of;
 
 use answers::{reported, told};
 

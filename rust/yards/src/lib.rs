@@ -1,5 +1,6 @@
 //! Yards with starts and goals, made from fixed seeds: what the agreement and the bench put in. And the vectors of planning.
 
+pub mod editions;
 pub mod vectors;
 
 /// Numbers that look random and are the same at every run (splitmix64).
