@@ -195,6 +195,19 @@ uint64_t sejjekoru_slots_of(uint64_t edition,
                             uint32_t *slots, size_t slots_len,
                             uint64_t *value);
 
+/*
+ * All that the program prints with --timed for the bytes of a map file and a scenario file: one line `T: (move cC bA bB) [1]` for each crossing, T its
+ * slot by the edition less one, then the cost; or one line `; refused N`, 20 before any file is looked at. `map_read` and `scenario_read` are 0 where
+ * the file could not be read; the plan is shortened where `shorten` is not 0. The print is written to the first places of `out` whole, with its length
+ * as the value, or not at all: then the answer is 8 with the bytes that it takes. Answers 0 and 8.
+ */
+uint64_t sejjekoru_program_timed(uint64_t edition,
+                                 const uint8_t *map, size_t map_len, uint64_t map_read,
+                                 const uint8_t *scenario, size_t scenario_len, uint64_t scenario_read,
+                                 uint64_t shorten,
+                                 uint8_t *out, size_t out_len,
+                                 uint64_t *value);
+
 #ifdef __cplusplus
 }
 #endif

@@ -1,4 +1,4 @@
-//! Slots by either edition: 1 is [`crate::slots`], by which reports and bills go on, and 2 lets a carrier roll into a bay in the slot in which
+//! Slots by either edition, and the timed plan. Edition 1 is [`crate::slots`], by which reports and bills go on, and 2 lets a carrier roll into a bay in the slot in which
 //! another rolls out.
 
 use crate::answers::told;
@@ -20,6 +20,44 @@ extern "C" {
         slots_len: usize,
         value: *mut u64,
     ) -> u64;
+
+    pub fn sejjekoru_program_timed(
+        edition: u64,
+        map: *const u8,
+        map_len: usize,
+        map_read: u64,
+        scenario: *const u8,
+        scenario_len: usize,
+        scenario_read: u64,
+        shorten: u64,
+        out: *mut u8,
+        out_len: usize,
+        value: *mut u64,
+    ) -> u64;
+}
+
+/// All that the program prints with `--timed`, for two files' bytes (none where a file could not be read), to the first places of `out`. The answer is
+/// its length; or 8 with the bytes that it takes, and nothing is written.
+pub fn program_timed(edition: u64, map: Option<&[u8]>, scenario: Option<&[u8]>, shorten: bool, out: &mut [u8]) -> Result<usize, Refusal> {
+    let (map_bytes, scenario_bytes) = (map.unwrap_or(&[]), scenario.unwrap_or(&[]));
+    let mut value = u64::MAX;
+    // SAFETY: as in `numbers`.
+    let number = unsafe {
+        sejjekoru_program_timed(
+            edition,
+            map_bytes.as_ptr(),
+            map_bytes.len(),
+            map.is_some() as u64,
+            scenario_bytes.as_ptr(),
+            scenario_bytes.len(),
+            scenario.is_some() as u64,
+            shorten as u64,
+            out.as_mut_ptr(),
+            out.len(),
+            &mut value,
+        )
+    };
+    told((number, value)).map(|written| written as usize)
 }
 
 /// The answer as the library tells it: number and value.
