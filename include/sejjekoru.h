@@ -63,6 +63,7 @@ enum {
     SEJJEKORU_LONG_PIECE = 18, /* 0; a piece of a scenario has more than 256 bytes */
     SEJJEKORU_SURVEY = 16,    /* the first line of a surveyors' file that breaks its layout or is missing, from 1 */
     SEJJEKORU_DISAGREES = 19, /* 0; record and lines are not what plan, start and marks give */
+    SEJJEKORU_EDITION = 20,   /* 0; slots have two editions, 1 and 2 */
     SEJJEKORU_BEGUN = 25,     /* 0; some crossing of the plan to be shortened is done */
     SEJJEKORU_BAD_PLAN = 26,  /* the first bad line of a printed plan */
     SEJJEKORU_BAD_REPORTS = 27, /* the first bad line of a file of reports */
@@ -357,6 +358,33 @@ uint64_t sejjekoru_write_survey(uint64_t bays,
                                 const uint16_t *rails, size_t rails_len,
                                 uint8_t *out, size_t out_len,
                                 uint64_t *value);
+
+/*
+ * As sejjekoru_slots, by the edition that the caller names, 1 or 2; another number is refused before all else. Edition 1 is sejjekoru_slots, by
+ * which reports and bills go on. By edition 2 a carrier may roll into a bay in the slot in which another rolls out: all crossings of a slot are done at
+ * once. Answers 0 to 6, 8, 9, 10, 20.
+ */
+uint64_t sejjekoru_slots_of(uint64_t edition,
+                            uint64_t bays,
+                            const uint16_t *rails, size_t rails_len,
+                            const uint16_t *start, size_t start_len,
+                            const uint16_t *goal, size_t goal_len,
+                            const uint64_t *plan, size_t plan_len,
+                            uint32_t *slots, size_t slots_len,
+                            uint64_t *value);
+
+/*
+ * All that the program prints with --timed for the bytes of a map file and a scenario file: one line `T: (move cC bA bB) [1]` for each crossing, T its
+ * slot by the edition less one, then the cost; or one line `; refused N`, 20 before any file is looked at. `map_read` and `scenario_read` are 0 where
+ * the file could not be read; the plan is shortened where `shorten` is not 0. The print is written to the first places of `out` whole, with its length
+ * as the value, or not at all: then the answer is 8 with the bytes that it takes. Answers 0 and 8.
+ */
+uint64_t sejjekoru_program_timed(uint64_t edition,
+                                 const uint8_t *map, size_t map_len, uint64_t map_read,
+                                 const uint8_t *scenario, size_t scenario_len, uint64_t scenario_read,
+                                 uint64_t shorten,
+                                 uint8_t *out, size_t out_len,
+                                 uint64_t *value);
 
 #ifdef __cplusplus
 }

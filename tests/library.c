@@ -586,6 +586,25 @@ static void survey(void)
     holds("survey: canonical", memcmp(out, canonical, sizeof canonical - 1) == 0 && out[sizeof canonical - 1] == '?');
 }
 
+/* Y5 by both editions: in the second, carrier 0 rolls into bay 1 in the slot in which carrier 1 rolls out. 20 comes before 1, and 8 after the check. */
+static void editions(void)
+{
+    const uint16_t rails[8] = {0, 1, 1, 2, 2, 3, 3, 0};
+    const uint16_t start[2] = {0, 1};
+    const uint16_t goal[2] = {1, 2};
+    const uint64_t plan[2] = {0x100010002, 0x000000001};
+    uint32_t slots[3] = {9, 9, 9};
+    told("edition 0", sejjekoru_slots_of(0, 4, rails, 8, start, 2, goal, 2, plan, 2, slots, 3, &value), SEJJEKORU_EDITION, 0);
+    told("20 before 1", sejjekoru_slots_of(3, 1, NULL, 0, NULL, 0, NULL, 0, NULL, 0, NULL, 0, &value), SEJJEKORU_EDITION, 0);
+    told("1", sejjekoru_slots_of(2, 1, NULL, 0, NULL, 0, NULL, 0, NULL, 0, NULL, 0, &value), SEJJEKORU_SIZE, 0);
+    told("8", sejjekoru_slots_of(2, 4, rails, 8, start, 2, goal, 2, plan, 2, slots, 1, &value), SEJJEKORU_ROOM, 2);
+    holds("a refusal changes no slot", slots[0] == 9 && slots[1] == 9 && slots[2] == 9);
+    told("edition 1", sejjekoru_slots_of(1, 4, rails, 8, start, 2, goal, 2, plan, 2, slots, 3, &value), 0, 2);
+    holds("the first edition", slots[0] == 1 && slots[1] == 2 && slots[2] == 9);
+    told("edition 2", sejjekoru_slots_of(2, 4, rails, 8, start, 2, goal, 2, plan, 2, slots, 3, &value), 0, 2);
+    holds("the second edition", slots[0] == 1 && slots[1] == 1 && slots[2] == 9);
+}
+
 int main(void)
 {
     nothing(0, 1, 0);
@@ -605,6 +624,7 @@ int main(void)
     backwards();
     read_files();
     over_the_link();
+    editions();
     holds("the library's version is the header's", strcmp(sejjekoru_version(), SEJJEKORU_VERSION) == 0);
     compare();
     placement();

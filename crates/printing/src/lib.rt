@@ -26,7 +26,7 @@ pub fn put_text(out: &mut [u8], at: usize, text: &[u8]) -> usize
 }
 
 // A number's digits, the higher ones first.
-fn put_number(out: &mut [u8], at: usize, n: u64) -> usize
+pub fn put_number(out: &mut [u8], at: usize, n: u64) -> usize
     requires { ⌜ at + 20 < 2 ^ 63 ⌝ }
     ensures { λ r. ⌜ Wrote (now (out .entry)) at (decimal n) (now (out .exit)) r ⌝ }
 {
@@ -60,7 +60,7 @@ fn action(out: &mut [u8], at: usize, x: Crossing) -> usize
 }
 
 // The comment behind the actions.
-fn cost(out: &mut [u8], at: usize, n: u64) -> usize
+pub fn cost(out: &mut [u8], at: usize, n: u64) -> usize
     requires { ⌜ at + 100 < 2 ^ 63 ⌝ }
     ensures { λ r. ⌜ Wrote (now (out .entry)) at (ended (costLine n ∷ [])) (now (out .exit)) r ⌝ }
 {

@@ -79,7 +79,7 @@ pub fn program(map: &[u8], mapped: bool, scenario: &[u8], listed: bool, out: &mu
 }
 
 // The plan without its there-and-back trips, in the other list. None of it is done, and there is room for all of it, so that it is never refused.
-fn shorten_planned(
+pub fn shorten_planned(
     answer: Planned,
     bays: u64,
     ends: &[u16],

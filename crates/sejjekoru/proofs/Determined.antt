@@ -9,6 +9,7 @@ use Rattle.bills.specs.declared.Line.{Line}
 use Rattle.bills.specs.declared.Record.{Record}
 use Rattle.sejjekoru.specs.Bills.{OpenTells, AgreesTells, ReportBilledTells}
 use Rattle.sejjekoru.specs.Reverse.{ReverseTells}
+use Rattle.sejjekoru.specs.ByEdition.{SlotsOfTell}
 use Rattle.numbers.specs.Tells.{Tells}
 use Rattle.sejjekoru.specs.Statements.{TellsAndLeaves, PlanTells, CheckTells, SlotsTell, ReportTells, ShortenTells}
 
@@ -33,6 +34,9 @@ module _ (n : ℕ) (ends : List Bay) (starts goals : Placement) where
 
   pub slots-determined : (crossed slots : List ℕ) → Determined (Paired (SlotsTell n ends starts goals crossed slots))
   slots-determined crossed slots = left-determined
+
+  pub slots-of-determined : (crossed : List ℕ) (edition : ℕ) (slots : List ℕ) → Determined (Paired (SlotsOfTell n ends starts goals crossed edition slots))
+  slots-of-determined crossed edition slots = left-determined
 
   pub report-determined : (crossed marks : List ℕ) (name : ℕ) → Determined (Paired (ReportTells n ends starts goals crossed marks name))
   report-determined crossed marks name = left-determined

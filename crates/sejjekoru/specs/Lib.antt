@@ -7,3 +7,4 @@ pub mod Whole
 pub mod Files
 pub mod Serial
 pub mod Surveys
+pub mod ByEdition

@@ -3,6 +3,7 @@
 
 use crate::books::Books;
 use reference::Job;
+use sejjekoru::trains::sejjekoru_slots_of;
 use sejjekoru::{ask, Line, Record};
 use std::cell::Cell;
 use std::fmt::Debug;
@@ -160,6 +161,25 @@ impl<'a> Asked<'a> {
         let told = unsafe { ask!(sejjekoru_slots, lists, [lent], [slots]) };
         let kept = self.kept(&lists) && lent.is(plan) && slots.is(&expected);
         self.agreed("slots", told, answer, kept, &(room, plan))
+    }
+
+    /// The number, and the slots where they were written.
+    pub fn slots_of(&self, edition: u64, plan: &[u64], room: usize) -> (u64, Vec<u32>) {
+        let Order { bays, rails, start, goal } = self.order;
+        let mut expected = vec![u32::GUARD; room];
+        let answer = reference::slots_of(edition, *bays, rails, start, goal, plan, &mut expected);
+        let (lists, lent, slots) = (self.lists(), Lent::new(plan), Lent::room(room));
+        let (Lists { bays, rails, start, goal }, mut value) = (&lists, u64::MAX);
+        let (rails, start, goal) = ((rails.as_ptr(), rails.len()), (start.as_ptr(), start.len()), (goal.as_ptr(), goal.len()));
+        // SAFETY: as in `plan`.
+        let number = unsafe {
+            let (plan, slots) = ((lent.as_ptr(), lent.len()), (slots.as_ptr(), slots.len()));
+            sejjekoru_slots_of(
+                edition, *bays, rails.0, rails.1, start.0, start.1, goal.0, goal.1, plan.0, plan.1, slots.0, slots.1, &mut value,
+            )
+        };
+        let kept = self.kept(&lists) && lent.is(plan) && slots.is(&expected);
+        (self.agreed("slots of", (number, value), answer, kept, &(edition, room, plan)), expected)
     }
 
     pub fn report(&self, plan: &[u64], marks: &[u8], name: u64) -> u64 {

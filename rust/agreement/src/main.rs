@@ -15,6 +15,7 @@ mod readback;
 mod reverse;
 mod survey;
 mod tally;
+mod trains;
 
 use lent::Asked;
 use tally::Tally;
@@ -29,6 +30,7 @@ fn main() {
     tallies.push(planning());
     tallies.extend(plan_by_plan());
     tallies.push(shortening());
+    tallies.push(trains::slots_of());
     tallies.extend(bills::one_by_one());
     tallies.push(bills::runs());
     tallies.push(compare::run());

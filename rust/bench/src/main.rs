@@ -8,6 +8,7 @@ mod reports;
 mod reversing;
 mod shortening;
 mod timing;
+mod trains;
 
 use sejjekoru::Yard;
 use yards::Order;
@@ -19,6 +20,7 @@ fn main() {
         Some("bills") => return bills::tables(),
         Some("compare") => return compare::tables(),
         Some("reversing") => return reversing::table(),
+        Some("trains") => return trains::tables(),
         _ => {}
     }
     plans::tables();
@@ -27,6 +29,7 @@ fn main() {
     bills::tables();
     compare::tables();
     reversing::table();
+    trains::tables();
 }
 
 fn yard(order: &Order) -> Yard<'_> {

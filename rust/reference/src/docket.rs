@@ -23,6 +23,7 @@ pub enum Refusal {
     Map(u64),
     Scenario(u64),
     Survey(u64),
+    Edition,
 }
 
 impl Refusal {
@@ -45,6 +46,7 @@ impl Refusal {
             Refusal::Map(line) => (14, Some(line)),
             Refusal::Scenario(line) => (15, Some(line)),
             Refusal::Survey(line) => (16, Some(line)),
+            Refusal::Edition => (20, None),
         }
     }
 }

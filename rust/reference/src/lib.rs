@@ -20,12 +20,14 @@ mod reverse;
 mod search;
 mod shorten;
 mod survey;
+mod trains;
 mod yard;
 
 pub use bills::{Job, Line, Record, UNTOUCHED};
 pub use files::{program, program_short};
 pub use readback::{read_plan, read_reports};
 pub use reverse::reverse;
+pub use trains::all_at_once;
 
 use bills::Billed;
 use docket::{docket, ACCEPTED, ALREADY, BEGUN, DISAGREES};
@@ -44,6 +46,11 @@ pub fn check(bays: u64, rails: &[u16], start: &[u16], goal: &[u16], plan: &[u64]
 /// Writes each crossing's slot; the value of an acceptance is how many were written.
 pub fn slots(bays: u64, rails: &[u16], start: &[u16], goal: &[u16], plan: &[u64], slots: &mut [u32]) -> (u64, u64) {
     docket(log::slots(bays, rails, start, goal, plan, slots).map(|length| (ACCEPTED, length)))
+}
+
+/// Writes each crossing's slot by the edition, 1 or 2; the value of an acceptance is how many were written.
+pub fn slots_of(edition: u64, bays: u64, rails: &[u16], start: &[u16], goal: &[u16], plan: &[u64], slots: &mut [u32]) -> (u64, u64) {
+    docket(trains::slots_of(edition, bays, rails, start, goal, plan, slots).map(|length| (ACCEPTED, length)))
 }
 
 /// Reports the crossing that bears `name` as done.

@@ -44,6 +44,8 @@ pub enum Refusal {
     BadSurvey(u64),
     /// 19: record and lines are not those of this plan, start and marks.
     Disagrees,
+    /// 20: slots have two editions, 1 and 2.
+    Edition,
     /// 25: a crossing of the plan to be shortened is done.
     Begun,
 }
@@ -91,6 +93,7 @@ pub(crate) fn told((number, value): (u64, u64)) -> Result<u64, Refusal> {
         18 => Refusal::LongPiece,
         16 => Refusal::BadSurvey(value),
         19 => Refusal::Disagrees,
+        20 => Refusal::Edition,
         25 => Refusal::Begun,
         _ => unreachable!("the library is proved to answer no other number"),
     })
@@ -127,6 +130,7 @@ impl Refusal {
             Refusal::LongPiece => 18,
             Refusal::BadSurvey(_) => 16,
             Refusal::Disagrees => 19,
+            Refusal::Edition => 20,
             Refusal::Begun => 25,
         }
     }
@@ -135,7 +139,7 @@ impl Refusal {
     pub fn carried(self) -> Option<u64> {
         match self {
             Refusal::Size | Refusal::Crowd | Refusal::Mismarked | Refusal::Unknown => None,
-            Refusal::Ended | Refusal::LongPiece | Refusal::Disagrees | Refusal::Begun => None,
+            Refusal::Ended | Refusal::LongPiece | Refusal::Disagrees | Refusal::Edition | Refusal::Begun => None,
             Refusal::Apart(bay) => Some(u64::from(bay.0)),
             Refusal::Start(c) | Refusal::Goal(c) | Refusal::Stopped(c) | Refusal::Missed(c) => Some(u64::from(c.0)),
             Refusal::Rail(v) | Refusal::Room(v) | Refusal::Illegal(v) | Refusal::Early(v) => Some(v),
@@ -168,6 +172,7 @@ impl fmt::Display for Refusal {
             Refusal::Ended => write!(f, "the scenario over this link has ended"),
             Refusal::LongPiece => write!(f, "the piece has more than 256 bytes"),
             Refusal::Disagrees => write!(f, "record and lines are not what plan and marks give"),
+            Refusal::Edition => write!(f, "slots have editions 1 and 2 and no other"),
             Refusal::Begun => write!(f, "a crossing of the plan is done already"),
         }
     }

@@ -39,6 +39,7 @@ pub mod prints;
 pub mod raw;
 mod reverse;
 mod survey;
+pub mod trains;
 
 pub use answers::{Refusal, Reported};
 pub use bills::{Line, Record, UNTOUCHED};
@@ -49,6 +50,7 @@ pub use crossing::{Bay, Carrier, Crossing};
 pub use files::Link;
 pub use reverse::reverse;
 pub use survey::{read_survey, read_survey_numbers, write_survey, write_survey_numbers, Surveyed};
+pub use trains::slots_of;
 
 use answers::{reported, told};
 

@@ -1,6 +1,7 @@
 //! Yards with starts and goals, made from fixed seeds: what the agreement and the bench put in. And the vectors of planning.
 
 pub mod compares;
+pub mod editions;
 pub mod surveys;
 pub mod vectors;
 

@@ -1,0 +1,104 @@
+-- Why every plan handed on fits the tables of slots: it passes the check, and so does what shortening leaves of it.
+use mathlib.Core.Path.{_≡_, refl, sym, _∙_, ap}
+use mathlib.Core.List.{List, map}
+use mathlib.Core.Bool.{Bool, true, false}
+use mathlib.Core.Option.{Option, none}
+use Prim.Native.Nat.{ℕ, _<_, _≤_}
+use native.Mathlib.Omega.{arith}
+use lib.ListN.{length, take, getD, length-map}
+use Rattle.paper.specs.Yard.{Bay, Placement, Crossing, pack, unpack, crossings, named}
+use Rattle.paper.specs.Answers.{Answer, accepted, refused, plan, check}
+use Rattle.paper.specs.OnePass.{Fits}
+use Rattle.paper.specs.Program.{programAnswer, program-room}
+use Rattle.paper.proofs.Tests.{never}
+use Rattle.paper.proofs.Packing.{named-is}
+use Rattle.paper.proofs.Handing.{handed-passes, check-fits}
+use Rattle.docket.specs.declared.Refusal.{Refusal}
+use Rattle.docket.specs.Reading.{refusalOf}
+use Rattle.planner.specs.declared.Planned.{Planned}
+use Rattle.planner.specs.declared.Planned.the-variants.{Accepted, Refused}
+use Rattle.planner.specs.Statement.{long, told, plannedOf}
+use Rattle.program.specs.Printout.{Within, Handed}
+use Rattle.program.specs.Short.{shortAnswer, PlannedIn, ShortIn}
+use Rattle.program.proofs.Telling.{by-answer}
+use Rattle.trips.specs.Trips.{shorten}
+use Rattle.trips.proofs.Shortened.{shortened-passes}
+use Rattle.paper.specs.Text.{Text}
+use Rattle.paper.specs.Docket.{edition}
+use Rattle.docket.specs.declared.Verdict.{Verdict}
+use Rattle.editions.specs.Editions.{isKnown}
+use Rattle.timed.specs.Timed.{shortOr, printedTimed, programTimed}
+use Rattle.timed.specs.Handing.{Slottable, Ready, TimedSays, HandsOver}
+
+-- lists that read as the same crossings fit the same tables
+fits-same : (a b : List ℕ) → crossings a ≡ crossings b → Fits 256 256 b → Fits 256 256 a
+fits-same a b e f i h =
+    let la = length-map a unpack in
+    let lb = length-map b unpack in
+    let le = ap length e in
+    let same : unpack (getD a i 0) ≡ unpack (getD b i 0) = sym (named-is a i) ∙ ap (λ l. named l i) e ∙ named-is b i in
+    rw same (f i (omega arith))
+
+-- a refusal has no plan to fit
+pub refused-ready : (d : Refusal) (list : List ℕ) → length list ≡ program-room → Ready (refused (refusalOf d)) (Refused d) list
+refused-ready d list h = record {
+  handed = record { tells = refl; stands = λ xs q. never (cc) };
+  slottable = record {
+    within = record { inside = λ m q. never (cc); few = omega arith };
+    sized = omega arith;
+    fits = λ m q. never (cc);
+  };
+}
+
+module _ {n : ℕ} {ends : List Bay} {s g : Placement} {r : Planned} {list : List ℕ} where
+  pub plain-ready : PlannedIn n ends s g r list → Ready (plan n ends s g program-room) r list
+  plain-ready p = record {
+    handed = p .handed;
+    slottable = record {
+      within = p .within;
+      sized = omega (arith, p .sized);
+      fits = λ m q. check-fits n ends s g (take m list) (p .passes m q);
+    };
+  }
+
+  short-fits : ShortIn n ends s g r list → (m : ℕ) → r ≡ Accepted m → Fits 256 256 (take m list)
+  short-fits p m e =
+      by-answer (plan n ends s g program-room)
+      (λ xs q.
+      let passes = handed-passes n ends s g program-room xs q in
+      let left = shortened-passes n ends s g (map pack xs) (passes .0) in
+      let ys = shorten (crossings (map pack xs)) in
+      let is : ys ≡ shorten xs = ap shorten (passes .1) in
+      let y : long m ≡ long (length (shorten xs)) = rw (e, q) at (p .handed .tells) in
+      let same : m ≡ length (shorten xs) = cc in
+      let reads : crossings (take m list) ≡ crossings (map pack ys) =
+      ap (λ j. crossings (take j list)) same ∙ p .handed .stands (shorten xs) (ap shortAnswer q) ∙ sym is ∙ sym (left .1) in
+      fits-same (take m list) (map pack ys) reads (check-fits n ends s g (map pack ys) (left .0)))
+      (λ d q. let y : long m ≡ told (refused d) = rw (e, q) at (p .handed .tells) in never (cc))
+
+  pub short-ready : ShortIn n ends s g r list → length list ≤ program-room → Ready (shortAnswer (plan n ends s g program-room)) r list
+  short-ready p h = record { handed = p .handed; slottable = record { within = p .within; sized = h; fits = short-fits p } }
+
+  -- by whether shortening is asked for
+  pub short-or-ready : {b : Bool} → b ≡ true → ShortIn n ends s g r list → length list ≤ program-room → Ready (shortOr b (plan n ends s g program-room)) r list
+  short-or-ready e p h = rw e (short-ready p h)
+
+  pub plain-or-ready : {b : Bool} → b ≡ false → PlannedIn n ends s g r list → Ready (shortOr b (plan n ends s g program-room)) r list
+  plain-or-ready e p = rw e (plain-ready p)
+
+pub refused-or-ready : (b : Bool) (d : Refusal) (list : List ℕ) → length list ≡ program-room → Ready (shortOr b (refused (refusalOf d))) (Refused d) list
+refused-or-ready true d list h = refused-ready d list h
+refused-or-ready false d list h = refused-ready d list h
+
+-- ## The whole print
+
+module _ (b : Bool) (mapFile scenarioFile : Option Text) {e : ℕ} {r : Planned} {list out : List ℕ} {answer : Verdict} {out′ : List ℕ} where
+  pub edition-says : isKnown e ≡ false → Handed r list (refused edition) → HandsOver e r list out answer out′
+      → TimedSays (programTimed e b mapFile scenarioFile) out answer out′
+  unfolding programTimed printedTimed
+  edition-says k h p = rw k (p .hands (refused edition) h)
+
+  pub known-says : isKnown e ≡ true → Handed r list (shortOr b (programAnswer mapFile scenarioFile)) → HandsOver e r list out answer out′
+      → TimedSays (programTimed e b mapFile scenarioFile) out answer out′
+  unfolding programTimed
+  known-says k h p = rw k (p .hands (shortOr b (programAnswer mapFile scenarioFile)) h)

@@ -1,0 +1,5 @@
+pub mod Meeting
+pub mod Lowest
+pub mod Rolling
+pub mod Trains
+pub mod OnePass
