@@ -7,15 +7,16 @@ use Prim.Native.Nat.{ℕ, _≤_}
 use lib.ListN.{length}
 use Rattle.paper.specs.Basics.{concat}
 use Rattle.paper.specs.Text.{Text, Read, good, badLine}
-use Rattle.paper.specs.Map.{readMap}
+use Rattle.paper.specs.Map.{Grid, readMap}
 use Rattle.paper.proofs.Tests.{never}
 use Rattle.numbers.specs.Numbers.{verdictNumber, verdictValue}
 use Rattle.numbers.specs.Tells.{Tells}
-use Rattle.readers.specs.Reading.{listing}
+use Rattle.readers.specs.Reading.{Laid, Listing, listing}
 use Rattle.readers.proofs.Whole.{by-read}
 use Rattle.link.specs.declared.Link.{Link}
 use Rattle.link.specs.Link.{isOpen, finishIn, endSaying, Holds}
 use Rattle.link.proofs.Linked.{Run, none, fed, Whole, wholeVerdict, carriersListed, pieces-whole}
+use Rattle.sejjekoru.specs.Files.{MapTells, ScenarioTells}
 use Rattle.sejjekoru.specs.Serial.{BeginTells, PieceTells, EndTells, sayingNumber, sayingValue}
 
 -- a run of sejjekoru_link_piece, each piece at most 256 bytes, each call with the link that the last one left
@@ -44,3 +45,19 @@ pieces-tell map l l₀ v b ps last run number value end s =
       holds = w .holds;
     })
     (λ n e. let y : 0 ≡ 14 = rw e at (b .tells .numbered) in never (cc))
+
+-- ## Any two answers that a statement allows are equal, and so are the states and lists that they leave
+pub begin-determined : {map : Read Grid} {l r r′ : Link} {n v n′ v′ : ℕ} → BeginTells map l n v r → BeginTells map l n′ v′ r′ → (n ≡ n′) × (v ≡ v′) × (r ≡ r′)
+begin-determined a b = (a .tells .numbered ∙ sym (b .tells .numbered), a .tells .valued ∙ sym (b .tells .valued), a .leaves ∙ sym (b .leaves))
+
+pub piece-determined : {l r r′ : Link} {bytes : Text} {n v n′ v′ : ℕ} → PieceTells l bytes n v r → PieceTells l bytes n′ v′ r′ → (n ≡ n′) × (v ≡ v′) × (r ≡ r′)
+piece-determined a b = (a .tells .numbered ∙ sym (b .tells .numbered), a .tells .valued ∙ sym (b .tells .valued), a .after .leaves ∙ sym (b .after .leaves))
+
+pub end-determined : {l r r′ : Link} {n v n′ v′ : ℕ} → EndTells l n v r → EndTells l n′ v′ r′ → (n ≡ n′) × (v ≡ v′) × (r ≡ r′)
+end-determined a b = (a .tells .numbered ∙ sym (b .tells .numbered), a .tells .valued ∙ sym (b .tells .valued), a .after .leaves ∙ sym (b .after .leaves))
+
+pub map-determined : {x : Laid} {before after after′ : List ℕ} {n v k n′ v′ k′ : ℕ} → MapTells x before n v k after → MapTells x before n′ v′ k′ after′ → (n ≡ n′) × (v ≡ v′) × (k ≡ k′) × (after ≡ after′)
+map-determined a b = (a .tells .numbered ∙ sym (b .tells .numbered), a .tells .valued ∙ sym (b .tells .valued), a .bays-then ∙ sym (b .bays-then), a .leaves ∙ sym (b .leaves))
+
+pub scenario-determined : {x : Listing} {s g s₁ g₁ s₂ g₂ : List ℕ} {n v n′ v′ : ℕ} → ScenarioTells x s g n v s₁ g₁ → ScenarioTells x s g n′ v′ s₂ g₂ → (n ≡ n′) × (v ≡ v′) × (s₁ ≡ s₂) × (g₁ ≡ g₂)
+scenario-determined a b = (a .tells .numbered ∙ sym (b .tells .numbered), a .tells .valued ∙ sym (b .tells .valued), a .starts-then ∙ sym (b .starts-then), a .goals-then ∙ sym (b .goals-then))
