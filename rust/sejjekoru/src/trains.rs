@@ -5,6 +5,7 @@ use crate::answers::told;
 use crate::{Refusal, Yard};
 
 extern "C" {
+    /// As include/sejjekoru.h declares it.
     pub fn sejjekoru_slots_of(
         edition: u64,
         bays: u64,
@@ -21,7 +22,7 @@ extern "C" {
         value: *mut u64,
     ) -> u64;
 
-    pub fn sejjekoru_program_timed(
+    fn sejjekoru_program_timed(
         edition: u64,
         map: *const u8,
         map_len: usize,
