@@ -237,7 +237,7 @@ uint64_t sejjekoru_reverse(const uint64_t *list, size_t list_len,
  * All that the program prints for a map file and a scenario file: the plan, or one line with the refusal. `map_read` and `scenario_read` say whether
  * the file could be read: 0 for no, and then its bytes do not count. With `shorten` other than 0 the plan is printed without its there-and-back
  * trips. Answers 0 with the number of bytes written, also where what is printed is a refusal; or 8. No print takes more than 180,250 bytes. Of a map
- * its first 4,264 bytes decide, of a scenario its first 49,036. `out` overlaps neither file. Uses some 2 MiB of stack.
+ * its first 4,264 bytes decide, of a scenario its first 49,036. `out` overlaps neither file. Runs with 2 MiB of stack.
  */
 uint64_t sejjekoru_program(const uint8_t *map, size_t map_len, uint64_t map_read,
                            const uint8_t *scenario, size_t scenario_len, uint64_t scenario_read,
