@@ -522,8 +522,8 @@ static void reading(void)
     uint64_t two[2];
     uint8_t out[100];
     size_t i;
-    told("print", sejjekoru_print_plan(plan, 2, out, sizeof out, &value), 0, 73);
-    told("read back", sejjekoru_read_plan(out, 73, two, 2, &value), 0, 2);
+    told("print", sejjekoru_print_plan(plan, 2, out, sizeof out, &value), 0, 72);
+    told("read back", sejjekoru_read_plan(out, 72, two, 2, &value), 0, 2);
     holds("the same list", memcmp(two, plan, sizeof plan) == 0);
     told("print of many", sejjekoru_print_plan(many, 65536, print, sizeof print, &value), 0, 65536 * 16 + 27);
     memset(back, 1, sizeof back);
