@@ -57,6 +57,8 @@ static void nothing(uint64_t bays, uint64_t due, uint64_t due_value)
 static void empty_plan(void)
 {
     told("Y8 plan", sejjekoru_plan(2, rail, 2, NULL, 0, NULL, 0, NULL, 0, &value), 0, 0);
+    /* so many carriers that two more are none: still too many, and no list is read */
+    told("a crowd", sejjekoru_plan(2, rail, 2, NULL, SIZE_MAX - 1, NULL, SIZE_MAX - 1, NULL, 0, &value), SEJJEKORU_CROWD, 0);
     told("Y8 check", sejjekoru_check(2, rail, 2, NULL, 0, NULL, 0, NULL, 0, &value), 0, 0);
     told("Y8 slots", sejjekoru_slots(2, rail, 2, NULL, 0, NULL, 0, NULL, 0, NULL, 0, &value), 0, 0);
     told("Y8 report", sejjekoru_report(2, rail, 2, NULL, 0, NULL, 0, NULL, 0, NULL, 0, 0, &value), 12, 0);
