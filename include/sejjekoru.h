@@ -1,17 +1,14 @@
 /*
- * Planning, plan check, slots, report log, shortening, running bills and comparing of a pallet vault, by document 01 and requests E4, E7 and E10 of
- * document 02.
+ * A pallet vault: planning, plan check, slots of two editions, report log, running bills; shortening, reversing and comparing plans; reading and
+ * printing files. By document 01 and requests E1, E4, E6, E7, E8, E10 and E12 of document 02.
  *
- * Every function takes any numbers and lists at all, and answers the documents' number: 0 where it accepts, else the refusal's. Through `value` it
- * stores what the refusal carries, or the length written, or the answer of sejjekoru_agrees, and 0 where there is none of these. Each function is
- * proved to do so for every input.
+ * Every function takes any numbers and lists at all, and returns 0 if it accepts, else the refusal's number. Through `value` it stores what the refusal
+ * carries, or on acceptance what its own comment says, and 0 where there is neither. Each function is proved to do so for every input.
  *
  * What the caller must ensure:
  * - each list has at least as many elements as the length after it says; a list of length 0 may be NULL;
- * - `value`, `record`, `bays` of sejjekoru_map and `link` are not NULL;
- * - what may be written (`plan` of sejjekoru_plan, `slots`, `out`, `at`, `*bays` and `rails` of sejjekoru_map, `start` and `goal` of
- *   sejjekoru_scenario, `*link`, `marks` of sejjekoru_report and sejjekoru_report_billed, `*record` and `lines` of
- *   sejjekoru_open and sejjekoru_report_billed, `*value`) overlaps no other argument;
+ * - pointers without a length (`value`, `record`, `bays`, `longer`, `link`) are not NULL;
+ * - what may be written, that is every argument without `const`, overlaps no other argument;
  * - lengths and numbers are 64 bits wide. A call from another language must say so: with ctypes, for instance, a plain Python int is passed as 32
  *   bits, and the upper half of a length on the stack is then whatever was there. Set `argtypes` to c_uint64 and pointers;
  * - the calling thread has the stack that the function needs (below).
@@ -59,9 +56,9 @@ enum {
     SEJJEKORU_EARLY = 13,     /* the lowest undone name that it depends on */
     SEJJEKORU_MAP = 14,       /* the first bad line of the map, from 1 */
     SEJJEKORU_SCENARIO = 15,  /* the first bad line of the scenario, from 1 */
+    SEJJEKORU_SURVEY = 16,    /* the first line of a surveyors' file that breaks its layout or is missing, from 1 */
     SEJJEKORU_ENDED = 17,     /* 0; the scenario over this link has ended */
     SEJJEKORU_LONG_PIECE = 18, /* 0; a piece of a scenario has more than 256 bytes */
-    SEJJEKORU_SURVEY = 16,    /* the first line of a surveyors' file that breaks its layout or is missing, from 1 */
     SEJJEKORU_DISAGREES = 19, /* 0; record and lines are not what plan, start and marks give */
     SEJJEKORU_EDITION = 20,   /* 0; slots have two editions, 1 and 2 */
     SEJJEKORU_BEGUN = 25,     /* 0; some crossing of the plan to be shortened is done */
@@ -98,7 +95,7 @@ typedef struct {
     uint32_t last;      /* the last of their names, or SEJJEKORU_UNTOUCHED */
 } sejjekoru_line;
 
-/* Plans, and writes the plan to the first places of `plan`. Answers 0 to 8. */
+/* Plans, and writes the plan to the first places of `plan`; the value is its length. Answers 0 to 8. */
 uint64_t sejjekoru_plan(uint64_t bays,
                         const uint16_t *rails, size_t rails_len,
                         const uint16_t *start, size_t start_len,
@@ -114,7 +111,7 @@ uint64_t sejjekoru_check(uint64_t bays,
                          const uint64_t *plan, size_t plan_len,
                          uint64_t *value);
 
-/* The slot of each crossing, from 1, to the first places of `slots`. Answers 0 to 6, 8, 9, 10. */
+/* The slot of each crossing, from 1, to the first places of `slots`; the value is their number. Answers 0 to 6, 8, 9, 10. */
 uint64_t sejjekoru_slots(uint64_t bays,
                          const uint16_t *rails, size_t rails_len,
                          const uint16_t *start, size_t start_len,
@@ -138,7 +135,8 @@ uint64_t sejjekoru_report(uint64_t bays,
 
 /*
  * Drops the plan's there-and-back trips, and writes what is left to the first places of `out`: as legal, with the same end, no longer, in the same
- * order. Names are places in what is left, so `marks` is handed in and nothing may be done yet. Answers 0 to 6, 8 to 11, 25.
+ * order. The value is its length. Names are places in what is left, so `marks` is handed in and nothing may be done yet. Answers 0 to 6, 8 to 11,
+ * 25.
  */
 uint64_t sejjekoru_shorten(uint64_t bays,
                            const uint16_t *rails, size_t rails_len,
@@ -222,7 +220,7 @@ uint64_t sejjekoru_compare(const uint64_t *first, size_t first_len,
 /*
  * Plays a plan backwards: writes the reverse of `list` to the first places of `out`, that is its crossings in reverse order, from and to exchanged. It
  * takes no yard, and the list may hold any numbers. If a plan passes sejjekoru_check from start to goal, its reverse passes from goal to start.
- * Answers 0, 1 (more than 65,536 crossings) and 8.
+ * The value is the length written. Answers 0, 1 (more than 65,536 crossings) and 8.
  */
 uint64_t sejjekoru_reverse(const uint64_t *list, size_t list_len,
                            uint64_t *out, size_t out_len,
