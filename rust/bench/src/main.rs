@@ -34,5 +34,5 @@ fn main() {
 
 fn yard(order: &Order) -> Yard<'_> {
     let Order { bays, rails, start, goal } = order;
-    Yard { bays: *bays, rails, start, goal }
+    Yard::new(*bays, rails, start, goal)
 }
