@@ -10,7 +10,8 @@ use Rattle.paper.specs.Basics.{elem}
 use Rattle.paper.specs.Yard.{Yard, Placement, Crossing, bayOf, legal}
 use Rattle.paper.proofs.Tests.{by-cases, not-both}
 use Rattle.paper.proofs.Playing.{Legal, legal-facts, legal-of}
-use Rattle.words.specs.Sets.{mem, memRow, span}
+use Rattle.paper.proofs.Marking.{flag}
+use Rattle.words.specs.Sets.{memRow, span}
 use Rattle.replay.specs.Playing.{Standing, Judged}
 
 pub not-legal : (Y : Yard) (at : Placement) (x : Crossing) → (Legal Y at x → ⊥) → false ≡ legal Y at x
@@ -37,8 +38,8 @@ module _ (table : List ℕ) (at : Placement) (occupied : List ℕ) (x : Crossing
     no-rail h =
         refused (λ Y s l. not-both (s .rails .same (x .from) (x .to) (s .rails .inside (x .from) (x .to) (l .rail) .0) ht ∙ l .rail) h)
 
-    pub by-the-set : memRow table (x .from) (x .to) ≡ true → (r : Bool) → r ≡ not (mem occupied (x .to)) → Judged table at occupied x r
-    by-the-set joins r e = record {
+    pub by-the-mark : memRow table (x .from) (x .to) ≡ true → (r : Bool) → r ≡ not (flag occupied (x .to)) → Judged table at occupied x r
+    by-the-mark joins r e = record {
       fits = λ t. (hc, hf, ht);
       right = λ Y s.
           let inside : x .from < Y .bays = rw stands at (s .inside (x .carrier) hc) in
