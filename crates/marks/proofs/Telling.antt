@@ -1,5 +1,5 @@
 -- What a report answers, test by test in the document's order: each law is one way out.
-use mathlib.Core.Path.{_≡_, ap}
+use mathlib.Core.Path.{_≡_, refl, sym, _∙_, ap}
 use mathlib.Core.Bool.{Bool, true, false, not}
 use mathlib.Core.List.{List}
 use mathlib.Core.Option.{none, some}
@@ -14,6 +14,7 @@ use Rattle.paper.specs.Dependence.{depend, isDone, undoneBefore}
 use Rattle.paper.specs.Docket.{unknown, early, mismarked, badMarks}
 use Rattle.paper.specs.Answers.{accept, already, refuse, tell}
 use Rattle.paper.proofs.Tests.{by-cases, or-left, or-right, or-neither}
+use Rattle.paper.proofs.Fields.{and-false}
 use Rattle.marks.specs.Reading.{toldInOrder}
 
 -- a byte above 1 is neither 0 nor 1, and no other
@@ -29,18 +30,21 @@ odd-low m h =
     (λ e. ap not (or-left _ _ e))
     (λ e. ap not (or-right _ _ (eq-eqb m 1 (let n = eqb-false m 0 e in omega arith))))
 
+and-true : (p : Bool) → p and true ≡ p
+unfolding _and_
+and-true true = refl
+and-true false = refl
+
 -- the earlier crossing e keeps the crossing x waiting
 abbrev pub waitsFor : List Crossing → List ℕ → Crossing → ℕ → Bool
 waitsFor xs marks x e = depend x (named xs e) and not (isDone marks e)
 
 module _ (xs : List Crossing) (marks : List ℕ) (x : Crossing) (e : ℕ) where
-  pub waits-undone : depend x (named xs e) ≡ true → not (isDone marks e) ≡ waitsFor xs marks x e
-  unfolding _and_
-  waits-undone d = rw d
+  pub waits-done : getD marks e 0 ≡ 1 → false ≡ waitsFor xs marks x e
+  waits-done d = sym (ap (λ v. depend x (named xs e) and not v) (eq-eqb _ _ d) ∙ and-false (depend x (named xs e)))
 
-  pub waits-free : depend x (named xs e) ≡ false → false ≡ waitsFor xs marks x e
-  unfolding _and_
-  waits-free d = rw d
+  pub waits-undone : (getD marks e 0 ≡ 1 → ⊥) → depend x (named xs e) ≡ waitsFor xs marks x e
+  waits-undone d = sym (ap (λ v. depend x (named xs e) and not v) (ne-eqb _ _ d) ∙ and-true (depend x (named xs e)))
 
 module _ (xs : List Crossing) (marks : List ℕ) (name : ℕ) where
   pub told-mismarked : badMarks xs marks ≡ true → refuse mismarked ≡ tell xs marks name

@@ -44,7 +44,7 @@ module _ (table : List ℕ) (at : Placement) (occupied : List ℕ) (x : Crossing
       right = λ Y s.
           let inside : x .from < Y .bays = rw stands at (s .inside (x .carrier) hc) in
           let row = s .rails .same (x .from) (x .to) inside ht in
-          let same : r ≡ not (elem (x .to) at) = e ∙ ap not (s .held (x .to) ht) in
+          let same : r ≡ not (elem (x .to) at) = e ∙ ap not (s .held .marks (x .to) ht) in
           by-cases (elem (x .to) at)
           (λ i. same ∙ ap not i ∙ not-legal Y at x (λ l. not-both i (l .free)))
           (λ o. same ∙ ap not o ∙ sym (legal-of Y at x (record { there = hc; stands = stands; rail = sym row ∙ joins; free = o })));

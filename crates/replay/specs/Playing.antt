@@ -18,9 +18,10 @@ use Rattle.replay.specs.declared.Legality.the-variants.{Legal, Illegal}
 use Rattle.replay.specs.declared.Away.{Away}
 use Rattle.replay.specs.declared.Away.the-variants.{Nobody, Lowest}
 
--- the bays of the placement are marked by 1, and no other
-abbrev pub Occupied : Placement → List ℕ → Type 0
-Occupied at occupied = (b : Bay) → b < span → flag occupied b ≡ elem b at
+-- a place for each bay; the bays of the placement are marked by 1, and no other
+pub record Occupied (at : Placement) (occupied : List ℕ) : Type 0 where
+  pub long : length occupied ≡ span
+  pub marks : (b : Bay) → b < span → flag occupied b ≡ elem b at
 
 -- The table is the yard's, the placement has its carriers at bays of the yard, one to a bay, and the marks are the placement's.
 pub record Standing (Y : Yard) (table : List ℕ) (at : Placement) (occupied : List ℕ) : Type 0 where

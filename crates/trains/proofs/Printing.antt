@@ -12,7 +12,7 @@ use borrow.Author.Tests.{eqb-true, ne-eqb, not-true, leb-true, ltb-false, le-leb
 use Rattle.paper.specs.Basics.{_and_, _>>=_}
 use Rattle.paper.specs.Yard.{Crossing}
 use Rattle.paper.specs.Dependence.{slots}
-use Rattle.paper.specs.Text.{Text, LF, CR, SPACE, join, lines, split, same, all, isDigit}
+use Rattle.paper.specs.Text.{Text, text, LF, CR, SPACE, join, lines, split, same, all, isDigit}
 use Rattle.paper.specs.Print.{spell, decimal, actionLine, costLine, ended, planLines, printPlan, readAction, readPlan}
 use Rattle.paper.proofs.Tests.{by-cases, by-option, never-some, and-left, and-right, and-both, not-both}
 use Rattle.paper.proofs.Fields.{and-assoc}
@@ -20,7 +20,7 @@ use Rattle.paper.proofs.Stepping.{split-some}
 use Rattle.paper.proofs.Printing.{decimal-value, decimal-digits, print-back}
 use Rattle.paper.proofs.Slotting as first
 use Rattle.trains.specs.Slots.{Timed, withSlots, trainSlots}
-use Rattle.trains.specs.Print.{timedLine, timedLines, printTimed, readTime, readTimedLine, readTimed}
+use Rattle.trains.specs.Print.{timedLine, timedLines, printTimed, readTime, spaced, readTimedLine, readTimed}
 use Rattle.trains.proofs.Meeting.{slots-length}
 use Rattle.trains.proofs.Lowest.{slots-keep}
 
@@ -118,26 +118,29 @@ unfolding readTime split join same isDigit _and_
 time-back t =
     rw (split-number 58 t (58 ∷ []) refl, append-nil (decimal t), le-leb 1 (length (decimal t)) (decimal-some t), decimal-digits t) (ap some (decimal-value t))
 
+action-no-comment : (x : Crossing) → eqb (getD (actionLine x) 0 0) 59 ≡ false
+unfolding actionLine
+action-no-comment x = refl
+
 -- The line of an action reads back: it is the only line of the plain print that is not its comment.
 action-back : (x : Crossing) → readAction (actionLine x) ≡ some x
 unfolding printPlan planLines readPlan costLine
 action-back x =
     let two : lines (printPlan (x ∷ [])) ≡ actionLine x ∷ costLine 1 ∷ [] = lines-ended (actionLine x ∷ costLine 1 ∷ []) (action-plain x, (cost-plain 1, tt)) in
     let back : readPlan (actionLine x ∷ costLine 1 ∷ []) ≡ some (x ∷ []) = ap readPlan (sym two) ∙ print-back (x ∷ []) in
-    let q : eqb (getD (actionLine x) 0 0) 59 ≡ false = starts x in
+    let q : eqb (getD (actionLine x) 0 0) 59 ≡ false = action-no-comment x in
     by-option (readAction (actionLine x))
     (λ e. let z : none ≡ some (x ∷ []) = rw (q, e) at back in never-some (x ∷ []) z)
     (λ y e. let z : some (y ∷ []) ≡ some (x ∷ []) = rw (q, e) at back in let w : y ≡ x = cc in e ∙ ap some w)
-  where
-    starts : (x : Crossing) → eqb (getD (actionLine x) 0 0) 59 ≡ false
-    unfolding actionLine
-    starts x = refl
+
+abbrev behind : ℕ → ℕ → ℕ → Text
+behind c a b =
+    58 ∷ 32 ∷ 40 ∷ 109 ∷ 111 ∷ 118 ∷ 101 ∷ 32 ∷ 99 ∷ (decimal c ++ (32 ∷ 98 ∷ (decimal a ++ (32 ∷ 98 ∷ (decimal b ++ (41 ∷ 32 ∷ 91 ∷ 49 ∷ 93 ∷ []))))))
 
 module _ (t c a b : ℕ) where
-  -- a line as bytes
+  -- a line as bytes: the time, and what is behind it
   abbrev spelled : Text
-  spelled =
-      decimal t ++ (58 ∷ 32 ∷ 40 ∷ 109 ∷ 111 ∷ 118 ∷ 101 ∷ 32 ∷ 99 ∷ (decimal c ++ (32 ∷ 98 ∷ (decimal a ++ (32 ∷ 98 ∷ (decimal b ++ (41 ∷ 32 ∷ 91 ∷ 49 ∷ 93 ∷ []))))))))
+  spelled = decimal t ++ behind c a b
 
   abbrev words : List Text
   words =
@@ -153,7 +156,7 @@ module _ (t c a b : ℕ) where
   unfolding split join isDigit _and_
   at-spaces =
       rw (
-        split-number 32 t (58 ∷ 32 ∷ 40 ∷ 109 ∷ 111 ∷ 118 ∷ 101 ∷ 32 ∷ 99 ∷ (decimal c ++ (32 ∷ 98 ∷ (decimal a ++ (32 ∷ 98 ∷ (decimal b ++ (41 ∷ 32 ∷ 91 ∷ 49 ∷ 93 ∷ [])))))))  refl,
+        split-number 32 t (behind c a b) refl,
         split-number 32 c (32 ∷ 98 ∷ (decimal a ++ (32 ∷ 98 ∷ (decimal b ++ (41 ∷ 32 ∷ 91 ∷ 49 ∷ 93 ∷ []))))) refl,
         split-number 32 a (32 ∷ 98 ∷ (decimal b ++ (41 ∷ 32 ∷ 91 ∷ 49 ∷ 93 ∷ []))) refl,
         split-number 32 b (41 ∷ 32 ∷ 91 ∷ 49 ∷ 93 ∷ []) refl,
@@ -164,10 +167,10 @@ unfolding timedLine actionLine
 line-is s x = simp append-assoc
 
 action-words : (x : Crossing)
-    → (40 ∷ 109 ∷ 111 ∷ 118 ∷ 101 ∷ []) ++ SPACE ∷ (99 ∷ decimal (x .carrier) ++ []) ++ SPACE ∷ (98 ∷ decimal (x .from) ++ []) ++ SPACE ∷ (98 ∷ decimal (x .to) ++ (41 ∷ []))
+    → spaced ((40 ∷ 109 ∷ 111 ∷ 118 ∷ 101 ∷ []) ∷ (99 ∷ decimal (x .carrier) ++ []) ∷ (98 ∷ decimal (x .from) ++ []) ∷ (98 ∷ decimal (x .to) ++ (41 ∷ [])) ∷ [])
     ≡ actionLine x
-unfolding actionLine
-action-words x = simp (append-nil, append-assoc)
+unfolding actionLine spaced
+action-words x = rw (append-nil (decimal (x .carrier)), append-nil (decimal (x .from))) (sym (simp append-assoc))
 
 line-back : (s : ℕ) (x : Crossing) → 1 ≤ s → readTimedLine (timedLine s x) ≡ some (x, s)
 unfolding readTimedLine same _and_
@@ -175,17 +178,17 @@ line-back s x h =
     let one : suc (s - 1) ≡ s = omega arith in
     rw (line-is s x, at-spaces (s - 1) (x .carrier) (x .from) (x .to), action-words x, time-back (s - 1), action-back x) (ap (λ n. some (x, n)) one)
 
+digits-no-comment : (l : Text) → 1 ≤ length l → all isDigit l ≡ true → eqb (getD l 0 0) 59 ≡ false
+unfolding all isDigit
+digits-no-comment [] h k = absurd (omega arith)
+digits-no-comment (b ∷ l) h k = let d = leb-true b 57 (and-right _ _ (and-left _ _ k)) in ne-eqb b 59 (omega arith)
+
 -- it begins with a digit, so it is no comment
 line-no-comment : (s : ℕ) (x : Crossing) → eqb (getD (timedLine s x) 0 0) 59 ≡ false
-unfolding timedLine
 line-no-comment s x =
-    rw (List·getD-append (decimal (s - 1)) _ 0 0 (decimal-some (s - 1)))
-    (leads (decimal (s - 1)) (decimal-some (s - 1)) (decimal-digits (s - 1)))
-  where
-    leads : (l : Text) → 1 ≤ length l → all isDigit l ≡ true → eqb (getD l 0 0) 59 ≡ false
-    unfolding all isDigit
-    leads [] h k = absurd (omega arith)
-    leads (b ∷ l) h k = let d = leb-true b 57 (and-right _ _ (and-left _ _ k)) in ne-eqb b 59 (omega arith)
+    ap (λ l. eqb (getD l 0 0) 59) (line-is s x)
+    ∙ ap (λ b. eqb b 59) (List·getD-append (decimal (s - 1)) (behind (x .carrier) (x .from) (x .to)) 0 0 (decimal-some (s - 1)))
+    ∙ digits-no-comment (decimal (s - 1)) (decimal-some (s - 1)) (decimal-digits (s - 1))
 
 -- ## The plan
 

@@ -4,7 +4,7 @@ use mathlib.Core.List.{List, [], _∷_, _++_}
 use mathlib.Core.Option.{Option, none, some}
 use Prim.Native.Nat.{ℕ, suc, _-_}
 use lib.Dec.{eqb, leb}
-use lib.ListN.{length, getD}
+use lib.ListN.{length, getD, take, drop}
 use Rattle.paper.specs.Basics.{if_then_else_, _and_, _>>=_}
 use Rattle.paper.specs.Yard.{Crossing}
 use Rattle.paper.specs.Text.{Text, text, SPACE, split, same, all, isDigit, value}
@@ -32,13 +32,18 @@ readTime w =
     let d = getD ps 0 [] in
     if eqb (length ps) 2 and same (getD ps 1 []) [] and leb 1 (length d) and all isDigit d then some (value d) else none
 
+-- words, with a space between them
+unfoldable pub spaced : List Text → Text
+spaced [] = []
+spaced (w ∷ []) = w
+spaced (w ∷ v ∷ ws) = w ++ (SPACE ∷ spaced (v ∷ ws))
+
 -- Six words: the time, the four of an action, "[1]". The slot is the time and one.
 unfoldable pub readTimedLine : Text → Option Timed
 readTimedLine l =
     let ws = split SPACE l in
-    let action = getD ws 1 [] ++ SPACE ∷ getD ws 2 [] ++ SPACE ∷ getD ws 3 [] ++ SPACE ∷ getD ws 4 [] in
     if eqb (length ws) 6 and same (getD ws 5 []) (text "[1]")
-    then readTime (getD ws 0 []) >>= (λ t. readAction action >>= (λ x. some (x, suc t)))
+    then readTime (getD ws 0 []) >>= (λ t. readAction (spaced (take 4 (drop 1 ws))) >>= (λ x. some (x, suc t)))
     else none
 
 -- one crossing a line, with its slot; a line that begins with a semicolon is a comment
