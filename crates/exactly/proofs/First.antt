@@ -7,7 +7,7 @@ use mathlib.Core.Logic.{_↔_, _⊎_, inl, inr, ⊎-elim}
 use mathlib.Core.Option.{Option, none, some}
 use Prim.Native.Nat.{ℕ}
 use lib.Dec.{eqb}
-use borrow.Author.Tests.{eqb-true, eqb-false, eq-eqb, not-true}
+use borrow.Author.Tests.{eqb-true, eqb-false, eq-eqb, ne-eqb, not-true}
 use Rattle.paper.specs.Basics.{if-some_then_else_, _>>=_, orElse, when, elem}
 use Rattle.paper.proofs.Tests.{by-cases, by-option, not-both, never-some, some-same, and-left, and-right, none-both, none-from, none-when, either, some-when, some-from}
 use Rattle.exactly.specs.First.{Row, plain, carrying, numberIn, Applies, Passed, NoneOf, pick, Given, numbersOf, distinct}
@@ -78,6 +78,18 @@ given-first (row ∷ rows) k v g =
     (λ e. inl (sym (eqb-true _ _ e), rw e at g))
     (λ e. let h : Passed row × Given rows k v = rw e at g in inr (h .0, given-first rows k v (h .1)))
 
+-- Past rows of other numbers: none of them applies, and the rest decides.
+pub given-past : (rows more : List Row) (k : ℕ) (v : Option ℕ) → elem k (numbersOf rows) ≡ false → Given (rows ++ more) k v ↔ (NoneOf rows × Given more k v)
+unfolding elem
+given-past [] more k v h = (λ g. (tt, g), λ g. g .1)
+given-past (row ∷ rows) more k v h =
+    by-cases (eqb k (numberIn row))
+    (λ e. not-both refl (rw e at h))
+    (λ e.
+    let other : eqb (numberIn row) k ≡ false = ne-eqb (numberIn row) k (λ q. eqb-false k (numberIn row) e (sym q)) in
+    let ih = given-past rows more k v (rw e at h) in
+    rw other (λ g. let r = ih .0 (g .1) in ((g .0, r .0), r .1), λ g. (g .0 .0, ih .1 (g .0 .1, g .1))))
+
 -- of one row alone
 only : {P : Type 0} (row : Row) (k : ℕ) (v : Option ℕ) → First (row ∷ []) k v → (k ≡ numberIn row → Applies row v → P) → P
 only row k v f g = ⊎-elim (λ a. g (a .0) (a .1)) (λ r. absurd (r .1)) f
@@ -141,48 +153,51 @@ module _ {A : Type 0} (number : A → ℕ) (value : A → Option ℕ) where
   pub nothing-exactly : {t : Option A} {rows : List Row} → Reads t rows → (t ≡ none) ↔ NoneOf rows
   nothing-exactly r = (r .passed, nothing-given r)
 
-  module _ (tells : (a b : A) → number a ≡ number b → value a ≡ value b → a ≡ b) where
-    -- a test that carries nothing
-    pub plain-test : (P : Type 0) (b : Bool) (a : A) → value a ≡ none → (b ≡ true) ↔ P → Reads (when b a) (plain (number a) P ∷ [])
-    plain-test P b a v f = record {
-      given = λ c e.
-          let w = some-when b a e in
-          inl (ap number (sym (w .1)), applies-plain (number a) P (value c) (ap value (sym (w .1)) ∙ v) (f .0 (w .0)));
-      back = λ c g. only (plain (number a) P) (number c) (value c) g
-          (λ q w.
-          let p = plain-applies (number a) P (value c) w in
-          rw (f .1 (p .1)) (ap some (tells a c (sym q) (v ∙ sym (p .0)))));
-      passed = λ e. (λ p. not-both (f .1 p) (none-when b a e), tt);
-    }
+  -- number and value tell this answer from any other
+  abbrev pub Told : A → Type 0
+  Told a = (c : A) → number a ≡ number c → value a ≡ value c → a ≡ c
 
-    -- a test that carries what it finds
-    pub carrying-test : (W : ℕ → Type 0) (o : Option ℕ) (make : ℕ → A) (k : ℕ) → ((v : ℕ) → number (make v) ≡ k) → ((v : ℕ) → value (make v) ≡ some v)
-        → ((v : ℕ) → (o ≡ some v) ↔ W v) → Reads (o >>= λ v. some (make v)) (carrying k W ∷ [])
-    carrying-test W o make k n c f = record {
-      given = λ a e.
-          let w = some-from make o e in
-          inl (ap number (sym (w .2)) ∙ n (w .0), applies-carrying k W (value a) (w .0) (ap value (sym (w .2)) ∙ c (w .0)) (f (w .0) .0 (w .1)));
-      back = λ a g. only (carrying k W) (number a) (value a) g
-          (λ q w.
-          let p = carrying-applies k W (value a) w in
-          rw (f (p .0) .1 (p .2)) (ap some (tells (make (p .0)) a (n (p .0) ∙ sym q) (c (p .0) ∙ sym (p .1)))));
-      passed = λ e. (λ v p. never-some v (sym (none-from make o e) ∙ f v .1 p), tt);
-    }
+  -- a test that carries nothing
+  pub plain-test : (P : Type 0) (b : Bool) (a : A) → Told a → value a ≡ none → (b ≡ true) ↔ P → Reads (when b a) (plain (number a) P ∷ [])
+  plain-test P b a tells v f = record {
+    given = λ c e.
+        let w = some-when b a e in
+        inl (ap number (sym (w .1)), applies-plain (number a) P (value c) (ap value (sym (w .1)) ∙ v) (f .0 (w .0)));
+    back = λ c g. only (plain (number a) P) (number c) (value c) g
+        (λ q w.
+        let p = plain-applies (number a) P (value c) w in
+        rw (f .1 (p .1)) (ap some (tells c (sym q) (v ∙ sym (p .0)))));
+    passed = λ e. (λ p. not-both (f .1 p) (none-when b a e), tt);
+  }
 
-    -- a test that carries a number known before
-    pub known-test : (W : ℕ → Type 0) (b : Bool) (make : ℕ → A) (known : ℕ) (k : ℕ) → number (make known) ≡ k → value (make known) ≡ some known
-        → (b ≡ true → W known) → ((v : ℕ) → W v → (b ≡ true) × (v ≡ known)) → Reads (when b (make known)) (carrying k W ∷ [])
-    known-test W b make known k n c f g = record {
-      given = λ a e.
-          let w = some-when b (make known) e in
-          inl (ap number (sym (w .1)) ∙ n, applies-carrying k W (value a) known (ap value (sym (w .1)) ∙ c) (f (w .0)));
-      back = λ a h. only (carrying k W) (number a) (value a) h
-          (λ q w.
-          let p = carrying-applies k W (value a) w in
-          let z = g (p .0) (p .2) in
-          rw (z .0) (ap some (tells (make known) a (n ∙ sym q) (c ∙ ap some (sym (z .1)) ∙ sym (p .1)))));
-      passed = λ e. (λ v p. not-both (g v p .0) (none-when b (make known) e), tt);
-    }
+  -- a test that carries what it finds
+  pub carrying-test : (W : ℕ → Type 0) (o : Option ℕ) (make : ℕ → A) (k : ℕ) → ((v : ℕ) → Told (make v)) → ((v : ℕ) → number (make v) ≡ k) → ((v : ℕ) → value (make v) ≡ some v)
+      → ((v : ℕ) → (o ≡ some v) ↔ W v) → Reads (o >>= λ v. some (make v)) (carrying k W ∷ [])
+  carrying-test W o make k tells n c f = record {
+    given = λ a e.
+        let w = some-from make o e in
+        inl (ap number (sym (w .2)) ∙ n (w .0), applies-carrying k W (value a) (w .0) (ap value (sym (w .2)) ∙ c (w .0)) (f (w .0) .0 (w .1)));
+    back = λ a g. only (carrying k W) (number a) (value a) g
+        (λ q w.
+        let p = carrying-applies k W (value a) w in
+        rw (f (p .0) .1 (p .2)) (ap some (tells (p .0) a (n (p .0) ∙ sym q) (c (p .0) ∙ sym (p .1)))));
+    passed = λ e. (λ v p. never-some v (sym (none-from make o e) ∙ f v .1 p), tt);
+  }
+
+  -- a test that carries a number known before
+  pub known-test : (W : ℕ → Type 0) (b : Bool) (make : ℕ → A) (known : ℕ) (k : ℕ) → Told (make known) → number (make known) ≡ k → value (make known) ≡ some known
+      → (b ≡ true → W known) → ((v : ℕ) → W v → (b ≡ true) × (v ≡ known)) → Reads (when b (make known)) (carrying k W ∷ [])
+  known-test W b make known k tells n c f g = record {
+    given = λ a e.
+        let w = some-when b (make known) e in
+        inl (ap number (sym (w .1)) ∙ n, applies-carrying k W (value a) known (ap value (sym (w .1)) ∙ c) (f (w .0)));
+    back = λ a h. only (carrying k W) (number a) (value a) h
+        (λ q w.
+        let p = carrying-applies k W (value a) w in
+        let z = g (p .0) (p .2) in
+        rw (z .0) (ap some (tells a (n ∙ sym q) (c ∙ ap some (sym (z .1)) ∙ sym (p .1)))));
+    passed = λ e. (λ v p. not-both (g v p .0) (none-when b (make known) e), tt);
+  }
 
 -- The same tests, their answers told as another kind of answer.
 module _ {A B : Type 0} (number : A → ℕ) (value : A → Option ℕ) (number′ : B → ℕ) (value′ : B → Option ℕ) (tell : A → B)

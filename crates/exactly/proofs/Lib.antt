@@ -7,3 +7,4 @@ pub mod Marks
 pub mod Planning
 pub mod Checking
 pub mod Reporting
+pub mod Spelled

@@ -90,17 +90,17 @@ module _ (xs : List Crossing) (marks : List ℕ) where
           (and-both _ _ (eq-eqb _ _ q) (any-of (waits i) (upTo i) e (in-count 0 i e (omega arith) (omega arith)) (waits-words i e .1 (d, u)))))
 
   pub reads-11 : Refuses (no-11 xs marks) (plain 11 (BadMarks xs marks) ∷ [])
-  reads-11 = plain-test number carried docket-tells (BadMarks xs marks) (badMarks xs marks) mismarked refl marks-words
+  reads-11 = plain-test number carried (BadMarks xs marks) (badMarks xs marks) mismarked (docket-tells mismarked) refl marks-words
 
   -- ## 12 and 13
 
   module _ (name : ℕ) where
     pub reads-12 : Refuses (no-12 xs name) (plain 12 (NotInPlan xs name) ∷ [])
-    reads-12 = plain-test number carried docket-tells (NotInPlan xs name) (leb (length xs) name) unknown refl (leb-true (length xs) name, le-leb (length xs) name)
+    reads-12 = plain-test number carried (NotInPlan xs name) (leb (length xs) name) unknown (docket-tells unknown) refl (leb-true (length xs) name, le-leb (length xs) name)
 
     undone-words : (e : ℕ) → (undoneBefore xs marks name ≡ some e) ↔ LowestUndone xs marks name e
     unfolding undoneBefore
     undone-words = lowest-place (waits name) (λ i. Depends (named xs name) (named xs i) × (mark marks i ≡ 1 → ⊥)) (waits-words name) name
 
     pub reads-13 : Refuses (no-13 xs marks name) (carrying 13 (LowestUndone xs marks name) ∷ [])
-    reads-13 = carrying-test number carried docket-tells (LowestUndone xs marks name) (undoneBefore xs marks name) early 13 (λ v. refl) (λ v. refl) undone-words
+    reads-13 = carrying-test number carried (LowestUndone xs marks name) (undoneBefore xs marks name) early 13 (λ v. docket-tells (early v)) (λ v. refl) (λ v. refl) undone-words

@@ -1,27 +1,39 @@
--- Every refusal's number is between 1 and 99, so it is neither an acceptance's 0 nor the 100 that "already" stands under. One line a refusal.
-use Prim.Native.Nat.{ℕ, _<_}
-use native.Mathlib.Omega.{arith}
+-- The numbers that answers of their own have are none of the table's: 0 for acceptance, 19 and 25 of their requests, 100 for "already".
+use mathlib.Core.Path.{_≡_, refl, sym, _∙_, ap}
+use mathlib.Core.Bool.{true, false}
+use mathlib.Core.List.{List, [], _∷_}
+use Prim.Native.Nat.{ℕ}
+use Rattle.paper.specs.Basics.{elem}
 use Rattle.paper.specs.Docket.{Refusal, size, rail, apart, crowd, start, goal, stopped, room, illegal, missed, mismarked, unknown, early, badMap, badScenario, badSurvey, ended, longPiece, edition, badPlan, badReports, number}
+use Rattle.paper.proofs.Tests.{not-both}
 
-pub number-between : (r : Refusal) → (0 < number r) × (number r < 100)
-number-between size = (omega arith, omega arith)
-number-between (rail v) = (omega arith, omega arith)
-number-between (apart v) = (omega arith, omega arith)
-number-between crowd = (omega arith, omega arith)
-number-between (start v) = (omega arith, omega arith)
-number-between (goal v) = (omega arith, omega arith)
-number-between (stopped v) = (omega arith, omega arith)
-number-between (room v) = (omega arith, omega arith)
-number-between (illegal v) = (omega arith, omega arith)
-number-between (missed v) = (omega arith, omega arith)
-number-between mismarked = (omega arith, omega arith)
-number-between unknown = (omega arith, omega arith)
-number-between (early v) = (omega arith, omega arith)
-number-between (badMap v) = (omega arith, omega arith)
-number-between (badScenario v) = (omega arith, omega arith)
-number-between (badSurvey v) = (omega arith, omega arith)
-number-between ended = (omega arith, omega arith)
-number-between longPiece = (omega arith, omega arith)
-number-between edition = (omega arith, omega arith)
-number-between (badPlan v) = (omega arith, omega arith)
-number-between (badReports v) = (omega arith, omega arith)
+abbrev pub own : List ℕ
+own = 0 ∷ 19 ∷ 25 ∷ 100 ∷ []
+
+-- one line a refusal
+in-table : (r : Refusal) → elem (number r) own ≡ false
+unfolding elem
+in-table size = refl
+in-table (rail v) = refl
+in-table (apart v) = refl
+in-table crowd = refl
+in-table (start v) = refl
+in-table (goal v) = refl
+in-table (stopped v) = refl
+in-table (room v) = refl
+in-table (illegal v) = refl
+in-table (missed v) = refl
+in-table mismarked = refl
+in-table unknown = refl
+in-table (early v) = refl
+in-table (badMap v) = refl
+in-table (badScenario v) = refl
+in-table (badSurvey v) = refl
+in-table ended = refl
+in-table longPiece = refl
+in-table edition = refl
+in-table (badPlan v) = refl
+in-table (badReports v) = refl
+
+pub not-in-table : (k : ℕ) → elem k own ≡ true → (r : Refusal) → number r ≡ k → ⊥
+not-in-table k h r e = not-both (ap (λ j. elem j own) e ∙ h) (in-table r)

@@ -46,7 +46,7 @@ seven-is (stuck c) = refl
 pub reads-7 : (o : Outcome) → Refuses (no-7 o) (carrying 7 (λ c. o ≡ stuck c) ∷ [])
 reads-7 o =
     rw (seven-is o)
-    (carrying-test number carried docket-tells (λ c. o ≡ stuck c) (stuckOf o) stopped 7 (λ v. refl) (λ v. refl) (stuck-exactly o))
+    (carrying-test number carried (λ c. o ≡ stuck c) (stuckOf o) stopped 7 (λ v. docket-tells (stopped v)) (λ v. refl) (λ v. refl) (stuck-exactly o))
 
 long-words : (lent needed : ℕ) → (ltb lent needed or ltb most-crossings needed ≡ true) ↔ TooLong lent needed
 long-words lent needed = (
@@ -59,7 +59,7 @@ pub reads-8-by : (lent needed : ℕ) (W : ℕ → Type 0) → (TooLong lent need
     → Refuses (no-8 lent needed) (carrying 8 W ∷ [])
 reads-8-by lent needed W f g =
     let e = long-words lent needed in
-    known-test number carried docket-tells W (ltb lent needed or ltb most-crossings needed) room needed 8 refl refl
+    known-test number carried W (ltb lent needed or ltb most-crossings needed) room needed 8 (docket-tells (room needed)) refl refl
     (λ h. f (e .0 h))
     (λ v w. let r = g v w in (e .1 (r .1), r .0))
 
@@ -137,7 +137,7 @@ module _ (Y : Yard) where
 
   pub reads-9 : (p : Placement) (xs : List Crossing) → Refuses (no-9 Y p xs) (carrying 9 (FirstIllegal Y p xs) ∷ [])
   reads-9 p xs =
-      carrying-test number carried docket-tells (FirstIllegal Y p xs) (firstIllegal Y p 0 xs) illegal 9 (λ v. refl) (λ v. refl) (illegal-words p xs)
+      carrying-test number carried (FirstIllegal Y p xs) (firstIllegal Y p 0 xs) illegal 9 (λ v. docket-tells (illegal v)) (λ v. refl) (λ v. refl) (illegal-words p xs)
 
 -- ## 10
 
@@ -150,4 +150,4 @@ away-words goals p c =
 
 pub reads-10 : (goals p : Placement) → Refuses (no-10 goals p) (carrying 10 (LowestAway goals p) ∷ [])
 reads-10 goals p =
-    carrying-test number carried docket-tells (LowestAway goals p) (notHome goals p) missed 10 (λ v. refl) (λ v. refl) (away-words goals p)
+    carrying-test number carried (LowestAway goals p) (notHome goals p) missed 10 (λ v. docket-tells (missed v)) (λ v. refl) (λ v. refl) (away-words goals p)

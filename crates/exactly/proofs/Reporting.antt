@@ -15,12 +15,11 @@ use Rattle.paper.specs.Dependence.{isDone, undoneBefore}
 use Rattle.paper.specs.Docket.{Refusal, number, carried, badMarks, no-11, no-12, no-13}
 use Rattle.paper.specs.Answers.{check, Report, accept, already, refuse, tell, report}
 use Rattle.paper.proofs.Tests.{by-option, by-cases, never, not-both}
-use Rattle.paper.proofs.Determined.{docket-tells}
 use Rattle.exactly.specs.First.{Row, plain, carrying, NoneOf, Given, numbersOf, distinct}
 use Rattle.exactly.specs.Words.{mark, NotInPlan, LowestUndone}
 use Rattle.exactly.specs.Rows.{already-number, reportNumber, reportValue, markRows, reportRows}
-use Rattle.exactly.proofs.First.{Reads, after-it, exactly, nothing-exactly, never-given, plain-test, retold, otherwise, otherwise-exactly, other-exactly}
-use Rattle.exactly.proofs.Numbers.{number-between}
+use Rattle.exactly.proofs.First.{Reads, Told, after-it, exactly, nothing-exactly, never-given, plain-test, retold, otherwise, otherwise-exactly, other-exactly}
+use Rattle.exactly.proofs.Numbers.{not-in-table}
 use Rattle.exactly.proofs.Six.{Refuses}
 use Rattle.exactly.proofs.Marks.{reads-12, reads-13}
 use Rattle.exactly.proofs.Checking.{marks-read}
@@ -29,17 +28,11 @@ use Rattle.exactly.proofs.Checking.{marks-read}
 abbrev pub Reports : Option Report → List Row → Type 0
 Reports t rows = Reads reportNumber reportValue t rows
 
--- a report is told by its number and value
-pub report-tells : (a b : Report) → reportNumber a ≡ reportNumber b → reportValue a ≡ reportValue b → a ≡ b
-report-tells accept accept n v = refl
-report-tells accept already n v = absurd (omega arith)
-report-tells accept (refuse r) n v = let z = number-between r in absurd (omega arith)
-report-tells already accept n v = absurd (omega arith)
-report-tells already already n v = refl
-report-tells already (refuse r) n v = let z = number-between r in absurd (omega arith)
-report-tells (refuse r) accept n v = let z = number-between r in absurd (omega arith)
-report-tells (refuse r) already n v = let z = number-between r in absurd (omega arith)
-report-tells (refuse r) (refuse q) n v = ap refuse (docket-tells r q n v)
+already-told : Told reportNumber reportValue already
+unfolding elem
+already-told accept n v = absurd (omega arith)
+already-told already n v = refl
+already-told (refuse r) n v = absurd (not-in-table 100 refl r (sym n))
 
 -- refusals, told as reports
 pub refusing : {t : Option Refusal} {rows : List Row} → Refuses t rows → elem 0 (numbersOf rows) ≡ false → elem 100 (numbersOf rows) ≡ false
@@ -64,7 +57,7 @@ module _ (xs : List Crossing) (marks : List ℕ) (name : ℕ) where
   known-reads =
       after-it reportNumber reportValue (refusing (reads-12 xs marks name) refl refl) (λ _.
       after-it reportNumber reportValue
-      (plain-test reportNumber reportValue report-tells (mark marks name ≡ 1) (isDone marks name) already refl (eqb-true (mark marks name) 1, eq-eqb (mark marks name) 1)) (λ _.
+      (plain-test reportNumber reportValue (mark marks name ≡ 1) (isDone marks name) already already-told refl (eqb-true (mark marks name) 1, eq-eqb (mark marks name) 1)) (λ _.
       refusing (reads-13 xs marks name) refl refl))
 
   -- past 11

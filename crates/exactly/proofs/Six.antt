@@ -170,27 +170,27 @@ module _ (n : ℕ) (ends : List Bay) (starts goals : Placement) where
 
   module _ (lent : ℕ) where
     pub reads-1 : Refuses (no-1 n ends starts goals lent) (plain 1 (WrongSize n ends starts goals lent) ∷ [])
-    reads-1 = plain-test number carried docket-tells (WrongSize n ends starts goals lent) (badSize n ends starts goals lent) size refl (size-words n ends starts goals lent)
+    reads-1 = plain-test number carried (WrongSize n ends starts goals lent) (badSize n ends starts goals lent) size (docket-tells size) refl (size-words n ends starts goals lent)
 
     some-bay : no-1 n ends starts goals lent ≡ none → 0 < n
     some-bay h = let z = sizes-of n ends starts goals lent (none-when (badSize n ends starts goals lent) size h) .enough-bays in omega arith
 
   pub reads-2 : Refuses (no-2 n ends) (carrying 2 (FirstBadRail n ends) ∷ [])
-  reads-2 = carrying-test number carried docket-tells (FirstBadRail n ends) (firstBad (badRail n) 0 [] (railsOf ends)) rail 2 (λ v. refl) (λ v. refl) (first-rail-words n ends)
+  reads-2 = carrying-test number carried (FirstBadRail n ends) (firstBad (badRail n) 0 [] (railsOf ends)) rail 2 (λ v. docket-tells (rail v)) (λ v. refl) (λ v. refl) (first-rail-words n ends)
 
   pub reads-3 : 0 < n → no-2 n ends ≡ none → Refuses (no-3 n ends) (carrying 3 (LowestApart n ends) ∷ [])
   reads-3 l h =
-      carrying-test number carried docket-tells (LowestApart n ends) (apartBay (yardOf n ends)) apart 3 (λ v. refl) (λ v. refl)
+      carrying-test number carried (LowestApart n ends) (apartBay (yardOf n ends)) apart 3 (λ v. docket-tells (apart v)) (λ v. refl) (λ v. refl)
       (apart-words l (none-from rail (firstBad (badRail n) 0 [] (railsOf ends)) h))
 
   pub reads-4 : Refuses (no-4 n starts) (plain 4 (Crowded n starts) ∷ [])
-  reads-4 = plain-test number carried docket-tells (Crowded n starts) (ltb n (length starts + kept-empty)) crowd refl (ltb-true n (length starts + kept-empty), lt-ltb n (length starts + kept-empty))
+  reads-4 = plain-test number carried (Crowded n starts) (ltb n (length starts + kept-empty)) crowd (docket-tells crowd) refl (ltb-true n (length starts + kept-empty), lt-ltb n (length starts + kept-empty))
 
   pub reads-5 : Refuses (no-5 n starts) (carrying 5 (FirstBadPlace n starts) ∷ [])
-  reads-5 = carrying-test number carried docket-tells (FirstBadPlace n starts) (firstBad (badPlace n) 0 [] starts) start 5 (λ v. refl) (λ v. refl) (first-place-words n starts)
+  reads-5 = carrying-test number carried (FirstBadPlace n starts) (firstBad (badPlace n) 0 [] starts) start 5 (λ v. docket-tells (start v)) (λ v. refl) (λ v. refl) (first-place-words n starts)
 
   pub reads-6 : Refuses (no-6 n goals) (carrying 6 (FirstBadPlace n goals) ∷ [])
-  reads-6 = carrying-test number carried docket-tells (FirstBadPlace n goals) (firstBad (badPlace n) 0 [] goals) goal 6 (λ v. refl) (λ v. refl) (first-place-words n goals)
+  reads-6 = carrying-test number carried (FirstBadPlace n goals) (firstBad (badPlace n) 0 [] goals) goal 6 (λ v. docket-tells (goal v)) (λ v. refl) (λ v. refl) (first-place-words n goals)
 
   pub six-reads : (lent : ℕ) → Refuses (firstSix n ends starts goals lent) (six n ends starts goals lent)
   unfolding firstSix
