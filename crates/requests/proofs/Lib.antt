@@ -1,0 +1,2 @@
+pub mod Shortening
+pub mod Billing
