@@ -172,7 +172,7 @@ module _ (n : ℕ) (ends : List Bay) (starts goals : Placement) where
     pub reads-1 : Refuses (no-1 n ends starts goals lent) (plain 1 (WrongSize n ends starts goals lent) ∷ [])
     reads-1 = plain-test number carried (WrongSize n ends starts goals lent) (badSize n ends starts goals lent) size (docket-tells size) refl (size-words n ends starts goals lent)
 
-    some-bay : no-1 n ends starts goals lent ≡ none → 0 < n
+    pub some-bay : no-1 n ends starts goals lent ≡ none → 0 < n
     some-bay h = let z = sizes-of n ends starts goals lent (none-when (badSize n ends starts goals lent) size h) .enough-bays in omega arith
 
   pub reads-2 : Refuses (no-2 n ends) (carrying 2 (FirstBadRail n ends) ∷ [])

@@ -18,6 +18,10 @@ use Rattle.bills.specs.Billing.{recordOf, linesOf}
 use Rattle.bills.specs.Answering.{Billed, told, disagrees}
 use Rattle.bills.specs.declared.Record.{Record}
 use Rattle.bills.specs.declared.Line.{Line}
+use Rattle.comparing.specs.Comparing.{most-carriers, carrierOf}
+use Rattle.survey.specs.Survey.{surveyOf}
+use Rattle.paper.specs.Text.{Text}
+use Rattle.link.specs.declared.Link.{Link}
 
 -- ## Numbers of answers that are none of the table's
 
@@ -71,3 +75,51 @@ module _ (n : ℕ) (ends : List Bay) (starts goals : Placement) (plan marks : Li
   -- where the carriers stand: up to 11, then 8 carrying the number of carriers if the lent list is shorter
   abbrev pub standingRows : ℕ → List Row
   standingRows lent = markRows n ends starts goals plan marks ++ (carrying 8 (λ v. (v ≡ length starts) × (lent < length starts)) ∷ [])
+
+-- ## Slots by an edition
+
+-- "20, unknown edition, tested before all others"; then as slots
+abbrev pub editionRows : ℕ → List Bay → Placement → Placement → List ℕ → ℕ → ℕ → List Row
+editionRows n ends starts goals plan e lent = plain 20 ((e ≡ 1 → ⊥) × (e ≡ 2 → ⊥)) ∷ slotsRows n ends starts goals plan lent
+
+-- ## Lists of crossings alone
+
+-- playing backwards: 1 and 8
+abbrev pub reverseRows : List ℕ → ℕ → List Row
+reverseRows list lent = plain 1 (most-crossings < length list) ∷ no-room lent (length list) ∷ []
+
+-- "the first carrier number above 253" of a list
+abbrev pub FirstAbove : List ℕ → Carrier → Type 0
+FirstAbove list c = (i : ℕ) × FirstOf (length list) (λ j. most-carriers ≤ carrierOf (getD list j 0)) i × (carrierOf (getD list i 0) ≡ c)
+
+-- "first list first"
+abbrev pub AboveInEither : List ℕ → List ℕ → Carrier → Type 0
+AboveInEither first second c = FirstAbove first c ⊎ (((d : Carrier) → FirstAbove first d → ⊥) × FirstAbove second c)
+
+-- comparing: "1, a list over 65,536 crossings; 5, with the first carrier number above 253, first list first; 8, carrying 254, if the lent
+-- list has another length"
+abbrev pub compareRows : List ℕ → List ℕ → ℕ → List Row
+compareRows first second lent =
+    plain 1 ((most-crossings < length first) ⊎ (most-crossings < length second))
+    ∷ carrying 5 (AboveInEither first second)
+    ∷ carrying 8 (λ v. (v ≡ most-carriers) × (lent ≡ most-carriers → ⊥))
+    ∷ []
+
+-- ## Surveyors' files
+
+-- "1 to 3 as before", of a yard with no carriers
+abbrev pub threeRows : ℕ → List Bay → List Row
+threeRows n ends = plain 1 (WrongSize n ends [] [] 0) ∷ carrying 2 (FirstBadRail n ends) ∷ carrying 3 (LowestApart n ends) ∷ []
+
+-- "then 8": in rail ends for reading, in bytes for writing
+abbrev pub surveyRows : ℕ → List Bay → ℕ → List Row
+surveyRows n ends lent = threeRows n ends ++ (no-room lent (length ends) ∷ [])
+
+abbrev pub writingRows : ℕ → List Bay → ℕ → List Row
+writingRows n ends lent = threeRows n ends ++ (no-room lent (length (surveyOf n ends)) ∷ [])
+
+-- ## The serial link
+
+-- "Refusals, in order: 17, ended; 18, piece over 256 bytes."
+abbrev pub pieceRows : Link → Text → List Row
+pieceRows l bytes = plain 17 (l .phase ≡ 1 → ⊥) ∷ plain 18 (256 < length bytes) ∷ []
