@@ -78,6 +78,10 @@ given-first (row ∷ rows) k v g =
     (λ e. inl (sym (eqb-true _ _ e), rw e at g))
     (λ e. let h : Passed row × Given rows k v = rw e at g in inr (h .0, given-first rows k v (h .1)))
 
+-- what is given is the number of one of the rows
+pub given-number : (rows : List Row) (k : ℕ) (v : Option ℕ) → Given rows k v → elem k (numbersOf rows) ≡ true
+given-number rows k v g = first-number rows k v (given-first rows k v g)
+
 -- Past rows of other numbers: none of them applies, and the rest decides.
 pub given-past : (rows more : List Row) (k : ℕ) (v : Option ℕ) → elem k (numbersOf rows) ≡ false → Given (rows ++ more) k v ↔ (NoneOf rows × Given more k v)
 unfolding elem
