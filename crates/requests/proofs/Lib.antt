@@ -1,0 +1,5 @@
+pub mod Shortening
+pub mod Billing
+pub mod Verdicts
+pub mod Comparing
+pub mod Linking
