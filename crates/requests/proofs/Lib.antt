@@ -3,3 +3,4 @@ pub mod Billing
 pub mod Verdicts
 pub mod Comparing
 pub mod Linking
+pub mod Reading

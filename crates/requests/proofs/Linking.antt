@@ -10,15 +10,16 @@ use lib.Dec.{eqb, leb}
 use lib.ListN.{length}
 use borrow.Author.Tests.{not-true, leb-false, lt-leb, eqb-false, ne-eqb}
 use Rattle.paper.specs.Basics.{orElse, when, if-some_then_else_, elem, _and_}
-use Rattle.paper.specs.Docket.{Refusal, ended, longPiece, number, carried, denied}
-use Rattle.paper.specs.Text.{Text}
+use Rattle.paper.specs.Yard.{Bay}
+use Rattle.paper.specs.Docket.{Refusal, badScenario, ended, longPiece, number, carried, denied}
+use Rattle.paper.specs.Text.{Text, Read, good, badLine}
 use Rattle.paper.proofs.Tests.{never}
 use Rattle.paper.proofs.Determined.{docket-tells}
 use Rattle.exactly.specs.First.{NoneOf, Given, distinct}
 use Rattle.exactly.proofs.First.{after-it, exactly, nothing-exactly, plain-test}
 use Rattle.exactly.proofs.Six.{Refuses}
 use Rattle.link.specs.declared.Link.{Link}
-use Rattle.link.specs.Link.{Saying, more, told, isOpen, pieceSaying}
+use Rattle.link.specs.Link.{Saying, more, told, isOpen, pieceSaying, endSaying}
 use Rattle.requests.specs.Rows.{pieceRows}
 
 module _ (l : Link) (bytes : Text) where
@@ -58,3 +59,14 @@ module _ (l : Link) (bytes : Text) where
       let e = nothing-exactly number carried piece-reads in
       let f = taking (isOpen l) short in
       (λ h. e .0 (f .0 h), λ g. f .1 (e .1 g))
+
+-- The end of the link: 17, then 15 with the first bad line.
+pub end-17 : (r : Read (List (Bay × Bay))) (running : Bool) → (endSaying running r ≡ told (denied ended)) ↔ (running ≡ false)
+end-17 r false = (λ h. refl, λ h. refl)
+end-17 (good cs) true = (λ h. never (cc), λ h. never (cc))
+end-17 (badLine n) true = (λ h. never (cc), λ h. never (cc))
+
+pub end-15 : (r : Read (List (Bay × Bay))) (running : Bool) (n : ℕ) → (endSaying running r ≡ told (denied (badScenario n))) ↔ ((running ≡ true) × (r ≡ badLine n))
+end-15 r false n = (λ h. never (cc), λ h. let q = h .0 in never (cc))
+end-15 (good cs) true n = (λ h. never (cc), λ h. let q = h .1 in never (cc))
+end-15 (badLine k) true n = (λ h. let z : k ≡ n = cc in (refl, ap badLine z), λ h. let z : k ≡ n = let q = h .1 in cc in ap (λ j. told (denied (badScenario j))) z)
