@@ -64,7 +64,7 @@ pub set-up-all : {Y : Yard} {L M : Carrier} {v : Bay} {path : List Bay} {n : ℕ
     → (xs : List Crossing) → bring Y L M path p ≡ some xs → Played xs n p q standing₁ empty₁ out at out₁ a → ClearsTwo Y L M v (bayOf q M) q out₁ a p′ out′ r
     → SetsUp Y L M v path p out at p′ out′ r
 unfolding trialLed
-set-up-all {Y} {L} {M} {v} xs made w c =
+set-up-all {Y} {L} {M} {v} {p = p} xs made w c =
     let k = rw (w .moved) at c in
     record {
       both = λ x y m e.
@@ -75,7 +75,7 @@ set-up-all {Y} {L} {M} {v} xs made w c =
             kept = b .kept;
             listed = record {
               stored = rw map-append (stored-then (w .counted ∙ rw length-map) (w .stored) (b .listed .stored));
-              counted = omega (arith, w .counted, b .listed .counted, length-append xs (clear Y L M v (bayOf (after _ xs) M) (after _ xs) .moves));
+              counted = omega (arith, w .counted, b .listed .counted, length-append xs (clear Y L M v (bayOf (after p xs) M) (after p xs) .moves));
             };
             moved = b .moved;
           };
