@@ -54,7 +54,7 @@ pub fn make_room(
 }
 
 // l crosses into the empty bay x, and m into l's old bay.
-fn enter(
+pub fn enter(
     l: Carrier,
     m: Carrier,
     x: Bay,

@@ -29,7 +29,8 @@ use Rattle.home.specs.Homing.{Settled, AtMost, Stages, Homeward}
 use Rattle.vacate.specs.Placed.{Placed, Played}
 use Rattle.vacate.proofs.Playing.{played-none, played-then}
 use Rattle.bring.specs.Acting.{Tabled}
-use Rattle.trial.proofs.Copying.{part, in-bays}
+use Rattle.clear_on.proofs.Attempting.{in-bays}
+use Rattle.trial.proofs.Copying.{part}
 use Rattle.step.specs.Asking.{Loopless, BaysBelow}
 use Rattle.home.proofs.Homing.{stages-done, stages-stuck}
 use Rattle.carry.specs.Carrying.{Goals, HomeBelow, EndsAt, OnPath, Reaching, Settles}

@@ -8,6 +8,8 @@ pub mod Nearest
 pub mod Playing
 pub mod Reversing
 pub mod Vacating
+pub mod Actions
+pub mod GoingOn
 pub mod Trading
 pub mod Swapping
 pub mod Carrying

@@ -22,13 +22,14 @@ use Rattle.paper.proofs.Tests.{by-cases, by-option, not-both, and-right}
 use Rattle.paper.proofs.Trading.{traded-length, trade-first, trade-second, trade-other, trade-twice, trade-there, traded-bay}
 use Rattle.paper.proofs.Vacating.{plan-apart}
 use Rattle.docket.specs.Reading.{isSome}
-use Rattle.swap.specs.Seeking.{Beside, standingTraded, fitting, Logged}
+use Rattle.swap.specs.Seeking.{Beside, standingTraded, fitting}
 use Rattle.words.proofs.Besides.{equal-tests}
 use Rattle.vacate.specs.Placed.{Placed, Stored}
 use Rattle.vacate.proofs.Playing.{carrier-is, carrier-none}
 use Rattle.bring.specs.Acting.{Tabled, Proceeds}
 use Rattle.bring.proofs.Acting.{proceeds-none, proceeds-some}
-use Rattle.trial.specs.Trying.{Listed}
+use Rattle.clear_on.specs.Going.{Logged, Listed}
+use Rattle.clear_on.proofs.Attempting.{log-stored}
 use Rattle.swap.proofs.Seeking.{swap-found}
 use Rattle.bring.specs.declared.Tried.the-variants.{Done}
 use Rattle.bring.specs.declared.Tried.the-variants.{Failed}
@@ -97,20 +98,6 @@ module _ {n : ℕ} {table : List ℕ} (t : Tabled n table) {p standing empty : L
     some-trial : isSome (trial (t .yard) r s v p) ≡ true
     unfolding fitting
     some-trial = and-right _ _ (find-passes (fitting (t .yard) r s p) (nearestFirst (t .yard) [] (bayOf p r)) (sym found))
-
-    -- what was lent of the list, from where it goes on or its end, holds the trial afterwards
-    log-stored : {out log : List ℕ} {at from m : ℕ} (rest : List ℕ) (xs : List Crossing) → from ≡ min at (length out) → length log ≡ length (take (length out - from) (drop from out))
-        → length (take from out ++ (log ++ rest)) ≡ length out → Logged xs log m → Stored (map pack xs) out at (take from out ++ (log ++ rest))
-    log-stored {out} {log} {at} {from} {m} rest xs e lent long l = record {
-      long = long;
-      front = λ h.
-          let same : from ≡ at = omega arith in
-          let size : length (take at out) ≡ at = length-take-le at out (omega arith) in
-          let many : length (map pack xs) ≡ m = length-map xs pack ∙ sym (l .counted) in
-          let fits : m ≤ length log = omega (arith, lent, length-take (length out - from) (drop from out), length-drop from out) in
-          let whole = take-append-add (take at out) (log ++ rest) (length (map pack xs)) in
-          rw same ((rw size at whole) ∙ ap (λ (v : List ℕ). take at out ++ v) (rw many (take-append-le m log rest fits ∙ l .stored fits)));
-    }
 
     pub committed : {out log : List ℕ} {at from m : ℕ} (rest p′ standing′ : List ℕ) → p′ ≡ traded r s p → standing′ ≡ standingTraded r s p standing
         → from ≡ min at (length out) → (length log ≡ length (take (length out - from) (drop from out))) × (length (take from out ++ (log ++ rest)) ≡ length out)

@@ -7,7 +7,7 @@ use mathlib.Core.Option.{Option, none, some}
 use Prim.Native.Nat.{ℕ, _≤_, _<_}
 use lib.ListN.{length, getD, set, take}
 use Rattle.paper.specs.Basics.{_and_}
-use Rattle.paper.specs.Procedure.{traded, clear, trial, swap}
+use Rattle.paper.specs.Procedure.{traded, clearOnce, trial, swap}
 use Rattle.paper.specs.Yard.{Bay, Carrier, Yard, Placement, bayOf, Crossing, pack, joined, junction}
 use Rattle.paper.proofs.Playing.{Sound}
 use Rattle.docket.specs.Reading.{isSome}
@@ -16,6 +16,7 @@ use Rattle.vacate.specs.Placed.{Placed}
 use Rattle.bring.specs.Acting.{Tabled}
 use Rattle.bring.specs.declared.Tried.{Tried}
 use Rattle.bring.specs.declared.Tried.the-variants.{Done, Failed}
+use Rattle.clear_on.specs.Going.{Logged}
 use Rattle.swap.specs.declared.Junction.the-variants.{At}
 use Rattle.swap.specs.declared.Junction.{Junction}
 use Rattle.swap.specs.declared.Junction.the-variants.{Missing}
@@ -47,11 +48,6 @@ Counted Missing = Unit {0}
 unfoldable pub fitting : Yard → Carrier → Carrier → Placement → Bay → Bool
 fitting Y r s p v = junction Y v and isSome (trial Y r s v p)
 
--- the log holds the trial's crossings, if they are not more than its places
-pub record Logged (xs : List Crossing) (log : List ℕ) (m : ℕ) : Type 0 where
-  pub counted : m ≡ length xs
-  pub stored : m ≤ length log → take m log ≡ map pack xs
-
 -- the trial at v was logged, and v fits; or it does not fit
 pub record TriedAt (Y : Yard) (r s : Carrier) (v : Bay) (p : Placement) (log : List ℕ) (z : Tried) : Type 0 where
   pub fails : z ≡ Failed → fitting Y r s p v ≡ false
@@ -78,7 +74,7 @@ pub record SideBySide (n : ℕ) (table : List ℕ) (r s : Carrier) (p : Placemen
 pub record TwoSpare (table empty : List ℕ) (u w x y : Bay) : Type 0 where
   pub rising : x < y
   pub kept : {n : ℕ} (t : Tabled n table) {p standing : List ℕ} → n ≤ span → u < n → Placed n p standing empty
-      → clear (t .yard) u w p ≡ record { moves = []; kept = x ∷ y ∷ [] }
+      → clearOnce (t .yard) u w p ≡ record { moves = []; kept = x ∷ y ∷ [] }
 
 abbrev pub Spares : List ℕ → List ℕ → Bay → Bay → Spare → Type 0
 Spares table empty u w (Both x y) = TwoSpare table empty u w (x .0) (y .0)

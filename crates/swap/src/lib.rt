@@ -4,7 +4,7 @@ use docket::Bay;
 use docket::Carrier;
 ghost use mathlib.Core.Path.{_≡_};
 ghost use mathlib.Core.List.{[]};
-ghost use Prim.Native.Nat.{min, _+_, _*_, _^_, _≤_, _<_};
+ghost use Prim.Native.Nat.{_+_, _*_, _^_, _≤_, _<_};
 ghost use lib.ListN.{length, getD};
 ghost use Rattle.paper.specs.Basics.{find};
 ghost use Rattle.paper.specs.Yard.{bayOf};
@@ -114,16 +114,6 @@ fn trade(placement: &mut [u16], standing: &mut [u16], r: Carrier, s: Carrier)
     standing[b] = r.0 as u16;
 }
 
-// The place where the list goes on, or its end.
-fn place_in(out: &[u64], at: usize) -> usize
-    ensures { λ r. ⌜ r ≡ min at (length (now (out .entry))) ⌝ }
-{
-    if at < out.len() {
-        return at;
-    }
-    out.len()
-}
-
 // Swap of r with its neighbour s, by trials at the junctions. They go to the list itself, from where it goes on; the one that succeeds stays there.
 fn swap_far(
     table: &[u64],
@@ -139,7 +129,7 @@ fn swap_far(
     requires { ⌜ (r .0 < length (now placement)) × (s .0 < length (now placement)) × (s .0 ≡ r .0 → ⊥) × (at < 2 ^ 60) × SideBySide (length (now standing)) (now table) (r .0) (s .0) (now placement) ⌝ }
     ensures { λ z. ⌜ (Within at 150000 z) × ((t : Tabled (length (now (standing .entry))) (now (table .entry))) → Beside (t .yard) (r .0) (s .0) (now (placement .entry)) → Proceeds (swaps (t .yard) (r .0) (s .0) (now (placement .entry))) (length (now (standing .entry))) (now (placement .entry)) (now (out .entry)) at (now (placement .exit)) (now (standing .exit)) (now (empty .entry)) (now (out .exit)) z) ⌝ }
 {
-    let from = place_in(out, at);
+    let from = clear_on::place_in(out, at);
     let found = seek(table, r, s, placement, standing, empty, &mut out[from..]);
     let Junction::At(_, m) = found else {
         return Tried::Failed;

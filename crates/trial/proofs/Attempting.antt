@@ -13,23 +13,24 @@ use borrow.Author.Tests.{ne-eqb}
 use Rattle.paper.specs.Procedure.{exchange, undo, Cleared, bring, clear, finish, trialLed}
 use Rattle.paper.specs.Yard.{Bay, Carrier, Yard, Placement, bayOf, Crossing, crossing, reverseOf, pack, move, after, joined, legalPlan}
 use Rattle.paper.proofs.Members.{In-head, In-tail}
-use Rattle.paper.proofs.Playing.{legal-facts, after-append, after-length, plan-head, plan-tail, plan-append}
-use Rattle.paper.proofs.Swapping.{Brought, bring-brings, ClearedIs, clear-clears}
-use Rattle.paper.proofs.Tests.{never-some}
+use Rattle.paper.proofs.Playing.{Apart, legal-facts, after-append, after-length, plan-head, plan-tail, plan-append}
+use Rattle.paper.proofs.Rings.{joined-sym}
+use Rattle.paper.proofs.Swapping.{Brought, bring-brings, ClearedIs, once-clears, clear-clears}
+use Rattle.paper.proofs.Tests.{never-some, never}
 use Rattle.paper.proofs.Vacating.{plan-apart}
 use Rattle.words.specs.Sets.{span}
 use Rattle.yard.specs.Table.{Table}
 use Rattle.vacate.specs.Placed.{Placed, Stored, Played}
-use Rattle.vacate.proofs.Playing.{sets-append, played-then, stored-exact, stored-then}
+use Rattle.vacate.proofs.Playing.{sets-append, stored-exact, stored-then}
 use Rattle.bring.specs.Acting.{Tries}
 use Rattle.bring.specs.Turning.{Small, Holds, numbers}
 use Rattle.bring.proofs.Acting.{tried-done}
-use Rattle.clear.specs.Keeping.{Clears}
-use Rattle.trial.specs.Trying.{Noted, Listed, Prepared, SetsUp, Wrote, Led}
+use Rattle.clear_on.specs.Going.{Listed, AtJunction, ClearsTwo}
+use Rattle.trial.specs.Trying.{Noted, Prepared, SetsUp, Wrote, Led}
 use Rattle.bring.specs.declared.Tried.the-variants.{Done}
 use Rattle.bring.specs.declared.Tried.the-variants.{Failed}
-use Rattle.clear.specs.declared.Two.the-variants.{Short}
-use Rattle.clear.specs.declared.Two.{Two}
+use Rattle.clear_on.specs.declared.Pair.the-variants.{Missing}
+use Rattle.clear_on.specs.declared.Pair.{Pair}
 
 pub noted-then : {xs ys : List Crossing} {out out₁ out′ : List ℕ} {at m r : ℕ} → Noted xs out at out₁ m → Noted ys out₁ m out′ r → Noted (xs ++ ys) out at out′ r
 noted-then {xs} {ys} {out} {at = at} a b = record {
@@ -49,27 +50,37 @@ too-few Y L M v b done [] h = refl
 too-few Y L M v b done (x ∷ []) h = refl
 too-few Y L M v b done (x ∷ y ∷ l) h = absurd (omega arith)
 
-pub not-brought : {Y : Yard} {L M : Carrier} {v : Bay} {path : List Bay} {n : ℕ} {p out : List ℕ} {at : ℕ} {p′ standing′ empty′ out′ : List ℕ}
-    → bring Y L M path p ≡ none → SetsUp Y L M v path n p out at p′ standing′ empty′ out′ Short
+pub not-brought : {Y : Yard} {L M : Carrier} {v : Bay} {path : List Bay} {p out : List ℕ} {at : ℕ} {p′ out′ : List ℕ} → bring Y L M path p ≡ none → SetsUp Y L M v path p out at p′ out′ Missing
 unfolding trialLed
-not-brought e = record { both = λ x y m d. let z : _≡_ {A = ℕ} 0 1 = cc in absurd (omega arith); short = λ d. rw e }
+not-brought e = record { both = λ x y m d. never (cc); missing = λ d. rw e }
 
-pub set-up-with : {Y : Yard} {L M : Carrier} {v : Bay} {path : List Bay} {n : ℕ} {p out : List ℕ} {at : ℕ} {q standing₁ empty₁ out₁ p′ standing′ empty′ out′ : List ℕ} {a : ℕ} {r : Two}
-    (xs : List Crossing) → bring Y L M path p ≡ some xs → q ≡ after p xs → Played xs n p q standing₁ empty₁ out at out₁ a → Clears (clear Y v (bayOf q M) q) n q out₁ a p′ standing′ empty′ out′ r
-    → SetsUp Y L M v path n p out at p′ standing′ empty′ out′ r
+-- where bring ends, the leader is at v and the follower beside it
+pub at-junction : {Y : Yard} {L M : Carrier} {v : Bay} {path : List Bay} {p : Placement} (xs : List Crossing) → Led Y L M v path p → Apart p → L < length p → M < length p → (M ≡ L → ⊥) → bring Y L M path p ≡ some xs
+    → (q : Placement) → q ≡ after p xs → AtJunction L M v (bayOf q M) q
+at-junction {Y} {L} {M} {v} {path} {p} xs led apart hL hM differ made q moved =
+    record { at-v = rw moved (bring-brings Y (led .sound) L M (ne-eqb L M (λ e. differ (sym e))) path v p xs apart hL hM (led .chain) (led .beside) made .leads); at-b = refl }
+
+pub set-up-all : {Y : Yard} {L M : Carrier} {v : Bay} {path : List Bay} {n : ℕ} {p out : List ℕ} {at : ℕ} {q standing₁ empty₁ out₁ p′ out′ : List ℕ} {a : ℕ} {r : Pair}
+    → (xs : List Crossing) → bring Y L M path p ≡ some xs → Played xs n p q standing₁ empty₁ out at out₁ a → ClearsTwo Y L M v (bayOf q M) q out₁ a p′ out′ r
+    → SetsUp Y L M v path p out at p′ out′ r
 unfolding trialLed
-set-up-with {Y} {L} {M} {v} {path} {p = p} {q = q} xs made moved w c =
-    let u = rw moved at w in
-    let k = rw moved at c in
+set-up-all {Y} {L} {M} {v} {p = p} xs made w c =
+    let k = rw (w .moved) at c in
     record {
-      both = λ x y m e. let b = k .both x y m e in record { brought = xs; made = made; kept = b .0; played = played-then u (b .1) };
-      short = λ e. rw made (too-few Y L M v _ _ _ (k .short e));
+      both = λ x y m e.
+          let b = k .both x y m e in
+          record {
+            brought = xs;
+            made = made;
+            kept = b .kept;
+            listed = record {
+              stored = rw map-append (stored-then (w .counted ∙ rw length-map) (w .stored) (b .listed .stored));
+              counted = omega (arith, w .counted, b .listed .counted, length-append xs (clear Y L M v (bayOf (after p xs) M) (after p xs) .moves));
+            };
+            moved = b .moved;
+          };
+      missing = λ e. rw made (too-few Y L M v _ _ _ (k .missing e));
     }
-
-pub set-up-all : {Y : Yard} {L M : Carrier} {v : Bay} {path : List Bay} {n : ℕ} {p out : List ℕ} {at : ℕ} {q standing₁ empty₁ out₁ p′ standing′ empty′ out′ : List ℕ} {a : ℕ} {r : Two}
-    → Tries (bring Y L M path p) n p out at q standing₁ empty₁ out₁ (Done a) → Clears (clear Y v (bayOf q M) q) n q out₁ a p′ standing′ empty′ out′ r
-    → SetsUp Y L M v path n p out at p′ standing′ empty′ out′ r
-set-up-all t c = let d = tried-done t in set-up-with (d .0) (d .1) (d .2 .moved) (d .2) c
 
 pub wrote-none : {o : Option (List Crossing)} {out : List ℕ} {at : ℕ} {out′ : List ℕ} → o ≡ none → Wrote o out at out′ Failed
 wrote-none e = record { fails = λ d. refl; succeeds = λ xs d. never-some xs (sym e ∙ d) }
@@ -109,32 +120,42 @@ length-undo : (L M : Carrier) (xs : List Crossing) → length (undo L M xs) ≡ 
 unfolding undo reverseOf
 length-undo L M xs = rw (length-map, length-map, length-reverse)
 
-module _ {Y : Yard} {L M : Carrier} {v : Bay} {path : List Bay} {n : ℕ} {p standing empty out : List ℕ} {at : ℕ} {p′ standing′ empty′ out₁ : List ℕ} {x y c : ℕ}
-    (w : Prepared Y L M v path n p out at p′ standing′ empty′ out₁ x y c) (k : Placed n p standing empty) (hL : L < length p) (hM : M < length p) (differ : M ≡ L → ⊥) where
+module _ {Y : Yard} {L M : Carrier} {v : Bay} {path : List Bay} {n : ℕ} {p standing empty out : List ℕ} {at : ℕ} {p′ out₁ : List ℕ} {x y c : ℕ}
+    (w : Prepared Y L M v path p out at p′ out₁ x y c) (k : Placed n p standing empty) (hL : L < length p) (hM : M < length p) (differ : M ≡ L → ⊥) where
   abbrev p₁ : Placement
   p₁ = after p (w .brought)
 
   abbrev cleared : Cleared
-  cleared = clear Y v (bayOf p₁ M) p₁
+  cleared = clear Y L M v (bayOf p₁ M) p₁
 
   abbrev done : List Crossing
   done = w .brought ++ cleared .moves
 
   pub counted-from : c ≡ at + length done
-  counted-from = w .played .counted
+  counted-from = w .listed .counted
 
   module _ (rows : List ℕ) (shown : Table Y n rows) (most : n ≤ span) (led : Led Y L M v path p) where
     brings : Brought Y (led .sound) L M (ne-eqb L M (λ e. differ (sym e))) v p (w .brought)
     brings = bring-brings Y (led .sound) L M (ne-eqb L M (λ e. differ (sym e))) path v p (w .brought) (k .apart) hL hM (led .chain) (led .beside) (w .made)
 
+    apart₁ : Apart p₁
+    apart₁ = plan-apart Y p (w .brought) (k .apart) (brings .legal)
+
     clears : ClearedIs Y (led .sound) v (bayOf p₁ M) p₁ cleared
-    clears = clear-clears Y (led .sound) v (bayOf p₁ M) p₁ (plan-apart Y p (w .brought) (k .apart) (brings .legal))
+    clears = clear-clears Y (led .sound) L M (ne-eqb L M (λ e. differ (sym e))) v (bayOf p₁ M) p₁ (record {
+      apart = apart₁;
+      there = rw after-length hL;
+      follows = rw after-length hM;
+      at-v = brings .leads;
+      at-b = refl;
+      beside = joined-sym Y (bayOf p₁ M) v (brings .follows);
+    })
 
     legal : legalPlan Y p done ≡ true
     legal = plan-append Y p (w .brought) (cleared .moves) (brings .legal) (clears .legal)
 
     same-bay : bayOf p′ M ≡ bayOf p₁ M
-    same-bay = rw (w .played .moved, after-append) (clears .stays M (rw after-length hM) (In-tail (bayOf p₁ M) v (bayOf p₁ M ∷ []) (In-head (bayOf p₁ M) [])))
+    same-bay = rw (w .moved) (once-clears Y (led .sound) v (bayOf p₁ M) p₁ apart₁ .stays M (rw after-length hM) (In-tail (bayOf p₁ M) v (bayOf p₁ M ∷ []) (In-head (bayOf p₁ M) [])))
 
     module _ {out₂ out₃ : List ℕ} {d : ℕ} (ex : Noted (exchange L M v (bayOf p′ M) (min x y) (max x y)) out₁ c out₂ d)
         (un : (xs : List Crossing) → Small xs → Holds out₂ at xs → length xs ≡ c - at → out₃ ≡ sets out₂ d (numbers L M xs)) where
@@ -146,7 +167,7 @@ module _ {Y : Yard} {L M : Carrier} {v : Bay} {path : List Bay} {n : ℕ} {p sta
       holds fits = record {
         at = λ j h l.
             ap (λ (o : List ℕ). getD o (at + j) 0) (ex .stored) ∙ sets-before out₁ c (map pack traded) (at + j) (omega (arith, counted-from))
-            ∙ stored-at (w .played .stored) fits j (rw length-map h) ∙ List·getD-map pack done j (crossing 0 0 0);
+            ∙ stored-at (w .listed .stored) fits j (rw length-map h) ∙ List·getD-map pack done j (crossing 0 0 0);
       }
 
       small : Small done
@@ -156,7 +177,7 @@ module _ {Y : Yard} {L M : Carrier} {v : Bay} {path : List Bay} {n : ℕ} {p sta
       }
 
       set-up-and-traded : Stored (map pack done ++ map pack traded) out at out₂
-      set-up-and-traded = stored-then (counted-from ∙ rw length-map) (w .played .stored) (stored-exact (ex .stored))
+      set-up-and-traded = stored-then (counted-from ∙ rw length-map) (w .listed .stored) (stored-exact (ex .stored))
 
       -- undo reads what bring and clear stored, where there was room for all of it
       undone : at + length (map pack done) ≤ length out → Stored (map pack done ++ map pack traded ++ numbers L M done) out at out₃
