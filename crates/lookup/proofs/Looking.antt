@@ -168,20 +168,20 @@ module _ {n : ℕ} {table held : List ℕ} (s : Shown n table held) {x : Bay} {w
       below : (i : ℕ) (b : Bay) → In b (around Y (s .bays) x i) → b < n
       below i b y = inside (s .joins) (g .most) b (free-there i b y .0)
 
-      open : (i : ℕ) (b : Bay) → In b (around Y (s .bays) x i) → q b ≡ true → mem (g .bays) b ≡ true
-      open i b y t =
+      chosen : (i : ℕ) (b : Bay) → In b (around Y (s .bays) x i) → q b ≡ true → mem (g .bays) b ≡ true
+      chosen i b y t =
           let f = free-there i b y in
           let h = inside-span b (f .0) in
           g .free b h ∙ and-both _ _ (same b (below i b y) ∙ t) (ap not (s .holds b h ∙ f .1))
 
       early : (i : ℕ) (b : Bay) → i < j + 1 → In b (around Y (s .bays) x i) → q b ≡ false
-      early i b h y = by-cases (q b) (λ t. absurd (omega (arith, no-nearer i b (plain i b y) (open i b y t)))) (λ t. t)
+      early i b h y = by-cases (q b) (λ t. absurd (omega (arith, no-nearer i b (plain i b y) (chosen i b y t)))) (λ t. t)
 
       among : (b : Bay) → In b (around Y (s .bays) x (j + 1)) → q b ≡ true → (b < n) × (meets j b ≡ true)
       among b y t = (
         below (j + 1) b y,
         and-both _ _ (walk-level (s .joins) (g .most) (g .levels) j x b (g .fits) (g .home) (plain (j + 1) b y) (omega arith) (omega arith))
-            (row-zero (g .bays) b ∙ open (j + 1) b y t),
+            (row-zero (g .bays) b ∙ chosen (j + 1) b y t),
       )
 
       end-first : nearestOf Y q (s .bays) x ≡ some e
