@@ -7,7 +7,7 @@
  *
  * What the caller must ensure:
  * - each list has at least as many elements as the length after it says; a list of length 0 may be NULL;
- * - pointers without a length (`value`, `record`, `bays`, `longer`, `link`) are not NULL;
+ * - pointers without a length (`value`, `parked`, `record`, `bays`, `longer`, `link`) are not NULL;
  * - what may be written, that is every argument without `const`, overlaps no other argument;
  * - lengths and numbers are 64 bits wide. A call from another language must say so: with ctypes, for instance, a plain Python int is passed as 32
  *   bits, and the upper half of a length on the stack is then whatever was there. Set `argtypes` to c_uint64 and pointers;
@@ -29,7 +29,7 @@
 #include <stdint.h>
 
 /* The version of this header. A changed signature raises the second number, until the first is 1. */
-#define SEJJEKORU_VERSION "0.2.0"
+#define SEJJEKORU_VERSION "0.3.0"
 
 #ifdef __cplusplus
 extern "C" {
@@ -95,13 +95,14 @@ typedef struct {
     uint32_t last;      /* the last of their names, or SEJJEKORU_UNTOUCHED */
 } sejjekoru_line;
 
-/* Plans, and writes the plan to the first places of `plan`; the value is its length. Answers 0 to 8. */
+/* Plans, and writes the plan to the first places of `plan`; the value is its length. `parked` is how many vacates in the plan, undoing left aside,
+   filled a bay of three rails or more; 0 on refusal. Answers 0 to 8. */
 uint64_t sejjekoru_plan(uint64_t bays,
                         const uint16_t *rails, size_t rails_len,
                         const uint16_t *start, size_t start_len,
                         const uint16_t *goal, size_t goal_len,
                         uint64_t *plan, size_t plan_len,
-                        uint64_t *value);
+                        uint64_t *parked, uint64_t *value);
 
 /* Whether the plan is legal and brings every carrier home. Answers 0 to 6, 9, 10. */
 uint64_t sejjekoru_check(uint64_t bays,

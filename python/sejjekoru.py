@@ -156,7 +156,7 @@ _line = (ctypes.POINTER(_Line), _length)
 _record = ctypes.POINTER(_Record)
 _order = (_number, *_bays, *_bays, *_bays)
 
-_plan = _declare("sejjekoru_plan", *_order, *_long, _value)
+_plan = _declare("sejjekoru_plan", *_order, *_long, _value, _value)
 _check = _declare("sejjekoru_check", *_order, *_long, _value)
 _slots = _declare("sejjekoru_slots", *_order, *_long, *_slot, _value)
 _shorten = _declare("sejjekoru_shorten", *_order, *_long, *_mark, *_long, _value)
@@ -205,9 +205,14 @@ def _told(number: int, value: ctypes.c_uint64) -> int:
 
 def plan(order: Order, room: int = MOST_CROSSINGS) -> List[Crossing]:
     """The plan of an order, of at most `room` crossings. Raises Refused, 1 to 8."""
-    out, value = (ctypes.c_uint64 * room)(), ctypes.c_uint64()
-    length = _told(_plan(*_order_words(order), out, room, ctypes.byref(value)), value)
-    return _unpack(out[:length])
+    return plan_counted(order, room)[0]
+
+
+def plan_counted(order: Order, room: int = MOST_CROSSINGS) -> Tuple[List[Crossing], int]:
+    """The plan, and how many vacates in it, undoing left aside, filled a bay of three rails or more. Raises Refused, 1 to 8."""
+    out, parked, value = (ctypes.c_uint64 * room)(), ctypes.c_uint64(), ctypes.c_uint64()
+    length = _told(_plan(*_order_words(order), out, room, ctypes.byref(parked), ctypes.byref(value)), value)
+    return _unpack(out[:length]), parked.value
 
 
 def check(order: Order, crossings: Sequence[Crossing]) -> None:

@@ -121,8 +121,9 @@ static uint64_t call_plan(size_t room)
 {
     order_arguments("sejjekoru_plan");
     LIST(other, room);
+    POINTER(&parked);
     POINTER(&value);
-    return end(sejjekoru_plan(ORDER, other, room, &value));
+    return end(sejjekoru_plan(ORDER, other, room, &parked, &value));
 }
 
 static uint64_t call_check(void)

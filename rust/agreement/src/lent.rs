@@ -134,12 +134,13 @@ impl<'a> Asked<'a> {
     pub fn plan(&self, room: usize) -> u64 {
         let Order { bays, rails, start, goal } = self.order;
         let mut expected = vec![u64::GUARD; room];
-        let answer = reference::plan(*bays, rails, start, goal, &mut expected);
+        let (number, value, parked) = reference::plan_parked(*bays, rails, start, goal, &mut expected);
         let (lists, out) = (self.lists(), Lent::room(room));
+        let mut counted = u64::MAX;
         // SAFETY: each pointer comes with the length of its own list, and nothing else points there.
-        let told = unsafe { ask!(sejjekoru_plan, lists, [out]) };
-        let kept = self.kept(&lists) && out.is(&expected);
-        self.agreed("plan", told, answer, kept, &room)
+        let told = unsafe { ask!(sejjekoru_plan, lists, [out], &mut counted) };
+        let kept = self.kept(&lists) && out.is(&expected) && counted == parked;
+        self.agreed("plan", told, (number, value), kept, &room)
     }
 
     pub fn check(&self, plan: &[u64]) -> u64 {

@@ -68,7 +68,7 @@ fn time(order: &Order) -> Timed {
     let Order { bays, rails, start, goal } = order;
     let (mut out, mut other) = (vec![0; ROOM], vec![0; ROOM]);
     let answer = numbers::plan(yard(order), &mut out);
-    assert_eq!(answer, reference::plan(*bays, rails, start, goal, &mut other));
+    assert_eq!(answer, reference::plan_parked(*bays, rails, start, goal, &mut other));
     assert!(out == other);
     let (library, reference) = race(
         Duration::from_millis(100),

@@ -68,7 +68,16 @@ pub struct Yard<'a> {
     pub goal: &'a [u16],
 }
 
-/// Plans, and writes the plan to the first places of `room`. The answer is the plan's length.
+/// What planning answers.
+#[derive(Clone, Copy, Debug, PartialEq, Eq)]
+pub struct Planned {
+    /// How many crossings the plan has.
+    pub length: usize,
+    /// How many vacates in the plan, undoing left aside, filled a bay of three rails or more.
+    pub parked: u64,
+}
+
+/// Plans, and writes the plan to the first places of `room`.
 ///
 /// # Errors
 ///
@@ -77,15 +86,16 @@ pub struct Yard<'a> {
 /// that `room` would need.
 ///
 /// ```
-/// use sejjekoru::{plan, Refusal, Yard};
+/// use sejjekoru::{plan, Planned, Refusal, Yard};
 ///
 /// let yard = Yard { bays: 4, rails: &[0, 1, 1, 2, 1, 3], start: &[1, 0], goal: &[0, 1] };
 /// let mut room = [0; 16];
-/// assert_eq!(plan(yard, &mut room), Ok(6));
+/// assert_eq!(plan(yard, &mut room), Ok(Planned { length: 6, parked: 0 }));
 /// assert_eq!(plan(yard, &mut room[..5]), Err(Refusal::Room(6)));
 /// ```
-pub fn plan(yard: Yard, room: &mut [u64]) -> Result<usize, Refusal> {
-    told(numbers::plan(yard, room)).map(|written| written as usize)
+pub fn plan(yard: Yard, room: &mut [u64]) -> Result<Planned, Refusal> {
+    let (number, value, parked) = numbers::plan(yard, room);
+    told((number, value)).map(|written| Planned { length: written as usize, parked })
 }
 
 /// Whether `plan` is legal and brings every carrier home.

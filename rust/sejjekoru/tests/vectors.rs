@@ -3,7 +3,7 @@
 use sejjekoru::{numbers, Yard};
 use yards::vectors::{plans, reverses};
 
-fn plan(bays: u64, rails: &[u16], start: &[u16], goal: &[u16], room: &mut [u64]) -> (u64, u64) {
+fn plan(bays: u64, rails: &[u16], start: &[u16], goal: &[u16], room: &mut [u64]) -> (u64, u64, u64) {
     numbers::plan(Yard { bays, rails, start, goal }, room)
 }
 
