@@ -31,7 +31,8 @@ use Rattle.vacate.specs.Placed.{Placed}
 use Rattle.bring.specs.Acting.{Tabled, Tallied, nothing}
 use Rattle.bring.specs.declared.Tally.{Tally}
 use Rattle.bring.proofs.Acting.{tallied-none, tallied-then}
-use Rattle.trial.proofs.Copying.{part, in-bays}
+use Rattle.clear_on.proofs.Attempting.{in-bays}
+use Rattle.trial.proofs.Copying.{part}
 use Rattle.step.specs.Asking.{Loopless, BaysBelow}
 use Rattle.home.proofs.Homing.{stages-done, stages-stuck}
 use Rattle.carry.specs.Carrying.{Goals, HomeBelow, EndsAt, OnPath, Reaching, Settles}

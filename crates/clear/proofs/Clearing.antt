@@ -237,12 +237,12 @@ first-then {Y} {v} {b} {others} {n} {p} {q = q} {x = x} f s =
 
 -- ## Filters
 
-filter-both : (f g : ℕ → Bool) (l : List ℕ) → filter g (filter f l) ≡ filter (λ y. f y and g y) l
+pub filter-both : (f g : ℕ → Bool) (l : List ℕ) → filter g (filter f l) ≡ filter (λ y. f y and g y) l
 unfolding filter _and_
 filter-both f g [] = refl
 filter-both f g (x ∷ l) = by-cases (f x) (λ e. by-cases (g x) (λ d. rw (e, d) (ap (λ (t : List ℕ). x ∷ t) (filter-both f g l))) (λ d. rw (e, d) (filter-both f g l))) (λ e. rw e (filter-both f g l))
 
-filter-same : (f g : ℕ → Bool) (a k : ℕ) → ((y : ℕ) → a ≤ y → y < a + k → f y ≡ g y) → filter f (countFrom a k) ≡ filter g (countFrom a k)
+pub filter-same : (f g : ℕ → Bool) (a k : ℕ) → ((y : ℕ) → a ≤ y → y < a + k → f y ≡ g y) → filter f (countFrom a k) ≡ filter g (countFrom a k)
 unfolding filter countFrom
 filter-same f g a zero h = refl
 filter-same f g a (suc k) h =

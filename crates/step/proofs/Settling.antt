@@ -23,7 +23,7 @@ use Rattle.words.specs.Sets.{mem, memRow, span}
 use Rattle.words.proofs.Besides.{equal-tests}
 use Rattle.vacate.specs.Placed.{Placed}
 use Rattle.vacate.proofs.Playing.{carrier-is}
-use Rattle.trial.proofs.Copying.{in-bays}
+use Rattle.clear_on.proofs.Attempting.{in-bays}
 use Rattle.bring.specs.Acting.{Tabled, Tallied, Proceeds}
 use Rattle.bring.specs.declared.Tally.{Tally}
 use Rattle.bring.specs.declared.Tried.the-variants.{Done}

@@ -43,7 +43,7 @@ slice-aggregate-either-way : tie.Need-slice-aggregate-either-way
 slice-aggregate-either-way c = search needs
 
 mul-either-way : tie.Need-mul-either-way
-mul-either-way c = search needs
+mul-either-way c = search (needs, c .before .place-in .ensures, c .before .before .before .before .before .before .before .before .before .before .before .before .before .before .before .before .before .before .before .before .good)
 
 sub-either-way : tie.Need-sub-either-way
 sub-either-way c = search needs
