@@ -1,6 +1,5 @@
 -- `bring::fill` meets its contract. One crossing is a vacate that filled its bay.
 -- Assumes nothing.
-use mathlib.Core.Path.{sym}
 use native.Mathlib.Omega.{arith}
 use borrow.Author.Needs.{needs}
 use Rattle.bring.proofs.Acting.{tallied-filled}
@@ -26,7 +25,10 @@ same-length-4 : tie.Need-same-length-4
 same-length-4 c = search needs
 
 returns : tie.Need-returns
-returns c = ?
+returns c =
+    let told = c .tally-filled .ensures in
+    let crossed = c .before .before .before .before .before .before .before .before .before .cross .ensures in
+    λ t. tallied-filled (t .yard) _ (rw (told .0) crossed) (omega arith) (told .1 t)
 
 pub fill-spec : {M : Type 1} → statement M
 fill-spec =
