@@ -65,7 +65,7 @@ pub set-up-all : {Y : Yard} {L M : Carrier} {v : Bay} {path : List Bay} {n : ℕ
     → (xs : Made) → bring Y L M path p ≡ some xs → Tallied xs n p q standing₁ empty₁ out at out₁ a → ClearsTwo Y L M v (bayOf q M) q out₁ a p′ out′ r
     → SetsUp Y L M v path p out at p′ out′ r
 unfolding trialLed
-set-up-all {Y} {L} {M} {v} xs made w c =
+set-up-all {Y} {L} {M} {v} {p = p} {at = at} {a = a} xs made w c =
     let k = rw (w .moved) at c in
     record {
       both = λ x y m e.
@@ -76,8 +76,8 @@ set-up-all {Y} {L} {M} {v} xs made w c =
             kept = b .kept;
             listed = record {
               stored = rw map-append (stored-then (w .counted ∙ rw length-map) (w .stored) (b .listed .stored));
-              counted = omega (arith, w .counted, b .listed .counted, length-append (xs .moves) (clear Y L M v (bayOf (after _ (xs .moves)) M) (after _ (xs .moves)) .made .moves));
-              parks = as-far-then _ _ _ _ _ (w .parks) (b .listed .parks);
+              counted = omega (arith, w .counted, b .listed .counted, length-append (xs .moves) (clear Y L M v (bayOf (after p (xs .moves)) M) (after p (xs .moves)) .made .moves));
+              parks = as-far-then (at .parked) (a .parked) (m .parked) (xs .parked) (clear Y L M v (bayOf (after p (xs .moves)) M) (after p (xs .moves)) .made .parked) (w .parks) (b .listed .parks);
               few = λ h. b .listed .few (w .few h);
             };
             moved = b .moved;
