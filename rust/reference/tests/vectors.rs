@@ -1,9 +1,9 @@
 //! The vectors, run and compared whole: answers, carried values, and the end contents of every lent list.
 //! Those of check, slots and reports are read where the proved programs read them, as numbers with each list behind its count.
 
-use reference::{check, plan, program, report, slots};
+use reference::{check, plan, plan_parked, program, report, slots};
 use std::path::{Path, PathBuf};
-use yards::vectors::{plans, reverses};
+use yards::vectors::{parked_plans, plans, reverses};
 
 fn here(name: &str) -> PathBuf {
     Path::new(env!("CARGO_MANIFEST_DIR")).join(name)
@@ -38,6 +38,11 @@ fn plans_of_the_vectors() {
 #[test]
 fn plans_where_clearing_goes_on() {
     assert_eq!(plans(&text("tests/data/plan-e2.txt"), plan), (500, 0));
+}
+
+#[test]
+fn plans_that_do_not_park_on_junctions() {
+    assert_eq!(parked_plans(&text("tests/data/plan-e2-e9.txt"), plan_parked), (500, 0));
 }
 
 #[test]

@@ -11,12 +11,18 @@ fn fitting<T: TryFrom<u64>>(field: &str) -> Option<Vec<T>> {
 
 /// `refused NUMBER CARRIED`, `ok LENGTH : LIST`.
 fn answer(text: &str) -> (u64, u64, Vec<u64>) {
+    let (number, value, _, list) = answer_parked(text);
+    (number, value, list)
+}
+
+/// The same, and `ok LENGTH PARKED : LIST`; 0 is parked where nothing is said of it.
+fn answer_parked(text: &str) -> (u64, u64, u64, Vec<u64>) {
     let (head, list) = text.split_once(':').unwrap_or((text, ""));
     let words: Vec<&str> = head.split_whitespace().collect();
     let number = |i: usize| words.get(i).map_or(0, |word| word.parse().expect("a number"));
     match words[0] {
-        "ok" => (0, number(1), fitting(list).expect("a plan")),
-        "refused" => (number(1), number(2), Vec::new()),
+        "ok" => (0, number(1), number(2), fitting(list).expect("a plan")),
+        "refused" => (number(1), number(2), 0, Vec::new()),
         word => panic!("{word}"),
     }
 }
@@ -26,6 +32,14 @@ const UNTOUCHED: u64 = 0xDEAD_BEEF_DEAD_BEEF;
 /// Runs the plan cases of a file; answers how many were run and how many name a bay that 16 bits don't hold. A planner answers number and
 /// value, as the library does.
 pub fn plans(text: &str, plan: impl Fn(u64, &[u16], &[u16], &[u16], &mut [u64]) -> (u64, u64)) -> (usize, usize) {
+    parked_plans(text, |bays, rails, start, goal, out| {
+        let (number, value) = plan(bays, rails, start, goal, out);
+        (number, value, 0)
+    })
+}
+
+/// The same for a planner that also answers how many vacates filled a bay of three rails or more.
+pub fn parked_plans(text: &str, plan: impl Fn(u64, &[u16], &[u16], &[u16], &mut [u64]) -> (u64, u64, u64)) -> (usize, usize) {
     let (mut run, mut left_out) = (0, 0);
     for line in text.lines() {
         let (request, expected) = line.split_once("=>").expect("a request and its answer");
@@ -37,9 +51,9 @@ pub fn plans(text: &str, plan: impl Fn(u64, &[u16], &[u16], &[u16], &mut [u64]) 
             continue;
         };
         let mut out = vec![UNTOUCHED; sizes[1] as usize];
-        let (number, value) = plan(sizes[0], &rails, &start, &goal, &mut out);
-        let (expected_number, expected_value, list) = answer(expected);
-        assert_eq!((number, value), (expected_number, expected_value), "{request}");
+        let said = plan(sizes[0], &rails, &start, &goal, &mut out);
+        let (number, value, parked, list) = answer_parked(expected);
+        assert_eq!(said, (number, value, parked), "{request}");
         assert_eq!(out[..list.len()], list[..], "{request}");
         assert!(out[list.len()..].iter().all(|&number| number == UNTOUCHED), "{request}");
         run += 1;
