@@ -5,6 +5,7 @@ tests/model.py plan FILE      compares the model with plan vectors (`ok LENGTH P
 tests/model.py answers FILE   prints plan vectors (`ok LENGTH : plan`) with the model's answers; refusals 1 to 6 stay as they are
 tests/model.py vacate FILE    prints crates/search_cases/data/vacate for the requests of vacate vectors, with the model's answers
 tests/model.py files FOLDER   writes the print of each map and scenario of the folder that was a plan, or refused by 7 or 8
+tests/model.py timed FOLDER   the same with the slots of both editions
 """
 import glob
 import sys
@@ -264,23 +265,58 @@ def vacates(name):
     print("\n".join(cases))
 
 
-def files(folder):
-    for name in sorted(glob.glob(folder + "/*.out")):
+def prints(folder, end):
+    """The files with this end that hold a plan or a refusal by 7 or 8; each with the model's answer for its map and scenario."""
+    for name in sorted(glob.glob(f"{folder}/*.{end}")):
         last = open(name).read().splitlines()[-1]
-        if not last.startswith("; cost") and not last.startswith(("; refused 7 ", "; refused 8 ")):
+        if not last.startswith(("; cost", "; refused 7 ", "; refused 8 ")):
             continue
-        rows = open(name[:-3] + "map").read().splitlines()[4:]
+        given = name[: -len(end)]
+        rows = open(given + "map").read().splitlines()[4:]
         cells = [(y, x) for y, row in enumerate(rows) for x, letter in enumerate(row) if letter in ".G"]
         bay = {cell: number for number, cell in enumerate(cells)}
         ends = [end for y, x in cells for cell in ((y, x + 1), (y + 1, x)) if cell in bay for end in (bay[y, x], bay[cell])]
-        lines = [line.split("\t") for line in open(name[:-3] + "scen").read().splitlines()[1:]]
+        lines = [line.split("\t") for line in open(given + "scen").read().splitlines()[1:]]
         starts = [bay[int(line[5]), int(line[4])] for line in lines]
         goals = [bay[int(line[7]), int(line[6])] for line in lines]
-        number, value, _, crossings = answer(len(cells), 8192, ends, starts, goals)
-        with open(name, "w") as out:
-            for crossing in crossings:
-                out.write("(move c%d b%d b%d)\n" % crossing)
-            out.write(f"; refused {number} {value}\n" if number else f"; cost = {value} (unit cost)\n")
+        yield name, answer(len(cells), 8192, ends, starts, goals)
 
 
-{"plan": compare, "answers": answers, "vacate": vacates, "files": files}[sys.argv[1]](sys.argv[2])
+def write(name, number, value, moves):
+    with open(name, "w") as out:
+        out.writelines(move + "\n" for move in moves)
+        out.write(f"; refused {number} {value}\n" if number else f"; cost = {value} (unit cost)\n")
+
+
+def move(crossing):
+    return "(move c%d b%d b%d)" % crossing
+
+
+def files(folder):
+    for name, (number, value, _, crossings) in prints(folder, "out"):
+        write(name, number, value, map(move, crossings))
+
+
+def slots(crossings, edition):
+    """Edition 1: above every earlier crossing of the carrier or of either bay. Edition 2: above the carrier's, and no lower than the latest out of the bay entered."""
+    carrier, bay, out, told = {}, {}, {}, []
+    for c, a, b in crossings:
+        if edition == 1:
+            slot = 1 + max(carrier.get(c, 0), bay.get(a, 0), bay.get(b, 0))
+            bay[a] = bay[b] = slot
+        else:
+            slot = max(1 + carrier.get(c, 0), out.get(b, 0))
+            out[a] = slot
+        carrier[c] = slot
+        told.append(slot)
+    return told
+
+
+def timed(folder):
+    for edition in (1, 2):
+        for name, (number, value, _, crossings) in prints(folder, f"timed{edition}"):
+            at = slots(crossings, edition)
+            write(name, number, value, [f"{slot - 1}: {move(crossing)} [1]" for slot, crossing in zip(at, crossings)])
+
+
+{"plan": compare, "answers": answers, "vacate": vacates, "files": files, "timed": timed}[sys.argv[1]](sys.argv[2])
