@@ -320,7 +320,7 @@ impl<'a> Planner<'a> {
     /// where clearing ended; a failed one leaves no crossings.
     fn go_on(&mut self, leader: u8, follower: u8, v: u8, b: u8, e: u8) -> Option<u8> {
         let others = self.yard.joined[v as usize].without(Bays::only(b).with(e));
-        let (present, made) = ((self.at, self.empty), self.plan.len());
+        let (present, made, parked) = ((self.at, self.empty), self.plan.len(), self.parked);
         for around in [false, true] {
             for x in others {
                 let done = if around { self.vacate_around(leader, follower, v, b, e, x) } else { self.vacate_aside(v, b, e, x) };
@@ -329,6 +329,7 @@ impl<'a> Planner<'a> {
                 }
                 (self.at, self.empty) = present;
                 self.plan.truncate(made);
+                self.parked = parked;
             }
         }
         None
