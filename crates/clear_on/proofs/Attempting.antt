@@ -165,7 +165,7 @@ module _ {n : ℕ} {table : List ℕ} (t : Tabled n table) {L M : Carrier} (diff
         let there : bayOf (after (after p (entering L M e p .moves)) (ms .moves)) M ≡ bayOf p L = rw (← (forth .moved)) (stays ∙ follower) in
         let runs = around-runs (t .yard) L M differ b e x p ms made there in
         let ends : entering M L b (after (after p (entering L M e p .moves)) (ms .moves)) ≡ entering M L b q′ = rw (← (forth .moved), ← (d .2 .moved)) in
-        rw w (tries-some (rw ends at runs) (tallied-then forth (tallied-then (d .2) back)))
+        rw w (tries-some (runs ∙ ap (λ (z : Made). some (together (entering L M e p) (together ms z))) ends) (tallied-then forth (tallied-then (d .2) back)))
 
   pub round-fails : (v : Bay) {q′ standing₂ empty₂ out₂ : List ℕ} → AtJunction L M v b p → Tries (aside (t .yard) v e b x q) n q out₁ a q′ standing₂ empty₂ out₂ Failed
       → around (t .yard) L M v b e x p ≡ none

@@ -159,13 +159,15 @@ fn attempt_on(
         return Tried::Failed;
     };
     let follower = m.0 as usize;
-    let b = Bay(placement[follower]);
+    let behind = placement[follower];
+    let b = Bay(behind);
     let from = at.crossings;
     let made = c.crossings;
     let parked = c.parked;
     let d = exchange(out, made, l, m, v, b, lower(x, y), higher(x, y));
     bring::undo(out, from, made - from, d, l, m);
-    let crossings = d + (made - from);
+    let many = made - from;
+    let crossings = d + many;
     Tried::Done(Tally { crossings, parked })
 }
 
