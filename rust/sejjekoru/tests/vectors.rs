@@ -18,6 +18,11 @@ fn plans_where_clearing_goes_on() {
 }
 
 #[test]
+fn plans_that_do_not_park_on_junctions() {
+    assert_eq!(plans(include_str!("../../reference/tests/data/plan-e2-e9.txt"), plan), (500, 0));
+}
+
+#[test]
 fn large_plans_of_the_vectors() {
     assert_eq!(plans(include_str!("../../reference/tests/data/plan-large.txt"), plan), (6, 0));
 }
