@@ -96,7 +96,7 @@ static uint64_t end(uint64_t answer)
 
 /* ## The order of a call, and the calls */
 
-static uint64_t bays, value, name;
+static uint64_t bays, parked, value, name;
 static uint16_t rails[MOST], start[MOST], goal[MOST];
 static size_t ends, starts, goals, crossings, mark_count, line_count;
 static uint64_t plan[MOST], other[MOST];
@@ -108,7 +108,7 @@ static sejjekoru_line lines[300];
 static void order_arguments(const char *function)
 {
     begin(function);
-    value = 77;
+    parked = value = 77;
     number(bays);
     LIST(rails, ends);
     LIST(start, starts);
@@ -248,7 +248,7 @@ static void call_map(size_t room)
 {
     uint64_t found = 77;
     begin("sejjekoru_map");
-    value = 77;
+    parked = value = 77;
     LIST(map_file.bytes, map_file.length);
     POINTER(&found);
     LIST(rails, room);
@@ -262,7 +262,7 @@ static void call_map(size_t room)
 static void call_scenario(size_t room)
 {
     begin("sejjekoru_scenario");
-    value = 77;
+    parked = value = 77;
     LIST(map_file.bytes, map_file.length);
     LIST(scenario_file.bytes, scenario_file.length);
     LIST(start, room);
@@ -279,7 +279,7 @@ static void call_program(uint64_t map_read, uint64_t scenario_read, uint64_t sho
     sejjekoru_program(map_file.bytes, map_file.length, map_read, scenario_file.bytes, scenario_file.length, scenario_read, shorten, NULL, 0, &value);
     room = (size_t)value + (size_t)more;
     begin("sejjekoru_program");
-    value = 77;
+    parked = value = 77;
     LIST(map_file.bytes, map_file.length);
     number(map_read);
     LIST(scenario_file.bytes, scenario_file.length);
@@ -298,7 +298,7 @@ static void call_timed(uint64_t edition, uint64_t shorten)
     sejjekoru_program_timed(edition, map_file.bytes, map_file.length, 1, scenario_file.bytes, scenario_file.length, 1, shorten, NULL, 0, &value);
     room = (size_t)value;
     begin("sejjekoru_program_timed");
-    value = 77;
+    parked = value = 77;
     number(edition);
     LIST(map_file.bytes, map_file.length);
     number(1);
@@ -314,7 +314,7 @@ static void call_timed(uint64_t edition, uint64_t shorten)
 static void call_read_plan(const text *from, size_t room)
 {
     begin("sejjekoru_read_plan");
-    value = 77;
+    parked = value = 77;
     LIST((uint8_t *)from->bytes, from->length);
     LIST(other, room);
     POINTER(&value);
@@ -324,7 +324,7 @@ static void call_read_plan(const text *from, size_t room)
 static void call_read_reports(const text *from, size_t room)
 {
     begin("sejjekoru_read_reports");
-    value = 77;
+    parked = value = 77;
     LIST((uint8_t *)from->bytes, from->length);
     LIST(other, room);
     POINTER(&value);
@@ -334,7 +334,7 @@ static void call_read_reports(const text *from, size_t room)
 static void call_print_plan(size_t room)
 {
     begin("sejjekoru_print_plan");
-    value = 77;
+    parked = value = 77;
     LIST(plan, crossings);
     LIST(printed.bytes, room);
     POINTER(&value);
@@ -345,7 +345,7 @@ static void call_print_plan(size_t room)
 static void call_reverse(size_t room)
 {
     begin("sejjekoru_reverse");
-    value = 77;
+    parked = value = 77;
     LIST(plan, crossings);
     LIST(other, room);
     POINTER(&value);
@@ -357,7 +357,7 @@ static void call_compare(size_t others, size_t room)
     static int64_t differences[300];
     uint64_t longer = 77;
     begin("sejjekoru_compare");
-    value = 77;
+    parked = value = 77;
     LIST(plan, crossings);
     LIST(other, others);
     LIST(differences, room);
@@ -369,7 +369,7 @@ static void call_compare(size_t others, size_t room)
 static void call_slots_of(uint64_t edition, size_t room)
 {
     begin("sejjekoru_slots_of");
-    value = 77;
+    parked = value = 77;
     number(edition);
     number(bays);
     LIST(rails, ends);
@@ -384,7 +384,7 @@ static void call_slots_of(uint64_t edition, size_t room)
 static void call_write_survey(size_t room)
 {
     begin("sejjekoru_write_survey");
-    value = 77;
+    parked = value = 77;
     number(bays);
     LIST(rails, ends);
     LIST(written.bytes, room);
@@ -397,7 +397,7 @@ static void call_read_survey(size_t room)
 {
     uint64_t found = 77;
     begin("sejjekoru_read_survey");
-    value = 77;
+    parked = value = 77;
     LIST(written.bytes, written.length);
     POINTER(&found);
     LIST(start, room);
