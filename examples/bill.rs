@@ -17,7 +17,7 @@ fn print_books(record: &Record, lines: &[Line]) {
 
 fn main() -> Result<(), Refusal> {
     let mut room = [0; 64];
-    let length = sejjekoru::plan(YARD, &mut room)?;
+    let length = sejjekoru::plan(YARD, &mut room)?.length;
     let plan = &room[..length];
     let mut marks = vec![0; length];
     let (mut record, mut lines) = (Record::default(), [Line::default(); 2]);

@@ -35,7 +35,7 @@ fn main() -> Result<(), Refusal> {
     if let Err(Refusal::Room(needed)) = sejjekoru::plan(YARD, &mut room[..5]) {
         println!("room for 5: {needed} needed");
     }
-    let length = sejjekoru::plan(YARD, &mut room)?;
+    let length = sejjekoru::plan(YARD, &mut room)?.length;
     let plan = &room[..length];
     print_plan(plan);
     print_slots(plan)?;

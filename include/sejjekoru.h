@@ -29,7 +29,7 @@
 #include <stdint.h>
 
 /* The version of this header. A changed signature raises the second number, until the first is 1. */
-#define SEJJEKORU_VERSION "0.3.0"
+#define SEJJEKORU_VERSION "0.4.0"
 
 #ifdef __cplusplus
 extern "C" {
@@ -95,12 +95,16 @@ typedef struct {
     uint32_t last;      /* the last of their names, or SEJJEKORU_UNTOUCHED */
 } sejjekoru_line;
 
-/* Plans, and writes the plan to the first places of `plan`; the value is its length. Answers 0 to 8. */
+/*
+ * Plans, and writes the plan to the first places of `plan`; the value is its length. `parked` becomes the number of times that a carrier was moved
+ * out of the way into a bay of three rails or more, undoing left aside; 0 for a refusal. Answers 0 to 8.
+ */
 uint64_t sejjekoru_plan(uint64_t bays,
                         const uint16_t *rails, size_t rails_len,
                         const uint16_t *start, size_t start_len,
                         const uint16_t *goal, size_t goal_len,
                         uint64_t *plan, size_t plan_len,
+                        uint64_t *parked,
                         uint64_t *value);
 
 /* Whether the plan is legal and brings every carrier home. Answers 0 to 6, 9, 10. */

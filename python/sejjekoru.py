@@ -33,6 +33,7 @@ __all__ = [
     "Books",
     "Link",
     "plan",
+    "plan_counted",
     "check",
     "slots",
     "slots_of",
@@ -203,7 +204,7 @@ _record = ctypes.POINTER(_Record)
 _link = ctypes.POINTER(_Link)
 _order = (_number, *_bays, *_bays, *_bays)
 
-_plan = _declare("sejjekoru_plan", *_order, *_long, _value)
+_plan = _declare("sejjekoru_plan", *_order, *_long, _value, _value)
 _check = _declare("sejjekoru_check", *_order, *_long, _value)
 _slots = _declare("sejjekoru_slots", *_order, *_long, *_slot, _value)
 _slots_of = _declare("sejjekoru_slots_of", _number, *_order, *_long, *_slot, _value)
@@ -307,9 +308,15 @@ def _written(call: Callable[..., int]) -> bytes:
 
 def plan(order: Order, room: int = MOST_CROSSINGS) -> List[Crossing]:
     """The plan of an order, of at most `room` crossings. Raises Refused, 1 to 8."""
-    out, value = (ctypes.c_uint64 * room)(), ctypes.c_uint64()
-    length = _told(_plan(*_order_words(order), out, room, ctypes.byref(value)), value)
-    return _unpack(out[:length])
+    return plan_counted(order, room)[0]
+
+
+def plan_counted(order: Order, room: int = MOST_CROSSINGS) -> Tuple[List[Crossing], int]:
+    """The plan, and how often a carrier was moved out of the way into a bay of three rails or more, undoing left aside. Raises Refused, 1 to 8."""
+    out, parked, value = (ctypes.c_uint64 * room)(), ctypes.c_uint64(), ctypes.c_uint64()
+    words = (out, room, ctypes.byref(parked), ctypes.byref(value))
+    length = _told(_plan(*_order_words(order), *words), value)
+    return _unpack(out[:length]), parked.value
 
 
 def check(order: Order, crossings: Sequence[Crossing]) -> None:

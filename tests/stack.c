@@ -10,7 +10,7 @@
 
 enum { STACK = 8 << 20, PAINT = 0xa5, KIB = 1024, CALLS = 24 };
 
-static uint64_t bays, plan[65536], out[65536], answer, value;
+static uint64_t bays, plan[65536], out[65536], answer, parked, value;
 static uint16_t rails[2048], start[254], goal[254];
 static size_t ends, carriers, crossings;
 static uint32_t slots[65536];
@@ -41,7 +41,7 @@ static const size_t promised[CALLS] = {820, 16, 16, 16, 345, 24, 40, 40, 4, 16, 
 static void *call(void *which)
 {
     switch (*(int *)which) {
-    case 0: answer = sejjekoru_plan(ORDER, out, 65536, &value); break;
+    case 0: answer = sejjekoru_plan(ORDER, out, 65536, &parked, &value); break;
     case 1: answer = sejjekoru_check(PLAN, &value); break;
     case 2: answer = sejjekoru_slots(PLAN, slots, 65536, &value); break;
     case 3: answer = sejjekoru_report(PLAN, marks, crossings, 0, &value); break;

@@ -10,6 +10,7 @@ use Rattle.paper.specs.Procedure.{Outcome, carry, procedure}
 use Rattle.paper.specs.Yard.{Bay, Carrier, Yard, Placement, bayOf}
 use Rattle.paper.proofs.Playing.{Apart}
 use Rattle.bring.specs.Acting.{Tabled}
+use Rattle.bring.specs.declared.Tally.{Tally}
 use Rattle.step.specs.Asking.{BaysBelow}
 use Rattle.go.specs.Going.{Linked}
 use Rattle.home.specs.declared.Staged.the-variants.{Planned}
@@ -44,7 +45,7 @@ pub record Reaching (n : ℕ) (table : List ℕ) : Type 0 where
 
 -- where it is planned the set has the bays of the carriers below `finished`
 pub record Settles (finished : ℕ) (p settled : List ℕ) (z : Staged) : Type 0 where
-  pub below : (m : ℕ) → z ≡ Planned m → BaysBelow finished p settled
+  pub below : (m : Tally) → z ≡ Planned m → BaysBelow finished p settled
 
 -- (the code's carry has the same name)
 abbrev pub carries : Yard → Placement → Carrier → Placement → Outcome

@@ -1,4 +1,5 @@
 // Carriers by rising number: each goes its shortest path, and then those that it displaced go home.
+use bring::Tally;
 use bring::Tried;
 use docket::Bay;
 use docket::Carrier;
@@ -10,7 +11,7 @@ ghost use Prim.Native.Nat.{_+_, _^_, _≤_, _<_};
 ghost use lib.ListN.{length, getD};
 ghost use Rattle.paper.specs.Yard.{bayOf};
 ghost use Rattle.paper.specs.Path.{shortestPath};
-ghost use Rattle.bring.specs.Acting.{Tabled, Ready};
+ghost use Rattle.bring.specs.Acting.{Tabled, Ready, nothing};
 ghost use Rattle.step.specs.Asking.{Loopless, BaysBelow};
 ghost use Rattle.home.specs.Homing.{Owners, AtMost, Stages};
 ghost use Rattle.carry.specs.Carrying.{Goals, OnPath, Reaching, HomeBelow, Settles, carries, procedures};
@@ -27,10 +28,10 @@ fn carry_along(
     empty: &mut [u64],
     settled: &mut [u64],
     out: &mut [u64],
-    at: usize,
+    at: Tally,
 ) -> Staged
     requires { ⌜ Ready (now table) (now placement) (now standing) (now empty) ⌝ }
-    requires { ⌜ (r .0 < length (now placement)) × Goals (length (now standing)) (now goals) (now placement) × Loopless (length (now standing)) (now table) × HomeBelow (r .0) (now goals) (now placement) × (length (now path) ≤ 256) × OnPath (length (now standing)) (now table) (getD (now placement) (r .0) 0) (getD (now goals) (r .0) 0) (now path) × (at < 2 ^ 59) × Owners (length (now standing)) (now goals) (now owner) × BaysBelow (r .0) (now placement) (now settled) ⌝ }
+    requires { ⌜ (r .0 < length (now placement)) × Goals (length (now standing)) (now goals) (now placement) × Loopless (length (now standing)) (now table) × HomeBelow (r .0) (now goals) (now placement) × (length (now path) ≤ 256) × OnPath (length (now standing)) (now table) (getD (now placement) (r .0) 0) (getD (now goals) (r .0) 0) (now path) × (at .crossings < 2 ^ 59) × Owners (length (now standing)) (now goals) (now owner) × BaysBelow (r .0) (now placement) (now settled) ⌝ }
     ensures { λ z. ⌜ (AtMost at 80000000 z) × ((t : Tabled (length (now (standing .entry))) (now (table .entry))) → now (path .entry) ≡ shortestPath (t .yard) [] (bayOf (now (placement .entry)) (r .0)) (bayOf (now (goals .entry)) (r .0)) → Stages (carries (t .yard) (now (goals .entry)) (r .0) (now (placement .entry))) (length (now (standing .entry))) (now (placement .entry)) (now (out .entry)) at (now (placement .exit)) (now (standing .exit)) (now (empty .exit)) (now (out .exit)) z) × Settles (r .0 + 1) (now (placement .exit)) (now (settled .exit)) z ⌝ }
 {
     if path.len() < 1 {
@@ -83,10 +84,10 @@ fn carry(
     empty: &mut [u64],
     settled: &mut [u64],
     out: &mut [u64],
-    at: usize,
+    at: Tally,
 ) -> Staged
     requires { ⌜ Ready (now table) (now placement) (now standing) (now empty) ⌝ }
-    requires { ⌜ (r .0 < length (now placement)) × Goals (length (now standing)) (now goals) (now placement) × Loopless (length (now standing)) (now table) × HomeBelow (r .0) (now goals) (now placement) × Reaching (length (now standing)) (now table) × (at < 2 ^ 59) × Owners (length (now standing)) (now goals) (now owner) × BaysBelow (r .0) (now placement) (now settled) ⌝ }
+    requires { ⌜ (r .0 < length (now placement)) × Goals (length (now standing)) (now goals) (now placement) × Loopless (length (now standing)) (now table) × HomeBelow (r .0) (now goals) (now placement) × Reaching (length (now standing)) (now table) × (at .crossings < 2 ^ 59) × Owners (length (now standing)) (now goals) (now owner) × BaysBelow (r .0) (now placement) (now settled) ⌝ }
     ensures { λ z. ⌜ (AtMost at 80000000 z) × ((t : Tabled (length (now (standing .entry))) (now (table .entry))) → Stages (carries (t .yard) (now (goals .entry)) (r .0) (now (placement .entry))) (length (now (standing .entry))) (now (placement .entry)) (now (out .entry)) at (now (placement .exit)) (now (standing .exit)) (now (empty .exit)) (now (out .exit)) z) × Settles (r .0 + 1) (now (placement .exit)) (now (settled .exit)) z ⌝ }
 {
     let own = r.0 as usize;
@@ -126,12 +127,16 @@ pub fn carry_all(
 ) -> Staged
     requires { ⌜ Ready (now table) (now placement) (now standing) (now empty) ⌝ }
     requires { ⌜ Goals (length (now standing)) (now goals) (now placement) × Loopless (length (now standing)) (now table) × Reaching (length (now standing)) (now table) × Owners (length (now standing)) (now goals) (now owner) × BaysBelow 0 (now placement) (now settled) ⌝ }
-    ensures { λ z. ⌜ ((t : Tabled (length (now (standing .entry))) (now (table .entry))) → Stages (procedures (t .yard) (now (goals .entry)) (now (placement .entry))) (length (now (standing .entry))) (now (placement .entry)) (now (out .entry)) 0 (now (placement .exit)) (now (standing .exit)) (now (empty .exit)) (now (out .exit)) z) × Settles (length (now (goals .entry))) (now (placement .exit)) (now (settled .exit)) z ⌝ }
+    ensures { λ z. ⌜ ((t : Tabled (length (now (standing .entry))) (now (table .entry))) → Stages (procedures (t .yard) (now (goals .entry)) (now (placement .entry))) (length (now (standing .entry))) (now (placement .entry)) (now (out .entry)) nothing (now (placement .exit)) (now (standing .exit)) (now (empty .exit)) (now (out .exit)) z) × Settles (length (now (goals .entry))) (now (placement .exit)) (now (settled .exit)) z ⌝ }
 {
-    let mut count = 0;
+    let mut count = Tally {
+        crossings: 0,
+        parked: 0,
+    };
     let mut r = 0;
     while r < goals.len() {
-        let carrier = Carrier(r as u32);
+        let number = r as u32;
+        let carrier = Carrier(number);
         let carried = carry(
             table,
             goals,

@@ -15,7 +15,7 @@ use lib.Seq.{take-all, take-suc-set, take-suc, getD-set-same, getD-set-other, le
 use borrow.Author.Tests.{ne-eqb}
 use Rattle.paper.specs.Basics.{if_then_else_, _and_, _or_, _>>=_, filter, firstOf, elem, without, countFrom, upTo, In, Out}
 use Rattle.paper.specs.Yard.{Bay, Carrier, Yard, Placement, Crossing, crossing, bayOf, pack, move, after, joined, neighbours}
-use Rattle.paper.specs.Procedure.{Action, Cleared, _then_, cross, vacate, clearOnce, aside, around, firstKept, goOn, goneOn, clear}
+use Rattle.paper.specs.Procedure.{Made, together, Action, Cleared, _then_, cross, vacate, clearOnce, aside, around, firstKept, goOn, goneOn, clear}
 use Rattle.paper.proofs.Tests.{by-cases, by-option, never-some, never, not-both, some-from}
 use Rattle.paper.proofs.Members.{in-count, In-head, In-tail}
 use Rattle.paper.proofs.Playing.{Apart, Sound, after-length}
@@ -24,10 +24,12 @@ use Rattle.paper.proofs.GoingOn.{Attempted, aside-empties}
 use Rattle.paper.proofs.Swapping.{once-clears}
 use Rattle.words.specs.Sets.{mem, words, span, memRow, Lowest}
 use Rattle.words.proofs.Sets.{zeros, mem-zeros}
-use Rattle.vacate.specs.Placed.{Placed, Played, Stored}
-use Rattle.vacate.proofs.Playing.{played-then, stored-then}
-use Rattle.bring.specs.Acting.{Ready, Tabled, Within, Tries, Acts, entering}
-use Rattle.bring.proofs.Acting.{tries-none, tries-some, tried-done, tried-failed, acts-tries}
+use Rattle.paper.proofs.Making.{same-made}
+use Rattle.vacate.specs.Placed.{Placed, Stored}
+use Rattle.vacate.proofs.Playing.{stored-then}
+use Rattle.bring.specs.Acting.{Ready, Tabled, nothing, Tallied, Within, Tries, Acts, entering}
+use Rattle.bring.specs.declared.Tally.{Tally}
+use Rattle.bring.proofs.Acting.{as-far-then, tallied-then, tries-none, tries-some, tried-done, tried-failed, acts-tries}
 use Rattle.bring.specs.declared.Tried.{Tried}
 use Rattle.bring.specs.declared.Tried.the-variants.{Done, Failed}
 use Rattle.clear.specs.Keeping.{Among, KeptAlone, from}
@@ -68,11 +70,11 @@ in-bays t {x} h = in-count 0 (t .yard .bays) x (omega arith) (omega (arith, t .j
 
 -- ## One action after another
 
-pub within-more : (r : Tried) (at k d : ℕ) → k ≤ d → Within at k r → Within at d r
+pub within-more : (r : Tried) (at : Tally) (k d : ℕ) → k ≤ d → Within at k r → Within at d r
 within-more Failed at k d h w = tt
 within-more (Done m) at k d h w = omega arith
 
-pub within-from : (r : Tried) (at m d k : ℕ) → m ≤ at + d → Within m k r → Within at (d + k) r
+pub within-from : (r : Tried) (at m : Tally) (d k : ℕ) → m .crossings ≤ at .crossings + d → Within m k r → Within at (d + k) r
 within-from Failed at m d k h w = tt
 within-from (Done c) at m d k h w = omega arith
 
@@ -80,20 +82,20 @@ then-fails : (f g : Action) (p : Placement) → f p ≡ none → (f then g) p �
 unfolding _then_
 then-fails f g p h = rw h
 
-then-stops : (f g : Action) (p : Placement) (a : List Crossing) → f p ≡ some a → g (after p a) ≡ none → (f then g) p ≡ none
+then-stops : (f g : Action) (p : Placement) (a : Made) → f p ≡ some a → g (after p (a .moves)) ≡ none → (f then g) p ≡ none
 unfolding _then_
 then-stops f g p a h k = rw (h, k)
 
-then-tries : (f g : Action) {n : ℕ} {p out : List ℕ} {at : ℕ} {q standing₁ empty₁ out₁ : List ℕ} {m : ℕ} {p′ standing′ empty′ out′ : List ℕ} {r : Tried} (xs : List Crossing) → f p ≡ some xs
-    → q ≡ after p xs → Played xs n p q standing₁ empty₁ out at out₁ m → Tries (g q) n q out₁ m p′ standing′ empty′ out′ r → Tries ((f then g) p) n p out at p′ standing′ empty′ out′ r
+then-tries : (f g : Action) {n : ℕ} {p out : List ℕ} {at : Tally} {q standing₁ empty₁ out₁ : List ℕ} {m : Tally} {p′ standing′ empty′ out′ : List ℕ} {r : Tried} (xs : Made) → f p ≡ some xs
+    → q ≡ after p (xs .moves) → Tallied xs n p q standing₁ empty₁ out at out₁ m → Tries (g q) n q out₁ m p′ standing′ empty′ out′ r → Tries ((f then g) p) n p out at p′ standing′ empty′ out′ r
 then-tries f g {p = p} {q = q} xs made moved w b =
     by-option (g q)
     (λ e. rw (b .fails e) (tries-none (then-stops f g p xs made (rw moved at e))))
-    (λ ys e. let s = b .succeeds ys e in rw (s .done) (tries-some (then-runs f g p xs ys made (rw moved at e)) (played-then w (s .played))))
+    (λ ys e. let s = b .succeeds ys e in rw (s .done) (tries-some (then-runs f g p xs ys made (rw moved at e)) (tallied-then w (s .played))))
 
 -- ## The first way
 
-pub both-tries : (Y : Yard) (v b e x : Bay) {n : ℕ} {p standing empty out : List ℕ} {at : ℕ} {q standing₁ empty₁ out₁ : List ℕ} {m : ℕ} {p′ standing′ empty′ out′ : List ℕ} {r : Tried}
+pub both-tries : (Y : Yard) (v b e x : Bay) {n : ℕ} {p standing empty out : List ℕ} {at : Tally} {q standing₁ empty₁ out₁ : List ℕ} {m : Tally} {p′ standing′ empty′ out′ : List ℕ} {r : Tried}
     → Acts (vacate Y (v ∷ b ∷ []) x p) n p standing empty out at q standing₁ empty₁ out₁ (Done m) → Acts (vacate Y (v ∷ b ∷ x ∷ []) e q) n q standing₁ empty₁ out₁ m p′ standing′ empty′ out′ r
     → Tries (aside Y v b e x p) n p out at p′ standing′ empty′ out′ r
 unfolding aside
@@ -110,27 +112,27 @@ module _ (Y : Yard) (L M : Carrier) (differ : M ≡ L → ⊥) (b e x : Bay) (p 
   v = bayOf p L
 
   abbrev further : Placement
-  further = after p (entering L M e p)
+  further = after p (entering L M e p .moves)
 
   around-stops : aside Y v e b x further ≡ none → around Y L M v b e x p ≡ none
   unfolding around _then_ cross after
   around-stops h = rw h
 
-  around-runs : (ms : List Crossing) → aside Y v e b x further ≡ some ms → bayOf (after further ms) M ≡ v
-      → around Y L M v b e x p ≡ some (entering L M e p ++ (ms ++ entering M L b (after further ms)))
+  around-runs : (ms : Made) → aside Y v e b x further ≡ some ms → bayOf (after further (ms .moves)) M ≡ v
+      → around Y L M v b e x p ≡ some (together (entering L M e p) (together ms (entering M L b (after further (ms .moves)))))
   unfolding around after cross
   around-runs ms h at-v =
-      let q = after further ms in
+      let q = after further (ms .moves) in
       let one : bayOf (set p L e) M ≡ bayOf p M = getD-set-other p L M e 0 differ in
       let two : bayOf (set q M b) L ≡ bayOf q L = getD-set-other q M L b 0 (λ z. differ (sym z)) in
       then-runs (cross L e) (cross M v then aside Y v e b x then cross M b then cross L v) p _ _ refl
       (then-runs (cross M v) (aside Y v e b x then cross M b then cross L v) _ _ _ refl
       (then-runs (aside Y v e b x) (cross M b then cross L v) _ ms _ h
       (then-runs (cross M b) (cross L v) q _ _ refl refl)))
-      ∙ rw (one, two, at-v)
+      ∙ rw (one, two, at-v) (ap some (same-made refl (omega arith)))
 
-module _ {n : ℕ} {table : List ℕ} (t : Tabled n table) {L M : Carrier} (differ : M ≡ L → ⊥) {b e x : Bay} {p out : List ℕ} {at : ℕ} {q standing₁ empty₁ out₁ : List ℕ} {a : ℕ} (hL : L < length p) (hM : M < length p)
-    (hx : x < n) (hb : b < n) (forth : Played (entering L M e p) n p q standing₁ empty₁ out at out₁ a) where
+module _ {n : ℕ} {table : List ℕ} (t : Tabled n table) {L M : Carrier} (differ : M ≡ L → ⊥) {b e x : Bay} {p out : List ℕ} {at : Tally} {q standing₁ empty₁ out₁ : List ℕ} {a : Tally} (hL : L < length p) (hM : M < length p)
+    (hx : x < n) (hb : b < n) (forth : Tallied (entering L M e p) n p q standing₁ empty₁ out at out₁ a) where
   Y : Yard
   Y = t .yard
 
@@ -139,68 +141,71 @@ module _ {n : ℕ} {table : List ℕ} (t : Tabled n table) {L M : Carrier} (diff
   follower = rw (forth .moved) (getD-set-same (set p L e) M (bayOf p L) 0 (rw length-set hM))
 
   long : length q ≡ length p
-  long = rw (forth .moved) (after-length p (entering L M e p))
+  long = rw (forth .moved) (after-length p (entering L M e p .moves))
 
-  vacated : (w : Bay) (ms : List Crossing) → aside (t .yard) w e b x q ≡ some ms → Attempted (t .yard) w e b x q ms
+  vacated : (w : Bay) (ms : Made) → aside (t .yard) w e b x q ≡ some ms → Attempted (t .yard) w e b x q (ms .moves)
   vacated w ms h = aside-empties (t .yard) w e b x q ms (forth .placed .apart) (in-bays t hx) (in-bays t hb) h
 
-  module _ (v : Bay) {q′ standing₂ empty₂ out₂ : List ℕ} {c : ℕ} (s : Tries (aside (t .yard) v e b x q) n q out₁ a q′ standing₂ empty₂ out₂ (Done c)) where
+  module _ (v : Bay) {q′ standing₂ empty₂ out₂ : List ℕ} {c : Tally} (s : Tries (aside (t .yard) v e b x q) n q out₁ a q′ standing₂ empty₂ out₂ (Done c)) where
     -- both are as many as before, and the follower's bay is empty
     pub round-ready : (L < length q′) × (M < length q′) × Out b q′ × Placed n q′ standing₂ empty₂
     round-ready =
         let d = tried-done s in
-        let many : length q′ ≡ length p = ap length (d .2 .moved) ∙ after-length q (d .0) ∙ long in
+        let many : length q′ ≡ length p = ap length (d .2 .moved) ∙ after-length q (d .0 .moves) ∙ long in
         (omega arith, omega arith, rw (d .2 .moved) (vacated v (d .0) (d .1) .empties-kept), d .2 .placed)
 
-    pub round-done : {p′ standing′ empty′ out′ : List ℕ} {r : ℕ} → AtJunction L M v b p → Played (entering M L b q′) n q′ p′ standing′ empty′ out₂ c out′ r
+    pub round-done : {p′ standing′ empty′ out′ : List ℕ} {r : Tally} → AtJunction L M v b p → Tallied (entering M L b q′) n q′ p′ standing′ empty′ out₂ c out′ r
         → Tries (around (t .yard) L M v b e x p) n p out at p′ standing′ empty′ out′ (Done r)
     round-done j back =
         let d = tried-done s in
         let ms = d .0 in
         let w : v ≡ bayOf p L = sym (j .at-v) in
-        let made : aside (t .yard) (bayOf p L) e b x (after p (entering L M e p)) ≡ some ms = rw (← (forth .moved), ← w) (d .1) in
-        let stays : bayOf (after q ms) M ≡ bayOf q M = vacated v ms (d .1) .stays M (rw long hM) (rw (follower, ← w) (In-head v (e ∷ []))) in
-        let there : bayOf (after (after p (entering L M e p)) ms) M ≡ bayOf p L = rw (← (forth .moved)) (stays ∙ follower) in
+        let made : aside (t .yard) (bayOf p L) e b x (after p (entering L M e p .moves)) ≡ some ms = rw (← (forth .moved), ← w) (d .1) in
+        let stays : bayOf (after q (ms .moves)) M ≡ bayOf q M = vacated v ms (d .1) .stays M (rw long hM) (rw (follower, ← w) (In-head v (e ∷ []))) in
+        let there : bayOf (after (after p (entering L M e p .moves)) (ms .moves)) M ≡ bayOf p L = rw (← (forth .moved)) (stays ∙ follower) in
         let runs = around-runs (t .yard) L M differ b e x p ms made there in
-        let ends : entering M L b (after (after p (entering L M e p)) ms) ≡ entering M L b q′ = rw (← (forth .moved), ← (d .2 .moved)) in
-        rw w (tries-some (rw ends at runs) (played-then forth (played-then (d .2) back)))
+        let ends : entering M L b (after (after p (entering L M e p .moves)) (ms .moves)) ≡ entering M L b q′ = rw (← (forth .moved), ← (d .2 .moved)) in
+        rw w (tries-some (runs ∙ ap (λ (z : Made). some (together (entering L M e p) (together ms z))) ends) (tallied-then forth (tallied-then (d .2) back)))
 
   pub round-fails : (v : Bay) {q′ standing₂ empty₂ out₂ : List ℕ} → AtJunction L M v b p → Tries (aside (t .yard) v e b x q) n q out₁ a q′ standing₂ empty₂ out₂ Failed
       → around (t .yard) L M v b e x p ≡ none
   round-fails v j s =
       let w : v ≡ bayOf p L = sym (j .at-v) in
-      let fails : aside (t .yard) (bayOf p L) e b x (after p (entering L M e p)) ≡ none = rw (← (forth .moved), ← w) (tried-failed s) in
+      let fails : aside (t .yard) (bayOf p L) e b x (after p (entering L M e p .moves)) ≡ none = rw (← (forth .moved), ← w) (tried-failed s) in
       rw w (around-stops (t .yard) L M differ b e x p fails)
 
 -- ## Logged
 
-pub attempted : {o : Option (List Crossing)} {n : ℕ} {p log₀ p′ standing′ empty′ log : List ℕ} {r : Tried} → Tries o n p log₀ 0 p′ standing′ empty′ log r → Attempts o log r
+pub attempted : {o : Option Made} {n : ℕ} {p log₀ p′ standing′ empty′ log : List ℕ} {r : Tried} → Tries o n p log₀ nothing p′ standing′ empty′ log r → Attempts o log r
 attempted {log₀ = log₀} {log = log} t = record {
   fails = λ z. tried-failed (rw z at t);
   done = λ m z.
       let d = tried-done (rw z at t) in
-      let many : 0 + length (map pack (d .0)) ≡ m = omega (arith, d .2 .counted, length-map (d .0) pack) in (
+      let many : 0 + length (map pack (d .0 .moves)) ≡ m .crossings = omega (arith, d .2 .counted, length-map (d .0 .moves) pack) in (
         d .0,
         d .1,
         record {
           counted = omega (arith, d .2 .counted);
           stored = λ h. rw many at (d .2 .stored .front (omega (arith, many, h, d .2 .stored .long)));
+          parks = omega (arith, d .2 .parks);
+          few = d .2 .few (omega arith);
         },
       );
 }
 
 -- what was lent of the list, from where it goes on or its end, holds the crossings afterwards
-pub log-stored : {out log : List ℕ} {at from m : ℕ} (rest : List ℕ) (xs : List Crossing) → from ≡ min at (length out) → length log ≡ length (take (length out - from) (drop from out))
-    → length (take from out ++ (log ++ rest)) ≡ length out → Logged xs log m → Stored (map pack xs) out at (take from out ++ (log ++ rest))
-log-stored {out} {log} {at} {from} {m} rest xs e lent long l = record {
+pub log-stored : {out log : List ℕ} {at from : ℕ} {m : Tally} (rest : List ℕ) (made : Made) → from ≡ min at (length out) → length log ≡ length (take (length out - from) (drop from out))
+    → length (take from out ++ (log ++ rest)) ≡ length out → Logged made log m → Stored (map pack (made .moves)) out at (take from out ++ (log ++ rest))
+log-stored {out} {log} {at} {from} {m} rest made e lent long l = record {
   long = long;
   front = λ h.
       let same : from ≡ at = omega arith in
       let size : length (take at out) ≡ at = length-take-le at out (omega arith) in
-      let many : length (map pack xs) ≡ m = length-map xs pack ∙ sym (l .counted) in
-      let fits : m ≤ length log = omega (arith, lent, length-take (length out - from) (drop from out), length-drop from out) in
+      let xs = made .moves in
+      let many : length (map pack xs) ≡ m .crossings = length-map xs pack ∙ sym (l .counted) in
+      let fits : m .crossings ≤ length log = omega (arith, lent, length-take (length out - from) (drop from out), length-drop from out) in
       let whole = take-append-add (take at out) (log ++ rest) (length (map pack xs)) in
-      rw same ((rw size at whole) ∙ ap (λ (v : List ℕ). take at out ++ v) (rw many (take-append-le m log rest fits ∙ l .stored fits)));
+      rw same ((rw size at whole) ∙ ap (λ (v : List ℕ). take at out ++ v) (rw many (take-append-le (m .crossings) log rest fits ∙ l .stored fits)));
 }
 
 -- ## The first that succeeds
@@ -255,8 +260,8 @@ pub kept-none : (Y : Yard) {way : Bay → Action} (e : Bay) {others : List ℕ} 
 unfolding firstKept
 kept-none Y e {others} n log h s = record { one = λ x m z. never (cc); nothing = λ z. first-none _ (mem others) n (λ y l m. rw (s .fails y (omega arith) m)) }
 
-pub kept-one : (Y : Yard) {way : Bay → Action} (e : Bay) {others : List ℕ} (n : ℕ) {p : Placement} {log : List ℕ} {k : ℕ} (x : Numbered) → x .0 < n → mem others (x .0) ≡ true → Failing way others (x .0) p
-    → (xs : List Crossing) × (way (x .0) p ≡ some xs) × Logged xs log k → FirstKept (firstKept Y way e (from (mem others) 0 n) p) e log (One x k)
+pub kept-one : (Y : Yard) {way : Bay → Action} (e : Bay) {others : List ℕ} (n : ℕ) {p : Placement} {log : List ℕ} {k : Tally} (x : Numbered) → x .0 < n → mem others (x .0) ≡ true → Failing way others (x .0) p
+    → (made : Made) × (way (x .0) p ≡ some made) × Logged made log k → FirstKept (firstKept Y way e (from (mem others) 0 n) p) e log (One x k)
 unfolding firstKept
 kept-one Y e {others} n {k = k} x h m s d = record {
   one = λ y i z.
@@ -286,7 +291,7 @@ others-is {n} t v b e w₁ w₂ w₃ most hv f g h =
     ∙ filter-same _ (mem w₃) 0 (t .yard .bays) (λ y i l. sym (h y ∙ rw (w .same y (omega (arith, w .bays))) (both-out (joined (t .yard) v y) (eqb y b) (eqb y e))))
     ∙ rw (z, w .bays)
 
-pub first-way : (Y : Yard) (L M : Carrier) (v b e : Bay) (p : Placement) (n : ℕ) (others : List ℕ) {log : List ℕ} {x : Numbered} {k : ℕ} → Others Y v b e n others
+pub first-way : (Y : Yard) (L M : Carrier) (v b e : Bay) (p : Placement) (n : ℕ) (others : List ℕ) {log : List ℕ} {x : Numbered} {k : Tally} → Others Y v b e n others
     → FirstKept (firstKept Y (wayOf false Y L M v b e) e (from (mem others) 0 n) p) e log (One x k) → FirstKept (goOn Y L M v b e p) e log (One x k)
 unfolding goOn
 first-way Y L M v b e p n others o d = record {
@@ -304,22 +309,22 @@ second-way Y L M v b e p n others o f d = record {
 
 -- ## Going on
 
-pub pair-none : (at k : ℕ) → PairBy at k Missing
+pub pair-none : (at : Tally) (k : ℕ) → PairBy at k Missing
 pair-none at k = record { few = λ x y m e. never (cc) }
 
-pub pair-both : {at k m : ℕ} {x y : Numbered} → m ≤ at + k → at ≤ m → PairBy at k (Both x y m)
-pair-both {m = m} h l = record { few = λ u v w e. let c : m ≡ w = cc in (omega arith, omega arith) }
+pub pair-both : {at : Tally} {k : ℕ} {m : Tally} {x y : Numbered} → m .crossings ≤ at .crossings + k → at .crossings ≤ m .crossings → PairBy at k (Both x y m)
+pair-both {m = m} h l = record { few = λ u v w e. let c : m ≡ w = cc in (rw c at h, rw c at l) }
 
-pub pair-from : {at m k : ℕ} {r : Pair} (d : ℕ) → at ≤ m → m ≤ at + d → PairBy m k r → PairBy at (d + k) r
+pub pair-from : {at m : Tally} {k : ℕ} {r : Pair} (d : ℕ) → at .crossings ≤ m .crossings → m .crossings ≤ at .crossings + d → PairBy m k r → PairBy at (d + k) r
 pair-from d l h b = record { few = λ x y i e. let f = b .few x y i e in (omega (arith, f .0), omega (arith, f .1)) }
 
-pub pair-within : {at k d : ℕ} {r : Pair} → k ≤ d → PairBy at k r → PairBy at d r
+pub pair-within : {at : Tally} {k d : ℕ} {r : Pair} → k ≤ d → PairBy at k r → PairBy at d r
 pair-within h b = record { few = λ x y i e. let f = b .few x y i e in (omega (arith, f .0), f .1) }
 
-pub gone-none : {o : Option Cleared} {out : List ℕ} {at : ℕ} {out′ : List ℕ} → o ≡ none → GoesOn o out at out′ Missing
+pub gone-none : {o : Option Cleared} {out : List ℕ} {at : Tally} {out′ : List ℕ} → o ≡ none → GoesOn o out at out′ Missing
 gone-none e = record { both = λ x y m z. never (cc); missing = λ z. e }
 
-pub gone-both : {o : Option Cleared} {out : List ℕ} {at : ℕ} {out′ : List ℕ} {x y : Numbered} {m : ℕ} → (xs : List Crossing) → o ≡ some (record { moves = xs; kept = x .0 ∷ y .0 ∷ [] }) → Listed xs out at out′ m
+pub gone-both : {o : Option Cleared} {out : List ℕ} {at : Tally} {out′ : List ℕ} {x y : Numbered} {m : Tally} → (xs : Made) → o ≡ some (record { made = xs; kept = x .0 ∷ y .0 ∷ [] }) → Listed xs out at out′ m
     → GoesOn o out at out′ (Both x y m)
 gone-both {x = x} {y = y} {m = m} xs e d = record {
   both = λ u v w z.
@@ -339,7 +344,7 @@ module _ (Y : Yard) (L M : Carrier) (v b : Bay) (p : Placement) where
   abbrev all : Cleared
   all = clear Y L M v b p
 
-  kept-both : {x y : Bay} → once .kept ≡ x ∷ y ∷ [] → (all .kept ≡ x ∷ y ∷ []) × (all .moves ≡ once .moves)
+  kept-both : {x y : Bay} → once .kept ≡ x ∷ y ∷ [] → (all .kept ≡ x ∷ y ∷ []) × (all .made ≡ once .made)
   unfolding clear goneOn
   kept-both e = (rw e, rw e)
 
@@ -347,16 +352,16 @@ module _ (Y : Yard) (L M : Carrier) (v b : Bay) (p : Placement) where
   unfolding clear goneOn
   kept-few e = rw e (omega arith)
 
-  kept-on : {e : Bay} {c : Cleared} → once .kept ≡ e ∷ [] → goOn Y L M v b e (after p (once .moves)) ≡ some c → (all .kept ≡ c .kept) × (all .moves ≡ once .moves ++ c .moves)
+  kept-on : {e : Bay} {c : Cleared} → once .kept ≡ e ∷ [] → goOn Y L M v b e (after p (once .made .moves)) ≡ some c → (all .kept ≡ c .kept) × (all .made ≡ together (once .made) (c .made))
   unfolding clear goneOn
   kept-on e d = (rw (e, d), rw (e, d))
 
-  kept-still : {e : Bay} → once .kept ≡ e ∷ [] → goOn Y L M v b e (after p (once .moves)) ≡ none → length (all .kept) < 2
+  kept-still : {e : Bay} → once .kept ≡ e ∷ [] → goOn Y L M v b e (after p (once .made .moves)) ≡ none → length (all .kept) < 2
   unfolding clear goneOn
   kept-still e d = rw (e, d) (omega arith)
 
   -- the two stand where they stood
-  pub still-there : Sound Y → Apart p → L < length p → M < length p → AtJunction L M v b p → (q : Placement) → q ≡ after p (once .moves) → AtJunction L M v b q
+  pub still-there : Sound Y → Apart p → L < length p → M < length p → AtJunction L M v b p → (q : Placement) → q ≡ after p (once .made .moves) → AtJunction L M v b q
   still-there sound apart hL hM j q moved =
       let s = once-clears Y sound v b p apart in
       rw moved (record {
@@ -364,7 +369,7 @@ module _ (Y : Yard) (L M : Carrier) (v b : Bay) (p : Placement) where
         at-b = s .stays M hM (rw (j .at-b) (In-tail b v (b ∷ []) (In-head b []))) ∙ j .at-b;
       })
 
-  pub two-at-once : {n : ℕ} {out : List ℕ} {at : ℕ} {p′ standing′ empty′ out′ : List ℕ} {x y : Numbered} {m : ℕ} → (once .kept ≡ x .0 ∷ y .0 ∷ []) × Played (once .moves) n p p′ standing′ empty′ out at out′ m
+  pub two-at-once : {n : ℕ} {out : List ℕ} {at : Tally} {p′ standing′ empty′ out′ : List ℕ} {x y : Numbered} {m : Tally} → (once .kept ≡ x .0 ∷ y .0 ∷ []) × Tallied (once .made) n p p′ standing′ empty′ out at out′ m
       → ClearsTwo Y L M v b p out at p′ out′ (Both x y m)
   two-at-once {x = x} {y = y} {m = m} d =
       let k = kept-both (d .0) in
@@ -373,28 +378,30 @@ module _ (Y : Yard) (L M : Carrier) (v b : Bay) (p : Placement) where
             let a : x ≡ u = cc in
             let c : y ≡ w = cc in
             let e : m ≡ i = cc in
-            rw (← a, ← c, ← e) (record { kept = k .0; listed = rw (k .1) (record { stored = d .1 .stored; counted = d .1 .counted }); moved = d .1 .moved });
+            rw (← a, ← c, ← e) (record { kept = k .0; listed = rw (k .1) (record { stored = d .1 .stored; counted = d .1 .counted; parks = d .1 .parks; few = d .1 .few }); moved = d .1 .moved });
         missing = λ z. never (cc);
       }
 
-  two-missing : {out : List ℕ} {at : ℕ} {p′ out′ : List ℕ} → length (all .kept) < 2 → ClearsTwo Y L M v b p out at p′ out′ Missing
+  two-missing : {out : List ℕ} {at : Tally} {p′ out′ : List ℕ} → length (all .kept) < 2 → ClearsTwo Y L M v b p out at p′ out′ Missing
   two-missing h = record { both = λ u w i z. never (cc); missing = λ z. h }
 
-  pub two-few : {out : List ℕ} {at : ℕ} {p′ out′ : List ℕ} → once .kept ≡ [] → ClearsTwo Y L M v b p out at p′ out′ Missing
+  pub two-few : {out : List ℕ} {at : Tally} {p′ out′ : List ℕ} → once .kept ≡ [] → ClearsTwo Y L M v b p out at p′ out′ Missing
   two-few e = two-missing (kept-few e)
 
-  pub two-in-time : {n : ℕ} {out : List ℕ} {at : ℕ} {p′ standing′ empty′ out₁ out′ : List ℕ} {e m : ℕ} {r : Pair} → KeptAlone once n p out at p′ standing′ empty′ out₁ e m
+  pub two-in-time : {n : ℕ} {out : List ℕ} {at : Tally} {p′ standing′ empty′ out₁ out′ : List ℕ} {e : ℕ} {m : Tally} {r : Pair} → KeptAlone once n p out at p′ standing′ empty′ out₁ e m
       → GoesOn (goOn Y L M v b e p′) out₁ m out′ r → ClearsTwo Y L M v b p out at p′ out′ r
   two-in-time {p′ = p′} {e = e} a g = record {
     both = λ x y i z.
         let d = g .both x y i z in
-        let on : goOn Y L M v b e (after p (once .moves)) ≡ some (record { moves = d .0; kept = x .0 ∷ y .0 ∷ [] }) = rw (← (a .played .moved)) (d .1) in
+        let on : goOn Y L M v b e (after p (once .made .moves)) ≡ some (record { made = d .0; kept = x .0 ∷ y .0 ∷ [] }) = rw (← (a .played .moved)) (d .1) in
         let k = kept-on (a .kept) on in
         record {
           kept = k .0;
           listed = rw (k .1) (record {
             stored = rw map-append (stored-then (a .played .counted ∙ rw length-map) (a .played .stored) (d .2 .stored));
-            counted = omega (arith, a .played .counted, d .2 .counted, length-append (once .moves) (d .0));
+            counted = omega (arith, a .played .counted, d .2 .counted, length-append (once .made .moves) (d .0 .moves));
+            parks = as-far-then _ _ _ _ _ (a .played .parks) (d .2 .parks);
+            few = λ h. d .2 .few (a .played .few h);
           });
           moved = a .played .moved;
         };

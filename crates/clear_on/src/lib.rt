@@ -1,5 +1,6 @@
 // Clearing goes on where it ended with one kept bay e: another neighbour x of the junction is emptied beside it, in one of two ways. Each
 // attempt is played on copies and logged from the log's start, so that one that fails is forgotten.
+use bring::Tally;
 use bring::Tried;
 use clear::Kept;
 use clear::Two;
@@ -12,13 +13,13 @@ ghost use Rattle.paper.specs.Basics.{Out};
 ghost use Rattle.paper.specs.Procedure.{aside, around, firstKept, goOn};
 ghost use Rattle.paper.proofs.Playing.{Sound};
 ghost use Rattle.words.specs.Sets.{mem, words, span};
-ghost use Rattle.bring.specs.Acting.{Tabled, Ready, Within, Tries};
+ghost use Rattle.bring.specs.Acting.{Tabled, Ready, nothing, Within, Tries};
 ghost use Rattle.clear.specs.Keeping.{Among, from};
 ghost use Rattle.clear_on.specs.Going.{AtJunction, wayOf, Attempts, KeptWithin, FirstKept, Others, PairBy, GoesOn, ClearsTwo};
 
-// The two bays that are kept, with the count of crossings afterwards, or that there are not two.
+// The two bays that are kept, with the tally afterwards, or that there are not two.
 pub enum Pair {
-    Both(Bay, Bay, usize),
+    Both(Bay, Bay, Tally),
     Missing,
 }
 
@@ -33,10 +34,10 @@ fn vacate_both(
     standing: &mut [u16],
     empty: &mut [u64],
     out: &mut [u64],
-    at: usize,
+    at: Tally,
 ) -> Tried
     requires { ⌜ Ready (now table) (now placement) (now standing) (now empty) ⌝ }
-    requires { ⌜ (v .0 < length (now standing)) × (b .0 < length (now standing)) × (e .0 < length (now standing)) × (x .0 < length (now standing)) × (at < 2 ^ 61) ⌝ }
+    requires { ⌜ (v .0 < length (now standing)) × (b .0 < length (now standing)) × (e .0 < length (now standing)) × (x .0 < length (now standing)) × (at .crossings < 2 ^ 61) ⌝ }
     ensures { λ r. ⌜ (Within at 512 r) × ((t : Tabled (length (now (standing .entry))) (now (table .entry))) → Tries (aside (t .yard) (v .0) (b .0) (e .0) (x .0) (now (placement .entry))) (length (now (standing .entry))) (now (placement .entry)) (now (out .entry)) at (now (placement .exit)) (now (standing .exit)) (now (empty .exit)) (now (out .exit)) r) ⌝ }
 {
     let mut held = [0u64; words::WORDS];
@@ -64,10 +65,10 @@ fn go_round(
     standing: &mut [u16],
     empty: &mut [u64],
     out: &mut [u64],
-    at: usize,
+    at: Tally,
 ) -> Tried
     requires { ⌜ Ready (now table) (now placement) (now standing) (now empty) ⌝ }
-    requires { ⌜ (l .0 < length (now placement)) × (m .0 < length (now placement)) × (m .0 ≡ l .0 → ⊥) × (v .0 < length (now standing)) × (b .0 < length (now standing)) × (e .0 < length (now standing)) × (x .0 < length (now standing)) × (at < 2 ^ 60) × Out (e .0) (now placement) ⌝ }
+    requires { ⌜ (l .0 < length (now placement)) × (m .0 < length (now placement)) × (m .0 ≡ l .0 → ⊥) × (v .0 < length (now standing)) × (b .0 < length (now standing)) × (e .0 < length (now standing)) × (x .0 < length (now standing)) × (at .crossings < 2 ^ 60) × Out (e .0) (now placement) ⌝ }
     ensures { λ r. ⌜ (Within at 516 r) × ((t : Tabled (length (now (standing .entry))) (now (table .entry))) → AtJunction (l .0) (m .0) (v .0) (b .0) (now (placement .entry)) → Tries (around (t .yard) (l .0) (m .0) (v .0) (b .0) (e .0) (x .0) (now (placement .entry))) (length (now (standing .entry))) (now (placement .entry)) (now (out .entry)) at (now (placement .exit)) (now (standing .exit)) (now (empty .exit)) (now (out .exit)) r) ⌝ }
 {
     let forth = bring::enter(l, m, e, placement, standing, empty, out, at);
@@ -107,7 +108,7 @@ fn attempt(
 ) -> Tried
     requires { ⌜ Ready (now table) (now placement) (now standing) (now empty) ⌝ }
     requires { ⌜ (l .0 < length (now placement)) × (m .0 < length (now placement)) × (m .0 ≡ l .0 → ⊥) × (v .0 < length (now standing)) × (b .0 < length (now standing)) × (e .0 < length (now standing)) × (x .0 < length (now standing)) × Out (e .0) (now placement) ⌝ }
-    ensures { λ r. ⌜ (Within 0 516 r) × ((t : Tabled (length (now (standing .entry))) (now (table .entry))) → AtJunction (l .0) (m .0) (v .0) (b .0) (now (placement .entry)) → Attempts (wayOf second (t .yard) (l .0) (m .0) (v .0) (b .0) (e .0) (x .0) (now (placement .entry))) (now (log .exit)) r) ⌝ }
+    ensures { λ r. ⌜ (Within nothing 516 r) × ((t : Tabled (length (now (standing .entry))) (now (table .entry))) → AtJunction (l .0) (m .0) (v .0) (b .0) (now (placement .entry)) → Attempts (wayOf second (t .yard) (l .0) (m .0) (v .0) (b .0) (e .0) (x .0) (now (placement .entry))) (now (log .exit)) r) ⌝ }
 {
     let mut bays = [0u16; words::SPAN];
     let mut carriers = [0u16; words::SPAN];
@@ -117,6 +118,10 @@ fn attempt(
     words::keep(&mut unused, 0, empty);
     let k = placement.len();
     let n = standing.len();
+    let from = Tally {
+        crossings: 0,
+        parked: 0,
+    };
     if second {
         return go_round(
             table,
@@ -130,7 +135,7 @@ fn attempt(
             &mut carriers[..n],
             &mut unused,
             log,
-            0,
+            from,
         );
     }
     vacate_both(
@@ -143,7 +148,7 @@ fn attempt(
         &mut carriers[..n],
         &mut unused,
         log,
-        0,
+        from,
     )
 }
 
@@ -264,17 +269,17 @@ pub fn go_on(
     standing: &[u16],
     empty: &[u64],
     out: &mut [u64],
-    at: usize,
+    at: Tally,
 ) -> Pair
     requires { ⌜ Ready (now table) (now placement) (now standing) (now empty) ⌝ }
-    requires { ⌜ (l .0 < length (now placement)) × (m .0 < length (now placement)) × (m .0 ≡ l .0 → ⊥) × (v .0 < length (now standing)) × (b .0 < length (now standing)) × (e .0 < length (now standing)) × (at < 2 ^ 62) × Out (e .0) (now placement) ⌝ }
+    requires { ⌜ (l .0 < length (now placement)) × (m .0 < length (now placement)) × (m .0 ≡ l .0 → ⊥) × (v .0 < length (now standing)) × (b .0 < length (now standing)) × (e .0 < length (now standing)) × (at .crossings < 2 ^ 62) × Out (e .0) (now placement) ⌝ }
     ensures { λ r. ⌜ (PairBy at 516 r) × ((t : Tabled (length (now (standing .entry))) (now (table .entry))) → AtJunction (l .0) (m .0) (v .0) (b .0) (now (placement .entry)) → GoesOn (goOn (t .yard) (l .0) (m .0) (v .0) (b .0) (e .0) (now (placement .entry))) (now (out .entry)) at (now (out .exit)) r) ⌝ }
 {
     let mut others = [0u64; words::WORDS];
     words::join_row(&mut others, table, v.0 as usize);
     words::remove(&mut others, b.0 as usize);
     words::remove(&mut others, e.0 as usize);
-    let from = place_in(out, at);
+    let from = place_in(out, at.crossings);
     let found = either_way(
         table,
         &others,
@@ -291,7 +296,7 @@ pub fn go_on(
     let Kept::One(x, c) = found else {
         return Pair::Missing;
     };
-    Pair::Both(x, e, at + c)
+    Pair::Both(x, e, bring::add(at, c))
 }
 
 // Clear, with leader l at the junction v and follower m at b: once through the neighbours, and on from there with one kept bay. The placement
@@ -306,10 +311,10 @@ pub fn clear_two(
     standing: &mut [u16],
     empty: &mut [u64],
     out: &mut [u64],
-    at: usize,
+    at: Tally,
 ) -> Pair
     requires { ⌜ Ready (now table) (now placement) (now standing) (now empty) ⌝ }
-    requires { ⌜ (l .0 < length (now placement)) × (m .0 < length (now placement)) × (m .0 ≡ l .0 → ⊥) × (v .0 < length (now standing)) × (b .0 < length (now standing)) × (at < 2 ^ 61) ⌝ }
+    requires { ⌜ (l .0 < length (now placement)) × (m .0 < length (now placement)) × (m .0 ≡ l .0 → ⊥) × (v .0 < length (now standing)) × (b .0 < length (now standing)) × (at .crossings < 2 ^ 61) ⌝ }
     ensures { λ r. ⌜ (PairBy at 1028 r) × ((t : Tabled (length (now (standing .entry))) (now (table .entry))) → Sound (t .yard) → AtJunction (l .0) (m .0) (v .0) (b .0) (now (placement .entry)) → ClearsTwo (t .yard) (l .0) (m .0) (v .0) (b .0) (now (placement .entry)) (now (out .entry)) at (now (placement .exit)) (now (out .exit)) r) ⌝ }
 {
     let cleared = clear::clear(table, v, b, placement, standing, empty, out, at);

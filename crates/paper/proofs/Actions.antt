@@ -1,5 +1,5 @@
 -- Runs of actions: what succeeds did so in both its parts. Two carriers go one behind the other: each crossing is into an empty bay, so both are legal.
-use mathlib.Core.Path.{_≡_, sym, _∙_}
+use mathlib.Core.Path.{_≡_, sym, ap, _∙_}
 use mathlib.Core.Bool.{true, false}
 use mathlib.Core.List.{List, [], _∷_, _++_}
 use mathlib.Core.Option.{some}
@@ -9,38 +9,41 @@ use lib.ListN.{length, length-set}
 use borrow.Author.Tests.{eqb-false, ne-eqb}
 use Rattle.paper.specs.Basics.{Out}
 use Rattle.paper.specs.Yard.{Bay, Carrier, Yard, Placement, Crossing, crossing, bayOf, move, after, joined, legalPlan}
-use Rattle.paper.specs.Procedure.{Action, _then_, cross}
+use Rattle.paper.specs.Procedure.{Made, only, together, Action, _then_, cross}
 use Rattle.paper.proofs.Tests.{by-option, not-both, never-some}
 use Rattle.paper.proofs.Playing.{Apart, Legal, legal-of, bay-in, move-self, move-other, move-apart, move-empties, move-out}
 
 pub eqb-comm : (a b : ℕ) → eqb a b ≡ false → eqb b a ≡ false
 eqb-comm a b e = ne-eqb b a (λ q. eqb-false a b e (sym q))
 
+pub same-moves : {a b : Made} → a ≡ b → a .moves ≡ b .moves
+same-moves e = ap (λ (m : Made). m .moves) e
+
 -- both parts of a run of two actions
-pub then-split : {P : Type 0} (f g : Action) (p : Placement) (xs : List Crossing) → (f then g) p ≡ some xs
-    → ((a b : List Crossing) → f p ≡ some a → g (after p a) ≡ some b → xs ≡ a ++ b → P) → P
+pub then-split : {P : Type 0} (f g : Action) (p : Placement) (m : Made) → (f then g) p ≡ some m
+    → ((a b : Made) → f p ≡ some a → g (after p (a .moves)) ≡ some b → m ≡ together a b → P) → P
 unfolding _then_
-then-split f g p xs h k =
+then-split f g p m h k =
     by-option (f p)
-    (λ e. never-some xs (rw e at h))
-    (λ a e. by-option (g (after p a))
-    (λ d. never-some xs (rw (e, d) at h))
+    (λ e. never-some m (rw e at h))
+    (λ a e. by-option (g (after p (a .moves)))
+    (λ d. never-some m (rw (e, d) at h))
     (λ b d. let z = rw (e, d) at h in k a b e d (cc)))
 
-pub then-runs : (f g : Action) (p : Placement) (a b : List Crossing) → f p ≡ some a → g (after p a) ≡ some b → (f then g) p ≡ some (a ++ b)
+pub then-runs : (f g : Action) (p : Placement) (a b : Made) → f p ≡ some a → g (after p (a .moves)) ≡ some b → (f then g) p ≡ some (together a b)
 unfolding _then_
 then-runs f g p a b h k = rw (h, k)
 
-pub cross-some : (c : Carrier) (to : Bay) (p : Placement) (xs : List Crossing) → cross c to p ≡ some xs → xs ≡ crossing c (bayOf p c) to ∷ []
+pub cross-some : (c : Carrier) (to : Bay) (p : Placement) (m : Made) → cross c to p ≡ some m → m ≡ only (crossing c (bayOf p c) to ∷ [])
 unfolding cross
-cross-some c to p xs h = cc
+cross-some c to p m h = cc
 
-pub cross-split : {P : Type 0} (c : Carrier) (to : Bay) (g : Action) (p : Placement) (xs : List Crossing) → (cross c to then g) p ≡ some xs
-    → ((b : List Crossing) → g (move p (crossing c (bayOf p c) to)) ≡ some b → xs ≡ crossing c (bayOf p c) to ∷ b → P) → P
+pub cross-split : {P : Type 0} (c : Carrier) (to : Bay) (g : Action) (p : Placement) (m : Made) → (cross c to then g) p ≡ some m
+    → ((b : Made) → g (move p (crossing c (bayOf p c) to)) ≡ some b → m ≡ together (only (crossing c (bayOf p c) to ∷ [])) b → P) → P
 unfolding _then_ cross after
-cross-split c to g p xs h k =
+cross-split c to g p m h k =
     by-option (g (move p (crossing c (bayOf p c) to)))
-    (λ d. never-some xs (rw d at h))
+    (λ d. never-some m (rw d at h))
     (λ b d. let z = rw d at h in k b d (cc))
 
 module _ (Y : Yard) (L M : Carrier) (differ : eqb L M ≡ false) where

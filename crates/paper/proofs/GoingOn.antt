@@ -11,13 +11,13 @@ use lib.ListN.{length, getD, drop, length-set}
 use Rattle.paper.specs.Basics.{if_then_else_, _and_, _>>=_, filter, firstOf, upTo, In, Out}
 use Rattle.paper.specs.Yard.{Bay, Carrier, Yard, Placement, Crossing, crossing, bayOf, move, after, joined, legalPlan, junction}
 use Rattle.paper.specs.Path.{nearestFirst, shortestPath}
-use Rattle.paper.specs.Procedure.{Action, _then_, cross, vacate, bring, clearOnce, aside, around, goneOn, clear, finish, trialLed, trial, swap}
+use Rattle.paper.specs.Procedure.{Made, only, together, Action, _then_, cross, vacate, bring, clearOnce, aside, around, goneOn, clear, finish, trialLed, trial, swap}
 use Rattle.paper.proofs.Tests.{by-cases, by-option, not-both, never-some}
 use Rattle.paper.proofs.Members.{In-head, In-tail, In-cases, In-one}
 use Rattle.paper.proofs.Rings.{joined-sym}
 use Rattle.paper.proofs.Playing.{Apart, after-append, after-length, plan-append, bay-in, Sound}
 use Rattle.paper.proofs.Vacating.{plan-apart, vacate-vacates}
-use Rattle.paper.proofs.Actions.{eqb-comm, then-split, cross-some, cross-split, Pulled, pulled}
+use Rattle.paper.proofs.Actions.{eqb-comm, same-moves, then-split, cross-some, cross-split, Pulled, pulled}
 
 -- whoever is held among two is held among more
 pub two-held : (z v b : Bay) (more : List Bay) → In z (v ∷ b ∷ []) → In z (v ∷ b ∷ more)
@@ -33,14 +33,16 @@ module _ (Y : Yard) where
     pub empties-kept : Out e (after p xs)
 
   -- The first way: x is held while e is vacated, so it stays empty.
-  pub aside-empties : (v b e x : Bay) (p : Placement) (xs : List Crossing) → Apart p → In x (upTo (Y .bays)) → In e (upTo (Y .bays))
-      → aside Y v b e x p ≡ some xs → Attempted v b e x p xs
+  pub aside-empties : (v b e x : Bay) (p : Placement) (m : Made) → Apart p → In x (upTo (Y .bays)) → In e (upTo (Y .bays))
+      → aside Y v b e x p ≡ some m → Attempted v b e x p (m .moves)
   unfolding aside
-  aside-empties v b e x p xs apart ix ie h =
-      then-split (vacate Y (v ∷ b ∷ []) x) (vacate Y (v ∷ b ∷ x ∷ []) e) p xs h
-      (λ ms ns f g q.
-      let s = vacate-vacates Y (v ∷ b ∷ []) x p ms apart ix f in
-      let t = vacate-vacates Y (v ∷ b ∷ x ∷ []) e (after p ms) ns (plan-apart Y p ms apart (s .legal)) ie g in
+  aside-empties v b e x p m apart ix ie h =
+      then-split (vacate Y (v ∷ b ∷ []) x) (vacate Y (v ∷ b ∷ x ∷ []) e) p m h
+      (λ first-made second-made f g q.
+      let ms = first-made .moves in
+      let ns = second-made .moves in
+      let s = vacate-vacates Y (v ∷ b ∷ []) x p first-made apart ix f in
+      let t = vacate-vacates Y (v ∷ b ∷ x ∷ []) e (after p ms) second-made (plan-apart Y p ms apart (s .legal)) ie g in
       rw q (record {
         legal = plan-append Y p ms ns (s .legal) (t .legal);
         stays = λ k l i.
@@ -74,12 +76,15 @@ module _ (Y : Yard) where
     forth-goes = pulled Y L M differ v b e p apart hL hM at-v at-b ve (joined-sym Y v b vb) free
 
     -- both have gone forth, and the bays are vacated
-    module _ (ms : List Crossing) (h : aside Y v e b x further ≡ some ms) where
+    module _ (m : Made) (h : aside Y v e b x further ≡ some m) where
+      abbrev ms : List Crossing
+      ms = m .moves
+
       abbrev emptied : Placement
       emptied = after further ms
 
       vacated : Attempted v e b x further ms
-      vacated = aside-empties v e b x further ms (forth-goes .apart) (sound .inside v x vx) (sound .inside v b vb) h
+      vacated = aside-empties v e b x further m (forth-goes .apart) (sound .inside v x vx) (sound .inside v b vb) h
 
       leads : bayOf emptied L ≡ e
       leads = vacated .stays L (simp (length-set) hL) (rw (forth-goes .leader) (In-tail e v (e ∷ []) (In-head e []))) ∙ forth-goes .leader
@@ -103,17 +108,21 @@ module _ (Y : Yard) where
           }
 
     -- The second way: the first with b and e in each other's place, while the two stand at e and v.
-    pub around-empties : (xs : List Crossing) → around Y L M v b e x p ≡ some xs → Attempted v b e x p xs
+    pub around-empties : (all : Made) → around Y L M v b e x p ≡ some all → Attempted v b e x p (all .moves)
     unfolding around after
-    around-empties xs h =
-        cross-split L e (cross M v then aside Y v e b x then cross M b then cross L v) p xs h
+    around-empties all h =
+        cross-split L e (cross M v then aside Y v e b x then cross M b then cross L v) p all h
         (λ ks f q1. cross-split M v (aside Y v e b x then cross M b then cross L v) _ ks f
         (λ bs g q2. then-split (aside Y v e b x) (cross M b then cross L v) further bs g
-        (λ ms cs m k q3. cross-split M b (cross L v) (after further ms) cs k
+        (λ made cs m k q3. cross-split M b (cross L v) (after further (made .moves)) cs k
         (λ ds l q4.
-        let q5 = cross-some L v _ ds l in
-        let done : xs ≡ forth ++ (ms ++ back) = cc (at-v, forth-goes .second-bay, follows ms m, back-goes ms m .second-bay) in
-        rw done (there-and-back ms m)))))
+        let a1 = same-moves q1 in
+        let a2 = same-moves q2 in
+        let a3 = same-moves q3 in
+        let a4 = same-moves q4 in
+        let a5 = same-moves (cross-some L v _ ds l) in
+        let done : all .moves ≡ forth ++ (made .moves ++ back) = cc (at-v, forth-goes .second-bay, follows made m, back-goes made m .second-bay) in
+        rw done (there-and-back made m)))))
 
 -- ## What sufficed before
 
@@ -121,10 +130,10 @@ module _ (Y : Yard) where
 unfoldable pub trialLedOnce : Yard → Carrier → Carrier → Bay → List Bay → Action
 trialLedOnce Y L M v ahead p =
     bring Y L M ahead p >>= λ brought.
-    let p₁ = after p brought in
+    let p₁ = after p (brought .moves) in
     let b = bayOf p₁ M in
     let once = clearOnce Y v b p₁ in
-    finish Y L M v b (brought ++ once .moves) (once .kept)
+    finish Y L M v b (together brought (once .made)) (once .kept)
 
 unfoldable pub trialOnce : Yard → Carrier → Carrier → Bay → Action
 trialOnce Y r s v p =
@@ -136,34 +145,34 @@ trialOnce Y r s v p =
 unfoldable pub swapOnce : Yard → Carrier → Carrier → Action
 swapOnce Y r s p = firstOf (λ v. trialOnce Y r s v p) (filter (junction Y) (nearestFirst Y [] (bayOf p r)))
 
-finished-before : (Y : Yard) (L M : Carrier) (v b : Bay) (p : Placement) (brought made : List Crossing) (kept : List Bay) (xs : List Crossing)
-    → finish Y L M v b (brought ++ made) kept ≡ some xs
-    → finish Y L M v b (brought ++ goneOn Y L M v b p made kept .moves) (goneOn Y L M v b p made kept .kept) ≡ some xs
+finished-before : (Y : Yard) (L M : Carrier) (v b : Bay) (p : Placement) (brought made : Made) (kept : List Bay) (m : Made)
+    → finish Y L M v b (together brought made) kept ≡ some m
+    → finish Y L M v b (together brought (goneOn Y L M v b p made kept .made)) (goneOn Y L M v b p made kept .kept) ≡ some m
 unfolding finish goneOn
-finished-before Y L M v b p brought made [] xs h = h
-finished-before Y L M v b p brought made (e ∷ []) xs h = never-some xs h
-finished-before Y L M v b p brought made (x ∷ y ∷ rest) xs h = h
+finished-before Y L M v b p brought made [] m h = h
+finished-before Y L M v b p brought made (e ∷ []) m h = never-some m h
+finished-before Y L M v b p brought made (x ∷ y ∷ rest) m h = h
 
-led-before : (Y : Yard) (L M : Carrier) (v : Bay) (ahead : List Bay) (p : Placement) (xs : List Crossing)
-    → trialLedOnce Y L M v ahead p ≡ some xs → trialLed Y L M v ahead p ≡ some xs
+led-before : (Y : Yard) (L M : Carrier) (v : Bay) (ahead : List Bay) (p : Placement) (m : Made)
+    → trialLedOnce Y L M v ahead p ≡ some m → trialLed Y L M v ahead p ≡ some m
 unfolding trialLedOnce trialLed clear
-led-before Y L M v ahead p xs h =
+led-before Y L M v ahead p m h =
     by-option (bring Y L M ahead p)
-    (λ e. never-some xs (rw e at h))
+    (λ e. never-some m (rw e at h))
     (λ brought e.
-    let p₁ = after p brought in
+    let p₁ = after p (brought .moves) in
     let b = bayOf p₁ M in
     let once = clearOnce Y v b p₁ in
-    rw e (finished-before Y L M v b p₁ brought (once .moves) (once .kept) xs (rw e at h)))
+    rw e (finished-before Y L M v b p₁ brought (once .made) (once .kept) m (rw e at h)))
 
--- A trial that succeeds without going on succeeds with the same crossings.
-pub trial-as-before : (Y : Yard) (r s : Carrier) (v : Bay) (p : Placement) (xs : List Crossing) → trialOnce Y r s v p ≡ some xs → trial Y r s v p ≡ some xs
+-- A trial that succeeds without going on succeeds with the same crossings and the same count.
+pub trial-as-before : (Y : Yard) (r s : Carrier) (v : Bay) (p : Placement) (m : Made) → trialOnce Y r s v p ≡ some m → trial Y r s v p ≡ some m
 unfolding trialOnce trial
-trial-as-before Y r s v p xs h =
+trial-as-before Y r s v p m h =
     let path = shortestPath Y [] (bayOf p r) v in
     by-cases (ltb 1 (length path) and eqb (getD path 1 0) (bayOf p s))
-    (λ e. rw e (led-before Y s r v (drop 2 path) p xs (rw e at h)))
-    (λ e. rw e (led-before Y r s v (drop 1 path) p xs (rw e at h)))
+    (λ e. rw e (led-before Y s r v (drop 2 path) p m (rw e at h)))
+    (λ e. rw e (led-before Y r s v (drop 1 path) p m (rw e at h)))
 
 first-too : {B : Type 0} (f g : ℕ → Option B) (l : List ℕ) {y : B} → ((x : ℕ) (z : B) → f x ≡ some z → g x ≡ some z) → firstOf f l ≡ some y
     → (z : B) × (firstOf g l ≡ some z)
@@ -177,7 +186,7 @@ first-too f g (x ∷ l) {y} k h =
     (λ z e. rw e (z, refl))
 
 -- A swap that succeeds without going on succeeds: refusal 7 comes in fewer yards.
-pub swap-as-before : (Y : Yard) (r s : Carrier) (p : Placement) (xs : List Crossing) → swapOnce Y r s p ≡ some xs → (ys : List Crossing) × (swap Y r s p ≡ some ys)
+pub swap-as-before : (Y : Yard) (r s : Carrier) (p : Placement) (m : Made) → swapOnce Y r s p ≡ some m → (k : Made) × (swap Y r s p ≡ some k)
 unfolding swapOnce swap
-swap-as-before Y r s p xs h =
+swap-as-before Y r s p m h =
     first-too (λ v. trialOnce Y r s v p) (λ v. trial Y r s v p) (filter (junction Y) (nearestFirst Y [] (bayOf p r))) (λ v zs e. trial-as-before Y r s v p zs e) h

@@ -1,12 +1,14 @@
 pub mod Tests
 pub mod Members
 pub mod Firsts
+pub mod Choosing
 pub mod Rings
 pub mod Reach
 pub mod Shortest
 pub mod Nearest
 pub mod Playing
 pub mod Reversing
+pub mod Making
 pub mod Vacating
 pub mod Actions
 pub mod GoingOn

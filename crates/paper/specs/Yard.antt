@@ -111,9 +111,13 @@ module _ (Y : Yard) where
   unfoldable pub neighbours : Bay → List Bay
   neighbours a = filter (joined a) (upTo (Y .bays))
 
+  -- how many rails a bay has
+  abbrev pub railsAt : Bay → ℕ
+  railsAt a = length (neighbours a)
+
   -- "three rails or more"
   unfoldable pub junction : Bay → Bool
-  junction v = leb 3 (length (neighbours v))
+  junction v = leb 3 (railsAt v)
 
   -- "It is legal at a placement if the carrier stands at from, a rail joins from and to, and to is empty."
   unfoldable pub legal : Placement → Crossing → Bool

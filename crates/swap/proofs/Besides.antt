@@ -12,7 +12,7 @@ use lib.Dec.{eqb}
 use lib.ListN.{length}
 use borrow.Author.Tests.{eqb-false, le-leb, not-true}
 use Rattle.paper.specs.Basics.{_and_, _or_, placeOf, upTo, In, Out}
-use Rattle.paper.specs.Procedure.{exchange, undo, bring, clearOnce, goneOn, clear, finish, trialLed, trial, swap}
+use Rattle.paper.specs.Procedure.{Made, only, exchange, undo, bring, clearOnce, goneOn, clear, finish, trialLed, trial, swap}
 use Rattle.paper.specs.Yard.{Bay, Carrier, bayOf, reverseOf, after, joined, neighbours, junction}
 use Rattle.paper.proofs.Members.{In-head, In-tail, in-filter}
 use Rattle.paper.proofs.Playing.{placeOf-bay, placeOf-there, bay-in}
@@ -77,7 +77,7 @@ module _ {n : ℕ} {table : List ℕ} (t : Tabled n table) {p standing empty : L
   home : In u (upTo (t .yard .bays))
   home = in-bays t (k .inside r hr)
 
-  cleared : clearOnce (t .yard) u w p ≡ record { moves = []; kept = x ∷ y ∷ [] }
+  cleared : clearOnce (t .yard) u w p ≡ record { made = only []; kept = x ∷ y ∷ [] }
   cleared = two .kept t most (k .inside r hr) k
 
   empty-beside : (z : Bay) → In z (x ∷ y ∷ []) → (joined (t .yard) u z ≡ true) × Out z p
@@ -107,14 +107,14 @@ module _ {n : ℕ} {table : List ℕ} (t : Tabled n table) {p standing empty : L
   near : Near (t .yard) r s u p
   near = near-of b (in-concat (t .yard) u _ 0 in-ring)
 
-  own-led : trialLed (t .yard) r s u [] p ≡ some (exchange r s u w x y)
+  own-led : trialLed (t .yard) r s u [] p ≡ some (only (exchange r s u w x y))
   unfolding trialLed bring clear goneOn after finish exchange undo reverseOf
   own-led =
       let lo : min x y ≡ x = omega (arith, two .rising) in
       let hi : max x y ≡ y = omega (arith, two .rising) in
       rw (cleared, lo, hi)
 
-  own-trial : trial (t .yard) r s u p ≡ some (exchange r s u w x y)
+  own-trial : trial (t .yard) r s u p ≡ some (only (exchange r s u w x y))
   own-trial = trial-first near home home (path-own near home refl) (unfold _and_ in refl) ∙ own-led
 
   own-fits : fitting (t .yard) r s p u ≡ true
@@ -127,5 +127,5 @@ module _ {n : ℕ} {table : List ℕ} (t : Tabled n table) {p standing empty : L
     below = λ c i h. let e : c ≡ u = ring-zero (t .yard) [] (t .yard .bays) [] u c i in absurd (omega arith);
   }
 
-  pub swap-own : swap (t .yard) r s p ≡ some (exchange r s u w x y)
+  pub swap-own : swap (t .yard) r s p ≡ some (only (exchange r s u w x y))
   swap-own = swap-found (t .yard) r s p ∙ rw (← sought-found t r s p 0 u first-sought in-ring own-fits) own-trial

@@ -27,6 +27,7 @@ use Rattle.rings.specs.Search.{Shown}
 use Rattle.vacate.proofs.Beside.{beside-path}
 use Rattle.clear_on.proofs.Attempting.{in-bays}
 use Rattle.trial.specs.Trying.{Wrote, Led, Near}
+use Rattle.bring.specs.declared.Tally.{Tally}
 use Rattle.bring.specs.declared.Tried.{Tried}
 
 -- the code's part of a list from i on
@@ -117,10 +118,10 @@ module _ {Y : Yard} {r s : Carrier} {v : Bay} {p path : List ℕ} (near : Near Y
   unfolding trial
   trial-first h = rw (← short, ← h)
 
-  pub tried-second : {out out′ : List ℕ} {at : ℕ} {z : Tried} (q : List ℕ) → q ≡ drop 2 path → true ≡ ltb 1 (length path) and eqb (getD path 1 0) (bayOf p s) → Wrote (trialLed Y s r v q p) out at out′ z → Wrote (trial Y r s v p) out at out′ z
+  pub tried-second : {out out′ : List ℕ} {at : Tally} {z : Tried} (q : List ℕ) → q ≡ drop 2 path → true ≡ ltb 1 (length path) and eqb (getD path 1 0) (bayOf p s) → Wrote (trialLed Y s r v q p) out at out′ z → Wrote (trial Y r s v p) out at out′ z
   tried-second q e h w = rw (trial-second h, ← e) w
 
-  pub tried-first : {out out′ : List ℕ} {at : ℕ} {z : Tried} (q : List ℕ) → q ≡ drop 1 path → false ≡ ltb 1 (length path) and eqb (getD path 1 0) (bayOf p s) → Wrote (trialLed Y r s v q p) out at out′ z → Wrote (trial Y r s v p) out at out′ z
+  pub tried-first : {out out′ : List ℕ} {at : Tally} {z : Tried} (q : List ℕ) → q ≡ drop 1 path → false ≡ ltb 1 (length path) and eqb (getD path 1 0) (bayOf p s) → Wrote (trialLed Y r s v q p) out at out′ z → Wrote (trial Y r s v p) out at out′ z
   tried-first q e h w = rw (trial-first h, ← e) w
 
 -- the code's link, with nothing held

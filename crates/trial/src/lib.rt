@@ -1,5 +1,6 @@
 // A trial at a junction: bring, clear, exchange, undo. It is played on copies, so a trial that fails is forgotten, and one that
 // succeeds has only to be written: lent an empty list it only counts.
+use bring::Tally;
 use bring::Tried;
 use clear_on::Pair;
 use docket::Bay;
@@ -103,10 +104,10 @@ fn set_up(
     standing: &mut [u16],
     empty: &mut [u64],
     out: &mut [u64],
-    at: usize,
+    at: Tally,
 ) -> Pair
     requires { ⌜ Ready (now table) (now placement) (now standing) (now empty) ⌝ }
-    requires { ⌜ (l .0 < length (now placement)) × (m .0 < length (now placement)) × (m .0 ≡ l .0 → ⊥) × (v .0 < length (now standing)) × ((k : ℕ) → k < length (now path) → getD (now path) k 0 < length (now standing)) × (length (now path) ≤ 256) × (at < 2 ^ 60) ⌝ }
+    requires { ⌜ (l .0 < length (now placement)) × (m .0 < length (now placement)) × (m .0 ≡ l .0 → ⊥) × (v .0 < length (now standing)) × ((k : ℕ) → k < length (now path) → getD (now path) k 0 < length (now standing)) × (length (now path) ≤ 256) × (at .crossings < 2 ^ 60) ⌝ }
     ensures { λ r. ⌜ (PairBy at 70000 r) × ((t : Tabled (length (now (standing .entry))) (now (table .entry))) → Led (t .yard) (l .0) (m .0) (v .0) (now (path .entry)) (now (placement .entry)) → SetsUp (t .yard) (l .0) (m .0) (v .0) (now (path .entry)) (now (placement .entry)) (now (out .entry)) at (now (placement .exit)) (now (out .exit)) r) ⌝ }
 {
     let brought = bring::bring(table, path, l, m, placement, standing, empty, out, at);
@@ -147,10 +148,10 @@ fn attempt_on(
     standing: &mut [u16],
     empty: &mut [u64],
     out: &mut [u64],
-    at: usize,
+    at: Tally,
 ) -> Tried
     requires { ⌜ Ready (now table) (now placement) (now standing) (now empty) ⌝ }
-    requires { ⌜ (l .0 < length (now placement)) × (m .0 < length (now placement)) × (m .0 ≡ l .0 → ⊥) × (v .0 < length (now standing)) × ((k : ℕ) → k < length (now path) → getD (now path) k 0 < length (now standing)) × (length (now path) ≤ 256) × (at < 2 ^ 60) ⌝ }
+    requires { ⌜ (l .0 < length (now placement)) × (m .0 < length (now placement)) × (m .0 ≡ l .0 → ⊥) × (v .0 < length (now standing)) × ((k : ℕ) → k < length (now path) → getD (now path) k 0 < length (now standing)) × (length (now path) ≤ 256) × (at .crossings < 2 ^ 60) ⌝ }
     ensures { λ r. ⌜ (Within at 150000 r) × ((t : Tabled (length (now (standing .entry))) (now (table .entry))) → Led (t .yard) (l .0) (m .0) (v .0) (now (path .entry)) (now (placement .entry)) → Wrote (trialLeds (t .yard) (l .0) (m .0) (v .0) (now (path .entry)) (now (placement .entry))) (now (out .entry)) at (now (out .exit)) r) ⌝ }
 {
     let ready = set_up(table, path, v, l, m, placement, standing, empty, out, at);
@@ -158,10 +159,16 @@ fn attempt_on(
         return Tried::Failed;
     };
     let follower = m.0 as usize;
-    let b = Bay(placement[follower]);
-    let d = exchange(out, c, l, m, v, b, lower(x, y), higher(x, y));
-    bring::undo(out, at, c - at, d, l, m);
-    Tried::Done(d + (c - at))
+    let behind = placement[follower];
+    let b = Bay(behind);
+    let from = at.crossings;
+    let made = c.crossings;
+    let parked = c.parked;
+    let d = exchange(out, made, l, m, v, b, lower(x, y), higher(x, y));
+    bring::undo(out, from, made - from, d, l, m);
+    let many = made - from;
+    let crossings = d + many;
+    Tried::Done(Tally { crossings, parked })
 }
 
 // A trial with leader l and follower m, on copies.
@@ -175,10 +182,10 @@ fn attempt(
     standing: &[u16],
     empty: &[u64],
     out: &mut [u64],
-    at: usize,
+    at: Tally,
 ) -> Tried
     requires { ⌜ Ready (now table) (now placement) (now standing) (now empty) ⌝ }
-    requires { ⌜ (l .0 < length (now placement)) × (m .0 < length (now placement)) × (m .0 ≡ l .0 → ⊥) × (v .0 < length (now standing)) × ((k : ℕ) → k < length (now path) → getD (now path) k 0 < length (now standing)) × (length (now path) ≤ 256) × (at < 2 ^ 60) ⌝ }
+    requires { ⌜ (l .0 < length (now placement)) × (m .0 < length (now placement)) × (m .0 ≡ l .0 → ⊥) × (v .0 < length (now standing)) × ((k : ℕ) → k < length (now path) → getD (now path) k 0 < length (now standing)) × (length (now path) ≤ 256) × (at .crossings < 2 ^ 60) ⌝ }
     ensures { λ r. ⌜ (Within at 150000 r) × ((t : Tabled (length (now (standing .entry))) (now (table .entry))) → Led (t .yard) (l .0) (m .0) (v .0) (now (path .entry)) (now (placement .entry)) → Wrote (trialLeds (t .yard) (l .0) (m .0) (v .0) (now (path .entry)) (now (placement .entry))) (now (out .entry)) at (now (out .exit)) r) ⌝ }
 {
     let mut bays = [0u16; words::SPAN];
@@ -224,10 +231,10 @@ fn try_on(
     standing: &[u16],
     empty: &[u64],
     out: &mut [u64],
-    at: usize,
+    at: Tally,
 ) -> Tried
     requires { ⌜ Ready (now table) (now placement) (now standing) (now empty) ⌝ }
-    requires { ⌜ (r .0 < length (now placement)) × (s .0 < length (now placement)) × (s .0 ≡ r .0 → ⊥) × (v .0 < length (now standing)) × ((k : ℕ) → k < length (now path) → getD (now path) k 0 < length (now standing)) × (length (now path) ≤ 256) × (at < 2 ^ 60) × (1 ≤ length (now path)) ⌝ }
+    requires { ⌜ (r .0 < length (now placement)) × (s .0 < length (now placement)) × (s .0 ≡ r .0 → ⊥) × (v .0 < length (now standing)) × ((k : ℕ) → k < length (now path) → getD (now path) k 0 < length (now standing)) × (length (now path) ≤ 256) × (at .crossings < 2 ^ 60) × (1 ≤ length (now path)) ⌝ }
     ensures { λ z. ⌜ (Within at 150000 z) × ((t : Tabled (length (now (standing .entry))) (now (table .entry))) → Near (t .yard) (r .0) (s .0) (v .0) (now (placement .entry)) → now (path .entry) ≡ shortestPath (t .yard) [] (bayOf (now (placement .entry)) (r .0)) (v .0) → Wrote (trials (t .yard) (r .0) (s .0) (v .0) (now (placement .entry))) (now (out .entry)) at (now (out .exit)) z) ⌝ }
 {
     let neighbour = s.0 as usize;
@@ -273,10 +280,10 @@ fn try_along(
     standing: &[u16],
     empty: &[u64],
     out: &mut [u64],
-    at: usize,
+    at: Tally,
 ) -> Tried
     requires { ⌜ Ready (now table) (now placement) (now standing) (now empty) ⌝ }
-    requires { ⌜ (r .0 < length (now placement)) × (s .0 < length (now placement)) × (s .0 ≡ r .0 → ⊥) × (v .0 < length (now standing)) × (at < 2 ^ 60) ⌝ }
+    requires { ⌜ (r .0 < length (now placement)) × (s .0 < length (now placement)) × (s .0 ≡ r .0 → ⊥) × (v .0 < length (now standing)) × (at .crossings < 2 ^ 60) ⌝ }
     ensures { λ z. ⌜ (Within at 150000 z) × ((t : Tabled (length (now (standing .entry))) (now (table .entry))) → Near (t .yard) (r .0) (s .0) (v .0) (now (placement .entry)) → Wrote (trials (t .yard) (r .0) (s .0) (v .0) (now (placement .entry))) (now (out .entry)) at (now (out .exit)) z) ⌝ }
 {
     let carrier = r.0 as usize;
@@ -312,10 +319,10 @@ pub fn try_at(
     standing: &[u16],
     empty: &[u64],
     out: &mut [u64],
-    at: usize,
+    at: Tally,
 ) -> Tried
     requires { ⌜ Ready (now table) (now placement) (now standing) (now empty) ⌝ }
-    requires { ⌜ (r .0 < length (now placement)) × (s .0 < length (now placement)) × (s .0 ≡ r .0 → ⊥) × (v .0 < length (now standing)) × (at < 2 ^ 60) ⌝ }
+    requires { ⌜ (r .0 < length (now placement)) × (s .0 < length (now placement)) × (s .0 ≡ r .0 → ⊥) × (v .0 < length (now standing)) × (at .crossings < 2 ^ 60) ⌝ }
     ensures { λ z. ⌜ (Within at 150000 z) × ((t : Tabled (length (now (standing .entry))) (now (table .entry))) → Near (t .yard) (r .0) (s .0) (v .0) (now (placement .entry)) → Wrote (trials (t .yard) (r .0) (s .0) (v .0) (now (placement .entry))) (now (out .entry)) at (now (out .exit)) z) ⌝ }
 {
     let carrier = r.0 as usize;

@@ -9,23 +9,25 @@ use Prim.Native.Nat.{ℕ, _+_, _≤_, _<_}
 use native.Mathlib.Nat.{zero-add}
 use native.Mathlib.Omega.{arith}
 use lib.ListN.{length}
-use lib.Dec.{ltb}
-use borrow.Author.Tests.{not-true, not-false, ltb-true, ltb-false}
+use borrow.Author.Tests.{not-true, not-false}
 use Rattle.paper.specs.Basics.{_and_, elem}
-use Rattle.paper.specs.Yard.{Bay, Crossing, crossing, carrierAt, isEmpty, joined}
-use Rattle.paper.specs.Path.{Free, shortestPath}
+use Rattle.paper.specs.Yard.{Bay, Crossing, crossing, carrierAt, isEmpty, joined, railsAt}
+use Rattle.paper.specs.Path.{Free, Rather, rings, ringOf, shortestPath}
 use Rattle.paper.specs.Procedure.{nearestEmpty, shift, vacate}
-use Rattle.paper.proofs.Tests.{never-some, by-cases, not-both, and-left, and-right, and-both}
+use Rattle.paper.proofs.Tests.{never-some, not-both, and-left, and-right, and-both}
 use Rattle.paper.proofs.Members.{count-high, in-count}
+use Rattle.paper.proofs.Shortest.{inward-head}
 use Rattle.paper.proofs.Vacating.{path-shiftable, path-free}
-use Rattle.words.specs.Sets.{mem, memRow, span, Lowest}
+use Rattle.words.specs.Sets.{mem, memRow, span}
+use Rattle.choice.specs.Taking.{Taken}
+use Rattle.choice.proofs.Taking.{rather-paper}
 use Rattle.rings.specs.Search.{Shown}
 use Rattle.vacate.specs.Placed.{Placed, Played, Acted, CanShift}
 use Rattle.vacate.specs.Answer.{Vacates, vacating, bayFilled, countAfter, filled}
 use Rattle.vacate.specs.declared.Vacated.{Vacated}
 use Rattle.vacate.specs.declared.Vacated.the-variants.{Empty, Failed}
 use Rattle.vacate.proofs.Playing.{played-none, unchanged}
-use Rattle.vacate.proofs.Shifting.{shift-length}
+use Rattle.vacate.proofs.Shifting.{shift-length, shift-some, two-bays}
 use Rattle.vacate.proofs.Beside.{beside-nearest, beside-path}
 
 acted-none : {o : Option (List Crossing)} {n : ℕ} {p standing empty out : List ℕ} {at : ℕ} → o ≡ none → Acted o n p standing empty out at p standing empty out
@@ -57,6 +59,7 @@ module _ {n : ℕ} {table held : List ℕ} (s : Shown n table held) (most : n �
         acted = acted-some o (played-none n p standing empty out at k);
         still = λ d. unchanged p standing empty out;
         short = λ xs d. let same : [] ≡ xs = let z = sym o ∙ d in cc in rw (← same) (omega arith);
+        some-moved = λ e f. never-some e f;
       }
 
   -- nothing can be done
@@ -67,6 +70,7 @@ module _ {n : ℕ} {table held : List ℕ} (s : Shown n table held) (most : n �
     acted = acted-none o;
     still = λ d. unchanged p standing empty out;
     short = λ xs d. never-some xs (sym o ∙ d);
+    some-moved = λ e f. never-some e f;
   }
 
   module _ (full : false ≡ mem empty x) where
@@ -84,8 +88,8 @@ module _ {n : ℕ} {table held : List ℕ} (s : Shown n table held) (most : n �
       out-x : elem x (s .bays) ≡ false
       out-x = sym (s .holds x (omega arith)) ∙ sym unheld
 
-      -- The lowest empty bay beside x that is not held is the nearest, and one rail leads there.
-      module _ (e : Bay) (low : Lowest (λ b. memRow table x b and (mem empty b and not (mem held b))) 0 span e) (there : e < span) where
+      -- The choice among the empty bays beside x that are not held is the nearest, and one rail leads there.
+      module _ (e : Bay) (low : Taken table (λ b. memRow table x b and (mem empty b and not (mem held b))) e) (there : e < span) where
         taken : memRow table x e and (mem empty e and not (mem held e)) ≡ true
         taken = low .hit there
 
@@ -107,16 +111,16 @@ module _ {n : ℕ} {table held : List ℕ} (s : Shown n table held) (most : n �
         free-e : Free (s .yard) (s .bays) e
         free-e = free-of e inside-e (sym (s .holds e there) ∙ not-true (mem held e) (and-right _ _ (and-right _ _ taken)))
 
-        lowest-e : (b : Bay) → joined (s .yard) x b ≡ true → Free (s .yard) (s .bays) b → elem b p ≡ false → e ≤ b
-        lowest-e b j f o =
+        rather-e : (b : Bay) → joined (s .yard) x b ≡ true → Free (s .yard) (s .bays) b → elem b p ≡ false → Rather (railsAt (s .yard)) e b
+        rather-e b j f o =
             let h : b < n = s .joins .inside x b j .1 in
             let railed : memRow table x b ≡ true = s .joins .same x b hx (omega arith) ∙ j in
             let unheld-b : not (mem held b) ≡ true = ap not (s .holds b (omega arith) ∙ f .1) in
             let passes = and-both (memRow table x b) (mem empty b and not (mem held b)) railed (and-both (mem empty b) (not (mem held b)) (k .empties b h ∙ ap not o) unheld-b) in
-            by-cases (ltb b e) (λ l. not-both passes (low .before b (omega arith) (ltb-true b e l))) (λ l. ltb-false b e l)
+            rather-paper (s .joins) most e b inside-e h (low .before there b (omega arith) passes)
 
         pub nearest-beside : some e ≡ nearestEmpty (s .yard) (s .bays) p x
-        nearest-beside = sym (beside-nearest (s .yard) (s .bays) x p e (free-of x hx out-x) full-in rail-e free-e empty-e lowest-e)
+        nearest-beside = sym (beside-nearest (s .yard) (s .bays) x p e (free-of x hx out-x) full-in rail-e free-e empty-e rather-e)
 
         pub path-beside : x ∷ e ∷ [] ≡ shortestPath (s .yard) (s .bays) x e
         path-beside = beside-path (s .yard) (s .bays) x p e (free-of x hx out-x) full-in rail-e free-e empty-e
@@ -146,6 +150,10 @@ module _ {n : ℕ} {table held : List ℕ} (s : Shown n table held) (most : n �
         unfolding vacate
         vacates-filled p′ standing′ empty′ out′ r m c f short w =
             let o : vacating s x p standing empty out at ≡ some (shift p path) = rw (full-x, out-x, ← found, ← shortest) in
+            let starts = inward-head (s .yard) (rings (s .yard) (s .bays) e) (ringOf (s .yard) x (rings (s .yard) (s .bays) e)) x in
+            let far : shortestPath (s .yard) (s .bays) x e ≡ x ∷ starts .0 = unfold shortestPath in starts .1 in
+            let two : 2 ≤ length path =
+            rw shortest (two-bays (s .yard) p (k .apart) x _ (starts .0) far (not-false (elem x p) full-x) (path-shiftable (s .yard) (s .bays) p (k .apart) x e free-x (sym found))) in
             record {
               counts = c ∙ rw o (ap some (w .counted));
               fills = f ∙ rw (full-x, out-x) found;
@@ -154,10 +162,13 @@ module _ {n : ℕ} {table held : List ℕ} (s : Shown n table held) (most : n �
               short = λ xs d.
                   let same : shift p path ≡ xs = let z = sym o ∙ d in cc in
                   rw (← same) (omega (arith, shift-length p path));
+              some-moved = λ d g xs h.
+                  let same : shift p path ≡ xs = let z = sym o ∙ h in cc in
+                  rw (← same) (shift-some p path two);
             }
 
       -- the carrier at x crossed to the bay beside it
-      pub vacates-beside : (e : Bay) (low : Lowest (λ b. memRow table x b and (mem empty b and not (mem held b))) 0 span e) (there : e < span)
+      pub vacates-beside : (e : Bay) (low : Taken table (λ b. memRow table x b and (mem empty b and not (mem held b))) e) (there : e < span)
           (p′ standing′ empty′ out′ : List ℕ) (r : Vacated) (m : ℕ) → countAfter at r ≡ some m → filled r ≡ some e
           → Played (crossing (carrierAt p x) x e ∷ []) n p p′ standing′ empty′ out at out′ m → Vacates s x p standing empty out at p′ standing′ empty′ out′ r
       unfolding shift

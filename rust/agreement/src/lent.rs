@@ -139,12 +139,12 @@ impl<'a> Asked<'a> {
     pub fn plan(&self, room: usize) -> u64 {
         let Order { bays, rails, start, goal } = self.order;
         let mut expected = vec![u64::GUARD; room];
-        let answer = reference::plan(*bays, rails, start, goal, &mut expected);
-        let (lists, out) = (self.lists(), Lent::room(room));
+        let (number, value, parked) = reference::plan_parked(*bays, rails, start, goal, &mut expected);
+        let (lists, out, counted) = (self.lists(), Lent::room(room), Lent::room(1));
         // SAFETY: each pointer comes with the length of its own list, and nothing else points there.
-        let told = unsafe { ask!(sejjekoru_plan, lists, [out]) };
-        let kept = self.kept(&lists) && out.is(&expected);
-        self.agreed("plan", told, answer, kept, &room)
+        let told = unsafe { ask!(sejjekoru_plan, lists, [out], counted.as_ptr()) };
+        let kept = self.kept(&lists) && out.is(&expected) && counted.is(&[parked]);
+        self.agreed("plan", told, (number, value), kept, &room)
     }
 
     pub fn check(&self, plan: &[u64]) -> u64 {

@@ -68,12 +68,12 @@ fn time(order: &Order) -> Timed {
     let Order { bays, rails, start, goal } = order;
     let (mut out, mut other) = (vec![0; ROOM], vec![0; ROOM]);
     let answer = numbers::plan(yard(order), &mut out);
-    assert_eq!(answer, reference::plan(*bays, rails, start, goal, &mut other));
+    assert_eq!(answer, reference::plan_parked(*bays, rails, start, goal, &mut other));
     assert!(out == other);
     let (library, reference) = race(
         Duration::from_millis(100),
         || numbers::plan(yard(black_box(order)), &mut out),
-        || reference::plan(*bays, black_box(rails), start, goal, &mut other),
+        || reference::plan_parked(*bays, black_box(rails), start, goal, &mut other),
     );
     let crossings = if matches!(answer.0, 0 | 8) { answer.1 } else { 0 };
     Timed { library, reference, crossings }

@@ -1,7 +1,7 @@
 //! The vectors, run and compared whole: answers, carried values, and the end contents of every lent list.
 //! Those of check, slots and reports are read where the proved programs read them, as numbers with each list behind its count.
 
-use reference::{check, plan, program, report, slots};
+use reference::{check, plan_parked, program, report, slots};
 use std::path::{Path, PathBuf};
 use yards::vectors::{plans, reverses};
 
@@ -32,17 +32,17 @@ impl<'a> Numbers<'a> {
 
 #[test]
 fn plans_of_the_vectors() {
-    assert_eq!(plans(&text("tests/data/plan.txt"), plan), (1148, 122));
+    assert_eq!(plans(&text("tests/data/plan.txt"), plan_parked), (1193, 122));
 }
 
 #[test]
-fn plans_where_clearing_goes_on() {
-    assert_eq!(plans(&text("tests/data/plan-e2.txt"), plan), (500, 0));
+fn plans_that_do_not_park_on_junctions() {
+    assert_eq!(plans(&text("tests/data/plan-e2-e9.txt"), plan_parked), (500, 0));
 }
 
 #[test]
 fn large_plans_of_the_vectors() {
-    assert_eq!(plans(&text("tests/data/plan-large.txt"), plan), (6, 0));
+    assert_eq!(plans(&text("tests/data/plan-large.txt"), plan_parked), (7, 0));
 }
 
 #[test]

@@ -54,6 +54,15 @@ pub enum Refusal {
     BadReports(u64),
 }
 
+/// What planning answers.
+#[derive(Clone, Copy, Debug, PartialEq, Eq, Hash)]
+pub struct Planned {
+    /// The number of crossings.
+    pub length: usize,
+    /// How many vacates in the plan, undoing left aside, filled a bay of three rails or more.
+    pub parked: usize,
+}
+
 /// What a report that is not refused answers.
 #[derive(Clone, Copy, Debug, PartialEq, Eq, Hash)]
 pub enum Reported {

@@ -25,8 +25,8 @@ const CROSSINGS: usize = 65_536;
 /// ```
 pub fn plan_vec(yard: Yard) -> Result<Vec<u64>, Refusal> {
     let mut plan = vec![0; CROSSINGS];
-    let length = crate::plan(yard, &mut plan)?;
-    plan.truncate(length);
+    let planned = crate::plan(yard, &mut plan)?;
+    plan.truncate(planned.length);
     plan.shrink_to_fit();
     Ok(plan)
 }

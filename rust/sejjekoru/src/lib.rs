@@ -43,7 +43,7 @@ mod reverse;
 mod survey;
 pub mod trains;
 
-pub use answers::{Refusal, Reported};
+pub use answers::{Planned, Refusal, Reported};
 pub use bays::{Bay, Carrier};
 pub use bills::{Line, Record, UNTOUCHED};
 #[cfg(feature = "alloc")]
@@ -97,15 +97,16 @@ impl<'a> Yard<'a> {
 /// that `room` would need.
 ///
 /// ```
-/// use sejjekoru::{plan, Refusal, Yard};
+/// use sejjekoru::{plan, Planned, Refusal, Yard};
 ///
 /// let yard = Yard::new(4, &[0, 1, 1, 2, 1, 3], &[1, 0], &[0, 1]);
 /// let mut room = [0; 16];
-/// assert_eq!(plan(yard, &mut room), Ok(6));
+/// assert_eq!(plan(yard, &mut room), Ok(Planned { length: 6, parked: 0 }));
 /// assert_eq!(plan(yard, &mut room[..5]), Err(Refusal::Room(6)));
 /// ```
-pub fn plan(yard: Yard, room: &mut [u64]) -> Result<usize, Refusal> {
-    told(numbers::plan(yard, room)).map(|written| written as usize)
+pub fn plan(yard: Yard, room: &mut [u64]) -> Result<Planned, Refusal> {
+    let (number, value, parked) = numbers::plan(yard, room);
+    told((number, value)).map(|length| Planned { length: length as usize, parked: parked as usize })
 }
 
 /// Whether `plan` is legal and brings every carrier home.

@@ -2,10 +2,12 @@
 
 use crate::{ask, raw, Bay, Line, Record, Yard};
 
-/// As [`crate::plan`].
-pub fn plan(yard: Yard, room: &mut [u64]) -> (u64, u64) {
+/// As [`crate::plan`]; with the vacates that filled a bay of three rails or more.
+pub fn plan(yard: Yard, room: &mut [u64]) -> (u64, u64, u64) {
+    let mut parked = u64::MAX;
     // SAFETY: each pointer comes with its own slice's length, and what is written is borrowed alone.
-    unsafe { ask!(sejjekoru_plan, yard, [mut room]) }
+    let (number, value) = unsafe { ask!(sejjekoru_plan, yard, [mut room], &mut parked) };
+    (number, value, parked)
 }
 
 /// As [`crate::check`].

@@ -3,23 +3,23 @@
 use sejjekoru::{numbers, Yard};
 use yards::vectors::{plans, reverses};
 
-fn plan(bays: u64, rails: &[u16], start: &[u16], goal: &[u16], room: &mut [u64]) -> (u64, u64) {
+fn plan(bays: u64, rails: &[u16], start: &[u16], goal: &[u16], room: &mut [u64]) -> (u64, u64, u64) {
     numbers::plan(Yard::new(bays, rails, start, goal), room)
 }
 
 #[test]
 fn plans_of_the_vectors() {
-    assert_eq!(plans(include_str!("../../reference/tests/data/plan.txt"), plan), (1148, 122));
+    assert_eq!(plans(include_str!("../../reference/tests/data/plan.txt"), plan), (1193, 122));
 }
 
 #[test]
-fn plans_where_clearing_goes_on() {
-    assert_eq!(plans(include_str!("../../reference/tests/data/plan-e2.txt"), plan), (500, 0));
+fn plans_that_do_not_park_on_junctions() {
+    assert_eq!(plans(include_str!("../../reference/tests/data/plan-e2-e9.txt"), plan), (500, 0));
 }
 
 #[test]
 fn large_plans_of_the_vectors() {
-    assert_eq!(plans(include_str!("../../reference/tests/data/plan-large.txt"), plan), (6, 0));
+    assert_eq!(plans(include_str!("../../reference/tests/data/plan-large.txt"), plan), (7, 0));
 }
 
 #[test]

@@ -40,7 +40,7 @@ impl Owned {
     fn plan(&self, room: usize) -> Result<Vec<u64>, Refusal> {
         let mut lent = vec![GUARD; room];
         let answer = plan(self.yard(), &mut lent);
-        let written = answer.unwrap_or(0);
+        let written = answer.map_or(0, |planned| planned.length);
         assert!(lent[written..].iter().all(|&number| number == GUARD));
         lent.truncate(written);
         answer.map(|_| lent)

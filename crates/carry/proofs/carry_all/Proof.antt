@@ -18,7 +18,7 @@ use Rattle.carry.proofs.carry_all.Tie as tie
 
 abbrev Inv-loop : tie.InvT-loop
 Inv-loop table goals owner placement₀ standing₀ empty₀ settled₀ out₀ count₀ r₀ placement standing empty settled out count r =
-    (r ≤ length goals) × (count ≤ 80000000 * r) × (length placement ≡ length placement₀) × (length standing ≡ length standing₀) × (length empty ≡ length empty₀) × (length out ≡ length out₀)
+    (r ≤ length goals) × (count .crossings ≤ 80000000 * r) × (length placement ≡ length placement₀) × (length standing ≡ length standing₀) × (length empty ≡ length empty₀) × (length out ≡ length out₀)
     × HomeBelow r goals placement × ((t : Tabled (length standing₀) table) → Served (t .yard) goals (length standing₀) placement₀ out₀ r placement standing empty out count)
     × (length settled ≡ length settled₀) × BaysBelow r placement settled
 
@@ -29,8 +29,8 @@ abbrev μ-loop : tie.MeasureT-loop
 loop-holds : tie.Need-loop-holds Inv-loop μ-loop
 loop-holds c = (omega arith, omega arith, refl, refl, refl, refl, record { home = λ i h. absurd (omega arith) }, λ t. served-none _ _ _ _ _ _ _ (c .before .before .before .before .before .before .before .before .pre .0 .placed), refl, c .before .before .before .before .before .before .before .before .pre .1 .4)
 
-cast-t16 : tie.Need-cast-t16 Inv-loop μ-loop
-cast-t16 c =
+cast-number : tie.Need-cast-number Inv-loop μ-loop
+cast-number c =
     let p = c .before .before .before .before .before .before .before .before .before .before .pre .0 in
     let z = c .before .before .before .before .before .before .before .before .before .before .pre .1 in
     omega (arith, c .loop-test .taken, z .0 .many, p .placed .few, p .most)
@@ -85,7 +85,10 @@ returns c =
     rw e (λ t. stages-stuck (served-stuck (v .7 t) (c .before .before .before .before .before .before .before .before .before .before .before .before .before .before .before .before .before .before .loop-test .taken) (rw e at (f t))), settles-stuck)
 
 add-r : tie.Need-add-r Inv-loop μ-loop
-add-r c = search needs
+add-r c =
+    let p = c .before .before .before .before .before .before .before .before .before .before .before .before .before .before .before .before .before .before .before .before .before .before .before .before .before .before .before .before .before .pre .0 in
+    let z = c .before .before .before .before .before .before .before .before .before .before .before .before .before .before .before .before .before .before .before .before .before .before .before .before .before .before .before .before .before .pre .1 in
+    omega (arith, c .before .before .before .before .before .before .before .before .before .before .before .before .before .before .before .before .before .before .before .loop-test .taken, z .0 .many, p .placed .few, p .most)
 
 loop-less : tie.Need-loop-less Inv-loop μ-loop
 loop-less c = search needs
@@ -144,7 +147,7 @@ carry-all-spec =
     Inv-loop
     μ-loop
     loop-holds
-    cast-t16
+    cast-number
     carry-requires
     enum-known-carried
     enum-told

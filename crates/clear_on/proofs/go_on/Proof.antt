@@ -74,8 +74,8 @@ returns : tie.Need-returns
 returns c =
     (pair-none _ _, λ t j. gone-none (c .before .before .before .before .either-way .ensures .1 t j (others-is t _ _ _ _ _ _ (c .before .before .before .before .before .before .before .before .before .before .before .before .before .before .before .before .before .before .before .before .before .before .before .before .before .before .pre .0 .most) (c .before .before .before .before .before .before .before .before .before .before .before .before .before .before .before .before .before .before .before .before .before .before .before .before .before .before .pre .1 .3) (c .before .before .before .before .before .before .before .before .before .before .before .before .before .before .before .before .before .before .join-row .ensures) (c .before .before .before .before .before .before .before .before .before .before .before .before .before .before .remove .ensures) (c .before .before .before .before .before .before .before .before .before .before .remove2 .ensures)) .nothing (c .enum-told .given .1)))
 
-add-t20 : tie.Need-add-t20
-add-t20 c =
+add-requires : tie.Need-add-requires
+add-requires c κs =
     let e : c .before .before .before .before .before .either-way .result ≡ One (c .before .found .given .0 .0) (c .before .found .given .0 .1 .0) = c .before .found .given .1 in
     let few = rw e at (c .before .before .before .before .before .either-way .ensures .0) in
     omega (arith, few, c .before .before .before .before .before .before .before .before .before .before .before .before .before .before .before .before .before .before .before .before .before .before .before .before .before .before .before .pre .1 .6)
@@ -85,12 +85,13 @@ same-length-2 c = search needs
 
 returns-2 : tie.Need-returns-2
 returns-2 c =
-    let e : c .before .before .before .before .before .either-way .result ≡ One (c .before .found .given .0 .0) (c .before .found .given .0 .1 .0) = c .before .found .given .1 in
-    let few = rw e at (c .before .before .before .before .before .either-way .ensures .0) in (
-      pair-both (omega (arith, few)) (omega arith),
+    let sum = c .add .ensures in
+    let e : c .before .before .before .before .before .before .either-way .result ≡ One (c .before .before .found .given .0 .0) (c .before .before .found .given .0 .1 .0) = c .before .before .found .given .1 in
+    let few = rw e at (c .before .before .before .before .before .before .either-way .ensures .0) in (
+      pair-both (omega (arith, few, sum .crossings)) (omega (arith, sum .crossings)),
       λ t j.
-          let d = c .before .before .before .before .before .either-way .ensures .1 t j (others-is t _ _ _ _ _ _ (c .before .before .before .before .before .before .before .before .before .before .before .before .before .before .before .before .before .before .before .before .before .before .before .before .before .before .before .pre .0 .most) (c .before .before .before .before .before .before .before .before .before .before .before .before .before .before .before .before .before .before .before .before .before .before .before .before .before .before .before .pre .1 .3) (c .before .before .before .before .before .before .before .before .before .before .before .before .before .before .before .before .before .before .before .join-row .ensures) (c .before .before .before .before .before .before .before .before .before .before .before .before .before .before .before .remove .ensures) (c .before .before .before .before .before .before .before .before .before .before .before .remove2 .ensures)) .one _ _ e in
-          gone-both (d .0) (d .1) (record { stored = log-stored _ (d .0) (c .before .before .before .before .before .before .before .before .place-in .ensures) (c .before .before .before .before .out .given .0) (c .before .before .before .before .out .given .1) (d .2); counted = omega (arith, d .2 .counted) }),
+          let d = c .before .before .before .before .before .before .either-way .ensures .1 t j (others-is t _ _ _ _ _ _ (c .before .before .before .before .before .before .before .before .before .before .before .before .before .before .before .before .before .before .before .before .before .before .before .before .before .before .before .before .pre .0 .most) (c .before .before .before .before .before .before .before .before .before .before .before .before .before .before .before .before .before .before .before .before .before .before .before .before .before .before .before .before .pre .1 .3) (c .before .before .before .before .before .before .before .before .before .before .before .before .before .before .before .before .before .before .before .before .join-row .ensures) (c .before .before .before .before .before .before .before .before .before .before .before .before .before .before .before .before .remove .ensures) (c .before .before .before .before .before .before .before .before .before .before .before .before .remove2 .ensures)) .one _ _ e in
+          gone-both (d .0) (d .1) (record { stored = log-stored _ (d .0) (c .before .before .before .before .before .before .before .before .before .place-in .ensures) (c .before .before .before .before .before .out .given .0) (c .before .before .before .before .before .out .given .1) (d .2); counted = omega (arith, sum .crossings, d .2 .counted); parks = omega (arith, sum .parks, d .2 .parks); few = λ h. omega (arith, h, sum .few, sum .crossings, d .2 .few) }),
     )
 
 pub go-on-spec : {M : Type 1} → statement M
@@ -117,6 +118,6 @@ go-on-spec =
     enum-told
     same-length
     returns
-    add-t20
+    add-requires
     same-length-2
     returns-2)

@@ -5,6 +5,8 @@ use native.Mathlib.Omega.{arith}
 use mathlib.Core.Path.{sym, _∙_}
 use borrow.Author.Needs.{needs}
 use Rattle.paper.proofs.Playing.{bay-in}
+use Rattle.paper.proofs.Tests.{and-left}
+use Rattle.choice.proofs.Taking.{table-rowed}
 use Rattle.step.proofs.Stepping.{free, stepped-free, held-fails, met-carrier, met-other, met-beside, stepped-swap}
 use Rattle.step.proofs.step_to.Statement.{statement}
 use Rattle.step.proofs.step_to.Tie as tie
@@ -18,11 +20,11 @@ is-in-requires c κs = search needs
 cast-own : tie.Need-cast-own
 cast-own c = search needs
 
-mul-t20 : tie.Need-mul-t20
-mul-t20 c = search needs
+mul-here : tie.Need-mul-here
+mul-here c = search needs
 
-slice-read-t22 : tie.Need-slice-read-t22
-slice-read-t22 c = search needs
+slice-read-here : tie.Need-slice-read-here
+slice-read-here c = search needs
 
 cross-requires : tie.Need-cross-requires
 cross-requires c κs =
@@ -67,11 +69,11 @@ mul-s c = search needs
 slice-read-s : tie.Need-slice-read-s
 slice-read-s c = search needs
 
-cast-if2 : tie.Need-cast-if2
-cast-if2 c = omega (arith, c .slice-known10 .given (c .before .before .before .before .before .before .before .before .before .before .before .args .w .0))
+cast-there : tie.Need-cast-there
+cast-there c = omega (arith, c .slice-known10 .given (c .before .before .before .before .before .before .before .before .before .before .before .args .w .0))
 
-cast-t35 : tie.Need-cast-t35
-cast-t35 c = search needs
+cast-carrier : tie.Need-cast-carrier
+cast-carrier c = search needs
 
 swap-requires : tie.Need-swap-requires
 swap-requires c κs =
@@ -110,20 +112,20 @@ returns-2 c =
           stepped-swap t (p .most) (z .4) (c .before .before .before .before .before .before .before .before .before .before .before .before .before .before .before .before .before .before .before .before .before .before .before .args .finished) (c .before .before .before .before .before .before .before .before .before .before .before .before .before .before .before .before .before .before .before .before .before .before .before .args .r .0) (c .before .before .before .before .before .before .before .before .before .before .before .before .before .before .before .before .before .before .before .before .before .before .before .args .w .0) (c .before .before .before .before .before .before .before .before .before .before .before .before .before .before .before .before .before .before .before .before .before .before .before .args .placement .now) (p .placed) (z .0) (z .2) (z .3) f (c .before .before .before .before .before .before .swap .ensures .1 t (met-beside t (p .most) (z .4) (c .before .before .before .before .before .before .before .before .before .before .before .before .before .before .before .before .before .before .before .before .before .before .before .args .finished) (c .before .before .before .before .before .before .before .before .before .before .before .before .before .before .before .before .before .before .before .before .before .before .before .args .r .0) (c .before .before .before .before .before .before .before .before .before .before .before .before .before .before .before .before .before .before .before .before .before .before .before .args .w .0) (c .before .before .before .before .before .before .before .before .before .before .before .before .before .before .before .before .before .before .before .before .before .before .before .args .placement .now) (p .placed) (z .0) (z .2) (z .3) f)),
     )
 
-lowest-common-requires : tie.Need-lowest-common-requires
-lowest-common-requires c κs =
+common-requires : tie.Need-common-requires
+common-requires c κs =
     let p = c .before .before .before .before .before .before .before .before .before .before .before .before .before .pre .0 in
     let z = c .before .before .before .before .before .before .before .before .before .before .before .before .before .pre .1 in
-    (omega (arith, p .table-size, z .2), omega (arith, p .empty-size))
+    (omega (arith, p .table-size, z .2), omega (arith, p .empty-size), λ b h i. table-rowed (p .tabled .joins) (p .most) _ (z .2) (p .table-size) b h (and-left _ _ i))
 
-cast-t47 : tie.Need-cast-t47
-cast-t47 c = search needs
+cast-number : tie.Need-cast-number
+cast-number c = search needs
 
 step-aside-requires : tie.Need-step-aside-requires
 step-aside-requires c κs =
     let p = c .before .before .before .before .before .before .before .before .before .before .before .before .before .before .before .before .before .before .before .pre .0 in
     let z = c .before .before .before .before .before .before .before .before .before .before .before .before .before .before .before .before .before .before .before .pre .1 in
-    (p, (z .0, z .1, z .2, z .3, z .4, z .5, omega (arith, c .before .before .before .before .before .before .before .if2 .left), sym (c .before .before .before .before .before .before .before .before .before .before .is-in .ensures) ∙ c .before .before .before .before .before .before .before .before .before .if1 .left, c .before .before .before .before .before .lowest-common .ensures, c .before .before .before .before .if3 .taken))
+    (p, (z .0, z .1, z .2, z .3, z .4, z .5, omega (arith, c .before .before .before .before .before .before .before .if2 .left), sym (c .before .before .before .before .before .before .before .before .before .before .is-in .ensures) ∙ c .before .before .before .before .before .before .before .before .before .if1 .left, c .before .before .before .before .before .common .ensures, c .before .before .before .before .if3 .taken))
 
 same-length-9 : tie.Need-same-length-9
 same-length-9 c = search needs
@@ -165,8 +167,8 @@ step-to-spec =
     cast-bay
     is-in-requires
     cast-own
-    mul-t20
-    slice-read-t22
+    mul-here
+    slice-read-here
     cross-requires
     same-length
     same-length-2
@@ -175,16 +177,16 @@ step-to-spec =
     returns
     mul-s
     slice-read-s
-    cast-if2
-    cast-t35
+    cast-there
+    cast-carrier
     swap-requires
     same-length-5
     same-length-6
     same-length-7
     same-length-8
     returns-2
-    lowest-common-requires
-    cast-t47
+    common-requires
+    cast-number
     step-aside-requires
     same-length-9
     same-length-10

@@ -33,11 +33,11 @@ returns c = (tt, λ t led. wrote-none (c .before .before .before .before .before
 cast-follower : tie.Need-cast-follower
 cast-follower c = search needs
 
-mul-t26 : tie.Need-mul-t26
-mul-t26 c = search needs
+mul-behind : tie.Need-mul-behind
+mul-behind c = search needs
 
-slice-read-t28 : tie.Need-slice-read-t28
-slice-read-t28 c = search needs
+slice-read-behind : tie.Need-slice-read-behind
+slice-read-behind c = search needs
 
 lower-requires : tie.Need-lower-requires
 lower-requires c κs = search needs
@@ -60,11 +60,11 @@ undo-requires c κs =
     let e = rw length-exchange at (c .before .before .before .exchange .ensures .counted) in
     (omega (arith, f .1, e), omega (arith, e, f .0, z .6))
 
-sub-t26 : tie.Need-sub-t26
-sub-t26 c = omega (arith, c .before .before .before .before .before .before .before .before .before .before .before .before .before .before .before .before .before .before .before .before .before .before .before .set-up .ensures .0 .few _ _ _ (c .before .before .before .before .before .before .before .before .before .before .before .before .before .ready .given .1) .1)
+sub-many : tie.Need-sub-many
+sub-many c = omega (arith, c .before .before .before .before .before .before .before .before .before .before .before .before .before .before .before .before .before .before .before .before .before .before .before .set-up .ensures .0 .few _ _ _ (c .before .before .before .before .before .before .before .before .before .before .before .before .before .ready .given .1) .1)
 
-add-t36 : tie.Need-add-t36
-add-t36 c =
+add-crossings : tie.Need-add-crossings
+add-crossings c =
     let f = c .before .before .before .before .before .before .before .before .before .before .before .before .before .before .before .before .before .before .before .before .before .before .before .set-up .ensures .0 .few _ _ _ (c .before .before .before .before .before .before .before .before .before .before .before .before .before .ready .given .1) in
     let e = rw length-exchange at (c .before .before .before .before .before .before .exchange .ensures .counted) in
     omega (arith, e, f .0, c .before .before .before .before .before .before .before .before .before .before .before .before .before .before .before .before .before .before .before .before .before .before .before .before .before .before .before .before .before .before .before .before .before .before .pre .1 .6)
@@ -107,15 +107,15 @@ attempt-on-spec =
     same-length-4
     returns
     cast-follower
-    mul-t26
-    slice-read-t28
+    mul-behind
+    slice-read-behind
     lower-requires
     higher-requires
     exchange-requires
     sub-undo
     undo-requires
-    sub-t26
-    add-t36
+    sub-many
+    add-crossings
     same-length-5
     same-length-6
     same-length-7
