@@ -17,7 +17,7 @@ use Rattle.paper.specs.Docket.{Refusal, number, apart, stopped, room, ya
 use Rattle.paper.specs.Answers.{accepted, refused, crossingsOf, within, unless, plan, firstSix}
 use Rattle.paper.proofs.Tests.{by-cases, by-option, or-neither, or-left, or-right, never}
 use Rattle.paper.proofs.Carrying.{procedure-right}
-use Rattle.paper.proofs.Admitted.{clean-of, sound-of, good-of, all-reached, six-number}
+use Rattle.paper.proofs.Admitted.{clean-of, sound-of, good-of, six-number}
 
 by-outcome : {P : Type 0} (o : Outcome) → ((xs : List Crossing) → o ≡ planned xs → P) → ((c : Carrier) → o ≡ stuck c → P) → P
 by-outcome (planned xs) f g = f xs refl
@@ -124,5 +124,5 @@ module _ (n : ℕ) (ends : List Bay) (s g : Placement) (lent : ℕ) where
       let c = clean-of n ends s g 0 (a .0) in
       let Y = yardOf n ends in
       let gg = good-of n ends g (c .goals) in
-      procedure-right Y (sound-of n ends (c .rails)) g (gg .apart) (all-reached Y (c .reached)) gg s xs
+      procedure-right Y (sound-of n ends (c .rails)) g (gg .apart) gg s xs
       (good-of n ends s (c .starts)) (c .sizes .same-length) (a .1)
