@@ -14,14 +14,14 @@ use borrow.Author.Tests.{not-true, ltb-true, lt-ltb, eqb-true, eqb-false, ne-eqb
 use Rattle.paper.specs.Basics.{_and_, elem, placeOf, upTo, In, Out, NoDup}
 use Rattle.paper.specs.Yard.{Bay, Carrier, Yard, Placement, Crossing, crossing, bayOf, carrierAt, move, after, joined, carousel, legalPlan}
 use Rattle.paper.specs.Path.{nearestFirst, shortestPath, pathBetween}
-use Rattle.paper.specs.Procedure.{_then_, cross, trade, vacate, swap, step, Outcome, planned, stuck, onward, orStuck, Stage, _next_, avoided, pathOf, go, homeAt, wayHome, along, carry, carryFrom, procedure, holding}
+use Rattle.paper.specs.Procedure.{Made, only, together, _then_, cross, trade, vacate, swap, step, Outcome, planned, stuck, onward, orStuck, Stage, _next_, avoided, pathOf, go, homeAt, wayHome, along, carry, carryFrom, procedure, holding}
 use Rattle.paper.proofs.Tests.{by-cases, by-option, not-both, never-some, some-when, and-left, and-right, and-both}
 use Rattle.paper.proofs.Members.{In-head, In-tail, In-append-right, out-cons, nothing-in-nil, Out-head, Out-tail}
 use Rattle.paper.proofs.Shortest.{Shortest, shortest-path}
 use Rattle.paper.proofs.Playing.{Apart, Legal, legal-facts, legal-of, after-append, after-length, plan-head, plan-tail, plan-cons, plan-append, bay-in, placeOf-bay, placeOf-there, move-self, move-other, move-apart, Sound, Good}
 use Rattle.paper.proofs.Vacating.{vacate-vacates, vacate-empty}
 use Rattle.paper.proofs.Trading.{traded-bay, trade-first, trade-second, trade-other}
-use Rattle.paper.proofs.Swapping.{cross-some, then-runs, then-split, Chain, way-tail, swap-trades}
+use Rattle.paper.proofs.Swapping.{same-moves, cross-some, then-runs, then-split, Chain, way-tail, swap-trades}
 
 pub plan-good : (Y : Yard) → Sound Y → (p : Placement) (xs : List Crossing) → Good Y p → legalPlan Y p xs ≡ true → Good Y (after p xs)
 unfolding after
@@ -50,30 +50,31 @@ module _ (Y : Yard) (sound : Sound Y) where
     in-take : (c : Carrier) → c < finished → In (bayOf p c) (take finished p)
     in-take c h = rw (getD-take finished p c 0 h) at (bay-in (take finished p) c (rw length-take (omega arith)))
 
-    by-vacating : (xs : List Crossing) → (vacate Y (holding finished r p) w then cross r w) p ≡ some xs → Stepped finished r w p xs
+    by-vacating : (m : Made) → (vacate Y (holding finished r p) w then cross r w) p ≡ some m → Stepped finished r w p (m .moves)
     unfolding after legalPlan
-    by-vacating xs h =
-        then-split (vacate Y (holding finished r p) w) (cross r w) p xs h
-        (λ ms ys e h1 q.
+    by-vacating m h =
+        then-split (vacate Y (holding finished r p) w) (cross r w) p m h
+        (λ vacated crossed e h1 q.
         let held = bayOf p r ∷ take finished p in
-        let vac = vacate-vacates Y held w p ms (good .apart) (sound .inside (bayOf p r) w rail) e in
+        let ms = vacated .moves in
+        let vac = vacate-vacates Y held w p vacated (good .apart) (sound .inside (bayOf p r) w rail) e in
         let kr : bayOf (after p ms) r ≡ bayOf p r = vac .keeps r hr (In-head (bayOf p r) (take finished p)) in
         let x = crossing r (bayOf (after p ms) r) w in
         let l : Legal Y (after p ms) x = record { there = rw after-length hr; stands = refl; rail = rw kr rail; free = vac .empties } in
-        let all : xs ≡ ms ++ (x ∷ []) = let z = cross-some r w (after p ms) ys h1 in cc in
+        let all : m .moves ≡ ms ++ (x ∷ []) = let y = same-moves q in let z = same-moves (cross-some r w (after p ms) crossed h1) in cc in
         rw all (record {
           legal = plan-append Y p ms (x ∷ []) (vac .legal) (plan-cons Y (after p ms) x [] (legal-of Y (after p ms) x l) refl);
           arrives = rw after-append (move-self Y (after p ms) x l);
           others = λ c hc ne. inl (rw after-append (move-other Y (after p ms) x l c ne ∙ vac .keeps c (omega arith) (In-tail (bayOf p c) (bayOf p r) (take finished p) (in-take c hc))));
         }))
 
-    by-swapping : (xs : List Crossing) → In w p → swap Y r (carrierAt p w) p ≡ some xs → Stepped finished r w p xs
-    by-swapping xs i h =
+    by-swapping : (m : Made) → In w p → swap Y r (carrierAt p w) p ≡ some m → Stepped finished r w p (m .moves)
+    by-swapping m i h =
         let s = carrierAt p w in
         let at-s : bayOf p s ≡ w = placeOf-bay p w i in
         let hs : s < length p = placeOf-there p w i in
         let ne : eqb r s ≡ false = ne-eqb r s (λ q. sound .no-loop w (rw (ap (bayOf p) q ∙ at-s) at rail)) in
-        let t = swap-trades Y sound r s ne p (good .apart) hr hs (rw at-s rail) xs (good .inside r hr) h in
+        let t = swap-trades Y sound r s ne p (good .apart) hr hs (rw at-s rail) m (good .inside r hr) h in
         record {
           legal = t .0;
           arrives = rw (t .1) (traded-bay r s p hr hs r ∙ ap (bayOf p) (trade-first r s) ∙ at-s);
@@ -88,36 +89,36 @@ module _ (Y : Yard) (sound : Sound Y) where
     unfolding cross after
     occupied e =
         by-cases (elem w p) (λ i. i)
-        (λ o. let z = then-runs (vacate Y (holding finished r p) w) (cross r w) p [] _ (vacate-empty Y _ w p o) refl in never-some _ (sym e ∙ z))
+        (λ o. let z = then-runs (vacate Y (holding finished r p) w) (cross r w) p (only []) _ (vacate-empty Y _ w p o) refl in never-some _ (sym e ∙ z))
 
-    pub step-steps : (xs : List Crossing) → step Y finished r w p ≡ some xs → Stepped finished r w p xs
+    pub step-steps : (m : Made) → step Y finished r w p ≡ some m → Stepped finished r w p (m .moves)
     unfolding step
-    step-steps xs h =
+    step-steps m h =
         by-option ((vacate Y (holding finished r p) w then cross r w) p)
-        (λ e. by-swapping xs (occupied e) (rw e at h))
-        (λ ys e. let q = rw e at h in by-vacating xs (e ∙ q))
+        (λ e. by-swapping m (occupied e) (rw e at h))
+        (λ ys e. let q = rw e at h in by-vacating m (e ∙ q))
 
-by-outcome : {P : Type 0} (o : Outcome) → ((a : List Crossing) → o ≡ planned a → P) → ((c : Carrier) → o ≡ stuck c → P) → P
+by-outcome : {P : Type 0} (o : Outcome) → ((a : Made) → o ≡ planned a → P) → ((c : Carrier) → o ≡ stuck c → P) → P
 by-outcome (planned a) f g = f a refl
 by-outcome (stuck c) f g = g c refl
 
-never-planned : {P : Type 0} (c : Carrier) (a : List Crossing) → stuck c ≡ planned a → P
+never-planned : {P : Type 0} (c : Carrier) (a : Made) → stuck c ≡ planned a → P
 never-planned c a h = let z : _≡_ {A = ℕ} 0 1 = cc in absurd (omega arith)
 
-pub next-split : {P : Type 0} (f g : Stage) (p : Placement) (xs : List Crossing) → (f next g) p ≡ planned xs
-    → ((a b : List Crossing) → f p ≡ planned a → g (after p a) ≡ planned b → xs ≡ a ++ b → P) → P
+pub next-split : {P : Type 0} (f g : Stage) (p : Placement) (m : Made) → (f next g) p ≡ planned m
+    → ((a b : Made) → f p ≡ planned a → g (after p (a .moves)) ≡ planned b → m ≡ together a b → P) → P
 unfolding _next_ onward
-next-split f g p xs h k =
+next-split f g p m h k =
     by-outcome (f p)
-    (λ a e. by-outcome (g (after p a))
+    (λ a e. by-outcome (g (after p (a .moves)))
     (λ b d. let z = rw (e, d) at h in k a b e d (cc))
-    (λ c d. never-planned c xs (rw (e, d) at h)))
-    (λ c e. never-planned c xs (rw e at h))
+    (λ c d. never-planned c m (rw (e, d) at h)))
+    (λ c e. never-planned c m (rw e at h))
 
-pub or-stop : (c : Carrier) (o : Option (List Crossing)) (xs : List Crossing) → orStuck c o ≡ planned xs → o ≡ some xs
+pub or-stop : (c : Carrier) (o : Option Made) (m : Made) → orStuck c o ≡ planned m → o ≡ some m
 unfolding orStuck
-or-stop c none xs h = never-planned c xs h
-or-stop c (some a) xs h = cc
+or-stop c none m h = never-planned c m h
+or-stop c (some a) m h = cc
 
 -- a and then b stand next to each other in the list that begins with u
 abbrev pub Pair : Bay → List Bay → Bay → Bay → Type 0
@@ -135,17 +136,19 @@ module _ (Y : Yard) (sound : Sound Y) (goals : Placement) where
     pub arrives : bayOf (after p xs) r ≡ v
     pub others : (c : Carrier) → c < r → (bayOf (after p xs) c ≡ bayOf p c) ⊎ Pair u ahead (bayOf (after p xs) c) (bayOf p c)
 
-  pub go-goes : (r : Carrier) (ahead : List Bay) (u v : Bay) (p : Placement) (xs : List Crossing) → Good Y p → r < length p → bayOf p r ≡ u
-      → Chain Y u ahead v → NoDup (u ∷ ahead) → go Y goals r ahead p ≡ planned xs → Gone r u ahead v p xs
+  pub go-goes : (r : Carrier) (ahead : List Bay) (u v : Bay) (p : Placement) (m : Made) → Good Y p → r < length p → bayOf p r ≡ u
+      → Chain Y u ahead v → NoDup (u ∷ ahead) → go Y goals r ahead p ≡ planned m → Gone r u ahead v p (m .moves)
   unfolding go after legalPlan
-  go-goes r [] u v p xs good hr at-u ch n h =
-      let z : [] ≡ xs = cc in
+  go-goes r [] u v p m good hr at-u ch n h =
+      let z : only [] ≡ m = cc in
       rw (← z) (record { legal = refl; arrives = at-u ∙ ch; others = λ c k. inl refl })
-  go-goes r (x ∷ ahead) u v p xs good hr at-u ch n h =
-      next-split (λ q. orStuck r (step Y r r x q)) (go Y goals r ahead) p xs h
-      (λ a b e h1 q.
-      let s = step-steps Y sound r r x p good hr (omega arith) (rw at-u (ch .0)) a (or-stop r (step Y r r x p) a e) in
-      let g = go-goes r ahead x v (after p a) b (plan-good Y sound p a good (s .legal)) (rw after-length hr) (s .arrives) (ch .1) (n .1) h1 in
+  go-goes r (x ∷ ahead) u v p m good hr at-u ch n h =
+      next-split (λ q. orStuck r (step Y r r x q)) (go Y goals r ahead) p m h
+      (λ first later e h1 q.
+      let a = first .moves in
+      let b = later .moves in
+      let s = step-steps Y sound r r x p good hr (omega arith) (rw at-u (ch .0)) first (or-stop r (step Y r r x p) first e) in
+      let g = go-goes r ahead x v (after p a) later (plan-good Y sound p a good (s .legal)) (rw after-length hr) (s .arrives) (ch .1) (n .1) h1 in
       rw q (record {
         legal = plan-append Y p a b (s .legal) (g .legal);
         arrives = rw after-append (g .arrives);
@@ -232,9 +235,9 @@ module _ (Y : Yard) (sound : Sound Y) (goals : Placement) (goals-apart : Apart g
         ))
         (settled c h))
 
-    home-at : (xs : List Crossing) → homeAt Y goals finished v p ≡ planned xs → (legalPlan Y p xs ≡ true) × Settled (v ∷ vs) (after p xs)
+    home-at : (m : Made) → homeAt Y goals finished v p ≡ planned m → (legalPlan Y p (m .moves) ≡ true) × Settled (v ∷ vs) (after p (m .moves))
     unfolding homeAt whose after legalPlan
-    home-at xs h =
+    home-at m h =
         by-cases (ltb whose finished and not (eqb (bayOf p whose) v))
         (λ e.
         let t : whose < finished = ltb-true whose finished (and-left _ _ e) in
@@ -244,14 +247,14 @@ module _ (Y : Yard) (sound : Sound Y) (goals : Placement) (goals-apart : Apart g
         (λ k. absurd (eqb-false (bayOf p whose) v away (k ∙ whose-goal t)))
         (λ k. pair-joined Y u₀ path₀ v₀ (bayOf p whose) v chain (rw (whose-goal t) at (k .0)))
         (settled whose t) in
-        let s = step-steps Y sound finished whose v p good (omega arith) (omega arith) rail xs (or-stop whose (step Y finished whose v p) xs (rw e at h)) in (
+        let s = step-steps Y sound finished whose v p good (omega arith) (omega arith) rail m (or-stop whose (step Y finished whose v p) m (rw e at h)) in (
           s .legal,
-          still (after p xs)
+          still (after p (m .moves))
               (λ c k ne. ⊎-elim (λ i. i) (λ i. absurd (nobody-else c k ne (i .0))) (s .others c k ne))
               (λ k. s .arrives),
         ))
         (λ e.
-        let z : [] ≡ xs = let y = rw e at h in cc in
+        let z : only [] ≡ m = let y = rw e at h in cc in
         rw (← z) (
           refl,
           still p (λ c k ne. refl)
@@ -260,15 +263,17 @@ module _ (Y : Yard) (sound : Sound Y) (goals : Placement) (goals-apart : Apart g
               (λ i. not-both (and-both _ _ (lt-ltb whose finished k) (ap not i)) e)),
         ))
 
-  home-homes : (l pre : List Bay) (last : Bay) (p : Placement) (xs : List Crossing) → path₀ ≡ pre ++ (l ++ (last ∷ [])) → Good Y p → length p ≡ length goals
-      → Settled (last ∷ []) p → wayHome Y goals finished l p ≡ planned xs → (legalPlan Y p xs ≡ true) × Settled (l ++ (last ∷ [])) (after p xs)
+  home-homes : (l pre : List Bay) (last : Bay) (p : Placement) (m : Made) → path₀ ≡ pre ++ (l ++ (last ∷ [])) → Good Y p → length p ≡ length goals
+      → Settled (last ∷ []) p → wayHome Y goals finished l p ≡ planned m → (legalPlan Y p (m .moves) ≡ true) × Settled (l ++ (last ∷ [])) (after p (m .moves))
   unfolding wayHome after legalPlan
-  home-homes [] pre last p xs split good len settled h = let z : [] ≡ xs = cc in rw (← z) (refl, settled)
-  home-homes (v ∷ l) pre last p xs split good len settled h =
-      next-split (wayHome Y goals finished l) (homeAt Y goals finished v) p xs h
-      (λ a b e h1 q.
-      let r = home-homes l (pre ++ (v ∷ [])) last p a (split ∙ sym (append-assoc pre (v ∷ []) (l ++ (last ∷ [])))) good len settled e in
-      let t = home-at pre v (l ++ (last ∷ [])) split (after p a) (plan-good Y sound p a good (r .0)) (after-length p a ∙ len) (r .1) b h1 in
+  home-homes [] pre last p m split good len settled h = let z : only [] ≡ m = cc in rw (← z) (refl, settled)
+  home-homes (v ∷ l) pre last p m split good len settled h =
+      next-split (wayHome Y goals finished l) (homeAt Y goals finished v) p m h
+      (λ first later e h1 q.
+      let a = first .moves in
+      let b = later .moves in
+      let r = home-homes l (pre ++ (v ∷ [])) last p first (split ∙ sym (append-assoc pre (v ∷ []) (l ++ (last ∷ [])))) good len settled e in
+      let t = home-at pre v (l ++ (last ∷ [])) split (after p a) (plan-good Y sound p a good (r .0)) (after-length p a ∙ len) (r .1) later h1 in
       rw q (plan-append Y p a b (r .0) (t .0), λ c k. rw after-append (t .1 c k)))
 
 -- the last bay of a path is where it leads
@@ -281,7 +286,7 @@ chain-last Y u (x ∷ y ∷ l) v ch =
     (λ k. inr (ap (λ t. x ∷ t) k))
     (chain-last Y x (y ∷ l) v (ch .1))
 
-home-none : (Y : Yard) (goals : Placement) (k : ℕ) (p : Placement) (b : List Crossing) → wayHome Y goals k [] p ≡ planned b → b ≡ []
+home-none : (Y : Yard) (goals : Placement) (k : ℕ) (p : Placement) (b : Made) → wayHome Y goals k [] p ≡ planned b → b ≡ only []
 unfolding wayHome
 home-none Y goals k p b h = cc
 
@@ -308,18 +313,19 @@ module _ (Y : Yard) (sound : Sound Y) (goals : Placement) (goals-apart : Apart g
         ))
         (gone .others c k))
 
-    came : (ahead : List Bay) (b : List Crossing) → Chain Y u ahead (bayOf goals r) → NoDup (u ∷ ahead) → Gone Y sound goals r u ahead (bayOf goals r) p a
-        → wayHome Y goals (suc r) (dropLast ahead) (after p a) ≡ planned b → (legalPlan Y p (a ++ b) ≡ true) × Home (suc r) (after p (a ++ b))
-    came ahead b chain n gone h =
+    came : (ahead : List Bay) (later : Made) → Chain Y u ahead (bayOf goals r) → NoDup (u ∷ ahead) → Gone Y sound goals r u ahead (bayOf goals r) p a
+        → wayHome Y goals (suc r) (dropLast ahead) (after p a) ≡ planned later → (legalPlan Y p (a ++ later .moves) ≡ true) × Home (suc r) (after p (a ++ later .moves))
+    came ahead later chain n gone h =
+        let b = later .moves in
         let q = after p a in
         let s = come ahead gone chain n in
         let good-q : Good Y q = plan-good Y sound p a good (gone .legal) in
         ⊎-elim
         (λ k.
-        let z : b ≡ [] = home-none Y goals (suc r) q b (rw (k .0) at h) in
+        let z : later ≡ only [] = home-none Y goals (suc r) q later (rw (k .0) at h) in
         rw (z, append-nil) (gone .legal, λ c i. ⊎-elim (λ j. j) (λ j. absurd (rw (k .0) at (j .0))) (s c i)))
         (λ split.
-        let t = home-homes Y sound goals goals-apart (suc r) (omega arith) u ahead (bayOf goals r) chain n (dropLast ahead) [] (bayOf goals r) q b split good-q
+        let t = home-homes Y sound goals goals-apart (suc r) (omega arith) u ahead (bayOf goals r) chain n (dropLast ahead) [] (bayOf goals r) q later split good-q
         (after-length p a ∙ len) s h in (
           plan-append Y p a b (gone .legal) (t .0),
           λ c k. rw after-append
@@ -353,12 +359,13 @@ module _ (Y : Yard) (sound : Sound Y) (goals : Placement) (goals-apart : Apart g
       (w .0))
 
   -- Carrier r goes to its goal and the finished ones that it displaced go home.
-  pub carry-carries : (r : Carrier) (p : Placement) (xs : List Crossing) → Good Y p → length p ≡ length goals → r < length p
-      → In (bayOf goals r) (upTo (Y .bays)) → Home r p → carry Y goals r p ≡ planned xs → (legalPlan Y p xs ≡ true) × Home (suc r) (after p xs)
+  pub carry-carries : (r : Carrier) (p : Placement) (m : Made) → Good Y p → length p ≡ length goals → r < length p
+      → In (bayOf goals r) (upTo (Y .bays)) → Home r p → carry Y goals r p ≡ planned m
+      → (legalPlan Y p (m .moves) ≡ true) × Home (suc r) (after p (m .moves))
   unfolding carry along
-  carry-carries r p xs good len hr goal-in at-home h =
+  carry-carries r p m good len hr goal-in at-home h =
       by-option (pathOf Y goals r p)
-      (λ e. never-planned r xs (rw e at h))
+      (λ e. never-planned r m (rw e at h))
       (λ path e.
       let short = path-short r p path good len hr goal-in at-home e in
       let way = short .way in
@@ -366,30 +373,33 @@ module _ (Y : Yard) (sound : Sound Y) (goals : Placement) (goals-apart : Apart g
       let ahead = drop 1 path in
       let cons : path ≡ bayOf p r ∷ ahead = rw (way .starts) in
       let n : NoDup (bayOf p r ∷ ahead) = rw cons at (short .once) in
-      next-split (go Y goals r ahead) (wayHome Y goals (suc r) (dropLast ahead)) p xs (rw e at h)
-      (λ a b d h1 q.
-      rw q (came r p good len hr at-home (bayOf p r) a ahead b (way-tail Y held (bayOf p r) path (bayOf goals r) way) n
-      (go-goes Y sound goals r ahead (bayOf p r) (bayOf goals r) p a good hr refl (way-tail Y held (bayOf p r) path (bayOf goals r) way) n d) h1)))
+      next-split (go Y goals r ahead) (wayHome Y goals (suc r) (dropLast ahead)) p m (rw e at h)
+      (λ first later d h1 q.
+      rw q (came r p good len hr at-home (bayOf p r) (first .moves) ahead later (way-tail Y held (bayOf p r) path (bayOf goals r) way) n
+      (go-goes Y sound goals r ahead (bayOf p r) (bayOf goals r) p first good hr refl (way-tail Y held (bayOf p r) path (bayOf goals r) way) n d) h1)))
 
-  all-carried : ((c : Carrier) → c < length goals → In (bayOf goals c) (upTo (Y .bays))) → (k : ℕ) (r : Carrier) (p : Placement) (xs : List Crossing)
-      → Good Y p → length p ≡ length goals → r + k ≡ length goals → Home r p → carryFrom Y goals r k p ≡ planned xs
-      → (legalPlan Y p xs ≡ true) × Home (length goals) (after p xs)
+  all-carried : ((c : Carrier) → c < length goals → In (bayOf goals c) (upTo (Y .bays))) → (k : ℕ) (r : Carrier) (p : Placement) (m : Made)
+      → Good Y p → length p ≡ length goals → r + k ≡ length goals → Home r p → carryFrom Y goals r k p ≡ planned m
+      → (legalPlan Y p (m .moves) ≡ true) × Home (length goals) (after p (m .moves))
   unfolding carryFrom after legalPlan
-  all-carried inside zero r p xs good len e at-home h =
-      let z : [] ≡ xs = cc in
+  all-carried inside zero r p m good len e at-home h =
+      let z : only [] ≡ m = cc in
       rw (← z) (refl, λ c k. at-home c (omega arith))
-  all-carried inside (suc k) r p xs good len e at-home h =
-      next-split (carry Y goals r) (carryFrom Y goals (suc r) k) p xs h
-      (λ a b d h1 q.
+  all-carried inside (suc k) r p m good len e at-home h =
+      next-split (carry Y goals r) (carryFrom Y goals (suc r) k) p m h
+      (λ first later d h1 q.
+      let a = first .moves in
+      let b = later .moves in
       let hr : r < length p = omega arith in
-      let t = carry-carries r p a good len hr (inside r (omega arith)) at-home d in
-      let s = all-carried inside k (suc r) (after p a) b (plan-good Y sound p a good (t .0)) (after-length p a ∙ len) (omega arith) (t .1) h1 in
+      let t = carry-carries r p first good len hr (inside r (omega arith)) at-home d in
+      let s = all-carried inside k (suc r) (after p a) later (plan-good Y sound p a good (t .0)) (after-length p a ∙ len) (omega arith) (t .1) h1 in
       rw q (plan-append Y p a b (t .0) (s .0), λ c i. rw after-append (s .1 c i)))
 
   -- THE THEOREM: a plan of the procedure is legal, and ends at the goals.
-  pub procedure-right : Good Y goals → (p : Placement) (xs : List Crossing) → Good Y p → length p ≡ length goals
-      → procedure Y goals p ≡ planned xs → (legalPlan Y p xs ≡ true) × (after p xs ≡ goals)
+  pub procedure-right : Good Y goals → (p : Placement) (m : Made) → Good Y p → length p ≡ length goals
+      → procedure Y goals p ≡ planned m → (legalPlan Y p (m .moves) ≡ true) × (after p (m .moves) ≡ goals)
   unfolding procedure
-  procedure-right gg p xs good len h =
-      let t = all-carried (gg .inside) (length goals) 0 p xs good len (omega arith) (λ c k. absurd (omega arith)) h in
+  procedure-right gg p m good len h =
+      let xs = m .moves in
+      let t = all-carried (gg .inside) (length goals) 0 p m good len (omega arith) (λ c k. absurd (omega arith)) h in
       (t .0, ext-getD 0 (after p xs) goals (after-length p xs ∙ len) (λ c k. t .1 c (let m = after-length p xs in omega arith)))

@@ -9,13 +9,13 @@ use native.Mathlib.Omega.{arith}
 use lib.ListN.{length, length-map, drop, getD}
 use Rattle.paper.specs.Basics.{In, NoDup}
 use Rattle.paper.specs.Yard.{Bay, Carrier, Placement, Crossing, after, legalPlan, unpack, crossings, pack, most-crossings}
-use Rattle.paper.specs.Procedure.{planned, stuck, procedure}
+use Rattle.paper.specs.Procedure.{stuck, procedure}
 use Rattle.paper.specs.Dependence.{isDone, countOf, slots, placementBy}
 use Rattle.paper.specs.Docket.{yardOf, badMarks, stopped, room, Refusal}
 use Rattle.paper.specs.Answers.{check, accept, already, report, accepted, refused, plan, planEnd, written, firstSix, slotsRefusal, slotsEnd, marksEnd}
 use Rattle.paper.specs.Log.{Request, answerTo, marksBy, marksOf, namesOf, acceptedOf}
 use Rattle.paper.proofs.Tests.{not-both}
-use Rattle.paper.proofs.Planning.{TooLong, accepted-exactly, stopped-exactly, room-exactly, accepted-right}
+use Rattle.paper.proofs.Planning.{Gives, TooLong, accepted-exactly, stopped-exactly, room-exactly, accepted-right}
 use Rattle.paper.proofs.Slotting.{Numbering, slots-rise, slots-lowest}
 use Rattle.paper.proofs.Checking.{check-passed}
 use Rattle.paper.proofs.Reporting.{Ready, accept-facts, facts-accept, done-already, report-accepts}
@@ -54,13 +54,13 @@ pub record Demand2 (n : ℕ) (ends : List Bay) (starts goals : Placement) : Type
       → (legalPlan (yardOf n ends) starts xs ≡ true) × (after starts xs ≡ goals)
   -- "It is the plan of the fixed procedure in document 01;
   pub the-procedure : (lent : ℕ) (xs : List Crossing) → (plan n ends starts goals lent ≡ accepted xs)
-      ↔ ((firstSix n ends starts goals 0 ≡ none) × (procedure (yardOf n ends) goals starts ≡ planned xs) × (length xs ≤ lent) × (length xs ≤ most-crossings))
+      ↔ ((firstSix n ends starts goals 0 ≡ none) × Gives (procedure (yardOf n ends) goals starts) xs × (length xs ≤ lent) × (length xs ≤ most-crossings))
   -- "stopped" and "no room" come exactly when that document says."
   pub stops : (lent : ℕ) (c : Carrier) → (plan n ends starts goals lent ≡ refused (stopped c))
       ↔ ((firstSix n ends starts goals 0 ≡ none) × (procedure (yardOf n ends) goals starts ≡ stuck c))
   pub no-room : (lent m : ℕ) → (plan n ends starts goals lent ≡ refused (room m))
       ↔ ((firstSix n ends starts goals 0 ≡ none)
-      × ((xs : List Crossing) × (procedure (yardOf n ends) goals starts ≡ planned xs) × (length xs ≡ m))
+      × ((xs : List Crossing) × Gives (procedure (yardOf n ends) goals starts) xs × (length xs ≡ m))
       × TooLong lent m)
   -- "Each crossing's slot is the lowest that dependence permits."
   pub slots-rise-along : (xs : List Crossing) → Numbering xs (λ i. getD (slots xs) i 0)

@@ -7,6 +7,7 @@ pub mod Shortest
 pub mod Nearest
 pub mod Playing
 pub mod Reversing
+pub mod Making
 pub mod Vacating
 pub mod Trading
 pub mod Swapping

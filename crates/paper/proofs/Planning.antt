@@ -12,16 +12,20 @@ use lib.ListN.{length}
 use borrow.Author.Tests.{ltb-true, ltb-false, le-ltb, lt-ltb}
 use Rattle.paper.specs.Basics.{_or_}
 use Rattle.paper.specs.Yard.{Bay, Carrier, Placement, Crossing, after, legalPlan, most-crossings}
-use Rattle.paper.specs.Procedure.{Outcome, planned, stuck, procedure}
+use Rattle.paper.specs.Procedure.{Made, Outcome, planned, stuck, procedure}
 use Rattle.paper.specs.Docket.{Refusal, number, apart, stopped, room, yardOf}
-use Rattle.paper.specs.Answers.{accepted, refused, crossingsOf, within, unless, plan, firstSix}
+use Rattle.paper.specs.Answers.{accepted, refused, crossingsOf, parkedOf, within, unless, plan, beside, planParked, firstSix}
 use Rattle.paper.proofs.Tests.{by-cases, by-option, or-neither, or-left, or-right, never}
 use Rattle.paper.proofs.Carrying.{procedure-right}
 use Rattle.paper.proofs.Admitted.{clean-of, sound-of, good-of, six-number}
 
-by-outcome : {P : Type 0} (o : Outcome) → ((xs : List Crossing) → o ≡ planned xs → P) → ((c : Carrier) → o ≡ stuck c → P) → P
-by-outcome (planned xs) f g = f xs refl
+by-outcome : {P : Type 0} (o : Outcome) → ((m : Made) → o ≡ planned m → P) → ((c : Carrier) → o ≡ stuck c → P) → P
+by-outcome (planned m) f g = f m refl
 by-outcome (stuck c) f g = g c refl
+
+-- the outcome is a plan of these crossings
+abbrev pub Gives : Outcome → List Crossing → Type 0
+Gives o xs = (m : Made) × (o ≡ planned m) × (m .moves ≡ xs)
 
 -- longer than the lent list, or over 65,536
 abbrev pub TooLong : ℕ → ℕ → Type 0
@@ -32,13 +36,14 @@ module _ (lent : ℕ) where
   unfolding within
   within-stuck c = refl
 
-  pub within-fits : (xs : List Crossing) → length xs ≤ lent → length xs ≤ most-crossings → within lent (planned xs) ≡ accepted xs
+  pub within-fits : (m : Made) → length (m .moves) ≤ lent → length (m .moves) ≤ most-crossings → within lent (planned m) ≡ accepted (m .moves)
   unfolding within crossingsOf
-  within-fits xs h k = rw (or-neither _ _ (le-ltb lent (length xs) h) (le-ltb most-crossings (length xs) k))
+  within-fits m h k = rw (or-neither _ _ (le-ltb lent (length (m .moves)) h) (le-ltb most-crossings (length (m .moves)) k))
 
-  pub within-long : (xs : List Crossing) → TooLong lent (length xs) → within lent (planned xs) ≡ refused (room (length xs))
+  pub within-long : (m : Made) → TooLong lent (length (m .moves)) → within lent (planned m) ≡ refused (room (length (m .moves)))
   unfolding within crossingsOf
-  within-long xs h =
+  within-long m h =
+      let xs = m .moves in
       let t : ltb lent (length xs) or ltb most-crossings (length xs) ≡ true =
       ⊎-elim (λ l. or-left _ _ (lt-ltb _ _ l)) (λ l. or-right _ _ (lt-ltb _ _ l)) h in
       rw t
@@ -67,28 +72,29 @@ module _ (n : ℕ) (ends : List Bay) (s g : Placement) (lent : ℕ) where
   by-plan : {P : Type 0}
       → ((r : Refusal) → number r ≤ 6 → plan n ends s g lent ≡ refused r → P)
       → (firstSix n ends s g 0 ≡ none → (c : Carrier) → outcome ≡ stuck c → plan n ends s g lent ≡ refused (stopped c) → P)
-      → (firstSix n ends s g 0 ≡ none → (xs : List Crossing) → outcome ≡ planned xs → TooLong lent (length xs) → plan n ends s g lent ≡ refused (room (length xs)) → P)
-      → (firstSix n ends s g 0 ≡ none → (xs : List Crossing) → outcome ≡ planned xs → length xs ≤ lent → length xs ≤ most-crossings → plan n ends s g lent ≡ accepted xs → P)
+      → (firstSix n ends s g 0 ≡ none → (m : Made) → outcome ≡ planned m → TooLong lent (length (m .moves)) → plan n ends s g lent ≡ refused (room (length (m .moves))) → P)
+      → (firstSix n ends s g 0 ≡ none → (m : Made) → outcome ≡ planned m → length (m .moves) ≤ lent → length (m .moves) ≤ most-crossings → plan n ends s g lent ≡ accepted (m .moves) → P)
       → P
   by-plan early stops long fits =
       by-option (firstSix n ends s g 0)
       (λ e. by-outcome outcome
-      (λ xs o. by-length lent xs
-      (λ h k. fits e xs o h k (plan-clean e ∙ ap (within lent) o ∙ within-fits lent xs h k))
-      (λ h. long e xs o h (plan-clean e ∙ ap (within lent) o ∙ within-long lent xs h)))
+      (λ m o. by-length lent (m .moves)
+      (λ h k. fits e m o h k (plan-clean e ∙ ap (within lent) o ∙ within-fits lent m h k))
+      (λ h. long e m o h (plan-clean e ∙ ap (within lent) o ∙ within-long lent m h)))
       (λ c o. stops e c o (plan-clean e ∙ ap (within lent) o ∙ within-stuck lent c)))
       (λ r e. early r (six-number n ends s g 0 r e) (plan-unclean r e))
 
   -- A plan is accepted exactly if 1 to 6 pass, the procedure gives it, and it fits.
   pub accepted-exactly : (xs : List Crossing) → (plan n ends s g lent ≡ accepted xs)
-      ↔ ((firstSix n ends s g 0 ≡ none) × (outcome ≡ planned xs) × (length xs ≤ lent) × (length xs ≤ most-crossings))
+      ↔ ((firstSix n ends s g 0 ≡ none) × Gives outcome xs × (length xs ≤ lent) × (length xs ≤ most-crossings))
   accepted-exactly xs = (
     λ h. by-plan
         (λ r l e. never (cc))
         (λ f c o e. never (cc))
         (λ f ys o t e. never (cc))
-        (λ f ys o a b e. let z : ys ≡ xs = cc in (f, o ∙ ap planned z, rw z at a, rw z at b)),
-    λ k. plan-clean (k .0) ∙ ap (within lent) (k .1) ∙ within-fits lent xs (k .2) (k .3),
+        (λ f m o a b e. let z : m .moves ≡ xs = cc in (f, (m, o, z), rw z at a, rw z at b)),
+    λ k. let m = k .1 .0 in let z : m .moves ≡ xs = k .1 .2 in
+        plan-clean (k .0) ∙ ap (within lent) (k .1 .1) ∙ within-fits lent m (rw z (k .2)) (rw z (k .3)) ∙ ap accepted z,
   )
 
   -- 7 carries c exactly if 1 to 6 pass and the procedure stops with c.
@@ -98,22 +104,23 @@ module _ (n : ℕ) (ends : List Bay) (s g : Placement) (lent : ℕ) where
     λ h. by-plan
         (λ r l e. let z : r ≡ stopped c = cc in let w = rw z at l in absurd (omega arith))
         (λ f d o e. let z : d ≡ c = cc in (f, o ∙ ap stuck z))
-        (λ f ys o t e. never (cc))
-        (λ f ys o a b e. never (cc)),
+        (λ f m o t e. never (cc))
+        (λ f m o a b e. never (cc)),
     λ k. plan-clean (k .0) ∙ ap (within lent) (k .1) ∙ within-stuck lent c,
   )
 
   -- 8 carries m exactly if 1 to 6 pass, the procedure gives a list of m crossings, and that is longer than the lent list or over 65,536.
   pub room-exactly : (m : ℕ) → (plan n ends s g lent ≡ refused (room m))
-      ↔ ((firstSix n ends s g 0 ≡ none) × ((xs : List Crossing) × (outcome ≡ planned xs) × (length xs ≡ m)) × TooLong lent m)
+      ↔ ((firstSix n ends s g 0 ≡ none) × ((xs : List Crossing) × Gives outcome xs × (length xs ≡ m)) × TooLong lent m)
   room-exactly m = (
     λ h. by-plan
         (λ r l e. let z : r ≡ room m = cc in let w = rw z at l in absurd (omega arith))
         (λ f d o e. never (cc))
-        (λ f ys o t e. let z : length ys ≡ m = cc in (f, (ys, o, z), rw z at t))
-        (λ f ys o a b e. never (cc)),
-    λ k. let xs = k .1 .0 in
-        plan-clean (k .0) ∙ ap (within lent) (k .1 .1) ∙ within-long lent xs (rw (k .1 .2) (k .2)) ∙ ap (λ l. refused (room l)) (k .1 .2),
+        (λ f made o t e. let z : length (made .moves) ≡ m = cc in (f, (made .moves, (made, o, refl), z), rw z at t))
+        (λ f made o a b e. never (cc)),
+    λ k. let made = k .1 .1 .0 in
+        let z : length (made .moves) ≡ m = ap length (k .1 .1 .2) ∙ k .1 .2 in
+        plan-clean (k .0) ∙ ap (within lent) (k .1 .1 .1) ∙ within-long lent made (rw z (k .2)) ∙ ap (λ l. refused (room l)) z,
   )
 
   -- An accepted plan is legal from the starts and ends at the goals.
@@ -124,5 +131,15 @@ module _ (n : ℕ) (ends : List Bay) (s g : Placement) (lent : ℕ) where
       let c = clean-of n ends s g 0 (a .0) in
       let Y = yardOf n ends in
       let gg = good-of n ends g (c .goals) in
-      procedure-right Y (sound-of n ends (c .rails)) g (gg .apart) gg s xs
-      (good-of n ends s (c .starts)) (c .sizes .same-length) (a .1)
+      rw (← (a .1 .2))
+      (procedure-right Y (sound-of n ends (c .rails)) g (gg .apart) gg s (a .1 .0)
+      (good-of n ends s (c .starts)) (c .sizes .same-length) (a .1 .1))
+
+  -- What an accepted plan carries is what its procedure counted; beside a refusal it is 0.
+  pub accepted-parked : (m : Made) → outcome ≡ planned m → plan n ends s g lent ≡ accepted (m .moves) → planParked n ends s g lent ≡ m .parked
+  unfolding planParked beside parkedOf
+  accepted-parked m o e = rw (e, o)
+
+  pub refused-parked : (r : Refusal) → plan n ends s g lent ≡ refused r → planParked n ends s g lent ≡ 0
+  unfolding planParked beside
+  refused-parked r e = rw e

@@ -13,7 +13,7 @@ use borrow.Author.Tests.{not-true, ltb-true, ltb-false, eqb-true, eqb-false, ne-
 use Rattle.paper.specs.Basics.{_and_, filter, elem, without, upTo, In, Out, NoDup}
 use Rattle.paper.specs.Yard.{Bay, Carrier, Yard, Placement, Crossing, crossing, bayOf, isEmpty, move, after, joined, legal, legalPlan, neighbours, junction}
 use Rattle.paper.specs.Path.{nearestFirst, shortestPath, Free, Route, Way}
-use Rattle.paper.specs.Procedure.{Action, _then_, cross, exchange, traded, undo, Cleared, vacate, bring, clearing, clear, finish, trialLed, trial, swap, clearingHeld, theirBays}
+use Rattle.paper.specs.Procedure.{Made, only, together, Action, _then_, cross, exchange, traded, undo, Cleared, following, vacate, bring, clearing, clear, finish, trialLed, trial, swap, clearingHeld, theirBays}
 use Rattle.paper.proofs.Tests.{by-cases, by-option, not-both, never-some, and-left, and-right}
 use Rattle.paper.proofs.Members.{first-of, nothing-in-nil, In-head, In-tail, In-cases, In-one, In-append, Out-head, nodup-left, nodup-drop, nodup-append, nodup-filter, nodup-take, nodup-count, take-in, filter-in, filter-passes}
 use Rattle.paper.proofs.Rings.{joined-sym, reached-sym, walk-free, reached-walk}
@@ -104,31 +104,34 @@ module _ (Y : Yard) (L M : Carrier) (differ : eqb L M ≡ false) (p₀ : Placeme
         is-traded L M differ p₀ hL hM _ (s6 .1 .len) (s6 .1 .first ∙ sym (s .second)) (s6 .1 .second ∙ sym (s .first)) (s6 .1 .rest),
       )
 
+pub same-moves : {a b : Made} → a ≡ b → a .moves ≡ b .moves
+same-moves e = ap (λ (m : Made). m .moves) e
+
 -- both parts of a run of two actions
-pub then-split : {P : Type 0} (f g : Action) (p : Placement) (xs : List Crossing) → (f then g) p ≡ some xs
-    → ((a b : List Crossing) → f p ≡ some a → g (after p a) ≡ some b → xs ≡ a ++ b → P) → P
+pub then-split : {P : Type 0} (f g : Action) (p : Placement) (m : Made) → (f then g) p ≡ some m
+    → ((a b : Made) → f p ≡ some a → g (after p (a .moves)) ≡ some b → m ≡ together a b → P) → P
 unfolding _then_
-then-split f g p xs h k =
+then-split f g p m h k =
     by-option (f p)
-    (λ e. never-some xs (rw e at h))
-    (λ a e. by-option (g (after p a))
-    (λ d. never-some xs (rw (e, d) at h))
+    (λ e. never-some m (rw e at h))
+    (λ a e. by-option (g (after p (a .moves)))
+    (λ d. never-some m (rw (e, d) at h))
     (λ b d. let z = rw (e, d) at h in k a b e d (cc)))
 
-pub then-runs : (f g : Action) (p : Placement) (a b : List Crossing) → f p ≡ some a → g (after p a) ≡ some b → (f then g) p ≡ some (a ++ b)
+pub then-runs : (f g : Action) (p : Placement) (a b : Made) → f p ≡ some a → g (after p (a .moves)) ≡ some b → (f then g) p ≡ some (together a b)
 unfolding _then_
 then-runs f g p a b h k = rw (h, k)
 
-pub cross-some : (c : Carrier) (to : Bay) (p : Placement) (xs : List Crossing) → cross c to p ≡ some xs → xs ≡ crossing c (bayOf p c) to ∷ []
+pub cross-some : (c : Carrier) (to : Bay) (p : Placement) (m : Made) → cross c to p ≡ some m → m ≡ only (crossing c (bayOf p c) to ∷ [])
 unfolding cross
-cross-some c to p xs h = cc
+cross-some c to p m h = cc
 
-pub cross-split : {P : Type 0} (c : Carrier) (to : Bay) (g : Action) (p : Placement) (xs : List Crossing) → (cross c to then g) p ≡ some xs
-    → ((b : List Crossing) → g (move p (crossing c (bayOf p c) to)) ≡ some b → xs ≡ crossing c (bayOf p c) to ∷ b → P) → P
+pub cross-split : {P : Type 0} (c : Carrier) (to : Bay) (g : Action) (p : Placement) (m : Made) → (cross c to then g) p ≡ some m
+    → ((b : Made) → g (move p (crossing c (bayOf p c) to)) ≡ some b → m ≡ together (only (crossing c (bayOf p c) to ∷ [])) b → P) → P
 unfolding _then_ cross after
-cross-split c to g p xs h k =
+cross-split c to g p m h k =
     by-option (g (move p (crossing c (bayOf p c) to)))
-    (λ d. never-some xs (rw d at h))
+    (λ d. never-some m (rw d at h))
     (λ b d. let z = rw d at h in k b d (cc))
 
 -- from u, a rail to each bay of the list in turn, and the last is v
@@ -199,51 +202,55 @@ module _ (Y : Yard) (sound : Sound Y) (L M : Carrier) (differ : eqb L M ≡ fals
       }
 
   -- 1. Bring: legal, the leader ends at v and the follower beside it.
-  pub bring-brings : (ahead : List Bay) (v : Bay) (p : Placement) (xs : List Crossing) → Apart p → L < length p → M < length p
-      → Chain Y (bayOf p L) ahead v → joined Y (bayOf p M) (bayOf p L) ≡ true → bring Y L M ahead p ≡ some xs → Brought v p xs
+  pub bring-brings : (ahead : List Bay) (v : Bay) (p : Placement) (m : Made) → Apart p → L < length p → M < length p
+      → Chain Y (bayOf p L) ahead v → joined Y (bayOf p M) (bayOf p L) ≡ true → bring Y L M ahead p ≡ some m → Brought v p (m .moves)
   unfolding bring after legalPlan
-  bring-brings [] v p xs apart hL hM ch j h =
-      let none-moved : [] ≡ xs = cc in
+  bring-brings [] v p m apart hL hM ch j h =
+      let none-moved : only [] ≡ m = cc in
       rw (← none-moved) (record { legal = refl; leads = ch; follows = rw ch at j })
-  bring-brings (x ∷ ahead) v p xs apart hL hM ch j h =
-      then-split (vacate Y (theirBays L M p) x) (cross L x then cross M (bayOf p L) then bring Y L M ahead) p xs h
-      (λ ms ys e h1 q1. cross-split L x (cross M (bayOf p L) then bring Y L M ahead) (after p ms) ys h1
-      (λ zs h2 q2. cross-split M (bayOf p L) (bring Y L M ahead) _ zs h2
-      (λ rest h3 q3.
+  bring-brings (x ∷ ahead) v p m apart hL hM ch j h =
+      then-split (vacate Y (theirBays L M p) x) (cross L x then cross M (bayOf p L) then bring Y L M ahead) p m h
+      (λ vacated m1 e h1 q1. cross-split L x (cross M (bayOf p L) then bring Y L M ahead) (after p (vacated .moves)) m1 h1
+      (λ m2 h2 q2. cross-split M (bayOf p L) (bring Y L M ahead) _ m2 h2
+      (λ more h3 q3.
       let held = theirBays L M p in
-      let vac = vacate-vacates Y held x p ms apart (sound .inside (bayOf p L) x (ch .0)) e in
+      let ms = vacated .moves in
+      let rest = more .moves in
+      let vac = vacate-vacates Y held x p vacated apart (sound .inside (bayOf p L) x (ch .0)) e in
       let kL : bayOf (after p ms) L ≡ bayOf p L = vac .keeps L hL (In-head (bayOf p L) (bayOf p M ∷ [])) in
       let kM : bayOf (after p ms) M ≡ bayOf p M = vac .keeps M hM (In-tail (bayOf p M) (bayOf p L) (bayOf p M ∷ []) (In-head (bayOf p M) [])) in
       let pl = pulled (bayOf p L) (bayOf p M) x (after p ms) (plan-apart Y p ms apart (vac .legal)) (rw after-length hL) (rw after-length hM)
       kL kM (ch .0) j (vac .empties) in
-      let ih = bring-brings ahead v (move (move (after p ms) (crossing L (bayOf p L) x)) (crossing M (bayOf p M) (bayOf p L))) rest (pl .apart)
+      let ih = bring-brings ahead v (move (move (after p ms) (crossing L (bayOf p L) x)) (crossing M (bayOf p M) (bayOf p L))) more (pl .apart)
       (simp (length-set, after-length) hL) (simp (length-set, after-length) hM)
       (rw (pl .leader) (ch .1)) (rw (pl .leader, pl .follower) (ch .0)) h3 in
-      let all : xs ≡ ms ++ (crossing L (bayOf p L) x ∷ crossing M (bayOf p M) (bayOf p L) ∷ rest) = cc (kL, pl .second-bay) in
+      let all : m .moves ≡ ms ++ (crossing L (bayOf p L) x ∷ crossing M (bayOf p M) (bayOf p L) ∷ rest) =
+      let a1 = same-moves q1 in let a2 = same-moves q2 in let a3 = same-moves q3 in cc (kL, pl .second-bay) in
       rw all (brought-more (bayOf p L) (bayOf p M) x v p ms rest (vac .legal) pl ih))))
 
 module _ (Y : Yard) (sound : Sound Y) where
   -- What clearing around v leaves: legal crossings; nobody at v or b has moved; the bays kept are empty neighbours of v, none twice.
   pub record ClearedIs (v b : Bay) (p : Placement) (c : Cleared) : Type 0 where
-    pub legal : legalPlan Y p (c .moves) ≡ true
-    pub stays : (k : Carrier) → k < length p → In (bayOf p k) (v ∷ b ∷ []) → bayOf (after p (c .moves)) k ≡ bayOf p k
-    pub kept-empty : (z : Bay) → In z (c .kept) → (joined Y v z ≡ true) × Out z (after p (c .moves))
+    pub legal : legalPlan Y p (c .made .moves) ≡ true
+    pub stays : (k : Carrier) → k < length p → In (bayOf p k) (v ∷ b ∷ []) → bayOf (after p (c .made .moves)) k ≡ bayOf p k
+    pub kept-empty : (z : Bay) → In z (c .kept) → (joined Y v z ≡ true) × Out z (after p (c .made .moves))
     pub nodup : NoDup (c .kept)
 
   module _ (v b : Bay) where
     as-kept : (p : Placement) (kept : List Bay) → NoDup kept → ((z : Bay) → In z kept → (joined Y v z ≡ true) × Out z p)
-        → ClearedIs v b p (record { moves = []; kept = kept })
+        → ClearedIs v b p (record { made = only []; kept = kept })
     unfolding after legalPlan
     as-kept p kept n f = record { legal = refl; stays = λ k h i. refl; kept-empty = f; nodup = n }
 
-    cleared-more : (x : Bay) (kept : List Bay) (p : Placement) (ms : List Crossing) (c : Cleared) → Vacated Y (clearingHeld v b kept) x p ms
-        → ClearedIs v b (after p ms) c → ClearedIs v b p (record { moves = ms ++ c .moves; kept = c .kept })
-    cleared-more x kept p ms c vac r =
+    cleared-more : (x : Bay) (kept : List Bay) (p : Placement) (m : Made) (c : Cleared) → Vacated Y (clearingHeld v b kept) x p (m .moves)
+        → ClearedIs v b (after p (m .moves)) c → ClearedIs v b p (following m c)
+    cleared-more x kept p m c vac r =
+        let ms = m .moves in
         let near : (z : Bay) → In z (v ∷ b ∷ []) → In z (v ∷ b ∷ kept) =
         λ z i. In-cases z v (b ∷ []) i (λ q. rw q (In-head v (b ∷ kept)))
         (λ k. In-tail z v (b ∷ kept) (rw (In-one z b k) (In-head b kept))) in
         record {
-          legal = plan-append Y p ms (c .moves) (vac .legal) (r .legal);
+          legal = plan-append Y p ms (c .made .moves) (vac .legal) (r .legal);
           stays = λ k h i.
               let first : bayOf (after p ms) k ≡ bayOf p k = vac .keeps k h (near (bayOf p k) i) in
               rw after-append (r .stays k (rw after-length h) (rw first i) ∙ first);
@@ -261,9 +268,10 @@ module _ (Y : Yard) (sound : Sound Y) where
         (λ e. rw e (as-kept p kept (nodup-left kept (x ∷ xs) n) f))
         (λ e. by-option (vacate Y (clearingHeld v b kept) x p)
         (λ h. rw (e, h) (clearing-clears xs kept p apart (nodup-drop kept x xs n) f (λ z i. g z (In-tail z x xs i))))
-        (λ ms h.
-        let vac = vacate-vacates Y (clearingHeld v b kept) x p ms apart (sound .inside v x (g x (In-head x xs))) h in
-        rw (e, h) (cleared-more x kept p ms (clearing Y v b (kept ++ (x ∷ [])) xs (after p ms)) vac
+        (λ m h.
+        let ms = m .moves in
+        let vac = vacate-vacates Y (clearingHeld v b kept) x p m apart (sound .inside v x (g x (In-head x xs))) h in
+        rw (e, h) (cleared-more x kept p m (clearing Y v b (kept ++ (x ∷ [])) xs (after p ms)) vac
         (clearing-clears xs (kept ++ (x ∷ [])) (after p ms) (plan-apart Y p ms apart (vac .legal)) (rw append-assoc n)
         (λ z i. In-append z kept (x ∷ []) i
         (λ k. ((f z k) .0, vac .spares z (In-tail z v (b ∷ kept) (In-tail z b kept k)) ((f z k) .1)))
@@ -309,18 +317,20 @@ module _ (Y : Yard) (sound : Sound Y) (L M : Carrier) (differ : eqb L M ≡ fals
         after-append p (done ++ exchange L M v b x y) (undo L M done) ∙ ap (λ r. after r (undo L M done)) e ∙ un .1,
       )
 
-  finish-trades : (v b : Bay) (p : Placement) (done : List Crossing) (kept : List Bay) (xs : List Crossing) → Apart p → L < length p → M < length p
-      → legalPlan Y p done ≡ true → bayOf (after p done) L ≡ v → bayOf (after p done) M ≡ b → joined Y v b ≡ true
-      → ((z : Bay) → In z kept → (joined Y v z ≡ true) × Out z (after p done)) → NoDup kept
-      → finish Y L M v b done kept ≡ some xs → Trades Y L M p xs
+  finish-trades : (v b : Bay) (p : Placement) (made : Made) (kept : List Bay) (m : Made) → Apart p → L < length p → M < length p
+      → legalPlan Y p (made .moves) ≡ true → bayOf (after p (made .moves)) L ≡ v → bayOf (after p (made .moves)) M ≡ b → joined Y v b ≡ true
+      → ((z : Bay) → In z kept → (joined Y v z ≡ true) × Out z (after p (made .moves))) → NoDup kept
+      → finish Y L M v b made kept ≡ some m → Trades Y L M p (m .moves)
   unfolding finish
-  finish-trades v b p done [] xs apart hL hM l at-L at-M jb f n h = never-some xs h
-  finish-trades v b p done (x ∷ []) xs apart hL hM l at-L at-M jb f n h = never-some xs h
-  finish-trades v b p done (x ∷ y ∷ rest) xs apart hL hM l at-L at-M jb f n h =
+  finish-trades v b p made [] m apart hL hM l at-L at-M jb f n h = never-some m h
+  finish-trades v b p made (x ∷ []) m apart hL hM l at-L at-M jb f n h = never-some m h
+  finish-trades v b p made (x ∷ y ∷ rest) m apart hL hM l at-L at-M jb f n h =
+      let done = made .moves in
       let differ-xy : x ≡ y → ⊥ = Out-head x y rest (n .0) in
       let fx = f x (In-head x (y ∷ rest)) in
       let fy = f y (In-tail y x (y ∷ rest) (In-head y rest)) in
-      let same : done ++ exchange L M v b (min x y) (max x y) ++ undo L M done ≡ xs = cc in
+      let whole : record { moves = done ++ exchange L M v b (min x y) (max x y) ++ undo L M done; parked = made .parked } ≡ m = cc in
+      let same : done ++ exchange L M v b (min x y) (max x y) ++ undo L M done ≡ m .moves = same-moves whole in
       by-cases (ltb x y)
       (λ e.
       let lo : min x y ≡ x = omega (arith, ltb-true x y e) in
@@ -331,24 +341,25 @@ module _ (Y : Yard) (sound : Sound Y) (L M : Carrier) (differ : eqb L M ≡ fals
       let hi : max x y ≡ x = omega (arith, ltb-false x y e) in
       rw (← same, lo, hi) (there-and-back v b y x p done apart hL hM l at-L at-M jb fy fx (λ q. differ-xy (sym q))))
 
-  trial-with : (v : Bay) (ahead : List Bay) (p : Placement) (xs : List Crossing) → Apart p → L < length p → M < length p
-      → Chain Y (bayOf p L) ahead v → joined Y (bayOf p M) (bayOf p L) ≡ true → trialLed Y L M v ahead p ≡ some xs → Trades Y L M p xs
+  trial-with : (v : Bay) (ahead : List Bay) (p : Placement) (m : Made) → Apart p → L < length p → M < length p
+      → Chain Y (bayOf p L) ahead v → joined Y (bayOf p M) (bayOf p L) ≡ true → trialLed Y L M v ahead p ≡ some m → Trades Y L M p (m .moves)
   unfolding trialLed
-  trial-with v ahead p xs apart hL hM ch j h =
+  trial-with v ahead p m apart hL hM ch j h =
       by-option (bring Y L M ahead p)
-      (λ e. never-some xs (rw e at h))
-      (λ brought e.
-      let br = bring-brings Y sound L M differ ahead v p brought apart hL hM ch j e in
+      (λ e. never-some m (rw e at h))
+      (λ made e.
+      let br = bring-brings Y sound L M differ ahead v p made apart hL hM ch j e in
+      let brought = made .moves in
       let p₁ = after p brought in
       let b = bayOf p₁ M in
       let cl = clear-clears Y sound v b p₁ (plan-apart Y p brought apart (br .legal)) in
       let c = clear Y v b p₁ in
-      let at-L : bayOf (after p (brought ++ c .moves)) L ≡ v =
+      let at-L : bayOf (after p (brought ++ c .made .moves)) L ≡ v =
       rw after-append (cl .stays L (rw after-length hL) (rw (br .leads) (In-head v (b ∷ []))) ∙ br .leads) in
-      let at-M : bayOf (after p (brought ++ c .moves)) M ≡ b =
+      let at-M : bayOf (after p (brought ++ c .made .moves)) M ≡ b =
       rw after-append (cl .stays M (rw after-length hM) (In-tail b v (b ∷ []) (In-head b []))) in
-      finish-trades v b p (brought ++ c .moves) (c .kept) xs apart hL hM
-      (plan-append Y p brought (c .moves) (br .legal) (cl .legal)) at-L at-M (joined-sym Y b v (br .follows))
+      finish-trades v b p (together made (c .made)) (c .kept) m apart hL hM
+      (plan-append Y p brought (c .made .moves) (br .legal) (cl .legal)) at-L at-M (joined-sym Y b v (br .follows))
       (λ z i. let t = cl .kept-empty z i in (t .0, rw after-append (t .1))) (cl .nodup) (rw e at h))
 
 -- which of the two is named first makes no difference
@@ -361,25 +372,25 @@ traded-comm L M p differ hL hM =
 
 module _ (Y : Yard) (sound : Sound Y) (r s : Carrier) (differ : eqb r s ≡ false) (p : Placement) (apart : Apart p) (hr : r < length p) (hs : s < length p)
     (beside : joined Y (bayOf p r) (bayOf p s) ≡ true) where
-  trial-trades : (v : Bay) (xs : List Crossing) → Way Y [] (bayOf p r) (shortestPath Y [] (bayOf p r) v) v → trial Y r s v p ≡ some xs → Trades Y r s p xs
+  trial-trades : (v : Bay) (m : Made) → Way Y [] (bayOf p r) (shortestPath Y [] (bayOf p r) v) v → trial Y r s v p ≡ some m → Trades Y r s p (m .moves)
   unfolding trial
-  trial-trades v xs l h =
+  trial-trades v m l h =
       let path = shortestPath Y [] (bayOf p r) v in
       by-cases (ltb 1 (length path) and eqb (getD path 1 0) (bayOf p s))
       (λ e.
       let second : getD path 1 0 ≡ bayOf p s = eqb-true (getD path 1 0) (bayOf p s) (and-right _ _ e) in
-      let t = trial-with Y sound s r (eqb-comm r s differ) v (drop 2 path) p xs apart hs hr
+      let t = trial-with Y sound s r (eqb-comm r s differ) v (drop 2 path) p m apart hs hr
       (rw second at (way-second Y [] (bayOf p r) path v l (and-left _ _ e))) beside (rw e at h) in
       (t .0, t .1 ∙ traded-comm r s p differ hr hs))
-      (λ e. trial-with Y sound r s differ v (drop 1 path) p xs apart hr hs (way-tail Y [] (bayOf p r) path v l) (joined-sym Y (bayOf p r) (bayOf p s) beside) (rw e at h))
+      (λ e. trial-with Y sound r s differ v (drop 1 path) p m apart hr hs (way-tail Y [] (bayOf p r) path v l) (joined-sym Y (bayOf p r) (bayOf p s) beside) (rw e at h))
 
   -- A swap is legal, and r and s have traded places.
-  pub swap-trades : (xs : List Crossing) → In (bayOf p r) (upTo (Y .bays)) → swap Y r s p ≡ some xs → Trades Y r s p xs
+  pub swap-trades : (m : Made) → In (bayOf p r) (upTo (Y .bays)) → swap Y r s p ≡ some m → Trades Y r s p (m .moves)
   unfolding swap
-  swap-trades xs i h =
+  swap-trades m i h =
       first-of (λ v. trial Y r s v p) (filter (junction Y) (nearestFirst Y [] (bayOf p r))) h
       (λ v k e.
       let here : Free Y [] (bayOf p r) = (i, nothing-in-nil (bayOf p r)) in
       let far = filter-in (junction Y) (nearestFirst Y [] (bayOf p r)) v k in
       let there : Free Y [] v = walk-free Y [] here ((reached-walk Y [] (bayOf p r) v far) .2) in
-      trial-trades v xs (shortest-path Y [] (bayOf p r) v here there (reached-sym Y [] (bayOf p r) v here far) .way) e)
+      trial-trades v m (shortest-path Y [] (bayOf p r) v here there (reached-sym Y [] (bayOf p r) v here far) .way) e)

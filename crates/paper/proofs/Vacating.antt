@@ -9,10 +9,10 @@ use native.Mathlib.Omega.{arith}
 use lib.ListN.{length, getD}
 use lib.Dec.{eqb}
 use borrow.Author.Tests.{not-true, not-false, ne-eqb}
-use Rattle.paper.specs.Basics.{elem, upTo, In, Out}
+use Rattle.paper.specs.Basics.{if-some_then_else_, elem, upTo, In, Out}
 use Rattle.paper.specs.Yard.{Bay, Carrier, Yard, Placement, Crossing, crossing, bayOf, carrierAt, isEmpty, move, after, joined, legalPlan}
 use Rattle.paper.specs.Path.{rings, ringOf, inward, shortestPath, Free}
-use Rattle.paper.specs.Procedure.{shift, vacate, nearestEmpty}
+use Rattle.paper.specs.Procedure.{Made, only, shift, vacate, nearestEmpty, filledBy, parking}
 use Rattle.paper.proofs.Tests.{by-cases, by-option, not-both, never-some}
 use Rattle.paper.proofs.Members.{Out-head, Out-tail, lowest-in, lowest-passes}
 use Rattle.paper.proofs.Rings.{ring-zero, in-concat, distance-in, distance-least, Walk, here, on, ring-walk, walk-ring, walk-back, walk-free, first-ring, ringsFrom-length, FirstRing}
@@ -93,7 +93,7 @@ module _ (Y : Yard) (held : List Bay) (p : Placement) (apart : Apart p) (x e : B
   to-e : Walk Y held x (found .ring) e
   to-e = ring-walk Y held (Y .bays) x (found .ring) e (lowest-in (isEmpty p) (getD (rings Y held x) (found .ring) []) (found .found))
 
-  free-e : Free Y held e
+  pub free-e : Free Y held e
   free-e = walk-free Y held free-x to-e
 
   -- x is in a ring around e that is no further out
@@ -163,19 +163,19 @@ unfolding after legalPlan
 at-once Y held x p a = record { legal = refl; empties = not-true (elem x p) a; keeps = λ c k m. refl; spares = λ z m o. o }
 
 -- What a vacate that succeeds does.
-pub vacate-vacates : (Y : Yard) (held : List Bay) (x : Bay) (p : Placement) (xs : List Crossing)
-    → Apart p → In x (upTo (Y .bays)) → vacate Y held x p ≡ some xs → Vacated Y held x p xs
+pub vacate-vacates : (Y : Yard) (held : List Bay) (x : Bay) (p : Placement) (m : Made)
+    → Apart p → In x (upTo (Y .bays)) → vacate Y held x p ≡ some m → Vacated Y held x p (m .moves)
 unfolding vacate
-vacate-vacates Y held x p xs apart i h =
+vacate-vacates Y held x p m apart i h =
     by-cases (isEmpty p x)
-    (λ a. let none-moved : [] ≡ xs = let z = rw a at h in cc in rw (← none-moved) (at-once Y held x p a))
+    (λ a. let none-moved : only [] ≡ m = let z = rw a at h in cc in rw (← none-moved) (at-once Y held x p a))
     (λ a. by-cases (elem x held)
-    (λ b. never-some xs (rw (a, b) at h))
+    (λ b. never-some m (rw (a, b) at h))
     (λ b. by-option (nearestEmpty Y held p x)
-    (λ c. never-some xs (rw (a, b, c) at h))
+    (λ c. never-some m (rw (a, b, c) at h))
     (λ e c.
     let s = vacates Y held p apart x e (i, b) c in
-    let same : shift p (shortestPath Y held x e) ≡ xs = let z = rw (a, b, c) at h in cc in
+    let same : record { moves = shift p (shortestPath Y held x e); parked = parking Y e } ≡ m = let z = rw (a, b, c) at h in cc in
     rw (← same) (record {
       legal = s .legal;
       empties = s .empties;
@@ -183,6 +183,30 @@ vacate-vacates Y held x p xs apart i h =
       spares = λ z m o. s .spares z (path-not-held Y held p apart x e (i, b) c z m) o;
     }))))
 
-pub vacate-empty : (Y : Yard) (held : List Bay) (x : Bay) (p : Placement) → Out x p → vacate Y held x p ≡ some []
+pub vacate-empty : (Y : Yard) (held : List Bay) (x : Bay) (p : Placement) → Out x p → vacate Y held x p ≡ some (only [])
 unfolding vacate
 vacate-empty Y held x p o = rw o
+
+-- It counts 1 exactly if it filled a bay, and that bay has three rails or more.
+pub vacate-parks : (Y : Yard) (held : List Bay) (x : Bay) (p : Placement) (m : Made) → vacate Y held x p ≡ some m
+    → m .parked ≡ (if-some filledBy Y held x p then parking Y else 0)
+unfolding vacate
+vacate-parks Y held x p m h =
+    by-cases (isEmpty p x)
+    (λ a. let none-moved : only [] ≡ m = let z = rw a at h in cc in rw (← none-moved, a))
+    (λ a. by-cases (elem x held)
+    (λ b. never-some m (rw (a, b) at h))
+    (λ b. by-option (nearestEmpty Y held p x)
+    (λ c. never-some m (rw (a, b, c) at h))
+    (λ e c.
+    let same : record { moves = shift p (shortestPath Y held x e); parked = parking Y e } ≡ m = let z = rw (a, b, c) at h in cc in
+    rw (← same, a, b, c))))
+
+-- The bay that it fills is one of the yard's.
+pub filled-inside : (Y : Yard) (held : List Bay) (x e : Bay) (p : Placement) → Apart p → In x (upTo (Y .bays)) → filledBy Y held x p ≡ some e → In e (upTo (Y .bays))
+filled-inside Y held x e p apart i h =
+    by-cases (isEmpty p x)
+    (λ a. never-some e (rw a at h))
+    (λ a. by-cases (elem x held)
+    (λ b. never-some e (rw (a, b) at h))
+    (λ b. free-e Y held p apart x e (i, b) (rw (a, b) at h) .0))

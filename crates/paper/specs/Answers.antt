@@ -28,8 +28,12 @@ pub data Answer : Type 0 where
   refused : Refusal → Answer
 
 unfoldable pub crossingsOf : Outcome → List Crossing
-crossingsOf (planned xs) = xs
+crossingsOf (planned m) = m .moves
 crossingsOf (stuck c) = []
+
+unfoldable pub parkedOf : Outcome → ℕ
+parkedOf (planned m) = m .parked
+parkedOf (stuck c) = 0
 
 -- 7, then 8 for a list of so many places
 unfoldable pub within : ℕ → Outcome → Answer
@@ -44,6 +48,15 @@ unfoldable pub plan : ℕ → List Bay → Placement → Placement → ℕ → A
 plan n ends starts goals lent =
     let result = within lent (procedure (yardOf n ends) goals starts) in
     unless (firstSix n ends starts goals 0) result
+
+-- what is carried beside an accepted plan; 0 beside a refusal
+unfoldable pub beside : Answer → ℕ → ℕ
+beside (accepted xs) k = k
+beside (refused r) k = 0
+
+-- "The planner's answer then carries how many vacates in the plan, undoing left aside, filled a bay of three rails or more."
+unfoldable pub planParked : ℕ → List Bay → Placement → Placement → ℕ → ℕ
+planParked n ends starts goals lent = beside (plan n ends starts goals lent) (parkedOf (procedure (yardOf n ends) goals starts))
 
 -- "Acceptance by the planner writes the plan and nothing beyond its length."
 unfoldable pub written : Answer → List ℕ → List ℕ

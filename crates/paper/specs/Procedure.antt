@@ -1,27 +1,39 @@
--- How the order is found, sentence by sentence. An action takes the placement and gives the crossings that it makes, in
--- order, or none where it fails.
+-- How the order is found, sentence by sentence. An action takes the placement and gives what it makes, or none where it fails.
 -- Assumes nothing.
 use mathlib.Core.Bool.{not}
 use mathlib.Core.List.{List, [], _∷_, _++_, map, dropLast}
 use mathlib.Core.Option.{Option, none, some}
-use Prim.Native.Nat.{ℕ, zero, suc, min, max}
+use Prim.Native.Nat.{ℕ, zero, suc, min, max, _+_}
 use lib.Dec.{eqb, ltb, leb}
 use lib.ListN.{length, getD, set, take, drop}
 use Rattle.paper.specs.Basics.{if_then_else_, if-some_then_else_, _and_, _>>=_, orElse, filter, lowestOf, firstOf, elem, without}
 use Rattle.paper.specs.Yard.{Bay, Carrier, Yard, Placement, Crossing, crossing, bayOf, carrierAt, isEmpty, after, reverseOf, neighbours, junction, carousel}
 use Rattle.paper.specs.Path.{rings, nearestFirst, shortestPath, pathBetween}
 
+-- what is made: crossings, in order, and how many vacates among them filled a bay of three rails or more
+pub record Made : Type 0 where
+  pub moves : List Crossing
+  pub parked : ℕ
+
+-- crossings that are no vacate's
+abbrev pub only : List Crossing → Made
+only xs = record { moves = xs; parked = 0 }
+
+-- one after the other
+abbrev pub together : Made → Made → Made
+together a b = record { moves = a .moves ++ b .moves; parked = a .parked + b .parked }
+
 abbrev pub Action : Type 0
-Action = Placement → Option (List Crossing)
+Action = Placement → Option Made
 
 infixr 20 _then_
 -- the first action, then the second at the placement that the first leaves
 unfoldable pub _then_ : Action → Action → Action
-_then_ f g p = f p >>= λ a. g (after p a) >>= λ b. some (a ++ b)
+_then_ f g p = f p >>= λ a. g (after p (a .moves)) >>= λ b. some (together a b)
 
 -- carrier c crosses from where it stands
 unfoldable pub cross : Carrier → Bay → Action
-cross c to p = some (crossing c (bayOf p c) to ∷ [])
+cross c to p = some (only (crossing c (bayOf p c) to ∷ []))
 
 -- ## Vacate
 
@@ -36,12 +48,20 @@ module _ (Y : Yard) where
   unfoldable pub nearestEmpty : List Bay → Placement → Bay → Option Bay
   nearestEmpty held p x = firstOf (lowestOf (isEmpty p)) (rings Y held x)
 
+  -- "Vacating must also say which bay it filled, if it moved anything."
+  abbrev pub filledBy : List Bay → Bay → Placement → Option Bay
+  filledBy held x p = if isEmpty p x then none else if elem x held then none else nearestEmpty held p x
+
+  -- 1 for the vacate that "filled a bay of three rails or more"
+  abbrev pub parking : Bay → ℕ
+  parking e = if junction Y e then 1 else 0
+
   -- Vacate(x, held): "if x is empty, done. If x is held, fail. Otherwise take the nearest empty bay [..] None: fail."
   unfoldable pub vacate : List Bay → Bay → Action
   vacate held x p =
-      if isEmpty p x then some []
+      if isEmpty p x then some (only [])
       else if elem x held then none
-      else nearestEmpty held p x >>= λ e. some (shift p (shortestPath Y held x e))
+      else nearestEmpty held p x >>= λ e. some (record { moves = shift p (shortestPath Y held x e); parked = parking e })
 
 -- ## Swap
 
@@ -78,19 +98,19 @@ clearingHeld v b kept = v ∷ b ∷ kept
 abbrev pub holding : ℕ → Carrier → Placement → List Bay
 holding finished r p = bayOf p r ∷ take finished p
 
--- what clearing comes to: the crossings made, and the bays kept
+-- what clearing comes to: what is made, and the bays kept
 pub record Cleared : Type 0 where
-  pub moves : List Crossing
+  pub made : Made
   pub kept : List Bay
 
-abbrev pub following : List Crossing → Cleared → Cleared
-following ms c = record { moves = ms ++ c .moves; kept = c .kept }
+abbrev pub following : Made → Cleared → Cleared
+following m c = record { made = together m (c .made); kept = c .kept }
 
 module _ (Y : Yard) where
   -- 1. Bring, along the bays that the leader has yet to enter: "While the leader is not at v: vacate the path's next bay,
   -- holding both their bays; leader crosses into it, follower crosses into the leader's old bay."
   unfoldable pub bring : Carrier → Carrier → List Bay → Action
-  bring L M [] p = some []
+  bring L M [] p = some (only [])
   bring L M (x ∷ xs) p =
       let u = bayOf p L in
       (vacate Y (theirBays L M p) x then cross L x then cross M u then bring L M xs) p
@@ -98,12 +118,12 @@ module _ (Y : Yard) where
   -- "While fewer than two: go once through the other neighbours of v except b, in rising order; vacate each, holding v, b and
   -- those kept; on success keep it."
   unfoldable pub clearing : Bay → Bay → List Bay → List Bay → Placement → Cleared
-  clearing v b kept [] p = record { moves = []; kept = kept }
+  clearing v b kept [] p = record { made = only []; kept = kept }
   clearing v b kept (x ∷ xs) p =
       let passed = clearing v b kept xs p in
-      if leb 2 (length kept) then record { moves = []; kept = kept }
+      if leb 2 (length kept) then record { made = only []; kept = kept }
       else if-some vacate Y (clearingHeld v b kept) x p
-      then (λ ms. following ms (clearing v b (kept ++ (x ∷ [])) xs (after p ms)))
+      then (λ m. following m (clearing v b (kept ++ (x ∷ [])) xs (after p (m .moves))))
       else passed
 
   -- 2. Clear: "The follower is at b. Keep the empty neighbours of v other than b, at most the two lowest."
@@ -113,20 +133,22 @@ module _ (Y : Yard) where
       let kept = take 2 (filter (isEmpty p) around) in
       clearing v b kept (without kept around) p
 
-  -- Steps 3 and 4 after what steps 1 and 2 did: "Fewer than two at the end: the trial fails."
-  unfoldable pub finish : Carrier → Carrier → Bay → Bay → List Crossing → List Bay → Option (List Crossing)
-  finish L M v b made [] = none
-  finish L M v b made (x ∷ []) = none
-  finish L M v b made (x ∷ y ∷ rest) = some (made ++ exchange L M v b (min x y) (max x y) ++ undo L M made)
+  -- Steps 3 and 4 after what steps 1 and 2 made: "Fewer than two at the end: the trial fails." The vacates are counted once, "undoing
+  -- left aside".
+  unfoldable pub finish : Carrier → Carrier → Bay → Bay → Made → List Bay → Option Made
+  finish L M v b m [] = none
+  finish L M v b m (x ∷ []) = none
+  finish L M v b m (x ∷ y ∷ rest) =
+      some (record { moves = m .moves ++ exchange L M v b (min x y) (max x y) ++ undo L M (m .moves); parked = m .parked })
 
   -- a trial at v with leader L, follower M and the bays ahead of the leader
   unfoldable pub trialLed : Carrier → Carrier → Bay → List Bay → Action
   trialLed L M v ahead p =
       bring L M ahead p >>= λ brought.
-      let p₁ = after p brought in
+      let p₁ = after p (brought .moves) in
       let b = bayOf p₁ M in
       let cleared = clear v b p₁ in
-      finish L M v b (brought ++ cleared .moves) (cleared .kept)
+      finish L M v b (together brought (cleared .made)) (cleared .kept)
 
   -- "Take the shortest path from u to v. If its second bay is w, s leads and r follows; otherwise r leads."
   unfoldable pub trial : Carrier → Carrier → Bay → Action
@@ -149,27 +171,27 @@ module _ (Y : Yard) where
   step finished r w p =
       orElse ((vacate Y (holding finished r p) w then cross r w) p) (swap r (carrierAt p w) p)
 
--- the crossings, or the carrier that could not step
+-- what is made, or the carrier that could not step
 pub data Outcome : Type 0 where
-  planned : List Crossing → Outcome
+  planned : Made → Outcome
   stuck : Carrier → Outcome
 
 abbrev pub Stage : Type 0
 Stage = Placement → Outcome
 
 -- "If the swap fails, stop with 7 for r."
-unfoldable pub orStuck : Carrier → Option (List Crossing) → Outcome
+unfoldable pub orStuck : Carrier → Option Made → Outcome
 orStuck c none = stuck c
 orStuck c (some a) = planned a
 
-unfoldable pub onward : Outcome → (List Crossing → Outcome) → Outcome
+unfoldable pub onward : Outcome → (Made → Outcome) → Outcome
 onward (planned a) f = f a
 onward (stuck c) f = stuck c
 
 infixr 20 _next_
 -- the first stage, then the second at the placement that the first leaves
 unfoldable pub _next_ : Stage → Stage → Stage
-_next_ f g p = onward (f p) (λ a. onward (g (after p a)) (λ b. planned (a ++ b)))
+_next_ f g p = onward (f p) (λ a. onward (g (after p (a .moves))) (λ b. planned (together a b)))
 
 module _ (Y : Yard) (goals : Placement) where
   -- The bays that r's path avoids: none, "other carriers disregarded"; in a carousel "the present bays of finished carriers".
@@ -182,18 +204,18 @@ module _ (Y : Yard) (goals : Placement) where
 
   -- "For each next bay": r steps through the bays ahead
   unfoldable pub go : Carrier → List Bay → Stage
-  go r [] p = planned []
+  go r [] p = planned (only [])
   go r (w ∷ ws) p = ((λ q. orStuck r (step Y r r w q)) next go r ws) p
 
   -- "if a finished carrier has goal vi and is not there, it steps [..] to vi by the same rule; a failure is 7 for that carrier"
   unfoldable pub homeAt : ℕ → Bay → Stage
   homeAt finished v p =
       let f = carrierAt (take finished goals) v in
-      if ltb f finished and not (eqb (bayOf p f) v) then orStuck f (step Y finished f v p) else planned []
+      if ltb f finished and not (eqb (bayOf p f) v) then orStuck f (step Y finished f v p) else planned (only [])
 
   -- the bays of the path one after the other, the last of them first
   unfoldable pub wayHome : ℕ → List Bay → Stage
-  wayHome finished [] p = planned []
+  wayHome finished [] p = planned (only [])
   wayHome finished (v ∷ vs) p = (wayHome finished vs next homeAt finished v) p
 
   -- Carrier r goes its path v0..vm, past v0 the bays ahead. "Way home: r now counts as finished. For i from m−1 down to 1".
@@ -206,7 +228,7 @@ module _ (Y : Yard) (goals : Placement) where
 
   -- k carriers from r on: "Carriers are planned by rising number."
   unfoldable pub carryFrom : Carrier → ℕ → Stage
-  carryFrom r zero p = planned []
+  carryFrom r zero p = planned (only [])
   carryFrom r (suc k) p = (carry r next carryFrom (suc r) k) p
 
   -- the whole procedure

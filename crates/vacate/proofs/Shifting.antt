@@ -12,11 +12,12 @@ use lib.ListN.{length, getD, drop, set, length-append, length-set, length-drop}
 use lib.Seq.{drop-cons, drop-length, getD-set-other, set-set, set-getD}
 use borrow.Author.Tests.{eqb-true, eq-eqb, ne-eqb}
 use Rattle.paper.specs.Basics.{_and_, _or_, elem, In, Out}
-use Rattle.paper.specs.Yard.{Bay, Placement, crossing, bayOf, carrierAt, isEmpty, after}
+use Rattle.paper.specs.Yard.{Bay, Yard, Placement, crossing, bayOf, carrierAt, isEmpty, after}
 use Rattle.paper.specs.Procedure.{shift}
 use Rattle.paper.proofs.Members.{In-head, In-tail, Out-head}
 use Rattle.paper.proofs.Playing.{Apart, after-append, after-length, placeOf-bay, placeOf-there, bay-in}
-use Rattle.paper.proofs.Vacating.{plan-apart, shift-shifts, shift-cons, shift-one}
+use Rattle.paper.proofs.Tests.{not-both}
+use Rattle.paper.proofs.Vacating.{Shiftable, plan-apart, shift-shifts, shift-cons, shift-one}
 use Rattle.words.specs.Sets.{mem}
 use Rattle.vacate.specs.Placed.{Placed, Played, MovedOn, CanShift}
 use Rattle.vacate.proofs.Playing.{Told, told-then, Stood, stood, placed-of, played-none, stored-exact}
@@ -35,6 +36,18 @@ unfolding shift
 shift-length p [] = omega arith
 shift-length p (a ∷ []) = omega arith
 shift-length p (a ∷ b ∷ l) = omega (arith, shift-length p (b ∷ l), length-append (shift p (b ∷ l)) (crossing (carrierAt p a) a b ∷ []))
+
+-- and along two bays or more somebody moves
+pub shift-some : (p path : List ℕ) → 2 ≤ length path → 0 < length (shift p path)
+unfolding shift
+shift-some p [] h = absurd (omega arith)
+shift-some p (a ∷ []) h = absurd (omega arith)
+shift-some p (a ∷ b ∷ l) h = omega (arith, length-append (shift p (b ∷ l)) (crossing (carrierAt p a) a b ∷ []))
+
+-- a path along which carriers can be shifted has two bays or more where its first is occupied
+pub two-bays : (Y : Yard) (p : List ℕ) (apart : Apart p) (x : Bay) (path rest : List ℕ) → path ≡ x ∷ rest → In x p → Shiftable Y p apart path → 2 ≤ length path
+two-bays Y p apart x path [] e i s = not-both i (rw e at s)
+two-bays Y p apart x path (b ∷ l) e i s = rw e (omega arith)
 
 -- The carriers on the path have moved on, and are told. At the path's first bay the number of the one that left it may still stand.
 pub record Shifting (n : ℕ) (p path q standing out : List ℕ) (at : ℕ) (out′ : List ℕ) (m : ℕ) : Type 0 where

@@ -13,10 +13,11 @@ use lib.Dec.{ltb}
 use borrow.Author.Tests.{not-true, not-false, ltb-true, ltb-false}
 use Rattle.paper.specs.Basics.{_and_, elem}
 use Rattle.paper.specs.Yard.{Bay, Crossing, crossing, carrierAt, isEmpty, joined}
-use Rattle.paper.specs.Path.{Free, shortestPath}
+use Rattle.paper.specs.Path.{Free, rings, ringOf, shortestPath}
 use Rattle.paper.specs.Procedure.{nearestEmpty, shift, vacate}
 use Rattle.paper.proofs.Tests.{never-some, by-cases, not-both, and-left, and-right, and-both}
 use Rattle.paper.proofs.Members.{count-high, in-count}
+use Rattle.paper.proofs.Shortest.{inward-head}
 use Rattle.paper.proofs.Vacating.{path-shiftable, path-free}
 use Rattle.words.specs.Sets.{mem, memRow, span, Lowest}
 use Rattle.rings.specs.Search.{Shown}
@@ -25,7 +26,7 @@ use Rattle.vacate.specs.Answer.{Vacates, vacating, bayFilled, countAfter
 use Rattle.vacate.specs.declared.Vacated.{Vacated}
 use Rattle.vacate.specs.declared.Vacated.the-variants.{Empty, Failed}
 use Rattle.vacate.proofs.Playing.{played-none, unchanged}
-use Rattle.vacate.proofs.Shifting.{shift-length}
+use Rattle.vacate.proofs.Shifting.{shift-length, shift-some, two-bays}
 use Rattle.vacate.proofs.Beside.{beside-nearest, beside-path}
 
 acted-none : {o : Option (List Crossing)} {n : ℕ} {p standing empty out : List ℕ} {at : ℕ} → o ≡ none → Acted o n p standing empty out at p standing empty out
@@ -57,6 +58,7 @@ module _ {n : ℕ} {table held : List ℕ} (s : Shown n table held) (most : n �
         acted = acted-some o (played-none n p standing empty out at k);
         still = λ d. unchanged p standing empty out;
         short = λ xs d. let same : [] ≡ xs = let z = sym o ∙ d in cc in rw (← same) (omega arith);
+        some-moved = λ e f. never-some e f;
       }
 
   -- nothing can be done
@@ -67,6 +69,7 @@ module _ {n : ℕ} {table held : List ℕ} (s : Shown n table held) (most : n �
     acted = acted-none o;
     still = λ d. unchanged p standing empty out;
     short = λ xs d. never-some xs (sym o ∙ d);
+    some-moved = λ e f. never-some e f;
   }
 
   module _ (full : false ≡ mem empty x) where
@@ -146,6 +149,10 @@ module _ {n : ℕ} {table held : List ℕ} (s : Shown n table held) (most : n �
         unfolding vacate
         vacates-filled p′ standing′ empty′ out′ r m c f short w =
             let o : vacating s x p standing empty out at ≡ some (shift p path) = rw (full-x, out-x, ← found, ← shortest) in
+            let starts = inward-head (s .yard) (rings (s .yard) (s .bays) e) (ringOf (s .yard) x (rings (s .yard) (s .bays) e)) x in
+            let far : shortestPath (s .yard) (s .bays) x e ≡ x ∷ starts .0 = unfold shortestPath in starts .1 in
+            let two : 2 ≤ length path =
+            rw shortest (two-bays (s .yard) p (k .apart) x _ (starts .0) far (not-false (elem x p) full-x) (path-shiftable (s .yard) (s .bays) p (k .apart) x e free-x (sym found))) in
             record {
               counts = c ∙ rw o (ap some (w .counted));
               fills = f ∙ rw (full-x, out-x) found;
@@ -154,6 +161,9 @@ module _ {n : ℕ} {table held : List ℕ} (s : Shown n table held) (most : n �
               short = λ xs d.
                   let same : shift p path ≡ xs = let z = sym o ∙ d in cc in
                   rw (← same) (omega (arith, shift-length p path));
+              some-moved = λ d g xs h.
+                  let same : shift p path ≡ xs = let z = sym o ∙ h in cc in
+                  rw (← same) (shift-some p path two);
             }
 
       -- the carrier at x crossed to the bay beside it

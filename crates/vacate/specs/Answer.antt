@@ -5,9 +5,9 @@ use mathlib.Core.List.{List}
 use mathlib.Core.Option.{Option, none, some}
 use Prim.Native.Nat.{ℕ, _+_, _<_}
 use lib.ListN.{length}
-use Rattle.paper.specs.Basics.{if_then_else_, _>>=_, elem}
-use Rattle.paper.specs.Yard.{Bay, Yard, Placement, Crossing, isEmpty}
-use Rattle.paper.specs.Procedure.{nearestEmpty, vacate}
+use Rattle.paper.specs.Basics.{_>>=_}
+use Rattle.paper.specs.Yard.{Bay, Yard, Placement, Crossing}
+use Rattle.paper.specs.Procedure.{filledBy, vacate}
 use Rattle.rings.specs.Search.{Shown}
 use Rattle.vacate.specs.Placed.{Unchanged, Acted}
 use Rattle.vacate.specs.declared.Vacated.{Vacated}
@@ -27,12 +27,12 @@ filled Failed = none
 
 -- the bay that the paper's vacate fills
 abbrev pub bayFilled : Yard → List Bay → Bay → Placement → Option Bay
-bayFilled Y held x p = if isEmpty p x then none else if elem x held then none else nearestEmpty Y held p x
+bayFilled Y held x p = filledBy Y held x p
 
 module _ {n : ℕ} {table held : List ℕ} (s : Shown n table held) (x : Bay) (p standing empty out : List ℕ) (at : ℕ) where
-  -- the paper's vacate at p
+  -- the crossings of the paper's vacate at p
   abbrev pub vacating : Option (List Crossing)
-  vacating = vacate (s .yard) (s .bays) x p
+  vacating = vacate (s .yard) (s .bays) x p >>= λ m. some (m .moves)
 
   pub record Vacates (p′ standing′ empty′ out′ : List ℕ) (r : Vacated) : Type 0 where
     pub counts : countAfter at r ≡ (vacating >>= λ xs. some (at + length xs))
@@ -40,3 +40,4 @@ module _ {n : ℕ} {table held : List ℕ} (s : Shown n table held) (x : Bay) (p
     pub acted : Acted vacating n p standing empty out at p′ standing′ empty′ out′
     pub still : filled r ≡ none → Unchanged p standing empty out p′ standing′ empty′ out′
     pub short : (xs : List Crossing) → vacating ≡ some xs → length xs < n
+    pub some-moved : (e : Bay) → filled r ≡ some e → (xs : List Crossing) → vacating ≡ some xs → 0 < length xs
