@@ -1,0 +1,4 @@
+pub mod Fitting
+pub mod GoingRound
+pub mod Closing
+pub mod OneRing
