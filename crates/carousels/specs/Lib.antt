@@ -1,2 +1,4 @@
 pub mod Carousel
 pub mod Round
+pub mod Leads
+pub mod Order
