@@ -5,3 +5,6 @@ pub mod OneRing
 pub mod Circling
 pub mod Leading
 pub mod Ordering
+pub mod Mirroring
+pub mod Walking
+pub mod Opening

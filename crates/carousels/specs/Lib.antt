@@ -2,3 +2,4 @@ pub mod Carousel
 pub mod Round
 pub mod Leads
 pub mod Order
+pub mod Due
