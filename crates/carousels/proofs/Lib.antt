@@ -8,3 +8,6 @@ pub mod Ordering
 pub mod Mirroring
 pub mod Walking
 pub mod Opening
+pub mod Crowding
+pub mod Counting
+pub mod Room
