@@ -11,3 +11,6 @@ pub mod Opening
 pub mod Crowding
 pub mod Counting
 pub mod Room
+pub mod Stepping
+pub mod Turning
+pub mod Carousels

@@ -3,3 +3,4 @@ pub mod Round
 pub mod Leads
 pub mod Order
 pub mod Due
+pub mod Turns
