@@ -20,6 +20,10 @@ use Rattle.carousels.proofs.Leading.{leads-by, leads-on, leads-back, le
 use Rattle.carousels.proofs.Stepping.{next-runs}
 use Rattle.carousels.proofs.Turning.{Home, turn-sound, turn-planned}
 
+pub by-outcome : {P : Type 0} (x : Outcome) → ((a : List Crossing) → x ≡ planned a → P) → ((c : Carrier) → x ≡ stuck c → P) → P
+by-outcome (planned a) f g = f a refl
+by-outcome (stuck c) f g = g c refl
+
 module _ (Y : Yard) (sound : Sound Y) (goals : Placement) (goals-good : Good Y goals) where
   from-sound : (k : ℕ) (r : Carrier) (p : Placement) (xs : List Crossing) → Good Y p → length p ≡ length goals → r + k ≡ length goals → Home goals r p
       → turnsFrom Y goals r k p ≡ planned xs → (legalPlan Y p xs ≡ true) × Home goals (length goals) (after p xs)
@@ -65,14 +69,14 @@ module _ (Y : Yard) (sound : Sound Y) (goals : Placement) (goals-good : Good Y g
   unfolding turns
   turns-planned o p good roomy leads = from-planned o (length goals) 0 p good roomy (omega arith) (λ c k. absurd (omega arith)) leads
 
-  -- THE THEOREM: the procedure is stuck exactly if no legal list of crossings leads from start to goal, any list at all.
-  pub stuck-exactly : Round Y → (p : Placement) → Good Y p → length p ≡ length goals → length p + 2 ≤ Y .bays
-      → ((c : Carrier) × (turns Y goals p ≡ stuck c)) ↔ (Leads Y p goals → ⊥)
-  stuck-exactly o p good len roomy = (
-    λ s leads. let t = turns-planned o p good roomy leads in let z : planned (t .0) ≡ stuck (s .0) = sym (t .1) ∙ s .1 in never cc,
-    λ no. by-turns (turns Y goals p) (λ xs h. absurd (no (turns-lead p xs good len h))) (λ c h. (c, h)),
-  )
-    where
-      by-turns : {P : Type 0} (x : Outcome) → ((a : List Crossing) → x ≡ planned a → P) → ((c : Carrier) → x ≡ stuck c → P) → P
-      by-turns (planned a) f g = f a refl
-      by-turns (stuck c) f g = g c refl
+  module _ (o : Round Y) (p : Placement) (good : Good Y p) (len : length p ≡ length goals) (roomy : length p + 2 ≤ Y .bays) where
+    -- THE THEOREM: the procedure is stuck exactly if no legal list of crossings leads from start to goal, any list at all.
+    pub stuck-exactly : ((c : Carrier) × (turns Y goals p ≡ stuck c)) ↔ (Leads Y p goals → ⊥)
+    stuck-exactly = (
+      λ s leads. let t = turns-planned o p good roomy leads in let z : planned (t .0) ≡ stuck (s .0) = sym (t .1) ∙ s .1 in never cc,
+      λ no. by-outcome (turns Y goals p) (λ xs h. absurd (no (turns-lead p xs good len h))) (λ c h. (c, h)),
+    )
+
+    -- And it plans exactly if one does.
+    pub planned-exactly : ((xs : List Crossing) × (turns Y goals p ≡ planned xs)) ↔ Leads Y p goals
+    planned-exactly = (λ t. turns-lead p (t .0) good len (t .1), λ leads. turns-planned o p good roomy leads)

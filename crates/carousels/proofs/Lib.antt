@@ -14,3 +14,5 @@ pub mod Room
 pub mod Stepping
 pub mod Turning
 pub mod Carousels
+pub mod Seven
+pub mod Worked
