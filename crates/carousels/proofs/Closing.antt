@@ -146,6 +146,9 @@ module _ (Y : Yard) (sound : Sound Y) (w : GoingRound Y) where
     not-there-and-back : last ≡ 1 → ⊥
     not-there-and-back e = w .onward 0 (ap (λ i. at (suc i)) (sym e) ∙ home-again)
 
+    pub three-or-more : 3 ≤ m
+    three-or-more = omega (arith, c .count, not-at-once, not-there-and-back)
+
     -- and so it goes on as it began
     round-again : at (suc (suc last)) ≡ at 1
     round-again =

@@ -58,6 +58,22 @@ some-member : (l : List ℕ) → length l ≡ 2 → (u : ℕ) × In u l
 some-member [] h = absurd (omega arith)
 some-member (a ∷ l) h = (a, In-head a l)
 
+module _ (Y : Yard) (sound : Sound Y) where
+  pub end-low : (u v : Bay) → joined Y u v ≡ true → v < Y .bays
+  end-low u v j = let l = count-high 0 (Y .bays) v (sound .inside u v j) in omega arith
+
+  pub in-neighbours : (v x : Bay) → joined Y v x ≡ true → In x (neighbours Y v)
+  unfolding neighbours
+  in-neighbours v x j = in-filter (joined Y v) (upTo (Y .bays)) x (sound .inside v x j) j
+
+  pub neighbours-joined : (v x : Bay) → In x (neighbours Y v) → joined Y v x ≡ true
+  unfolding neighbours
+  neighbours-joined v x i = filter-passes (joined Y v) (upTo (Y .bays)) x i
+
+  pub neighbours-once : (v : Bay) → NoDup (neighbours Y v)
+  unfolding neighbours
+  neighbours-once v = nodup-filter (joined Y v) (upTo (Y .bays)) (nodup-count 0 (Y .bays))
+
 module _ (Y : Yard) (sound : Sound Y) (two-each : carousel Y ≡ true) where
   two-rails : (v : Bay) → v < Y .bays → length (neighbours Y v) ≡ 2
   unfolding carousel
@@ -67,21 +83,6 @@ module _ (Y : Yard) (sound : Sound Y) (two-each : carousel Y ≡ true) where
       (λ e. not-both
       (any-of (λ u. not (eqb (length (neighbours Y u)) 2)) (upTo (Y .bays)) v (in-count 0 (Y .bays) v (omega arith) (omega arith)) (ap not e))
       (not-true _ two-each))
-
-  end-low : (u v : Bay) → joined Y u v ≡ true → v < Y .bays
-  end-low u v j = let l = count-high 0 (Y .bays) v (sound .inside u v j) in omega arith
-
-  in-neighbours : (v x : Bay) → joined Y v x ≡ true → In x (neighbours Y v)
-  unfolding neighbours
-  in-neighbours v x j = in-filter (joined Y v) (upTo (Y .bays)) x (sound .inside v x j) j
-
-  neighbours-joined : (v x : Bay) → In x (neighbours Y v) → joined Y v x ≡ true
-  unfolding neighbours
-  neighbours-joined v x i = filter-passes (joined Y v) (upTo (Y .bays)) x i
-
-  neighbours-once : (v : Bay) → NoDup (neighbours Y v)
-  unfolding neighbours
-  neighbours-once v = nodup-filter (joined Y v) (upTo (Y .bays)) (nodup-count 0 (Y .bays))
 
   -- one rail of the walk
   record Leg : Type 0 where
@@ -93,24 +94,24 @@ module _ (Y : Yard) (sound : Sound Y) (two-each : carousel Y ≡ true) where
   -- the bay beyond it
   beyond : (l : Leg) → Other (neighbours Y (l .to)) (l .from)
   beyond l =
-      other-of (neighbours Y (l .to)) (neighbours-once (l .to))
-      (two-rails (l .to) (end-low (l .from) (l .to) (l .rail)))
+      other-of (neighbours Y (l .to)) (neighbours-once Y sound (l .to))
+      (two-rails (l .to) (end-low Y sound (l .from) (l .to) (l .rail)))
       (l .from)
-      (in-neighbours (l .to) (l .from) (joined-sym Y (l .from) (l .to) (l .rail)))
+      (in-neighbours Y sound (l .to) (l .from) (joined-sym Y (l .from) (l .to) (l .rail)))
 
   next-leg : Leg → Leg
   next-leg l = record {
     from = l .to;
     to = beyond l .that;
-    low = end-low (l .from) (l .to) (l .rail);
-    rail = neighbours-joined (l .to) (beyond l .that) (beyond l .there);
+    low = end-low Y sound (l .from) (l .to) (l .rail);
+    rail = neighbours-joined Y sound (l .to) (beyond l .that) (beyond l .there);
   }
 
   module _ (some-bay : 0 < Y .bays) where
     first-leg : Leg
     first-leg =
         let s = some-member (neighbours Y 0) (two-rails 0 some-bay) in
-        record { from = 0; to = s .0; low = some-bay; rail = neighbours-joined 0 (s .0) (s .1) }
+        record { from = 0; to = s .0; low = some-bay; rail = neighbours-joined Y sound 0 (s .0) (s .1) }
 
     leg : ℕ → Leg
     leg zero = first-leg
@@ -124,5 +125,5 @@ module _ (Y : Yard) (sound : Sound Y) (two-each : carousel Y ≡ true) where
       low = λ k. leg k .low;
       rail = λ k. leg k .rail;
       onward = λ k. beyond (leg k) .differs;
-      only = λ k x j. beyond (leg k) .only x (in-neighbours (leg k .to) x j);
+      only = λ k x j. beyond (leg k) .only x (in-neighbours Y sound (leg k .to) x j);
     }

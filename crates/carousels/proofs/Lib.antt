@@ -2,6 +2,7 @@ pub mod Fitting
 pub mod GoingRound
 pub mod Closing
 pub mod OneRing
+pub mod TwoRails
 pub mod Circling
 pub mod Leading
 pub mod Ordering

@@ -5,7 +5,7 @@ use mathlib.Core.Bool.{Bool, true}
 use mathlib.Core.Logic.{_⊎_, ⊎-elim}
 use mathlib.Core.List.{List, []}
 use mathlib.Core.Option.{none, Option·getD}
-use Prim.Native.Nat.{ℕ, suc, _<_}
+use Prim.Native.Nat.{ℕ, suc, _<_, _≤_}
 use native.Mathlib.Omega.{arith}
 use lib.Dec.{eqb}
 use borrow.Author.Tests.{eqb-true, eq-eqb}
@@ -21,7 +21,7 @@ use Rattle.carousels.specs.Carousel.{carousel}
 use Rattle.carousels.specs.Round.{Next, Round}
 use Rattle.carousels.proofs.Fitting.{no-longer, count-length}
 use Rattle.carousels.proofs.GoingRound.{GoingRound, going-round}
-use Rattle.carousels.proofs.Closing.{Closed, beside-walk, closes-somewhere, few, walked, walked-length, in-walked}
+use Rattle.carousels.proofs.Closing.{Closed, beside-walk, three-or-more, closes-somewhere, few, walked, walked-length, in-walked}
 
 module _ (Y : Yard) (sound : Sound Y) (all-joined : apartBay Y ≡ none) (w : GoingRound Y) where
   abbrev at : ℕ → Bay
@@ -104,12 +104,22 @@ module _ (Y : Yard) (sound : Sound Y) (all-joined : apartBay Y ≡ none) (w : Go
       joins = joins-on;
     }
 
+-- the walk round such a yard, closed after as many rails as there are bays
+walk-closed : (Y : Yard) (some-bay : 0 < Y .bays) (sound : Sound Y) → apartBay Y ≡ none → (two-each : carousel Y ≡ true)
+    → Closed (going-round Y sound two-each some-bay .at) (Y .bays)
+walk-closed Y some-bay sound all-joined two-each =
+    let w = going-round Y sound two-each some-bay in
+    let c = closes-somewhere Y sound w in
+    rw (as-many Y sound all-joined w (c .0) (c .1)) at (c .1)
+
 -- A yard in which every rail leads to another bay, every bay is reached from bay 0, and every bay has exactly two rails, is one ring.
 pub goes-round : (Y : Yard) → 0 < Y .bays → Sound Y → apartBay Y ≡ none → carousel Y ≡ true → Round Y
 goes-round Y some-bay sound all-joined two-each =
-    let w = going-round Y sound two-each some-bay in
-    let c = closes-somewhere Y sound w in
-    around Y sound all-joined w (rw (as-many Y sound all-joined w (c .0) (c .1)) at (c .1))
+    around Y sound all-joined (going-round Y sound two-each some-bay) (walk-closed Y some-bay sound all-joined two-each)
+
+pub three-bays : (Y : Yard) → 0 < Y .bays → Sound Y → apartBay Y ≡ none → carousel Y ≡ true → 3 ≤ Y .bays
+three-bays Y some-bay sound all-joined two-each =
+    three-or-more Y sound (going-round Y sound two-each some-bay) (Y .bays) (walk-closed Y some-bay sound all-joined two-each)
 
 -- Once 1 to 6 pass, a carousel is one ring.
 pub one-ring : (n : ℕ) (ends : List Bay) (starts goals : Placement) (lent : ℕ) → firstSix n ends starts goals lent ≡ none
