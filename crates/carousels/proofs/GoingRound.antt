@@ -10,12 +10,11 @@ use lib.Dec.{eqb}
 use lib.ListN.{length}
 use borrow.Author.Tests.{not-true, eqb-true}
 use Rattle.paper.specs.Basics.{upTo, In, NoDup}
-use Rattle.paper.specs.Yard.{Bay, Yard, joined, neighbours}
+use Rattle.paper.specs.Yard.{Bay, Yard, joined, neighbours, carousel}
 use Rattle.paper.proofs.Tests.{by-cases, not-both}
 use Rattle.paper.proofs.Members.{In-nil, In-head, In-tail, In-cases, In-one, Out-head, any-of, in-filter, filter-passes, nodup-filter, nodup-count, in-count, count-high}
 use Rattle.paper.proofs.Rings.{joined-sym}
 use Rattle.paper.proofs.Playing.{Sound}
-use Rattle.carousels.specs.Carousel.{carousel}
 
 -- A walk along the rails from bay 0, never straight back; a bay that it comes to is joined with the one before and the one after only.
 pub record GoingRound (Y : Yard) : Type 0 where

@@ -10,14 +10,13 @@ use native.Mathlib.Omega.{arith}
 use lib.Dec.{eqb}
 use borrow.Author.Tests.{eqb-true, eq-eqb}
 use Rattle.paper.specs.Basics.{find, upTo}
-use Rattle.paper.specs.Yard.{Bay, Yard, Placement, joined}
+use Rattle.paper.specs.Yard.{Bay, Yard, Placement, joined, carousel}
 use Rattle.paper.specs.Docket.{yardOf, apartBay}
 use Rattle.paper.specs.Answers.{firstSix}
 use Rattle.paper.proofs.Members.{in-count, count-high, nodup-count, find-some, find-in, find-passes}
 use Rattle.paper.proofs.Rings.{Walk, here, on, reached-walk}
 use Rattle.paper.proofs.Playing.{Sound}
 use Rattle.paper.proofs.Admitted.{clean-of, sound-of, all-reached}
-use Rattle.carousels.specs.Carousel.{carousel}
 use Rattle.carousels.specs.Round.{Next, Round}
 use Rattle.carousels.proofs.Fitting.{no-longer, count-length}
 use Rattle.carousels.proofs.GoingRound.{GoingRound, going-round}

@@ -3,7 +3,7 @@
 use mathlib.Core.Path.{_≡_, refl, sym, _∙_}
 use mathlib.Core.Bool.{true}
 use mathlib.Core.Logic.{⊎-elim}
-use mathlib.Core.List.{List, [], _∷_, _++_}
+use mathlib.Core.List.{List, [], _∷_}
 use mathlib.Core.Option.{Option, some}
 use Prim.Native.Nat.{_<_, _≤_, _+_}
 use native.Mathlib.Omega.{arith}
@@ -13,7 +13,7 @@ use borrow.Author.Tests.{ne-eqb}
 use Rattle.paper.specs.Basics.{Out, NoDup}
 use Rattle.paper.specs.Yard.{Bay, Carrier, Yard, Placement, Crossing, bayOf, after, joined}
 use Rattle.paper.specs.Path.{Free, Route}
-use Rattle.paper.specs.Procedure.{vacate, cross, step, holding, planned, onward, orStuck, Stage, _next_, go}
+use Rattle.paper.specs.Procedure.{Made, only, together, vacate, cross, step, holding, planned, onward, orStuck, Stage, _next_, go}
 use Rattle.paper.proofs.Tests.{by-option, not-both, never-some, none-both}
 use Rattle.paper.proofs.Members.{Out-head, Out-tail, out-cons}
 use Rattle.paper.proofs.Playing.{Sound, after-length}
@@ -41,13 +41,13 @@ home-held r p goals len home =
     ext-getD 0 (take r p) (take r goals) n
     (λ c h. let k : c < r = let z = rw length-take at h in omega arith in getD-take r p c 0 k ∙ home c k ∙ sym (getD-take r goals c 0 k))
 
-pub next-runs : (f g : Stage) (p : Placement) (a b : List Crossing) → f p ≡ planned a → g (after p a) ≡ planned b → (f next g) p ≡ planned (a ++ b)
+pub next-runs : (f g : Stage) (p : Placement) (a b : Made) → f p ≡ planned a → g (after p (a .moves)) ≡ planned b → (f next g) p ≡ planned (together a b)
 unfolding _next_ onward
 next-runs f g p a b h k = rw (h, k)
 
-or-planned : (r : Carrier) (a : Option (List Crossing)) (xs : List Crossing) → a ≡ some xs → orStuck r a ≡ planned xs
+or-planned : (r : Carrier) (a : Option Made) (m : Made) → a ≡ some m → orStuck r a ≡ planned m
 unfolding orStuck
-or-planned r a xs h = rw h
+or-planned r a m h = rw h
 
 module _ (Y : Yard) (sound : Sound Y) (o : Round Y) (goals : Placement) (r : Carrier) where
   module _ (p : Placement) (due : Due Y goals r p) (roomy : length p + 2 ≤ Y .bays) (w : Bay) (rest : List Bay)
@@ -75,9 +75,9 @@ module _ (Y : Yard) (sound : Sound Y) (o : Round Y) (goals : Placement) (r : Car
 
   -- along a path that avoids the finished carriers and has no bay twice
   pub go-planned : (ahead : List Bay) (u : Bay) (p : Placement) → bayOf p r ≡ u → Due Y goals r p → length p + 2 ≤ Y .bays
-      → Route Y (take r goals) u ahead (bayOf goals r) → NoDup (u ∷ ahead) → (xs : List Crossing) × (go Y goals r ahead p ≡ planned xs)
+      → Route Y (take r goals) u ahead (bayOf goals r) → NoDup (u ∷ ahead) → (m : Made) × (go Y goals r ahead p ≡ planned m)
   unfolding go
-  go-planned [] u p at-u due roomy route once = ([], refl)
+  go-planned [] u p at-u due roomy route once = (only [], refl)
   go-planned (w ∷ ws) u p at-u due roomy route once =
       let held : take r p ≡ take r goals = home-held r p goals (leads-length Y (due .leads)) (due .home) in
       let rail : joined Y (bayOf p r) w ≡ true = rw at-u (route .0) in
@@ -86,7 +86,8 @@ module _ (Y : Yard) (sound : Sound Y) (o : Round Y) (goals : Placement) (r : Car
       let on : Route Y (holding r r p) w ws (bayOf goals r) =
       rw (at-u, held) (route-avoiding Y (take r goals) u w ws (bayOf goals r) (route .2) (Out-tail u w ws (once .0))) in
       let s = step-goes p due roomy w ws rail free on in
-      let xs = s .0 in
-      let stepped = step-steps Y sound r r w p (due .good) (due .turn) (omega (arith, due .turn)) rail xs (s .1) in
+      let m = s .0 in
+      let xs = m .moves in
+      let stepped = step-steps Y sound r r w p (due .good) (due .turn) (omega (arith, due .turn)) rail m (s .1) in
       let ih = go-planned ws w (after p xs) (stepped .arrives) (step-due p due roomy w ws rail free on xs stepped) (rw after-length roomy) (route .2) (once .1) in
-      (xs ++ ih .0, next-runs (λ q. orStuck r (step Y r r w q)) (go Y goals r ws) p xs (ih .0) (or-planned r (step Y r r w p) xs (s .1)) (ih .1))
+      (together m (ih .0), next-runs (λ q. orStuck r (step Y r r w q)) (go Y goals r ws) p m (ih .0) (or-planned r (step Y r r w p) m (s .1)) (ih .1))

@@ -11,13 +11,12 @@ use lib.Dec.{eqb}
 use lib.ListN.{length}
 use borrow.Author.Tests.{eqb-true, eqb-false, eq-eqb}
 use Rattle.paper.specs.Basics.{any, upTo}
-use Rattle.paper.specs.Yard.{Bay, Yard, joined, neighbours}
+use Rattle.paper.specs.Yard.{Bay, Yard, joined, neighbours, carousel}
 use Rattle.paper.specs.Docket.{apartBay}
 use Rattle.paper.proofs.Tests.{by-cases, not-both}
 use Rattle.paper.proofs.Members.{In-head, In-tail, In-cases, In-one, nothing-in-nil, out-cons, any-some, count-high}
 use Rattle.paper.proofs.Rings.{joined-sym}
 use Rattle.paper.proofs.Playing.{Sound}
-use Rattle.carousels.specs.Carousel.{carousel}
 use Rattle.carousels.specs.Round.{Next, Round}
 use Rattle.carousels.proofs.Fitting.{no-longer}
 use Rattle.carousels.proofs.GoingRound.{in-neighbours, neighbours-joined, neighbours-once, end-low}

@@ -48,7 +48,7 @@ module _ (lent : ℕ) where
       ⊎-elim (λ l. or-left _ _ (lt-ltb _ _ l)) (λ l. or-right _ _ (lt-ltb _ _ l)) h in
       rw t
 
-  by-length : {P : Type 0} (xs : List Crossing) → (length xs ≤ lent → length xs ≤ most-crossings → P) → (TooLong lent (length xs) → P) → P
+  pub by-length : {P : Type 0} (xs : List Crossing) → (length xs ≤ lent → length xs ≤ most-crossings → P) → (TooLong lent (length xs) → P) → P
   by-length xs f g =
       by-cases (ltb lent (length xs))
       (λ e. g (inl (ltb-true _ _ e)))
