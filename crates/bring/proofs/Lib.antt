@@ -1,3 +1,4 @@
 pub mod Acting
+pub mod Junctions
 pub mod Bringing
 pub mod Undoing

@@ -1,16 +1,20 @@
--- What actions in code are lent and what they answer: the paper's crossings were played and counted, or the action failed.
+-- What actions in code are lent and what they answer: what the paper's action makes was played and counted, or the action failed.
 -- Assumes nothing.
 use mathlib.Core.Path.{_≡_}
-use mathlib.Core.List.{List, [], _∷_}
+use mathlib.Core.Bool.{Bool}
+use mathlib.Core.List.{List, [], _∷_, map}
 use mathlib.Core.Option.{Option, none, some}
-use Prim.Native.Nat.{ℕ, _≤_, _+_, _*_}
+use Prim.Native.Nat.{ℕ, min, _≤_, _<_, _+_, _*_, _^_}
 use lib.ListN.{length}
-use Rattle.paper.specs.Procedure.{vacate, bring}
-use Rattle.paper.specs.Yard.{Bay, Carrier, Yard, Placement, Crossing, crossing, bayOf}
+use Rattle.paper.specs.Procedure.{Made, only, parking, vacate, bring}
+use Rattle.paper.specs.Yard.{Bay, Carrier, Yard, Placement, Crossing, crossing, bayOf, after, pack, junction}
 use Rattle.words.specs.Sets.{words, span}
 use Rattle.yard.specs.Table.{Table}
 use Rattle.levels.specs.Levels.{Levelled}
-use Rattle.vacate.specs.Placed.{Played, Placed, Unchanged}
+use Rattle.vacate.specs.Placed.{Placed, Stored, Unchanged}
+use Rattle.vacate.specs.declared.Vacated.{Vacated}
+use Rattle.vacate.specs.declared.Vacated.the-variants.{Empty, Filled, Failed as NotVacated}
+use Rattle.bring.specs.declared.Tally.{Tally}
 use Rattle.bring.specs.declared.Tried.the-variants.{Done}
 use Rattle.bring.specs.declared.Tried.the-variants.{Failed}
 use Rattle.bring.specs.declared.Tried.{Tried}
@@ -29,43 +33,75 @@ pub record Ready (table placement standing empty : List ℕ) : Type 0 where
   pub tabled : Tabled (length standing) table
   pub levelled : Levelled (length standing) table
 
--- the count of crossings afterwards, if it succeeded
-abbrev pub countOf : Tried → Option ℕ
-countOf (Done m) = some m
-countOf Failed = none
+-- ## Counting
+
+-- The two are the same as far as the code counts.
+abbrev pub AsFar : ℕ → ℕ → Type 0
+AsFar j k = min j (2 ^ 32) ≡ min k (2 ^ 32)
+
+-- the vacate that filled bay e is counted, if it is one of three rails or more
+abbrev pub Filling : Yard → Bay → ℕ → ℕ → Type 0
+Filling Y e before after = AsFar after (before + parking Y e) × (after ≤ before + 1)
+
+-- the bay that was filled is among the n
+abbrev pub FilledIn : ℕ → Vacated → Type 0
+FilledIn n Empty = Unit {0}
+FilledIn n (Filled e m) = e .0 < n
+FilledIn n NotVacated = Unit {0}
+
+-- the tally after vacating
+abbrev pub Counts : Yard → Tally → Vacated → Tried → Type 0
+Counts Y at Empty r = r ≡ Done at
+Counts Y at (Filled e m) r = (k : Tally) × (r ≡ Done k) × (k .crossings ≡ m) × Filling Y (e .0) (at .parked) (k .parked)
+Counts Y at NotVacated r = r ≡ Failed
+
+-- What is made was played on p, counted from `at` on, and stored where there is room for all of it.
+pub record Tallied (m : Made) (n : ℕ) (p p′ standing′ empty′ out : List ℕ) (at : Tally) (out′ : List ℕ) (r : Tally) : Type 0 where
+  pub moved : p′ ≡ after p (m .moves)
+  pub placed : Placed n p′ standing′ empty′
+  pub stored : Stored (map pack (m .moves)) out (at .crossings) out′
+  pub counted : r .crossings ≡ at .crossings + length (m .moves)
+  pub parks : AsFar (r .parked) (at .parked + m .parked)
+  -- each vacate that is counted has a crossing
+  pub few : at .parked ≤ at .crossings → r .parked ≤ r .crossings
 
 -- at most k crossings were counted
-abbrev pub Within : ℕ → ℕ → Tried → Type 0
+abbrev pub Within : Tally → ℕ → Tried → Type 0
 Within at k Failed = Unit {0}
-Within at k (Done m) = m ≤ at + k
+Within at k (Done m) = m .crossings ≤ at .crossings + k
 
-pub record Succeeded (xs : List Crossing) (n : ℕ) (p p′ standing′ empty′ out : List ℕ) (at : ℕ) (out′ : List ℕ) (r : Tried) : Type 0 where
-  pub count : ℕ
+-- ## Acting
+
+pub record Succeeded (m : Made) (n : ℕ) (p p′ standing′ empty′ out : List ℕ) (at : Tally) (out′ : List ℕ) (r : Tried) : Type 0 where
+  pub count : Tally
   pub done : r ≡ Done count
-  pub played : Played xs n p p′ standing′ empty′ out at out′ count
+  pub played : Tallied m n p p′ standing′ empty′ out at out′ count
 
--- As the paper's action: where it fails nothing is changed, and else its crossings were played.
-pub record Acts (o : Option (List Crossing)) (n : ℕ) (p standing empty out : List ℕ) (at : ℕ) (p′ standing′ empty′ out′ : List ℕ) (r : Tried) : Type 0 where
+-- As the paper's action: where it fails nothing is changed, and else what it makes was played.
+pub record Acts (o : Option Made) (n : ℕ) (p standing empty out : List ℕ) (at : Tally) (p′ standing′ empty′ out′ : List ℕ) (r : Tried) : Type 0 where
   pub fails : o ≡ none → (r ≡ Failed) × Unchanged p standing empty out p′ standing′ empty′ out′
-  pub succeeds : (xs : List Crossing) → o ≡ some xs → Succeeded xs n p p′ standing′ empty′ out at out′ r
+  pub succeeds : (m : Made) → o ≡ some m → Succeeded m n p p′ standing′ empty′ out at out′ r
 
 -- The same on lists that are used up: where it fails nothing is said of them.
-pub record Tries (o : Option (List Crossing)) (n : ℕ) (p out : List ℕ) (at : ℕ) (p′ standing′ empty′ out′ : List ℕ) (r : Tried) : Type 0 where
+pub record Tries (o : Option Made) (n : ℕ) (p out : List ℕ) (at : Tally) (p′ standing′ empty′ out′ : List ℕ) (r : Tried) : Type 0 where
   pub fails : o ≡ none → r ≡ Failed
-  pub succeeds : (xs : List Crossing) → o ≡ some xs → Succeeded xs n p p′ standing′ empty′ out at out′ r
+  pub succeeds : (m : Made) → o ≡ some m → Succeeded m n p p′ standing′ empty′ out at out′ r
 
 -- The same where nobody has moved if it fails. What was tried may be left in the list then.
-pub record Proceeds (o : Option (List Crossing)) (n : ℕ) (p out : List ℕ) (at : ℕ) (p′ standing′ empty′ out′ : List ℕ) (r : Tried) : Type 0 where
+pub record Proceeds (o : Option Made) (n : ℕ) (p out : List ℕ) (at : Tally) (p′ standing′ empty′ out′ : List ℕ) (r : Tried) : Type 0 where
   pub tries : Tries o n p out at p′ standing′ empty′ out′ r
   pub still : r ≡ Failed → p′ ≡ p
 
 -- l goes into x, and m follows into l's bay
-abbrev pub entering : Carrier → Carrier → Bay → Placement → List Crossing
-entering L M x p = crossing L (bayOf p L) x ∷ crossing M (bayOf p M) (bayOf p L) ∷ []
+abbrev pub entering : Carrier → Carrier → Bay → Placement → Made
+entering L M x p = only (crossing L (bayOf p L) x ∷ crossing M (bayOf p M) (bayOf p L) ∷ [])
 
 -- (the code's functions have the same names)
-abbrev pub vacates : Yard → List Bay → Bay → Placement → Option (List Crossing)
+abbrev pub junctions : Yard → Bay → Bool
+junctions Y v = junction Y v
+
+abbrev pub vacates : Yard → List Bay → Bay → Placement → Option Made
 vacates Y held x p = vacate Y held x p
 
-abbrev pub brings : Yard → Carrier → Carrier → List Bay → Placement → Option (List Crossing)
+abbrev pub brings : Yard → Carrier → Carrier → List Bay → Placement → Option Made
 brings Y L M path p = bring Y L M path p

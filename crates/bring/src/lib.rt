@@ -8,28 +8,75 @@ ghost use mathlib.Core.List.{[], _∷_};
 ghost use Prim.Native.Nat.{ℕ, _+_, _*_, _^_, _≤_, _<_};
 ghost use lib.ListN.{length, getD, set};
 ghost use lib.Seq.{sets};
-ghost use Rattle.paper.specs.Basics.{Out};
-ghost use Rattle.paper.specs.Procedure.{trade};
+ghost use Rattle.paper.specs.Basics.{In, Out};
+ghost use Rattle.paper.specs.Yard.{carrierAt, crossing};
+ghost use Rattle.paper.specs.Procedure.{only, trade};
 ghost use Rattle.words.specs.Sets.{words, span};
 ghost use Rattle.rings.specs.Search.{Shown};
-ghost use Rattle.vacate.specs.Answer.{countAfter};
-ghost use Rattle.vacate.specs.Placed.{Placed, Played};
-ghost use Rattle.bring.specs.Acting.{Tabled, Ready, countOf, Within, Acts, Tries, entering, vacates, brings};
+ghost use Rattle.vacate.specs.Placed.{Placed};
+ghost use Rattle.bring.specs.Acting.{Tabled, Ready, AsFar, FilledIn, Filling, Counts, Tallied, Within, Acts, Tries, entering, junctions, vacates, brings};
 ghost use Rattle.bring.specs.Turning.{Crossings, Small, Holds, turned, numbers};
 
-// The count of crossings afterwards, or that it could not be done.
+// What is counted: crossings, and the vacates that filled a bay of three rails or more.
+pub struct Tally {
+    pub crossings: usize,
+    pub parked: usize,
+}
+
+// What is counted afterwards, or that it could not be done.
 pub enum Tried {
-    Done(usize),
+    Done(Tally),
     Failed,
 }
 
-// Vacating, by the count of crossings afterwards.
-fn counted(answer: Vacated, at: usize) -> Tried
-    ensures { λ r. ⌜ countOf r ≡ countAfter at answer ⌝ }
+// Whether three rails or more lead to v.
+pub fn is_junction(table: &[u64], n: usize, v: Bay) -> bool
+    requires { ⌜ (n ≤ span) × (v .0 < n) × (n * words ≤ length (now table)) ⌝ }
+    ensures { λ r. ⌜ ((t : Tabled n (now (table .entry))) → r ≡ junctions (t .yard) (v .0)) ⌝ }
+{
+    let from = v.0 as usize * words::WORDS;
+    2 < words::count(&table[from..from + words::WORDS])
+}
+
+// Far more vacates than any plan has crossings. The count stops here, so that nobody who adds to it has to show that it has room.
+const ENOUGH: usize = 4294967296;
+
+// One more.
+fn one_more(parked: usize) -> usize
+    ensures { λ r. ⌜ AsFar r (parked + 1) × (r ≤ parked + 1) ⌝ }
+{
+    if parked < ENOUGH {
+        return parked + 1;
+    }
+    parked
+}
+
+// The tally after a vacate that filled bay e, with so many crossings afterwards.
+pub fn tally_filled(table: &[u64], n: usize, e: Bay, crossings: usize, at: Tally) -> Tally
+    requires { ⌜ (n ≤ span) × (e .0 < n) × (n * words ≤ length (now table)) ⌝ }
+    ensures { λ r. ⌜ (r .crossings ≡ crossings) × ((t : Tabled n (now (table .entry))) → Filling (t .yard) (e .0) (at .parked) (r .parked)) ⌝ }
+{
+    let before = at.parked;
+    if is_junction(table, n, e) {
+        return Tally {
+            crossings,
+            parked: one_more(before),
+        };
+    }
+    Tally {
+        crossings,
+        parked: before,
+    }
+}
+
+// Vacating, by the tally afterwards.
+fn counted(table: &[u64], n: usize, answer: Vacated, at: Tally) -> Tried
+    requires { ⌜ (n ≤ span) × (n * words ≤ length (now table)) × FilledIn n answer ⌝ }
+    ensures { λ r. ⌜ ((t : Tabled n (now (table .entry))) → Counts (t .yard) at answer r) ⌝ }
 {
     match answer {
         Vacated::Empty => Tried::Done(at),
-        Vacated::Filled(_, m) => Tried::Done(m),
+        Vacated::Filled(e, m) => Tried::Done(tally_filled(table, n, e, m, at)),
         Vacated::Failed => Tried::Failed,
     }
 }
@@ -43,14 +90,35 @@ pub fn make_room(
     standing: &mut [u16],
     empty: &mut [u64],
     out: &mut [u64],
-    at: usize,
+    at: Tally,
 ) -> Tried
     requires { ⌜ Ready (now table) (now placement) (now standing) (now empty) ⌝ }
-    requires { ⌜ (x .0 < length (now standing)) × (length (now held) ≡ words) × (at < 2 ^ 62) × Shown (length (now standing)) (now table) (now held) ⌝ }
+    requires { ⌜ (x .0 < length (now standing)) × (length (now held) ≡ words) × (at .crossings < 2 ^ 62) × Shown (length (now standing)) (now table) (now held) ⌝ }
     ensures { λ r. ⌜ (Within at span r) × ((s : Shown (length (now (standing .entry))) (now (table .entry)) (now (held .entry))) → Acts (vacates (s .yard) (s .bays) (x .0) (now (placement .entry))) (length (now (standing .entry))) (now (placement .entry)) (now (standing .entry)) (now (empty .entry)) (now (out .entry)) at (now (placement .exit)) (now (standing .exit)) (now (empty .exit)) (now (out .exit)) r) ⌝ }
 {
-    let answer = vacate::vacate(table, held, x, placement, standing, empty, out, at);
-    counted(answer, at)
+    let n = standing.len();
+    let before = at.crossings;
+    let answer = vacate::vacate(table, held, x, placement, standing, empty, out, before);
+    counted(table, n, answer, at)
+}
+
+// The carrier at bay a crosses to the empty bay b.
+pub fn cross(
+    placement: &mut [u16],
+    standing: &mut [u16],
+    empty: &mut [u64],
+    a: Bay,
+    b: Bay,
+    out: &mut [u64],
+    at: Tally,
+) -> Tally
+    requires { ⌜ (a .0 < length (now standing)) × (b .0 < length (now standing)) × (length (now standing) ≤ span) × (length (now empty) ≡ words) × (at .crossings < 2 ^ 63) × In (a .0) (now placement) × Out (b .0) (now placement) × Placed (length (now standing)) (now placement) (now standing) (now empty) ⌝ }
+    ensures { λ r. ⌜ Tallied (only (crossing (carrierAt (now (placement .entry)) (a .0)) (a .0) (b .0) ∷ [])) (length (now (standing .entry))) (now (placement .entry)) (now (placement .exit)) (now (standing .exit)) (now (empty .exit)) (now (out .entry)) at (now (out .exit)) r ⌝ }
+{
+    let before = at.crossings;
+    let parked = at.parked;
+    let crossings = vacate::cross(placement, standing, empty, a, b, out, before);
+    Tally { crossings, parked }
 }
 
 // l crosses into the empty bay x, and m into l's old bay.
@@ -62,17 +130,17 @@ fn enter(
     standing: &mut [u16],
     empty: &mut [u64],
     out: &mut [u64],
-    at: usize,
-) -> usize
-    requires { ⌜ (l .0 < length (now placement)) × (m .0 < length (now placement)) × (m .0 ≡ l .0 → ⊥) × (x .0 < length (now standing)) × (length (now standing) ≤ span) × (length (now empty) ≡ words) × (at < 2 ^ 62 + span) × Out (x .0) (now placement) × Placed (length (now standing)) (now placement) (now standing) (now empty) ⌝ }
-    ensures { λ r. ⌜ Played (entering (l .0) (m .0) (x .0) (now (placement .entry))) (length (now (standing .entry))) (now (placement .entry)) (now (placement .exit)) (now (standing .exit)) (now (empty .exit)) (now (out .entry)) at (now (out .exit)) r ⌝ }
+    at: Tally,
+) -> Tally
+    requires { ⌜ (l .0 < length (now placement)) × (m .0 < length (now placement)) × (m .0 ≡ l .0 → ⊥) × (x .0 < length (now standing)) × (length (now standing) ≤ span) × (length (now empty) ≡ words) × (at .crossings < 2 ^ 62 + span) × Out (x .0) (now placement) × Placed (length (now standing)) (now placement) (now standing) (now empty) ⌝ }
+    ensures { λ r. ⌜ Tallied (entering (l .0) (m .0) (x .0) (now (placement .entry))) (length (now (standing .entry))) (now (placement .entry)) (now (placement .exit)) (now (standing .exit)) (now (empty .exit)) (now (out .entry)) at (now (out .exit)) r ⌝ }
 {
     let first = l.0 as usize;
     let second = m.0 as usize;
     let u = Bay(placement[first]);
     let w = Bay(placement[second]);
-    let a = vacate::cross(placement, standing, empty, u, x, out, at);
-    vacate::cross(placement, standing, empty, w, u, out, a)
+    let a = cross(placement, standing, empty, u, x, out, at);
+    cross(placement, standing, empty, w, u, out, a)
 }
 
 // One bay of the path: it is vacated, holding both carriers' bays; l crosses into it, and m into l's old bay. Vacating an empty bay moves
@@ -86,10 +154,10 @@ fn bring_one(
     standing: &mut [u16],
     empty: &mut [u64],
     out: &mut [u64],
-    at: usize,
+    at: Tally,
 ) -> Tried
     requires { ⌜ Ready (now table) (now placement) (now standing) (now empty) ⌝ }
-    requires { ⌜ (l .0 < length (now placement)) × (m .0 < length (now placement)) × (m .0 ≡ l .0 → ⊥) × (x .0 < length (now standing)) × (at < 2 ^ 62) ⌝ }
+    requires { ⌜ (l .0 < length (now placement)) × (m .0 < length (now placement)) × (m .0 ≡ l .0 → ⊥) × (x .0 < length (now standing)) × (at .crossings < 2 ^ 62) ⌝ }
     ensures { λ r. ⌜ (Within at 258 r) × ((t : Tabled (length (now (standing .entry))) (now (table .entry))) → Tries (brings (t .yard) (l .0) (m .0) (x .0 ∷ []) (now (placement .entry))) (length (now (standing .entry))) (now (placement .entry)) (now (out .entry)) at (now (placement .exit)) (now (standing .exit)) (now (empty .exit)) (now (out .exit)) r) ⌝ }
 {
     if words::is_in(empty, x.0 as usize) {
@@ -119,10 +187,10 @@ pub fn bring(
     standing: &mut [u16],
     empty: &mut [u64],
     out: &mut [u64],
-    at: usize,
+    at: Tally,
 ) -> Tried
     requires { ⌜ Ready (now table) (now placement) (now standing) (now empty) ⌝ }
-    requires { ⌜ (l .0 < length (now placement)) × (m .0 < length (now placement)) × (m .0 ≡ l .0 → ⊥) × ((k : ℕ) → k < length (now path) → getD (now path) k 0 < length (now standing)) × (at + 258 * length (now path) < 2 ^ 62) ⌝ }
+    requires { ⌜ (l .0 < length (now placement)) × (m .0 < length (now placement)) × (m .0 ≡ l .0 → ⊥) × ((k : ℕ) → k < length (now path) → getD (now path) k 0 < length (now standing)) × (at .crossings + 258 * length (now path) < 2 ^ 62) ⌝ }
     ensures { λ r. ⌜ (Within at (258 * length (now (path .entry))) r) × ((t : Tabled (length (now (standing .entry))) (now (table .entry))) → Tries (brings (t .yard) (l .0) (m .0) (now (path .entry)) (now (placement .entry))) (length (now (standing .entry))) (now (placement .entry)) (now (out .entry)) at (now (placement .exit)) (now (standing .exit)) (now (empty .exit)) (now (out .exit)) r) ⌝ }
 {
     let mut count = at;

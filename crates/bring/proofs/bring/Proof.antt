@@ -18,11 +18,11 @@ use Rattle.bring.proofs.bring.Lts as lts
 use Rattle.bring.proofs.bring_one.Reads as bring-one-reads
 
 abbrev Inv-loop : tie.InvT-loop
-Inv-loop table path l m placement₀ standing₀ empty₀ out₀ at count₀ i₀ placement standing empty out count i = (i ≤ length path) × (count ≤ at + 258 * i) × (length placement ≡ length placement₀) × (length standing ≡ length standing₀) × (length empty ≡ length empty₀)
+Inv-loop table path l m placement₀ standing₀ empty₀ out₀ at i₀ placement standing empty out count i = (i ≤ length path) × (count .crossings ≤ at .crossings + 258 * i) × (length placement ≡ length placement₀) × (length standing ≡ length standing₀) × (length empty ≡ length empty₀)
     × (length out ≡ length out₀) × ((t : Tabled (length standing₀) table) → Bringing (t .yard) (l .0) (m .0) path (length standing₀) placement₀ out₀ at i placement standing empty out count)
 
 abbrev μ-loop : tie.MeasureT-loop
-μ-loop table path l m placement₀ standing₀ empty₀ out₀ at count₀ i₀ placement standing empty out count i = length path - i
+μ-loop table path l m placement₀ standing₀ empty₀ out₀ at i₀ placement standing empty out count i = length path - i
 
 loop-holds : tie.Need-loop-holds Inv-loop μ-loop
 loop-holds c = (omega arith, omega arith, refl, refl, refl, refl, λ t. bringing-none _ _ _ _ _ _ _ _ _ _ (c .before .before .before .before .before .before .pre .0 .placed))

@@ -1,7 +1,7 @@
 -- `bring::make_room` meets its contract. The paper's vacate gives crossings exactly where the answer has a count, and fewer of them than there are bays.
 -- Assumes nothing.
 use borrow.Author.Needs.{needs}
-use Rattle.bring.proofs.Acting.{room-acts, room-within}
+use Rattle.bring.proofs.Acting.{room-acts, room-within, filled-in}
 use Rattle.bring.proofs.make_room.Statement.{statement}
 use Rattle.bring.proofs.make_room.Tie as tie
 use Rattle.bring.proofs.make_room.Reads as reads
@@ -13,7 +13,11 @@ vacate-requires : tie.Need-vacate-requires
 vacate-requires c κs = search needs
 
 counted-requires : tie.Need-counted-requires
-counted-requires c κs = search needs
+counted-requires c κs =
+    let p = c .before .before .before .before .before .before .before .before .before .before .before .before .before .before .before .before .before .before .before .pre in
+    let at = c .before .before .before .before .before .before .before .before .before .before .before .before .before .before .before .before .before .before .before .args .at in
+    let v = c .before .before .before .before .before .before .before .before .vacate in
+    (p .0 .most, p .0 .table-size, filled-in at (v .result) (p .0 .placed .apart) (p .1 .0) (v .ensures (p .1 .3)))
 
 same-length : tie.Need-same-length
 same-length c = search needs
@@ -28,7 +32,13 @@ same-length-4 : tie.Need-same-length-4
 same-length-4 c = search needs
 
 returns : tie.Need-returns
-returns c = (room-within (c .before .before .before .before .before .before .before .before .before .before .before .before .before .before .before .before .before .before .before .before .pre .0 .most) (c .counted .result) (c .before .before .before .before .before .before .before .before .before .vacate .ensures (c .before .before .before .before .before .before .before .before .before .before .before .before .before .before .before .before .before .before .before .before .pre .1 .3)) (c .counted .ensures), λ s. room-acts (c .counted .result) (c .before .before .before .before .before .before .before .before .before .vacate .ensures s) (c .counted .ensures))
+returns c =
+    let p = c .before .before .before .before .before .before .before .before .before .before .before .before .before .before .before .before .before .before .before .before .pre in
+    let v = c .before .before .before .before .before .before .before .before .before .vacate in
+    let says = v .ensures (p .1 .3) in (
+      room-within _ (p .0 .most) (v .result) (c .counted .result) says (c .counted .ensures (record { yard = p .1 .3 .yard; joins = p .1 .3 .joins })),
+      λ s. room-acts _ (v .result) (c .counted .result) (v .ensures s) (c .counted .ensures (record { yard = s .yard; joins = s .joins })),
+    )
 
 pub make-room-spec : {M : Type 1} → statement M
 make-room-spec =
