@@ -1,26 +1,27 @@
 -- Held bays only take ways away. So if a path that meets none of them is as short as the shortest with no bay held, no wanted bay is nearer than its
--- end, nor as near and lower.
+-- end, and those as near are in the same level, from which it was taken.
 -- Assumes nothing.
 use mathlib.Core.Path.{_≡_, refl, sym, ap, _∙_}
 use mathlib.Core.Bool.{Bool, true, false, not}
 use mathlib.Core.List.{List, [], _∷_}
 use mathlib.Core.Option.{some}
-use Prim.Native.Nat.{ℕ, suc, _+_, _*_, _≤_, _<_}
+use Prim.Native.Nat.{ℕ, _+_, _*_, _≤_, _<_}
 use native.Mathlib.Decide.{decLt}
 use native.Mathlib.Omega.{arith}
 use lib.ListN.{length, take}
 use borrow.Author.Tests.{not-true}
-use Rattle.paper.specs.Basics.{_and_, find, filter, elem, upTo, In, Out}
-use Rattle.paper.specs.Yard.{Bay, Yard, isEmpty}
-use Rattle.paper.specs.Path.{Free, Way, rings, nearestFirst, shortestPath}
+use Rattle.paper.specs.Basics.{_and_, upTo, In}
+use Rattle.paper.specs.Yard.{Bay, Yard}
+use Rattle.paper.specs.Path.{Free, nearestOf, shortestPath}
 use Rattle.paper.proofs.Tests.{by-cases, not-both, and-left, and-right, and-both, some-same, never}
-use Rattle.paper.proofs.Members.{In-head, In-tail, in-filter, filter-passes, in-count}
-use Rattle.paper.proofs.Rings.{Walk, walk-free, reached-walk, in-concat}
-use Rattle.paper.proofs.Nearest.{Nearest, nearest-exactly, nearest-first}
-use Rattle.paper.proofs.Shortest.{around-free, shortest-path, route-walk, inward-length}
-use Rattle.words.specs.Sets.{mem, memRow, words, span, Lowest, Kept}
+use Rattle.paper.proofs.Rings.{Walk, walk-free, ring-walk}
+use Rattle.paper.proofs.Nearest.{nearest-chosen}
+use Rattle.paper.proofs.Shortest.{around-free}
+use Rattle.words.specs.Sets.{mem, memRow, words, span, Kept}
 use Rattle.words.proofs.Sets.{row-zero}
-use Rattle.words.proofs.Besides.{equal-tests, anyBelow-some, anyBelow-of}
+use Rattle.words.proofs.Besides.{anyBelow-some, anyBelow-of}
+use Rattle.choice.specs.Taking.{Rowed, Taken}
+use Rattle.choice.proofs.Taking.{taken-chosen}
 use Rattle.rings.specs.Search.{Shown, around}
 use Rattle.rings.specs.Ways.{WayFound}
 use Rattle.rings.specs.declared.Way.the-variants as way
@@ -30,37 +31,6 @@ use Rattle.levels.specs.Levels.{Levelled}
 use Rattle.lookup.specs.Told.{FirstLevel, Distant, Led, Told}
 use Rattle.lookup.specs.declared.Known.the-variants.{To, Unknown}
 use Rattle.lookup.proofs.Levelling.{fewer-fit, walk-first, walk-plain, free-inside, inside, level-walk, walk-level, Far, far-short, far-ring}
-
--- ## Held bays take ways away
-
-module _ (Y : Yard) (held : List Bay) {u v : Bay} {l : List Bay} (w : Way Y held u l v) where
-  way-held : Walk Y held u (length (w .rest)) v
-  way-held = route-walk Y held u (w .rest) v (w .route)
-
-  way-walk : Walk Y [] u (length (w .rest)) v
-  way-walk = walk-plain Y held way-held
-
-  way-free : Free Y held v
-  way-free = walk-free Y held (w .free) way-held
-
--- ## Any test of bays is whether they are empty
-
-find-same : (q q′ : ℕ → Bool) (l : List ℕ) → ((b : ℕ) → In b l → q b ≡ q′ b) → find q l ≡ find q′ l
-unfolding find
-find-same q q′ [] f = refl
-find-same q q′ (x ∷ l) f = rw (f x (In-head x l), find-same q q′ l (λ b i. f b (In-tail b x l i)))
-
-module _ (n : ℕ) (q : Bay → Bool) where
-  -- carriers on all bays that fail it
-  abbrev failing : List Bay
-  failing = filter (λ b. not (q b)) (upTo n)
-
-  failing-empty : (b : Bay) → b < n → q b ≡ isEmpty failing b
-  failing-empty b h =
-      let low : In b (upTo n) = in-count 0 n b (omega arith) (omega arith) in
-      equal-tests (q b) (not (elem b failing))
-      (λ k. ap not (by-cases (elem b failing) (λ i. not-both k (not-true (q b) (filter-passes (λ c. not (q c)) (upTo n) b i))) (λ o. o)))
-      (λ k. by-cases (q b) (λ e. e) (λ e. not-both (in-filter (λ c. not (q c)) (upTo n) b low (ap not e)) (not-true (elem b failing) k)))
 
 -- ## What is told
 
@@ -73,7 +43,7 @@ module _ {n : ℕ} {table held : List ℕ} (s : Shown n table held) {x : Bay} {q
 
 -- ## The first level that has one of the bays
 
--- level j is the first that has one of the wanted bays that are not held, and e is the lowest of them
+-- level j is the first that has one of the wanted bays that are not held, and e is taken of them
 pub record Looked (n : ℕ) (table held : List ℕ) (x : Bay) (wanted : List ℕ) (j e : ℕ) : Type 0 where
   pub most : n ≤ span
   pub levels : Levelled n table
@@ -83,13 +53,13 @@ pub record Looked (n : ℕ) (table held : List ℕ) (x : Bay) (wanted : List ℕ
   pub free : (b : ℕ) → b < span → mem bays b ≡ mem wanted b and not (mem held b)
   pub first : FirstLevel n table x bays j
   pub fits : (j + 1) * n * words ≤ length table
-  pub lowest : Lowest (λ b. memRow table (j * n + x) b and memRow bays 0 b) 0 span e
+  pub taken : Taken table (λ b. memRow table (j * n + x) b and memRow bays 0 b) e
 
 pub looked : {n : ℕ} {table held : List ℕ} {x : Bay} {wanted none kept bays : List ℕ} {j e : ℕ}
     → n ≤ span → Levelled n table → x < n → mem wanted x ≡ false → Kept none 0 wanted kept → ((b : ℕ) → mem bays b ≡ mem kept b and not (mem held b))
-    → FirstLevel n table x bays j → (j + 1) * n * words ≤ length table → Lowest (λ b. memRow table (j * n + x) b and memRow bays 0 b) 0 span e
+    → FirstLevel n table x bays j → (j + 1) * n * words ≤ length table → Taken table (λ b. memRow table (j * n + x) b and memRow bays 0 b) e
     → Looked n table held x wanted j e
-looked {kept = kept} {bays = bays} most levels home unwanted keeps minus first fits lowest = record {
+looked {kept = kept} {bays = bays} most levels home unwanted keeps minus first fits taken = record {
   most = most;
   levels = levels;
   home = home;
@@ -98,8 +68,15 @@ looked {kept = kept} {bays = bays} most levels home unwanted keeps minus first f
   free = λ b h. minus b ∙ rw (← row-zero kept b, keeps .row b h);
   first = first;
   fits = fits;
-  lowest = lowest;
+  taken = taken;
 }
+
+-- the bays of a level are the yard's
+pub level-rowed : {n : ℕ} {table held : List ℕ} (s : Shown n table held) → n ≤ span → Levelled n table → (x : Bay) → x < n → (j : ℕ) (bays : List ℕ)
+    → (j + 1) * n * words ≤ length table → n * words ≤ length table → Rowed table (λ b. memRow table (j * n + x) b and memRow bays 0 b)
+level-rowed s most levels x home j bays fits len b h i =
+    let w = level-walk (s .joins) most levels j x b fits home h (and-left _ _ i) in
+    omega (arith, inside (s .joins) most b (walk-free (s .yard) [] (free-inside (s .joins) most x home) (w .3) .0))
 
 module _ {n : ℕ} {table held : List ℕ} (s : Shown n table held) {x : Bay} {wanted : List ℕ} {j e : ℕ} (g : Looked n table held x wanted j e) where
   abbrev Y : Yard
@@ -115,10 +92,10 @@ module _ {n : ℕ} {table held : List ℕ} (s : Shown n table held) {x : Bay} {w
   end-found : e < span
   end-found =
       let r = anyBelow-some (meets j) span (g .first .hit (g .fits)) in
-      elim (decLt e span) [ yes h ↦ h | no h ↦ not-both (r .2) (g .lowest .before (r .0) (omega arith) (omega (arith, r .1))) ]
+      elim (decLt e span) [ yes h ↦ h | no h ↦ not-both (r .2) (g .taken .missing (omega arith) (r .0) (r .1)) ]
 
   end-chosen : mem (g .bays) e ≡ true
-  end-chosen = sym (row-zero (g .bays) e) ∙ and-right _ _ (g .lowest .hit end-found)
+  end-chosen = sym (row-zero (g .bays) e) ∙ and-right _ _ (g .taken .hit end-found)
 
   end-unheld : mem held e ≡ false
   end-unheld = not-true (mem held e) (and-right _ _ (sym (g .free e end-found) ∙ end-chosen))
@@ -142,7 +119,7 @@ module _ {n : ℕ} {table held : List ℕ} (s : Shown n table held) {x : Bay} {w
 
   end-far : Far (s .joins) (g .most) (g .levels) x (g .home) (j + 1) e
   end-far =
-      let w = level-walk (s .joins) (g .most) (g .levels) j x e (g .fits) (g .home) end-found (and-left _ _ (g .lowest .hit end-found)) in
+      let w = level-walk (s .joins) (g .most) (g .levels) j x e (g .fits) (g .home) end-found (and-left _ _ (g .taken .hit end-found)) in
       let same : w .0 ≡ j + 1 = omega (arith, w .2, no-nearer (w .0) e (w .3) end-chosen) in
       record { walk = rw same at (w .3); least = λ i v. no-nearer i e v end-chosen }
 
@@ -168,54 +145,50 @@ module _ {n : ℕ} {table held : List ℕ} (s : Shown n table held) {x : Bay} {w
     abbrev path : List Bay
     path = take (j + 1 + 1) room
 
-    path-length : length path ≡ j + 2
-    path-length = ap length (led .path) ∙ inward-length Y (rings Y (s .bays) e) (j + 1) x ∙ omega arith
-
     end-kept : Free Y (s .bays) e
     end-kept = (end-free .0, sym (s .holds e end-found) ∙ end-unheld)
 
     x-kept : Free Y (s .bays) x
     x-kept = around-free Y (s .bays) e end-kept (j + 1) x (led .near)
 
-    path-shortest : path ≡ shortestPath Y (s .bays) x e
-    path-shortest = led .path ∙ sym (shortest-far Y (s .bays) x e (j + 1) x-kept (start-far Y (s .bays) e x (j + 1) end-kept (led .near)))
+    end-there : In e (around Y (s .bays) x (j + 1))
+    end-there = start-far Y (s .bays) e x (j + 1) end-kept (led .near)
 
-    path-way : Way Y (s .bays) x path e
-    path-way = rw path-shortest (shortest-path Y (s .bays) x e x-kept end-kept (in-concat Y x (rings Y (s .bays) e) (j + 1) (led .near)) .way)
+    path-shortest : path ≡ shortestPath Y (s .bays) x e
+    path-shortest = led .path ∙ sym (shortest-far Y (s .bays) x e (j + 1) x-kept end-there)
 
     module _ (q : Bay → Bool) (same : (b : ℕ) → b < n → mem wanted b ≡ q b) where
-      passes : (b : Bay) → b < n → mem wanted b ≡ isEmpty (failing n q) b
-      passes b h = same b h ∙ failing-empty n q b h
+      -- past the held bays a bay is no nearer than with none held
+      plain : (i : ℕ) (b : Bay) → In b (around Y (s .bays) x i) → Walk Y [] x i b
+      plain i b y = walk-plain Y (s .bays) (ring-walk Y (s .bays) (Y .bays) x i b y)
 
-      chosen : (b : Bay) → Free Y (s .bays) b → Out b (failing n q) → mem (g .bays) b ≡ true
-      chosen b f o =
+      free-there : (i : ℕ) (b : Bay) → In b (around Y (s .bays) x i) → Free Y (s .bays) b
+      free-there i b y = walk-free Y (s .bays) x-kept (ring-walk Y (s .bays) (Y .bays) x i b y)
+
+      below : (i : ℕ) (b : Bay) → In b (around Y (s .bays) x i) → b < n
+      below i b y = inside (s .joins) (g .most) b (free-there i b y .0)
+
+      chosen : (i : ℕ) (b : Bay) → In b (around Y (s .bays) x i) → q b ≡ true → mem (g .bays) b ≡ true
+      chosen i b y t =
+          let f = free-there i b y in
           let h = inside-span b (f .0) in
-          g .free b h ∙ and-both _ _ (passes b (inside (s .joins) (g .most) b (f .0)) ∙ ap not o) (ap not (s .holds b h ∙ f .1))
+          g .free b h ∙ and-both _ _ (same b (below i b y) ∙ t) (ap not (s .holds b h ∙ f .1))
 
-      end-nearest : Nearest Y (s .bays) (failing n q) x e
-      end-nearest = record {
-        empty = not-true (elem e (failing n q)) (sym (passes e end-inside) ∙ and-left _ _ (sym (g .free e end-found) ∙ end-chosen));
-        path = path;
-        way = path-way;
-        nearest = λ b m o w.
-            let far = no-nearer (length (w .rest)) b (way-walk Y (s .bays) w) (chosen b (way-free Y (s .bays) w) o) in
-            let long : length m ≡ suc (length (w .rest)) = ap length (w .starts) in
-            omega (arith, path-length);
-        lowest = λ b m o w k.
-            let long : length m ≡ suc (length (w .rest)) = ap length (w .starts) in
-            let last : length (w .rest) ≡ j + 1 = omega (arith, path-length) in
-            let row = walk-level (s .joins) (g .most) (g .levels) j x b (g .fits) (g .home) (way-walk Y (s .bays) w) (omega arith) (omega arith) in
-            let hit : meets j b ≡ true = and-both _ _ row (row-zero (g .bays) b ∙ chosen b (way-free Y (s .bays) w) o) in
-            elim (decLt b e) [ yes h ↦ not-both hit (g .lowest .before b (omega arith) h) | no h ↦ omega arith ];
-      }
+      early : (i : ℕ) (b : Bay) → i < j + 1 → In b (around Y (s .bays) x i) → q b ≡ false
+      early i b h y = by-cases (q b) (λ t. absurd (omega (arith, no-nearer i b (plain i b y) (chosen i b y t)))) (λ t. t)
 
-      end-first : find q (nearestFirst Y (s .bays) x) ≡ some e
+      among : (b : Bay) → In b (around Y (s .bays) x (j + 1)) → q b ≡ true → (b < n) × (meets j b ≡ true)
+      among b y t = (
+        below (j + 1) b y,
+        and-both _ _ (walk-level (s .joins) (g .most) (g .levels) j x b (g .fits) (g .home) (plain (j + 1) b y) (omega arith) (omega arith))
+            (row-zero (g .bays) b ∙ chosen (j + 1) b y t),
+      )
+
+      end-first : nearestOf Y q (s .bays) x ≡ some e
       end-first =
-          let low : (b : Bay) → In b (nearestFirst Y (s .bays) x) → b < n =
-          λ b i. inside (s .joins) (g .most) b (walk-free Y (s .bays) x-kept (reached-walk Y (s .bays) x b i .2) .0) in
-          find-same q (isEmpty (failing n q)) (nearestFirst Y (s .bays) x) (λ b i. failing-empty n q b (low b i))
-          ∙ sym (nearest-first Y (s .bays) (failing n q) x)
-          ∙ nearest-exactly Y (s .bays) (failing n q) x x-kept e .1 end-nearest
+          let passes : q e ≡ true = sym (same e end-inside) ∙ and-left _ _ (sym (g .free e end-found) ∙ end-chosen) in
+          nearest-chosen Y (s .bays) x q (j + 1)
+          (taken-chosen (s .joins) (g .most) q (around Y (s .bays) x (j + 1)) (g .taken) end-inside end-there passes among) early
 
       pub way-told : (r : Held) → r .0 ≡ e → Told s x q room (To r (j + 2))
       way-told r k = told s (record {

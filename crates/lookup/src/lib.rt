@@ -67,7 +67,7 @@ pub fn way(table: &[u64], n: usize, held: &[u64], x: Bay, wanted: &[u64], path: 
     if table.len() < (j + 1) * n * words::WORDS {
         return Known::Unknown;
     }
-    let e = Bay(words::lowest_common(table, j * n + x.0 as usize, &free, 0) as u16);
+    let e = Bay(choice::common(table, table, j * n + x.0 as usize, &free, 0) as u16);
     if lead(table, n, held, x, e, j + 1, path) {
         return Known::To(e, j + 2);
     }

@@ -1,6 +1,7 @@
 pub mod Tests
 pub mod Members
 pub mod Firsts
+pub mod Choosing
 pub mod Rings
 pub mod Reach
 pub mod Shortest

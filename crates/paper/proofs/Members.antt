@@ -257,7 +257,7 @@ find-exactly q n y = (
       rw same at h),
 )
 
-min-either : (P : ℕ → Type 0) (x y : ℕ) → P x → P y → P (min x y)
+pub min-either : (P : ℕ → Type 0) (x y : ℕ) → P x → P y → P (min x y)
 min-either P x y a b =
     by-cases (ltb x y)
     (λ l. let e : min x y ≡ x = omega (arith, ltb-true x y l) in rw e a)

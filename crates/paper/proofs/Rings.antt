@@ -13,11 +13,12 @@ use mathlib.Core.Option.{none, some}
 use Prim.Native.Nat.{ℕ, zero, suc, _<_, _≤_}
 use native.Mathlib.Omega.{arith}
 use lib.ListN.{length, getD}
-use Rattle.paper.specs.Basics.{_and_, any, concat, elem, upTo, In, Out, firstOf, lowestOf}
+use Rattle.paper.specs.Basics.{_and_, any, concat, elem, upTo, In, Out, firstOf}
 use Rattle.paper.specs.Yard.{Bay, Yard, joined}
-use Rattle.paper.specs.Path.{nextRing, ringsFrom, rings, nearestFirst, ringOf, Free, unseen}
+use Rattle.paper.specs.Path.{choice, nextRing, ringsFrom, rings, nearestFirst, ringOf, Free, unseen}
 use Rattle.paper.proofs.Tests.{by-cases, not-both, and-left, and-right, and-both, or-left, or-right, or-cases, by-option, never-some, none-both}
-use Rattle.paper.proofs.Members.{In-nil, In-one, In-append, In-append-left, In-append-right, filter-passes, any-some, In-head, Out-append, filter-in, in-filter, any-of, without-in, without-out, in-without, Out-left, Out-right, lowest-none, lowest-passes, lowest-in}
+use Rattle.paper.proofs.Members.{In-nil, In-one, In-append, In-append-left, In-append-right, filter-passes, any-some, In-head, Out-append, filter-in, in-filter, any-of, without-in, without-out, in-without, Out-left, Out-right}
+use Rattle.paper.proofs.Choosing.{Chosen, choice-none, choice-chosen, chosen-choice, none-choice}
 
 pub any-weaker : {A : Type 0} (q q′ : A → Bool) → ((x : A) → q x ≡ true → q′ x ≡ true) → (xs : List A) → any q xs ≡ true → any q′ xs ≡ true
 unfolding any
@@ -169,46 +170,53 @@ module _ (Y : Yard) (held : List Bay) where
   walk-back f here = here
   walk-back f (on {w = w} {v = v} r e f′) = walk-cons (joined-sym Y w v e) (walk-free f r) (walk-back f r)
 
-module _ (q : Bay → Bool) where
-  -- Ring by ring, the lowest that passes: it is the lowest of its ring, and nothing of an earlier ring passes.
+module _ (Y : Yard) (q : Bay → Bool) where
+  -- Ring by ring, the choice of what passes: it is the choice of its ring, and nothing of an earlier ring passes.
   pub record FirstRing (rs : List (List Bay)) (e : Bay) : Type 0 where
     pub ring : ℕ
     pub there : ring < length rs
-    pub found : lowestOf q (getD rs ring []) ≡ some e
+    pub found : Chosen Y q (getD rs ring []) e
     pub earlier : (j : ℕ) (b : Bay) → j < ring → In b (getD rs j []) → q b ≡ false
 
-  pub first-ring : (rs : List (List Bay)) {e : Bay} → firstOf (lowestOf q) rs ≡ some e → FirstRing rs e
+  pub first-ring : (rs : List (List Bay)) {e : Bay} → firstOf (choice Y q) rs ≡ some e → FirstRing rs e
   unfolding firstOf
   first-ring [] {e} h = never-some e h
   first-ring (r ∷ rs) {e} h =
-      by-option (lowestOf q r)
+      by-option (choice Y q r)
       (λ k.
       let t = first-ring rs (rw k at h) in
       record {
         ring = suc (t .ring);
         there = omega (arith, t .there);
         found = t .found;
-        earlier = λ j. elim j [ zero ↦ λ b l i. lowest-none q r k b i | suc m ↦ λ b l i. t .earlier m b (omega arith) i ];
+        earlier = λ j. elim j [ zero ↦ λ b l i. choice-none Y q r k b i | suc m ↦ λ b l i. t .earlier m b (omega arith) i ];
       })
       (λ y k.
       let n : y ≡ e = let z = rw k at h in cc in
-      record { ring = 0; there = omega arith; found = k ∙ ap some n; earlier = λ j b l i. absurd (omega arith) })
+      record { ring = 0; there = omega arith; found = choice-chosen Y q r (k ∙ ap some n); earlier = λ j b l i. absurd (omega arith) })
+
+  -- and the other way round
+  pub ring-first : (rs : List (List Bay)) (d : ℕ) {e : Bay} → Chosen Y q (getD rs d []) e → ((i : ℕ) (b : Bay) → i < d → In b (getD rs i []) → q b ≡ false)
+      → firstOf (choice Y q) rs ≡ some e
+  unfolding firstOf
+  ring-first [] d {e} c f = In-nil e (c .there)
+  ring-first (r ∷ rs) zero c f = rw (chosen-choice Y q r c)
+  ring-first (r ∷ rs) (suc d) c f =
+      rw (none-choice Y q r (λ b i. f 0 b (omega arith) i)) (ring-first rs d c (λ i b l k. f (suc i) b (omega arith) k))
 
   -- none where nothing of any ring passes
-  pub no-ring : (rs : List (List Bay)) → firstOf (lowestOf q) rs ≡ none → (b : Bay) → In b (concat rs) → q b ≡ false
+  pub no-ring : (rs : List (List Bay)) → firstOf (choice Y q) rs ≡ none → (b : Bay) → In b (concat rs) → q b ≡ false
   unfolding firstOf concat
   no-ring [] h b i = In-nil b i
   no-ring (r ∷ rs) h b i =
-      let t = none-both (lowestOf q r) (firstOf (lowestOf q) rs) h in
-      In-append b r (concat rs) i (λ k. lowest-none q r (t .0) b k) (λ k. no-ring rs (t .1) b k)
+      let t = none-both (choice Y q r) (firstOf (choice Y q) rs) h in
+      In-append b r (concat rs) i (λ k. choice-none Y q r (t .0) b k) (λ k. no-ring rs (t .1) b k)
 
-  pub ring-none : (rs : List (List Bay)) → ((b : Bay) → In b (concat rs) → q b ≡ false) → firstOf (lowestOf q) rs ≡ none
+  pub ring-none : (rs : List (List Bay)) → ((b : Bay) → In b (concat rs) → q b ≡ false) → firstOf (choice Y q) rs ≡ none
   unfolding firstOf concat
   ring-none [] f = refl
   ring-none (r ∷ rs) f =
-      by-option (lowestOf q r)
-      (λ k. rw k (ring-none rs (λ b i. f b (In-append-right b r (concat rs) i))))
-      (λ y k. not-both (lowest-passes q r k) (f y (In-append-left y r (concat rs) (lowest-in q r k))))
+      rw (none-choice Y q r (λ b i. f b (In-append-left b r (concat rs) i))) (ring-none rs (λ b i. f b (In-append-right b r (concat rs) i)))
 
 pub in-ring : (u : Bay) (rs : List (List Bay)) (d : ℕ) → In u (getD rs d []) → d < length rs
 in-ring u [] d i = In-nil u i

@@ -5,7 +5,7 @@ use mathlib.Core.Bool.{Bool, true}
 use mathlib.Core.List.{List, [], _∷_, _++_}
 use mathlib.Core.Logic.{inl, inr, ⊎-elim, _↔_}
 use mathlib.Core.Option.{none, some}
-use Prim.Native.Nat.{ℕ, zero, suc, _<_, _≤_, min}
+use Prim.Native.Nat.{ℕ, zero, suc, _<_, _≤_}
 use native.Mathlib.Omega.{arith}
 use lib.Dec.{ltb}
 use lib.ListN.{length, getD}
@@ -13,7 +13,7 @@ use borrow.Author.Tests.{ltb-true, ltb-false}
 use Rattle.paper.specs.Basics.{elem, without, filter, find, countFrom, In, Out, NoDup, lowestOf}
 use Rattle.paper.specs.Yard.{Bay, Yard, joined}
 use Rattle.paper.specs.Path.{Free, Route, Way, NotAbove, nextRing, ringsFrom, rings, nearestFirst, ringOf, inward, shortestPath, pathBetween}
-use Rattle.paper.proofs.Tests.{by-cases, not-both, some-when, none-when, by-option}
+use Rattle.paper.proofs.Tests.{by-cases, not-both, some-when, none-when}
 use Rattle.paper.proofs.Members.{In-nil, In-one, In-cases, lowest-passes, lowest-in, lowest-some, lowest-least, nothing-in-nil, count-low, filter-in}
 use Rattle.paper.proofs.Rings.{joined-sym, distance-in, distance-least, Walk, here, on, walk-cons, walk-back, walk-free, ring-walk, walk-ring, ring-free, rings-apart, ringsFrom-length, in-ring, ring-step, ring-zero}
 use Rattle.paper.proofs.Reach.{enough}
@@ -240,19 +240,6 @@ find-lowest q (x ∷ xs) y a r e i h =
     (λ k. let z : x ≡ y = let w = rw k at e in cc in
     In-cases a x xs i (λ d. omega arith) (λ d. let l = r .0 a d in omega arith))
     (λ k. In-cases a x xs i (λ d. not-both (rw d at h) k) (λ d. find-lowest q xs y a (r .1) (rw k at e) d h))
-
-pub lowest-first : (q : ℕ → Bool) (xs : List ℕ) → Rising xs → lowestOf q xs ≡ find q xs
-unfolding Rising lowestOf find
-lowest-first q [] r = refl
-lowest-first q (x ∷ xs) r =
-    by-cases (q x)
-    (λ e. by-option (lowestOf q xs)
-    (λ k. rw (e, k))
-    (λ y k.
-    let l : x < y = r .0 y (lowest-in q xs k) in
-    let m : min x y ≡ x = omega arith in
-    rw (e, k, m)))
-    (λ e. rw e (lowest-first q xs (r .1)))
 
 module _ (Y : Yard) (held : List Bay) where
   rising-from : (k : ℕ) (seen ring : List Bay) (d : ℕ) → Rising ring → Rising (getD (ringsFrom Y held k seen ring) d [])

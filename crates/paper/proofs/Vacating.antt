@@ -11,10 +11,10 @@ use lib.Dec.{eqb}
 use borrow.Author.Tests.{not-true, not-false, ne-eqb}
 use Rattle.paper.specs.Basics.{if-some_then_else_, elem, upTo, In, Out}
 use Rattle.paper.specs.Yard.{Bay, Carrier, Yard, Placement, Crossing, crossing, bayOf, carrierAt, isEmpty, move, after, joined, legalPlan}
-use Rattle.paper.specs.Path.{rings, ringOf, inward, shortestPath, Free}
+use Rattle.paper.specs.Path.{rings, ringOf, inward, shortestPath, Free, nearestOf}
 use Rattle.paper.specs.Procedure.{Made, only, shift, vacate, nearestEmpty, filledBy, parking}
 use Rattle.paper.proofs.Tests.{by-cases, by-option, not-both, never-some}
-use Rattle.paper.proofs.Members.{Out-head, Out-tail, lowest-in, lowest-passes}
+use Rattle.paper.proofs.Members.{Out-head, Out-tail}
 use Rattle.paper.proofs.Rings.{ring-zero, in-concat, distance-in, distance-least, Walk, here, on, ring-walk, walk-ring, walk-back, walk-free, first-ring, ringsFrom-length, FirstRing}
 use Rattle.paper.proofs.Shortest.{inward-zero, inward-head, inward-in, apart-from, next, around-free}
 use Rattle.paper.proofs.Playing.{Apart, Legal, legal-facts, legal-of, after-append, after-length, plan-head, plan-tail, plan-cons, plan-append, placeOf-bay, placeOf-there, move-other, move-apart, move-empties, move-out}
@@ -83,15 +83,15 @@ module _ (Y : Yard) (p : Placement) (apart : Apart p) where
 module _ (Y : Yard) (held : List Bay) (p : Placement) (apart : Apart p) (x e : Bay) (free-x : Free Y held x)
     (first : nearestEmpty Y held p x ≡ some e) where
   -- the ring of e around x
-  found : FirstRing (isEmpty p) (rings Y held x) e
-  unfolding nearestEmpty
-  found = first-ring (isEmpty p) (rings Y held x) first
+  found : FirstRing Y (isEmpty p) (rings Y held x) e
+  unfolding nearestEmpty nearestOf
+  found = first-ring Y (isEmpty p) (rings Y held x) first
 
   fits : found .ring < Y .bays
   fits = rw ringsFrom-length at (found .there)
 
   to-e : Walk Y held x (found .ring) e
-  to-e = ring-walk Y held (Y .bays) x (found .ring) e (lowest-in (isEmpty p) (getD (rings Y held x) (found .ring) []) (found .found))
+  to-e = ring-walk Y held (Y .bays) x (found .ring) e (found .found .there)
 
   pub free-e : Free Y held e
   free-e = walk-free Y held free-x to-e
@@ -120,7 +120,7 @@ module _ (Y : Yard) (held : List Bay) (p : Placement) (apart : Apart p) (x e : B
   pub shiftable : (d i : ℕ) (u : Bay) → In u (getD (rings Y held e) d []) → Walk Y held x i u → i + d ≤ far
       → Shiftable Y p apart (inward Y (rings Y held e) d u)
   shiftable zero i u k w h =
-      rw (inward-zero, ring-zero Y held (Y .bays) [] e u k) (not-true (elem e p) (lowest-passes (isEmpty p) (getD (rings Y held x) (found .ring) []) (found .found)))
+      rw (inward-zero, ring-zero Y held (Y .bays) [] e u k) (not-true (elem e p) (found .found .passes))
   shiftable (suc d) i u k w h =
       let n = next Y held e d u k in
       let t = inward-head Y (rings Y held e) d (n .bay) in

@@ -21,7 +21,7 @@ use Rattle.paper.specs.Log
 
 -- every definition of the rules, opened, so that the checker computes with them
 unfoldable pub computing : Unit {0}
-unfolding Basics._and_ Basics._or_ Basics.filter Basics.any Basics.find Basics.concat Basics.firstOf Basics.firstBad Basics.lowestOf Basics.elem Basics.placeOf Basics.without Basics.countFrom Yard.occupied Yard.pack Yard.unpack Yard.reverseOf Yard.after Yard.joined Yard.neighbours Yard.carousel Yard.junction Yard.legal Yard.legalPlan Path.nextRing Path.ringsFrom Path.ringOf Path.inward Path.shortestPath Path.pathBetween Procedure._then_ Procedure.cross Procedure.shift Procedure.nearestEmpty Procedure.vacate Procedure.exchange Procedure.trade Procedure.undo Procedure.bring Procedure.clearing Procedure.clear Procedure.finish Procedure.trialLed Procedure.trial Procedure.swap Procedure.step Procedure.orStuck Procedure.onward Procedure._next_ Procedure.go Procedure.homeAt Procedure.wayHome Procedure.along Procedure.carry Procedure.carryFrom Procedure.procedure Dependence.depend Dependence.highest Dependence.slotsAfter Dependence.slots Dependence.undoneBefore Dependence.outOfOrder Dependence.doneOf Dependence.undoneOf Dependence.countOf Docket.railsOf Docket.badSize Docket.badRail Docket.apartBay Docket.badPlace Docket.firstIllegal Docket.notHome Docket.badMarks Answers.firstSix Answers.crossingsOf Answers.within Answers.unless Answers.plan Answers.written Answers.accepts Answers.tell Answers.marksAfter Answers.check Answers.slotsRefusal Answers.slotsEnd Answers.report Log.reports Log.marksFrom Log.namesFrom
+unfolding Basics._and_ Basics._or_ Basics.filter Basics.any Basics.find Basics.concat Basics.firstOf Basics.firstBad Basics.lowestOf Basics.elem Basics.placeOf Basics.without Basics.countFrom Yard.occupied Yard.pack Yard.unpack Yard.reverseOf Yard.after Yard.joined Yard.neighbours Yard.carousel Yard.junction Yard.legal Yard.legalPlan Path.nextRing Path.ringsFrom Path.fewer Path.choice Path.nearestOf Path.ringOf Path.inward Path.shortestPath Path.pathBetween Procedure._then_ Procedure.cross Procedure.shift Procedure.nearestEmpty Procedure.vacate Procedure.exchange Procedure.trade Procedure.undo Procedure.bring Procedure.clearing Procedure.clear Procedure.finish Procedure.trialLed Procedure.trial Procedure.swap Procedure.step Procedure.orStuck Procedure.onward Procedure._next_ Procedure.go Procedure.homeAt Procedure.wayHome Procedure.along Procedure.carry Procedure.carryFrom Procedure.procedure Dependence.depend Dependence.highest Dependence.slotsAfter Dependence.slots Dependence.undoneBefore Dependence.outOfOrder Dependence.doneOf Dependence.undoneOf Dependence.countOf Docket.railsOf Docket.badSize Docket.badRail Docket.apartBay Docket.badPlace Docket.firstIllegal Docket.notHome Docket.badMarks Answers.firstSix Answers.crossingsOf Answers.within Answers.unless Answers.plan Answers.written Answers.accepts Answers.tell Answers.marksAfter Answers.check Answers.slotsRefusal Answers.slotsEnd Answers.report Log.reports Log.marksFrom Log.namesFrom
 computing = tt
 
 -- a yard, and the names then reported one after the other from fresh marks
@@ -181,3 +181,11 @@ pub all-told : (told (1 ∷ 0 ∷ 0 ∷ 0 ∷ 0 ∷ 0 ∷ []) 5
     ≡ refuse (early 1) ∷ accept ∷ already ∷ refuse mismarked ∷ refuse mismarked ∷ refuse mismarked ∷ []
 unfolding computing
 all-told = refl
+
+-- Beside bay 0 are 1, a junction, and 2 and 3, where tracks end: which is filled while all are empty, while 2 is not, while only 1 is.
+abbrev beside-0 : Yard.Yard
+beside-0 = record { bays = 6; rails = (0, 1) ∷ (0, 2) ∷ (0, 3) ∷ (1, 4) ∷ (1, 5) ∷ [] }
+
+pub all-parked : map (λ (p : Placement). Procedure.nearestEmpty beside-0 [] p 0) ((0 ∷ []) ∷ (0 ∷ 2 ∷ []) ∷ (0 ∷ 2 ∷ 3 ∷ []) ∷ []) ≡ some 2 ∷ some 3 ∷ some 1 ∷ []
+unfolding computing
+all-parked = refl

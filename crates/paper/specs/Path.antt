@@ -1,16 +1,16 @@
 -- Ways between bays: what can be reached, what is nearest, and the shortest path.
 -- Each of them is computed here by rings; proofs/Shortest, Nearest and Reach say it in the document's words.
 -- Assumes nothing.
-use mathlib.Core.Bool.{true}
+use mathlib.Core.Bool.{Bool, true}
 use mathlib.Core.List.{List, [], _∷_, _++_}
 use mathlib.Core.Logic.{_⊎_}
 use mathlib.Core.Option.{Option, none, some, Option·getD}
 use mathlib.Core.Path.{_≡_}
-use Prim.Native.Nat.{ℕ, zero, suc, _<_}
-use lib.Dec.{eqb}
-use lib.ListN.{getD}
-use Rattle.paper.specs.Basics.{if_then_else_, _and_, when, filter, any, lowestOf, concat, elem, without, upTo, In, Out}
-use Rattle.paper.specs.Yard.{Bay, Rail, Yard, joined}
+use Prim.Native.Nat.{ℕ, zero, suc, min, _<_, _≤_}
+use lib.Dec.{eqb, ltb}
+use lib.ListN.{length, getD}
+use Rattle.paper.specs.Basics.{if_then_else_, if-some_then_else_, _and_, when, filter, any, firstOf, lowestOf, concat, elem, without, upTo, In, Out}
+use Rattle.paper.specs.Yard.{Bay, Rail, Yard, Placement, joined, railsAt}
 
 -- ## In words
 
@@ -31,6 +31,16 @@ module _ (Y : Yard) where
     pub free : Free held u
     pub route : Route held u rest v
 
+  -- "the nearest empty bay that is reached from x through bays not held, itself not held"; "among nearest empty bays take the one
+  -- with fewest rails, and only then the lowest number"
+  pub record Nearest (held : List Bay) (p : Placement) (x e : Bay) : Type 0 where
+    pub empty : Out e p
+    pub path : List Bay
+    pub way : Way held x path e
+    pub nearest : (b : Bay) (m : List Bay) → Out b p → Way held x m b → length path ≤ length m
+    pub fewest : (b : Bay) (m : List Bay) → Out b p → Way held x m b → length m ≡ length path → railsAt Y e ≤ railsAt Y b
+    pub lowest : (b : Bay) (m : List Bay) → Out b p → Way held x m b → length m ≡ length path → railsAt Y b ≡ railsAt Y e → e ≤ b
+
   -- the rails, one after the other and each in either direction, lead from a to b
   abbrev pub Along : Bay → List Rail → Bay → Type 0
   Along a [] b = a ≡ b
@@ -47,6 +57,10 @@ abbrev pub NotAbove : List Bay → List Bay → Type 0
 NotAbove [] t = Unit {0}
 NotAbove (a ∷ s) [] = Unit {0}
 NotAbove (a ∷ s) (b ∷ t) = (a < b) ⊎ ((a ≡ b) × NotAbove s t)
+
+-- a is taken rather than b, by the number of rails that each bay has: fewer, or as many and the lower number
+abbrev pub Rather : (Bay → ℕ) → Bay → Bay → Type 0
+Rather rails a b = (rails a < rails b) ⊎ ((rails a ≡ rails b) × (a ≤ b))
 
 -- ## By rings
 
@@ -70,6 +84,25 @@ module _ (Y : Yard) where
   -- all bays reached from x through bays not held: the nearest first, ties by the lowest number
   abbrev pub nearestFirst : List Bay → Bay → List Bay
   nearestFirst held x = concat (rings held x)
+
+  -- "the one with fewest rails, and only then the lowest number": of two bays
+  unfoldable pub fewer : Bay → Bay → Bay
+  fewer a b =
+      if ltb (railsAt Y a) (railsAt Y b) then a
+      else if ltb (railsAt Y b) (railsAt Y a) then b
+      else min a b
+
+  -- and of the bays in a list that pass the test
+  unfoldable pub choice : (Bay → Bool) → List Bay → Option Bay
+  choice q [] = none
+  choice q (x ∷ xs) =
+      let rest = choice q xs in
+      let taken = if-some rest then (λ y. some (fewer x y)) else some x in
+      if q x then taken else rest
+
+  -- of the bays reached from x through bays not held, the nearest that passes the test, and among the nearest that choice
+  unfoldable pub nearestOf : (Bay → Bool) → List Bay → Bay → Option Bay
+  nearestOf q held x = firstOf (choice q) (rings held x)
 
   -- which ring u is in: how many rails it is from their middle
   unfoldable pub ringOf : Bay → List (List Bay) → ℕ

@@ -6,9 +6,9 @@ use mathlib.Core.Option.{Option, none, some}
 use Prim.Native.Nat.{ℕ, zero, suc, min, max, _+_}
 use lib.Dec.{eqb, ltb, leb}
 use lib.ListN.{length, getD, set, take, drop}
-use Rattle.paper.specs.Basics.{if_then_else_, if-some_then_else_, _and_, _>>=_, orElse, filter, lowestOf, firstOf, elem, without}
+use Rattle.paper.specs.Basics.{if_then_else_, if-some_then_else_, _and_, _>>=_, orElse, filter, firstOf, elem, without}
 use Rattle.paper.specs.Yard.{Bay, Carrier, Yard, Placement, Crossing, crossing, bayOf, carrierAt, isEmpty, after, reverseOf, neighbours, junction, carousel}
-use Rattle.paper.specs.Path.{rings, nearestFirst, shortestPath, pathBetween}
+use Rattle.paper.specs.Path.{nearestFirst, shortestPath, pathBetween, nearestOf}
 
 -- what is made: crossings, in order, and how many vacates among them filled a bay of three rails or more
 pub record Made : Type 0 where
@@ -44,9 +44,10 @@ shift p (a ∷ []) = []
 shift p (a ∷ b ∷ rest) = shift p (b ∷ rest) ++ (crossing (carrierAt p a) a b ∷ [])
 
 module _ (Y : Yard) where
-  -- "the nearest empty bay that is reached from x through bays not held, itself not held; ties go to the lowest number"
+  -- "the nearest empty bay that is reached from x through bays not held, itself not held"; "among nearest empty bays take the one
+  -- with fewest rails, and only then the lowest number"
   unfoldable pub nearestEmpty : List Bay → Placement → Bay → Option Bay
-  nearestEmpty held p x = firstOf (lowestOf (isEmpty p)) (rings Y held x)
+  nearestEmpty held p x = nearestOf Y (isEmpty p) held x
 
   -- "Vacating must also say which bay it filled, if it moved anything."
   abbrev pub filledBy : List Bay → Bay → Placement → Option Bay

@@ -111,9 +111,13 @@ module _ (Y : Yard) where
   unfoldable pub neighbours : Bay → List Bay
   neighbours a = filter (joined a) (upTo (Y .bays))
 
+  -- how many rails a bay has
+  abbrev pub railsAt : Bay → ℕ
+  railsAt a = length (neighbours a)
+
   -- "three rails or more"
   unfoldable pub junction : Bay → Bool
-  junction v = leb 3 (length (neighbours v))
+  junction v = leb 3 (railsAt v)
 
   -- A carousel: "every bay has exactly two rails".
   unfoldable pub carousel : Bool

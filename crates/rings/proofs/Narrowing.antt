@@ -25,6 +25,7 @@ use Rattle.words.proofs.Bits.{on-and}
 use Rattle.words.proofs.Loops.{Done}
 use Rattle.words.proofs.Sets.{mem-row, row-zero}
 use Rattle.yard.specs.Table.{Table}
+use Rattle.choice.specs.Taking.{Taken}
 use Rattle.rings.specs.Search.{around, Shown, ringOn, Searched}
 use Rattle.rings.specs.Ways.{Ended, onPath, Narrowed, Outside, pathOut, KeptBeside, WayFound, endOf, wayLength}
 use Rattle.rings.specs.declared.Way.{Way}
@@ -189,7 +190,7 @@ module _ {n : ℕ} {table rows : List ℕ} {d x : ℕ} (t : Outside n table rows
 -- ## The way to the nearest
 
 module _ {n : ℕ} {table held : List ℕ} (s : Shown n table held) (most : n ≤ span) (x : Bay) (hx : x < n) (unheld : mem held x ≡ false)
-    (wanted rows : List ℕ) (d b : ℕ) (f : Searched s x wanted rows d) (l : Lowest (λ y. memRow rows d y and memRow wanted 0 y) 0 span b) (hit : b < span) where
+    (wanted rows : List ℕ) (d b : ℕ) (f : Searched s x wanted rows d) (l : Taken table (λ y. memRow rows d y and memRow wanted 0 y) b) (hit : b < span) where
   pub found : In b (ringOn s x d)
   found = sym (f .rowing d b (omega arith) hit) ∙ and-left _ _ (l .hit hit)
 
@@ -223,7 +224,7 @@ module _ {n : ℕ} {table held : List ℕ} (s : Shown n table held) (most : n �
   pub way-found : (rows′ room : List ℕ) (w : Narrowed ended 1 rows′) (q : Bay → Bool) (r : Way) → ((y : ℕ) → y < n → mem wanted y ≡ q y)
       → take (d + 1) room ≡ pathOut (outside rows′ w) → endOf r ≡ some b → wayLength r ≡ d + 1 → WayFound s x q room r
   way-found rows′ room w q r same e ends long = record {
-    nearest = ends ∙ nearest-at s most x hx q wanted rows d b same f l hit;
+    nearest = ends ∙ nearest-at s most x hx wanted rows d f q same b l hit;
     fits = rw long (let h = f .far in omega arith);
     path = λ y k.
         let it : b ≡ y = let z = sym ends ∙ k in cc in

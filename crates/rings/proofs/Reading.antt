@@ -1,30 +1,31 @@
--- The lowest wanted bay of the first ring that has one is the nearest, ties to the lowest; and the lowest neighbour in the ring one
--- nearer is the path's next bay. Both are the paper's, since its rings rise.
+-- What is taken of the wanted bays in the first ring that has one is the nearest; and the lowest neighbour in the ring one nearer is the
+-- path's next bay. Both are the paper's.
 -- Assumes nothing.
 use mathlib.Core.Path.{_≡_, refl, sym, ap, _∙_}
 use mathlib.Core.Bool.{Bool, true, false}
 use mathlib.Core.List.{List, [], _∷_, _++_, append-assoc}
-use mathlib.Core.Option.{Option, none, some}
+use mathlib.Core.Option.{none, some}
 use Prim.Native.Nat.{ℕ, zero, suc, _+_, _-_, _*_, _≤_, _<_}
 use native.Mathlib.Decide.{ℕ-discrete, decLt}
 use native.Mathlib.Numerals.{add-one}
 use native.Mathlib.Omega.{arith}
-use lib.Dec.{eqb, ltb}
+use lib.Dec.{eqb}
 use lib.ListN.{length, getD, set, take}
 use lib.Seq.{take-suc-set}
-use borrow.Author.Tests.{eq-eqb, ne-eqb, lt-ltb, le-ltb}
+use borrow.Author.Tests.{eq-eqb, ne-eqb}
 use Rattle.paper.proofs.Members.{lowest-least}
-use Rattle.paper.specs.Basics.{if_then_else_, _and_, find, concat, elem, In}
+use Rattle.paper.specs.Basics.{_and_, elem, In}
 use Rattle.paper.specs.Yard.{Bay, joined}
-use Rattle.paper.specs.Path.{rings, nearestFirst, ringOf, inward, shortestPath, pathBetween}
+use Rattle.paper.specs.Path.{rings, nearestFirst, nearestOf, ringOf, inward, shortestPath, pathBetween}
 use Rattle.paper.proofs.Tests.{by-cases, not-both, and-left, and-right, and-both, never-some, never}
-use Rattle.paper.proofs.Members.{In-nil, find-passes, find-in, find-some, none-find}
+use Rattle.paper.proofs.Members.{In-nil}
 use Rattle.paper.proofs.Rings.{distance-in, distance-least, in-concat}
-use Rattle.paper.proofs.Nearest.{find-here, find-later}
-use Rattle.paper.proofs.Shortest.{Rising, find-lowest, rings-rise}
+use Rattle.paper.proofs.Nearest.{nearest-chosen, nearest-none}
 use Rattle.paper.proofs.Shortest.{Next, next, inward-zero}
 use Rattle.words.specs.Sets.{mem, memRow, Lowest, words, span}
 use Rattle.words.proofs.Sets.{row-zero}
+use Rattle.choice.specs.Taking.{Rowed, Taken}
+use Rattle.choice.proofs.Taking.{taken-chosen}
 use Rattle.rings.specs.Search.{Shown, ringOn, Searched, GoesOn}
 use Rattle.docket.specs.declared.Bay.{Bay as Held}
 use Rattle.rings.specs.declared.Near.{Near}
@@ -34,70 +35,55 @@ use Rattle.rings.specs.declared.Path.the-variants.{First, NoPath}
 use Rattle.rings.specs.declared.Way.the-variants.{To, NoWay}
 use Rattle.rings.proofs.Searching.{ring-inside, in-yard}
 
--- ## The first that passes, in rings
+-- ## The nearest
 
-module _ (q : ℕ → Bool) where
-  pub find-rings : (rs : List (List ℕ)) (r e : ℕ) → ((i b : ℕ) → i < r → In b (getD rs i []) → q b ≡ false) → find q (getD rs r []) ≡ some e → find q (concat rs) ≡ some e
-  unfolding concat
-  find-rings [] r e f h = unfold find in h
-  find-rings (l ∷ rs) zero e f h = find-here q l (concat rs) h
-  find-rings (l ∷ rs) (suc r) e f h =
-      find-later q l (concat rs) (none-find q l (λ b i. f 0 b (omega arith) i))
-      ∙ find-rings rs r e (λ i b k y. f (suc i) b (omega arith) y) h
+module _ {n : ℕ} {table held : List ℕ} (s : Shown n table held) (most : n ≤ span) (x : Bay) (hx : x < n) where
+  low : (d b : ℕ) → In b (ringOn s x d) → b < n
+  low d b i = in-yard s x most hx d b i
 
-  pub find-is : (l : List ℕ) (e : ℕ) → Rising l → In e l → q e ≡ true → ((b : ℕ) → In b l → b < e → q b ≡ false) → find q l ≡ some e
-  find-is l e r i h f =
-      let y = find-some q l e i h in
-      let low : y .0 ≤ e = find-lowest q l (y .0) e r (y .1) i h in
-      elim (decLt (y .0) e) [
-        | yes k ↦ not-both (find-passes q l (y .1)) (f (y .0) (find-in q l (y .1)) k)
-        | no k ↦ let same : y .0 ≡ e = omega arith in y .1 ∙ ap some same
-      ]
+  module _ (wanted rows : List ℕ) (r : ℕ) (f : Searched s x wanted rows r) where
+    -- the bays of a row are the yard's
+    pub row-rowed : n * words ≤ length table → Rowed table (λ b. memRow rows r b and memRow wanted 0 b)
+    row-rowed len b h i = let k : b < n = low r b (sym (f .rowing r b (omega arith) h) ∙ and-left _ _ i) in omega arith
 
-pub one-rises : (x : ℕ) → Rising (x ∷ [])
-unfolding Rising
-one-rises x = (λ y i. In-nil y i, tt)
+    module _ (q : Bay → Bool) (w : (b : ℕ) → b < n → mem wanted b ≡ q b) (e : ℕ) (l : Taken table (λ b. memRow rows r b and memRow wanted 0 b) e) where
+      early : (i b : ℕ) → i < r → In b (ringOn s x i) → q b ≡ false
+      early i b k y = sym (w b (low i b y)) ∙ f .before i b k y
 
--- span stands for no bay
-abbrev pub orNone : ℕ → Option ℕ
-orNone r = if ltb r span then some r else none
+      -- what is taken of the wanted bays of the ring where the search ended
+      pub nearest-at : e < span → some e ≡ nearestOf (s .yard) q (s .bays) x
+      nearest-at k =
+          let z = l .hit k in
+          let i : In e (ringOn s x r) = sym (f .rowing r e (omega arith) k) ∙ and-left _ _ z in
+          let t : q e ≡ true = sym (w e (low r e i)) ∙ sym (row-zero wanted e) ∙ and-right _ _ z in
+          let among : (b : Bay) → In b (ringOn s x r) → q b ≡ true → (b < n) × (memRow rows r b and memRow wanted 0 b ≡ true) =
+          λ b y p.
+          let h = low r b y in
+          (h, and-both _ _ (f .rowing r b (omega arith) (omega arith) ∙ y) (row-zero wanted b ∙ w b h ∙ p)) in
+          sym (nearest-chosen (s .yard) (s .bays) x q r (taken-chosen (s .joins) most q (ringOn s x r) l (low r e i) i t among) early)
+
+      -- none where it went as far as there are rings
+      pub nearest-nowhere : span ≤ e → GoesOn n rows r → none ≡ nearestOf (s .yard) q (s .bays) x
+      nearest-nowhere k goes =
+          let rs = rings (s .yard) (s .bays) x in
+          let dry : (b : ℕ) → In b (ringOn s x r) → mem wanted b ≡ false =
+          λ b i.
+          let h = low r b i in
+          by-cases (mem wanted b)
+          (λ t. not-both (and-both _ _ (f .rowing r b (omega arith) (omega arith) ∙ i) (row-zero wanted b ∙ t)) (l .missing k b (omega arith)))
+          (λ t. t) in
+          sym (nearest-none (s .yard) (s .bays) x q (λ b i.
+          let d : ℕ = ringOf (s .yard) b rs in
+          let y : In b (ringOn s x d) = distance-in (s .yard) b rs i in
+          elim (decLt d r) [
+            | yes m ↦ early d b m y
+            | no m ↦ elim (ℕ-discrete d r) [
+              | yes v ↦ let y′ : In b (ringOn s x r) = rw v at y in sym (w b (low r b y′)) ∙ dry b y′
+              | no v ↦ In-nil b (rw (f .last goes dry d (omega arith)) at y)
+            ]
+          ]))
 
 module _ {n : ℕ} {table held : List ℕ} (s : Shown n table held) (x : Bay) (most : n ≤ span) (hx : x < n) where
-  rises : (d : ℕ) → Rising (ringOn s x d)
-  rises d = rings-rise (s .yard) (s .bays) x d
-
-  -- the lowest wanted bay of the ring where the search ended; none where it went as far as there are rings
-  pub nearest-lowest : (q : Bay → Bool) (wanted rows : List ℕ) (r e : ℕ) → ((b : ℕ) → b < n → mem wanted b ≡ q b) → Searched s x wanted rows r
-      → Lowest (λ b. memRow rows r b and memRow wanted 0 b) 0 span e → (span ≤ e → GoesOn n rows r) → orNone e ≡ find q (nearestFirst (s .yard) (s .bays) x)
-  nearest-lowest q wanted rows r e w f l goes =
-      let rs = rings (s .yard) (s .bays) x in
-      let low : (d b : ℕ) → In b (ringOn s x d) → b < n = in-yard s x most hx in
-      let early : (i b : ℕ) → i < r → In b (getD rs i []) → q b ≡ false = λ i b k y. sym (w b (low i b y)) ∙ f .before i b k y in
-      let lower : (b : ℕ) → In b (getD rs r []) → b < e → mem wanted b ≡ false =
-      λ b i k.
-      let hb : b < n = low r b i in
-      let z : memRow rows r b and memRow wanted 0 b ≡ false = l .before b (omega arith) k in
-      by-cases (mem wanted b) (λ t. not-both (and-both _ _ (f .rowing r b (omega arith) (omega arith) ∙ i) (row-zero wanted b ∙ t)) z) (λ t. t) in
-      elim (decLt e span) [
-        | yes k ↦
-            let z = l .hit k in
-            let i : In e (getD rs r []) = sym (f .rowing r e (omega arith) k) ∙ and-left _ _ z in
-            let t : q e ≡ true = sym (w e (low r e i)) ∙ sym (row-zero wanted e) ∙ and-right _ _ z in
-            rw (lt-ltb e span k) (sym (find-rings q rs r e early (find-is q (getD rs r []) e (rises r) i t (λ b y m. sym (w b (low r b y)) ∙ lower b y m))))
-        | no k ↦
-            let missing : (b : ℕ) → In b (getD rs r []) → mem wanted b ≡ false = λ b i. let hb : b < n = low r b i in lower b i (omega arith) in
-            rw (le-ltb e span (omega arith)) (sym (none-find q (concat rs) (λ b i.
-            let d : ℕ = ringOf (s .yard) b rs in
-            let y : In b (getD rs d []) = distance-in (s .yard) b rs i in
-            elim (decLt d r) [
-              | yes m ↦ early d b m y
-              | no m ↦ elim (ℕ-discrete d r) [
-                | yes v ↦ let y′ : In b (getD rs r []) = rw v at y in sym (w b (low r b y′)) ∙ missing b y′
-                | no v ↦ In-nil b (rw (f .last (goes (omega arith)) missing d (omega arith)) at y)
-              ]
-            ])))
-      ]
-
   -- the search for the one bay u ends at the ring of u, where u is reached at all
   pub search-finds : (wanted rows : List ℕ) (u r : ℕ) → ((b : ℕ) → mem wanted b ≡ eqb b u) → Searched s x wanted rows r
       → (elem u (ringOn s x r) ≡ false → GoesOn n rows r) → In u (nearestFirst (s .yard) (s .bays) x) → In u (ringOn s x r) × (ringOf (s .yard) u (rings (s .yard) (s .bays) x) ≡ r)
@@ -172,14 +158,6 @@ module _ {n : ℕ} {table rows : List ℕ} {d x : ℕ} (t : Inside n table rows 
 -- ## What the functions answer
 
 module _ {n : ℕ} {table held : List ℕ} (s : Shown n table held) (most : n ≤ span) where
-  pub nearest-at : (x : Bay) (hx : x < n) (q : Bay → Bool) (wanted rows : List ℕ) (r e : ℕ) → ((b : ℕ) → b < n → mem wanted b ≡ q b) → Searched s x wanted rows r
-      → Lowest (λ b. memRow rows r b and memRow wanted 0 b) 0 span e → e < span → some e ≡ find q (nearestFirst (s .yard) (s .bays) x)
-  nearest-at x hx q wanted rows r e w f l k = rw (lt-ltb e span k) at (nearest-lowest s x most hx q wanted rows r e w f l (λ h. absurd (omega arith)))
-
-  pub nearest-nowhere : (x : Bay) (hx : x < n) (q : Bay → Bool) (wanted rows : List ℕ) (r e : ℕ) → ((b : ℕ) → b < n → mem wanted b ≡ q b) → Searched s x wanted rows r
-      → Lowest (λ b. memRow rows r b and memRow wanted 0 b) 0 span e → span ≤ e → GoesOn n rows r → none ≡ find q (nearestFirst (s .yard) (s .bays) x)
-  nearest-nowhere x hx q wanted rows r e w f l k o = rw (le-ltb e span k) at (nearest-lowest s x most hx q wanted rows r e w f l (λ h. o))
-
   module _ (u v : Bay) (hv : v < n) (wanted rows : List ℕ) (d : ℕ) (w : (b : ℕ) → mem wanted b ≡ eqb b u) (f : Searched s v wanted rows d) (hu : u < n) where
     abbrev pub inside : true ≡ memRow rows d u → Inside n table rows d u
     inside k = record {
@@ -212,7 +190,7 @@ module _ {n : ℕ} {table held : List ℕ} (s : Shown n table held) (most : n �
 -- ## The way to the nearest
 
 module _ {n : ℕ} {table held : List ℕ} (s : Shown n table held) (x : Bay) (q : Bay → Bool) where
-  pub way-none : (room : List ℕ) → none ≡ find q (nearestFirst (s .yard) (s .bays) x) → WayFound s x q room NoWay
+  pub way-none : (room : List ℕ) → none ≡ nearestOf (s .yard) q (s .bays) x → WayFound s x q room NoWay
   way-none room h = record { nearest = h; fits = omega arith; path = λ e k. never-some e k }
 
 -- ## What few rows find

@@ -6,9 +6,9 @@ use mathlib.Core.List.{List}
 use mathlib.Core.Option.{Option, none, some}
 use Prim.Native.Nat.{ℕ, _-_, _*_, _≤_, _<_}
 use lib.ListN.{length, take}
-use Rattle.paper.specs.Basics.{_and_, find, elem, In, Out}
+use Rattle.paper.specs.Basics.{_and_, elem, In, Out}
 use Rattle.paper.specs.Yard.{Bay, Yard}
-use Rattle.paper.specs.Path.{rings, nearestFirst, inward, shortestPath, pathBetween}
+use Rattle.paper.specs.Path.{rings, nearestOf, inward, shortestPath, pathBetween}
 use Rattle.words.specs.Sets.{mem, memRow, words, span, anyBelow, reaches}
 use Rattle.yard.specs.Table.{Table}
 use Rattle.rings.specs.Search.{Shown, around, GoesOn}
@@ -122,9 +122,9 @@ module _ {n : ℕ} {table held : List ℕ} (s : Shown n table held) where
     pub fits : pathLength r ≤ n
     pub same : pathOf r room ≡ pathBetween (s .yard) (s .bays) u v
 
-  -- the nearest bay of which q holds, and the shortest path to it
+  -- the nearest bay of which q holds, and among the nearest the choice; and the shortest path to it
   pub record WayFound (x : Bay) (q : Bay → Bool) (room : List ℕ) (r : Way) : Type 0 where
-    pub nearest : endOf r ≡ find q (nearestFirst (s .yard) (s .bays) x)
+    pub nearest : endOf r ≡ nearestOf (s .yard) q (s .bays) x
     pub fits : wayLength r ≤ n
     pub path : (e : Bay) → endOf r ≡ some e → take (wayLength r) room ≡ shortestPath (s .yard) (s .bays) x e
 

@@ -1,5 +1,5 @@
-// Ring by ring around a bay, through bays not held: rows of words, of which row i is ring i. The nearest bay of a set and the
-// shortest path are read from them. The room for the path is lent.
+// Ring by ring around a bay, through bays not held: rows of words, of which row i is ring i. The nearest bay of a set, the choice among
+// the nearest, and the shortest path are read from them. The room for the path is lent.
 use docket::Bay;
 ghost use mathlib.Core.Path.{_≡_};
 ghost use mathlib.Core.Bool.{Bool, true, false};
@@ -252,7 +252,7 @@ fn way_near(
     ensures { λ r. ⌜ ((s : Shown n (now (table .entry)) (now (held .entry))) (q : ℕ → Bool) → ((b : ℕ) → b < n → mem (now (wanted .entry)) b ≡ q b) → WayNear s (x .0) q (now (rows .entry)) (now (path .exit)) r) ⌝ }
 {
     let d = search(table, n, held, x, wanted, rows);
-    let b = words::lowest_common(rows, d, wanted, 0);
+    let b = choice::common(table, rows, d, wanted, 0);
     if words::SPAN <= b {
         return ended(n, rows, d);
     }

@@ -7,17 +7,18 @@ use mathlib.Core.Option.{some}
 use Prim.Native.Nat.{ℕ, _≤_, _<_}
 use native.Mathlib.Omega.{arith}
 use lib.ListN.{length, getD, take, length-take}
-use lib.Dec.{ltb}
 use lib.Seq.{getD-take}
-use borrow.Author.Tests.{not-true, not-false, ltb-true, ltb-false}
+use borrow.Author.Tests.{not-true, not-false}
 use Rattle.paper.specs.Basics.{_and_, elem, In, Out}
-use Rattle.paper.specs.Path.{Free}
+use Rattle.paper.specs.Path.{Free, Rather}
 use Rattle.paper.specs.Procedure.{vacate, holding, shift}
-use Rattle.paper.specs.Yard.{Bay, Carrier, Placement, bayOf, carrierAt, crossing, isEmpty, joined}
+use Rattle.paper.specs.Yard.{Bay, Carrier, Placement, bayOf, carrierAt, crossing, isEmpty, joined, railsAt}
 use Rattle.paper.proofs.Members.{In-cases, take-in, in-count}
 use Rattle.paper.proofs.Playing.{placeOf-bay, placeOf-there, bay-in}
 use Rattle.paper.proofs.Tests.{by-cases, not-both, and-left, and-right, and-both}
-use Rattle.words.specs.Sets.{mem, span, memRow, Lowest}
+use Rattle.words.specs.Sets.{mem, span, memRow}
+use Rattle.choice.specs.Taking.{Taken}
+use Rattle.choice.proofs.Taking.{rather-paper}
 use Rattle.words.proofs.Sets.{row-zero}
 use Rattle.vacate.specs.Placed.{Placed}
 use Rattle.vacate.proofs.Playing.{carrier-is}
@@ -27,7 +28,7 @@ use Rattle.step.specs.Asking.{Loopless}
 
 module _ {n : ℕ} {table : List ℕ} (t : Tabled n table) (most : n ≤ span) (loopless : Loopless n table) (finished : ℕ) (r : Carrier) (w : Bay) (p : Placement)
     {standing empty : List ℕ} (k : Placed n p standing empty) (hr : r < length p) (hf : finished ≤ length p) (hw : w < n) (rail : memRow table (bayOf p r) w ≡ true)
-    (high : finished ≤ getD standing w 0) (full : mem empty w ≡ false) (e : Bay) (low : Lowest (λ b. memRow table w b and memRow empty 0 b) 0 span e) (there : e < span) where
+    (high : finished ≤ getD standing w 0) (full : mem empty w ≡ false) (e : Bay) (low : Taken table (λ b. memRow table w b and memRow empty 0 b) e) (there : e < span) where
   -- an empty bay is not held
   unheld : (b : Bay) → Out b p → Out b (holding finished r p)
   unheld b o =
@@ -72,17 +73,17 @@ module _ {n : ℕ} {table : List ℕ} (t : Tabled n table) (most : n ≤ span) (
   free-of : (b : Bay) → b < n → Out b (holding finished r p) → Free (t .yard) (holding finished r p) b
   free-of b h o = (in-count 0 (t .yard .bays) b (omega arith) (rw (t .joins .bays) (omega arith)), o)
 
-  lowest-e : (b : Bay) → joined (t .yard) w b ≡ true → Free (t .yard) (holding finished r p) b → Out b p → e ≤ b
-  lowest-e b j f o =
+  rather-e : (b : Bay) → joined (t .yard) w b ≡ true → Free (t .yard) (holding finished r p) b → Out b p → Rather (railsAt (t .yard)) e b
+  rather-e b j f o =
       let h : b < n = t .joins .inside w b j .1 in
       let passes = and-both (memRow table w b) (memRow empty 0 b) (t .joins .same w b hw (omega arith) ∙ j) (row-zero empty b ∙ k .empties b h ∙ ap not o) in
-      by-cases (ltb b e) (λ l. not-both passes (low .before b (omega arith) (ltb-true b e l))) (λ l. ltb-false b e l)
+      rather-paper (t .joins) most e b inside-e h (low .before there b (omega arith) passes)
 
   pub made-aside : vacate (t .yard) (holding finished r p) w p ≡ some (crossing (carrierAt p w) w e ∷ [])
   unfolding vacate shift
   made-aside =
       let free-w = free-of w hw w-unheld in
       let free-e = free-of e inside-e (unheld e empty-e) in
-      let near = beside-nearest (t .yard) (holding finished r p) w p e free-w full-in rail-e free-e empty-e lowest-e in
+      let near = beside-nearest (t .yard) (holding finished r p) w p e free-w full-in rail-e free-e empty-e rather-e in
       let path = beside-path (t .yard) (holding finished r p) w p e free-w full-in rail-e free-e empty-e in
       rw (full-w, w-unheld, near, ← path)

@@ -10,7 +10,8 @@ ghost use lib.ListN.{length, getD};
 ghost use Rattle.paper.specs.Basics.{_and_};
 ghost use Rattle.paper.specs.Procedure.{trade};
 ghost use Rattle.paper.specs.Yard.{carrierAt, crossing};
-ghost use Rattle.words.specs.Sets.{mem, memRow, words, span, Lowest};
+ghost use Rattle.words.specs.Sets.{mem, memRow, words, span};
+ghost use Rattle.choice.specs.Taking.{Taken};
 ghost use Rattle.vacate.specs.Placed.{Placed, Played};
 ghost use Rattle.bring.specs.Acting.{Tabled, Ready, Within, Proceeds};
 ghost use Rattle.step.specs.Asking.{Loopless, BaysBelow, steps};
@@ -47,7 +48,8 @@ fn make_way(
     Tried::Done(vacate::cross(placement, standing, empty, u, w, out, a))
 }
 
-// The step where the bay e beside w is empty: the carrier at w crosses to it, then r crosses. An empty bay is not held, so nobody asks what is.
+// The step where the bay e beside w is empty and the choice: the carrier at w crosses to it, then r crosses. An empty bay is not held, so nobody asks
+// what is.
 fn step_aside(
     table: &[u64],
     finished: usize,
@@ -61,7 +63,7 @@ fn step_aside(
     at: usize,
 ) -> Tried
     requires { ⌜ Ready (now table) (now placement) (now standing) (now empty) ⌝ }
-    requires { ⌜ (r .0 < length (now placement)) × (finished ≤ length (now placement)) × (w .0 < length (now standing)) × (memRow (now table) (getD (now placement) (r .0) 0) (w .0) ≡ true) × Loopless (length (now standing)) (now table) × (at < 2 ^ 60) × (finished ≤ getD (now standing) (w .0) 0) × (mem (now empty) (w .0) ≡ false) × Lowest (λ b. memRow (now table) (w .0) b and memRow (now empty) 0 b) 0 span (e .0) × (e .0 < span) ⌝ }
+    requires { ⌜ (r .0 < length (now placement)) × (finished ≤ length (now placement)) × (w .0 < length (now standing)) × (memRow (now table) (getD (now placement) (r .0) 0) (w .0) ≡ true) × Loopless (length (now standing)) (now table) × (at < 2 ^ 60) × (finished ≤ getD (now standing) (w .0) 0) × (mem (now empty) (w .0) ≡ false) × Taken (now table) (λ b. memRow (now table) (w .0) b and memRow (now empty) 0 b) (e .0) × (e .0 < span) ⌝ }
     ensures { λ z. ⌜ (Within at 150000 z) × ((t : Tabled (length (now (standing .entry))) (now (table .entry))) → Proceeds (steps (t .yard) finished (r .0) (w .0) (now (placement .entry))) (length (now (standing .entry))) (now (placement .entry)) (now (out .entry)) at (now (placement .exit)) (now (standing .exit)) (now (empty .exit)) (now (out .exit)) z) ⌝ }
 {
     let a = vacate::cross(placement, standing, empty, w, e, out, at);
@@ -107,7 +109,7 @@ fn step_to(
             at,
         );
     }
-    let beside = words::lowest_common(table, bay, empty, 0);
+    let beside = choice::common(table, table, bay, empty, 0);
     if beside < words::SPAN {
         let e = Bay(beside as u16);
         return step_aside(

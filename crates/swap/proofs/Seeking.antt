@@ -10,12 +10,11 @@ use native.Mathlib.Omega.{arith}
 use lib.ListN.{length, getD, length-map}
 use lib.Dec.{leb, ltb}
 use native.Mathlib.Decide.{ℕ-discrete, decLt}
-use Rattle.paper.specs.Basics.{_and_, _>>=_, filter, find, concat, firstOf, elem, countFrom, upTo, In}
+use Rattle.paper.specs.Basics.{_and_, _>>=_, filter, find, concat, firstOf, elem, In}
 use Rattle.paper.specs.Path.{rings, nearestFirst, ringOf}
 use Rattle.paper.specs.Procedure.{trial, swap}
-use Rattle.paper.specs.Yard.{Bay, Carrier, Yard, Placement, bayOf, Crossing, pack, joined, neighbours, junction}
-use Rattle.paper.proofs.Admitted.{same-filter, filter-nothing}
-use Rattle.paper.proofs.Members.{find-passes, In-nil, find-in, find-some, nothing-in-nil, count-low, count-high, in-count, none-find}
+use Rattle.paper.specs.Yard.{Bay, Carrier, Yard, Placement, bayOf, Crossing, pack, joined, junction}
+use Rattle.paper.proofs.Members.{find-passes, In-nil, find-in, find-some, nothing-in-nil, in-count, none-find}
 use Rattle.paper.proofs.Nearest.{find-here, find-later}
 use Rattle.paper.proofs.Rings.{distance-in, in-concat, reached-sym}
 use Rattle.paper.proofs.Shortest.{Rising, find-lowest, rings-rise}
@@ -23,8 +22,8 @@ use Rattle.paper.proofs.Tests.{by-cases, by-option, not-both, and-right, and-bo
 use Rattle.docket.specs.Reading.{isSome}
 use Rattle.words.specs.Sets.{mem, span, memRow, Lowest}
 use Rattle.swap.specs.Seeking.{Beside, fitting, TriedAt}
-use Rattle.words.proofs.Sets.{filter-append, count-split}
-use Rattle.ways.specs.Meeting.{rails}
+use Rattle.choice.specs.Taking.{rails}
+use Rattle.choice.proofs.Counting.{table-rails}
 use Rattle.rings.proofs.Searching.{in-yard, ring-none}
 use Rattle.bring.specs.Acting.{Tabled}
 use Rattle.bring.specs.declared.Tried.{Tried}
@@ -92,31 +91,9 @@ tried-not Y r s v p log j = record { fails = λ e. fitting-not Y r s p v j; fits
 
 -- ## Junctions
 
--- the table's row of v names its neighbours and no bay above the yard's
-module _ {n : ℕ} {table : List ℕ} (t : Tabled n table) (most : n ≤ span) (v : Bay) (hv : v < n) where
-  rails-below : filter (memRow table v) (upTo n) ≡ filter (joined (t .yard) v) (upTo n)
-  rails-below = same-filter (joined (t .yard) v) (memRow table v) (upTo n) (λ y i. let h = count-high 0 n y i in t .joins .same v y hv (omega arith))
-
-  rails-above : filter (memRow table v) (countFrom n (span - n)) ≡ []
-  rails-above =
-      same-filter (λ y. elem y []) (memRow table v) (countFrom n (span - n))
-      (λ y i.
-      let l = count-low n (span - n) y i in
-      let h = count-high n (span - n) y i in
-      by-cases (memRow table v y)
-      (λ e. let k = t .joins .inside v y (sym (t .joins .same v y hv (omega arith)) ∙ e) .1 in absurd (omega arith))
-      (λ e. e ∙ sym (nothing-in-nil y)))
-      ∙ filter-nothing (countFrom n (span - n))
-
-  pub junction-rails : ltb 2 (rails table v) ≡ junction (t .yard) v
-  unfolding junction neighbours
-  junction-rails =
-      let all : n + (span - n) ≡ span = omega arith in
-      let from : 0 + n ≡ n = omega arith in
-      let split : upTo span ≡ upTo n ++ countFrom n (span - n) = rw (all, from) at (count-split 0 n (span - n)) in
-      let count : rails table v ≡ length (filter (joined (t .yard) v) (upTo n)) =
-      rw (split, filter-append, rails-below, rails-above) (omega arith) in
-      ap (leb 3) count ∙ rw (t .joins .bays)
+pub junction-rails : {n : ℕ} {table : List ℕ} (t : Tabled n table) → n ≤ span → (v : Bay) → v < n → ltb 2 (rails table v) ≡ junction (t .yard) v
+unfolding junction
+junction-rails t most v hv = ap (leb 3) (table-rails (t .joins) most v hv)
 
 -- ## Ring by ring
 

@@ -1,16 +1,16 @@
--- Where an empty bay that is not held is beside x, the lowest such bay is the nearest one, and the path to it is the one rail.
+-- Where empty bays that are not held are beside x, the choice among them is the nearest one, and the path to it is the one rail.
 -- Assumes nothing.
 use mathlib.Core.Path.{_≡_, refl}
 use mathlib.Core.Bool.{true}
 use mathlib.Core.List.{List, [], _∷_}
-use mathlib.Core.Logic.{inr}
+use mathlib.Core.Logic.{inr, ⊎-elim}
 use mathlib.Core.Option.{some}
-use Prim.Native.Nat.{_≤_}
+use Prim.Native.Nat.{_≤_, _<_}
 use native.Mathlib.Omega.{arith}
 use lib.ListN.{length}
 use Rattle.paper.specs.Basics.{In, Out}
-use Rattle.paper.specs.Yard.{Bay, Yard, Placement, joined}
-use Rattle.paper.specs.Path.{Free, Route, Way, shortestPath}
+use Rattle.paper.specs.Yard.{Bay, Yard, Placement, joined, railsAt}
+use Rattle.paper.specs.Path.{Free, Route, Way, Rather, shortestPath}
 use Rattle.paper.specs.Procedure.{nearestEmpty}
 use Rattle.paper.proofs.Members.{out-cons, nothing-in-nil}
 use Rattle.paper.proofs.Nearest.{nearest-exactly}
@@ -39,17 +39,21 @@ module _ (Y : Yard) (held : List Bay) (x : Bay) where
     way : Way Y held x (x ∷ e ∷ []) e
     way = record { rest = e ∷ []; starts = refl; free = free-x; route = (rail, free-e, refl) }
 
-    pub beside-nearest : ((b : Bay) → joined Y x b ≡ true → Free Y held b → Out b p → e ≤ b) → nearestEmpty Y held p x ≡ some e
-    beside-nearest low = (nearest-exactly Y held p x free-x e) .1 (record {
-      empty = empty;
-      path = x ∷ e ∷ [];
-      way = way;
-      nearest = λ b m o w. two b m (other b o) w;
-      lowest = λ b m o w s.
-          let k : length (w .rest) ≡ 1 = let h = rw (w .starts) at s in omega arith in
-          let t = one b (w .rest) k (w .route) in
-          low b (t .1) (t .2) o;
-    })
+    pub beside-nearest : ((b : Bay) → joined Y x b ≡ true → Free Y held b → Out b p → Rather (railsAt Y) e b) → nearestEmpty Y held p x ≡ some e
+    beside-nearest rather =
+        let as-near : (b : Bay) (m : List Bay) → Out b p → Way Y held x m b → length m ≡ 2 → Rather (railsAt Y) e b =
+        λ b m o w s.
+        let k : length (w .rest) ≡ 1 = let h = rw (w .starts) at s in omega arith in
+        let t = one b (w .rest) k (w .route) in
+        rather b (t .1) (t .2) o in
+        (nearest-exactly Y held p x free-x e) .1 (record {
+          empty = empty;
+          path = x ∷ e ∷ [];
+          way = way;
+          nearest = λ b m o w. two b m (other b o) w;
+          fewest = λ b m o w s. ⊎-elim (λ l. omega arith) (λ l. omega (arith, l .0)) (as-near b m o w s);
+          lowest = λ b m o w s k. ⊎-elim (λ l. absurd (omega arith)) (λ l. l .1) (as-near b m o w s);
+        })
 
     short : Shortest Y held x e (x ∷ e ∷ [])
     short = record {

@@ -9,17 +9,18 @@ use Prim.Native.Nat.{ℕ, _+_, _≤_, _<_}
 use native.Mathlib.Nat.{zero-add}
 use native.Mathlib.Omega.{arith}
 use lib.ListN.{length}
-use lib.Dec.{ltb}
-use borrow.Author.Tests.{not-true, not-false, ltb-true, ltb-false}
+use borrow.Author.Tests.{not-true, not-false}
 use Rattle.paper.specs.Basics.{_and_, elem}
-use Rattle.paper.specs.Yard.{Bay, Crossing, crossing, carrierAt, isEmpty, joined}
-use Rattle.paper.specs.Path.{Free, rings, ringOf, shortestPath}
+use Rattle.paper.specs.Yard.{Bay, Crossing, crossing, carrierAt, isEmpty, joined, railsAt}
+use Rattle.paper.specs.Path.{Free, rings, ringOf, shortestPath, Rather}
 use Rattle.paper.specs.Procedure.{nearestEmpty, shift, vacate}
-use Rattle.paper.proofs.Tests.{never-some, by-cases, not-both, and-left, and-right, and-both}
+use Rattle.paper.proofs.Tests.{never-some, not-both, and-left, and-right, and-both}
 use Rattle.paper.proofs.Members.{count-high, in-count}
 use Rattle.paper.proofs.Shortest.{inward-head}
 use Rattle.paper.proofs.Vacating.{path-shiftable, path-free}
-use Rattle.words.specs.Sets.{mem, memRow, span, Lowest}
+use Rattle.words.specs.Sets.{mem, memRow, span}
+use Rattle.choice.specs.Taking.{Taken}
+use Rattle.choice.proofs.Taking.{rather-paper}
 use Rattle.rings.specs.Search.{Shown}
 use Rattle.vacate.specs.Placed.{Placed, Played, Acted, CanShift}
 use Rattle.vacate.specs.Answer.{Vacates, vacating, bayFilled, countAfter, filled}
@@ -87,8 +88,8 @@ module _ {n : ℕ} {table held : List ℕ} (s : Shown n table held) (most : n �
       out-x : elem x (s .bays) ≡ false
       out-x = sym (s .holds x (omega arith)) ∙ sym unheld
 
-      -- The lowest empty bay beside x that is not held is the nearest, and one rail leads there.
-      module _ (e : Bay) (low : Lowest (λ b. memRow table x b and (mem empty b and not (mem held b))) 0 span e) (there : e < span) where
+      -- The choice among the empty bays beside x that are not held is the nearest, and one rail leads there.
+      module _ (e : Bay) (low : Taken table (λ b. memRow table x b and (mem empty b and not (mem held b))) e) (there : e < span) where
         taken : memRow table x e and (mem empty e and not (mem held e)) ≡ true
         taken = low .hit there
 
@@ -110,16 +111,16 @@ module _ {n : ℕ} {table held : List ℕ} (s : Shown n table held) (most : n �
         free-e : Free (s .yard) (s .bays) e
         free-e = free-of e inside-e (sym (s .holds e there) ∙ not-true (mem held e) (and-right _ _ (and-right _ _ taken)))
 
-        lowest-e : (b : Bay) → joined (s .yard) x b ≡ true → Free (s .yard) (s .bays) b → elem b p ≡ false → e ≤ b
-        lowest-e b j f o =
+        rather-e : (b : Bay) → joined (s .yard) x b ≡ true → Free (s .yard) (s .bays) b → elem b p ≡ false → Rather (railsAt (s .yard)) e b
+        rather-e b j f o =
             let h : b < n = s .joins .inside x b j .1 in
             let railed : memRow table x b ≡ true = s .joins .same x b hx (omega arith) ∙ j in
             let unheld-b : not (mem held b) ≡ true = ap not (s .holds b (omega arith) ∙ f .1) in
             let passes = and-both (memRow table x b) (mem empty b and not (mem held b)) railed (and-both (mem empty b) (not (mem held b)) (k .empties b h ∙ ap not o) unheld-b) in
-            by-cases (ltb b e) (λ l. not-both passes (low .before b (omega arith) (ltb-true b e l))) (λ l. ltb-false b e l)
+            rather-paper (s .joins) most e b inside-e h (low .before there b (omega arith) passes)
 
         pub nearest-beside : some e ≡ nearestEmpty (s .yard) (s .bays) p x
-        nearest-beside = sym (beside-nearest (s .yard) (s .bays) x p e (free-of x hx out-x) full-in rail-e free-e empty-e lowest-e)
+        nearest-beside = sym (beside-nearest (s .yard) (s .bays) x p e (free-of x hx out-x) full-in rail-e free-e empty-e rather-e)
 
         pub path-beside : x ∷ e ∷ [] ≡ shortestPath (s .yard) (s .bays) x e
         path-beside = beside-path (s .yard) (s .bays) x p e (free-of x hx out-x) full-in rail-e free-e empty-e
@@ -167,7 +168,7 @@ module _ {n : ℕ} {table held : List ℕ} (s : Shown n table held) (most : n �
             }
 
       -- the carrier at x crossed to the bay beside it
-      pub vacates-beside : (e : Bay) (low : Lowest (λ b. memRow table x b and (mem empty b and not (mem held b))) 0 span e) (there : e < span)
+      pub vacates-beside : (e : Bay) (low : Taken table (λ b. memRow table x b and (mem empty b and not (mem held b))) e) (there : e < span)
           (p′ standing′ empty′ out′ : List ℕ) (r : Vacated) (m : ℕ) → countAfter at r ≡ some m → filled r ≡ some e
           → Played (crossing (carrierAt p x) x e ∷ []) n p p′ standing′ empty′ out at out′ m → Vacates s x p standing empty out at p′ standing′ empty′ out′ r
       unfolding shift

@@ -196,7 +196,7 @@ pub fn vacate(
     if words::is_in(held, bay) {
         return Vacated::Failed;
     }
-    let beside = words::lowest_free(table, bay, empty, held);
+    let beside = choice::free(table, bay, empty, held);
     if beside < words::SPAN {
         let e = Bay(beside as u16);
         return Vacated::Filled(e, cross(placement, standing, empty, x, e, out, at));

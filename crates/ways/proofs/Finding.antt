@@ -1,45 +1,42 @@
--- Ring after ring, the lowest wanted bay of the first ring that has one is the nearest, and the path back from it is the paper's. Where
--- a ring leads to nothing new, there is none.
+-- Ring after ring, what is taken of the wanted bays in the first ring that has one is the nearest, and the path back from it is the paper's.
+-- Where a ring leads to nothing new, there is none.
 -- Assumes nothing.
 use mathlib.Core.Path.{_≡_, refl, sym, ap, _∙_}
 use mathlib.Core.Bool.{Bool, true, false, not}
 use mathlib.Core.List.{List, [], _∷_}
 use mathlib.Core.Option.{some}
-use Prim.Native.Nat.{ℕ, zero, suc, _+_, _-_, _≤_, _<_}
+use Prim.Native.Nat.{ℕ, zero, suc, _+_, _-_, _*_, _≤_, _<_}
 use native.Mathlib.Decide.{ℕ-discrete, decLt}
 use native.Mathlib.Omega.{arith}
 use lib.Dec.{eqb}
 use lib.ListN.{length, take}
 use lib.Seq.{take-take, length-take-le}
 use borrow.Author.Tests.{eqb-true, eq-eqb, not-true}
-use Rattle.paper.specs.Basics.{_and_, _or_, concat, find, elem, In}
+use Rattle.paper.specs.Basics.{_and_, _or_, elem, In}
 use Rattle.paper.specs.Yard.{Bay}
 use Rattle.paper.specs.Path.{rings, nearestFirst, ringOf, pathBetween}
 use Rattle.paper.proofs.Tests.{by-cases, not-both, and-left, and-right, and-both, or-right, or-cases, some-same}
-use Rattle.paper.proofs.Members.{In-one, In-head, nothing-in-nil, none-find, find-in, find-passes, find-none}
-use Rattle.paper.proofs.Rings.{ring-step, distance-in, rings-apart, reached-sym}
-use Rattle.paper.proofs.Shortest.{rings-rise, inward-zero}
+use Rattle.paper.proofs.Members.{In-nil, In-one, In-head, nothing-in-nil}
+use Rattle.paper.proofs.Choosing.{chosen-alone}
+use Rattle.paper.proofs.Nearest.{nearest-chosen, nearest-found, nearest-none, none-nearest}
+use Rattle.paper.proofs.Rings.{ring-step, in-concat, distance-in, rings-apart, reached-sym}
+use Rattle.paper.proofs.Shortest.{inward-zero}
 use Rattle.docket.specs.declared.Bay.{Bay as Held}
-use Rattle.words.specs.Sets.{mem, memRow, span, Kept, Lowest}
+use Rattle.words.specs.Sets.{mem, memRow, words, span, Kept}
 use Rattle.words.proofs.Sets.{row-zero}
+use Rattle.choice.specs.Taking.{Rowed, Taken}
+use Rattle.choice.proofs.Taking.{taken-chosen}
 use Rattle.rings.specs.Search.{Shown, ringOn}
 use Rattle.rings.specs.Ways.{WayFound, PathFound}
 use Rattle.rings.specs.declared.Way.the-variants.{To, NoWay}
 use Rattle.rings.specs.declared.Path.the-variants.{First, NoPath}
 use Rattle.rings.proofs.Searching.{elem-one, ring-first, in-yard}
-use Rattle.rings.proofs.Reading.{find-rings, find-is, way-none}
+use Rattle.rings.proofs.Reading.{way-none}
 use Rattle.rings.proofs.Between.{shortest-far}
 use Rattle.ways.specs.Meeting.{back}
 use Rattle.ways.specs.Queue.{Met, Passed}
 use Rattle.ways.proofs.Passing.{Within, next-holds, next-within}
 use Rattle.ways.proofs.Tracing.{free-of, path-back}
-
--- the lowest that passes, of the first ring that has one, is the nearest
-nearest-of : {n : ℕ} {table held : List ℕ} (s : Shown n table held) (x : Bay) (q : Bay → Bool) (d e : ℕ) → In e (ringOn s x d) → q e ≡ true
-    → ((i b : ℕ) → i < d → In b (ringOn s x i) → q b ≡ false) → ((b : ℕ) → In b (ringOn s x d) → b < e → q b ≡ false)
-    → some e ≡ find q (nearestFirst (s .yard) (s .bays) x)
-nearest-of s x q d e i h early lower =
-    sym (find-rings q (rings (s .yard) (s .bays) x) d e early (find-is q (ringOn s x d) e (rings-rise (s .yard) (s .bays) x d) i h lower))
 
 -- ## Where the search stands
 
@@ -105,7 +102,7 @@ module _ {n : ℕ} {table held : List ℕ} (s : Shown n table held) (most : n �
     pub way-nowhere : r ≡ count → (q : Bay → Bool) → ((b : ℕ) → b < n → mem wanted b ≡ q b) → (room : List ℕ) → WayFound s x q room NoWay
     way-nowhere e q w room =
         let rs = rings (s .yard) (s .bays) x in
-        way-none s x q room (sym (none-find q (concat rs) (λ b i.
+        way-none s x q room (sym (nearest-none (s .yard) (s .bays) x q (λ b i.
         let k : ℕ = ringOf (s .yard) b rs in
         let y : In b (ringOn s x k) = distance-in (s .yard) b rs i in
         elim (decLt d k) [
@@ -123,58 +120,62 @@ module _ {n : ℕ} {table held : List ℕ} (s : Shown n table held) (most : n �
       wider = next-within s most x hx (g .within) (p .queue) kept (omega arith) long far
 
       -- what is seen and free is of the newest ring: held bays are not free, and no ring before it has a wanted bay
-      module _ (free₀ free₁ free : List ℕ) (f : Kept free₀ 0 wanted free₁) (f′ : (b : ℕ) → mem free b ≡ mem free₁ b and not (mem held b)) (e : ℕ)
-          (l : Lowest (λ y. memRow seen′ 0 y and memRow free 0 y) 0 span e) where
+      module _ (free₀ free₁ free : List ℕ) (f : Kept free₀ 0 wanted free₁) (f′ : (b : ℕ) → mem free b ≡ mem free₁ b and not (mem held b)) where
         is-free : (b : ℕ) → b < span → memRow free 0 b ≡ mem wanted b and not (mem held b)
         is-free b h = row-zero free b ∙ f′ b ∙ rw (sym (row-zero free₁ b) ∙ f .row b h)
 
-        lower : (b : ℕ) → b < e → In b (ringOn s x (d + 1)) → mem wanted b ≡ false
-        lower b h i =
+        in-queue : (b : ℕ) → b < span → memRow seen′ 0 b and memRow free 0 b ≡ true → In b (take r met′)
+        in-queue b h i =
+            or-cases (mem held b) (elem b (take r met′)) (sym (p .queue .seeing b h) ∙ sym (row-zero seen′ b) ∙ and-left _ _ i)
+            (λ t. not-both t (not-true _ (and-right _ _ (sym (is-free b h) ∙ and-right _ _ i)))) (λ t. t)
+
+        pub free-rowed : n * words ≤ length table → Rowed table (λ y. memRow seen′ 0 y and memRow free 0 y)
+        free-rowed len b h i = omega (arith, p .queue .inside b (in-queue b h i))
+
+        among : (b : ℕ) → In b (ringOn s x (d + 1)) → mem wanted b ≡ true → (b < n) × (memRow seen′ 0 b and memRow free 0 b ≡ true)
+        among b i t =
             let hb : b < n = in-yard s x most hx (d + 1) b i in
             let low : b < span = omega arith in
             let y : In b (take r met′) = wider .holds (d + 1) b (omega arith) i in
             let sees : memRow seen′ 0 b ≡ true = row-zero seen′ b ∙ p .queue .seeing b low ∙ or-right _ _ y in
-            by-cases (mem wanted b)
-            (λ t. not-both (and-both _ _ sees (is-free b low ∙ and-both _ _ t (ap not (p .queue .unheld b y)))) (l .before b (omega arith) h))
-            (λ t. t)
+            (hb, and-both _ _ sees (is-free b low ∙ and-both _ _ t (ap not (p .queue .unheld b y))))
 
-        pub stage-more : span ≤ e → Stage s x wanted (d + 1) seen′ met′ before′ count r
-        stage-more h = record {
-          queue = p .queue;
-          within = wider;
-          missed = λ i b k y. elim (ℕ-discrete i (d + 1)) [
-            | yes o ↦
-                let y′ : In b (ringOn s x (d + 1)) = rw o at y in
-                let hb : b < n = in-yard s x most hx (d + 1) b y′ in
-                lower b (omega arith) y′
-            | no o ↦ g .missed i b (omega arith) y
-          ];
-          near = omega (arith, g .near);
-        }
+        module _ (e : ℕ) (l : Taken table (λ y. memRow seen′ 0 y and memRow free 0 y) e) where
+          pub stage-more : span ≤ e → Stage s x wanted (d + 1) seen′ met′ before′ count r
+          stage-more h = record {
+            queue = p .queue;
+            within = wider;
+            missed = λ i b k y. elim (ℕ-discrete i (d + 1)) [
+              | yes o ↦
+                  let y′ : In b (ringOn s x (d + 1)) = rw o at y in
+                  by-cases (mem wanted b)
+                  (λ t. let z = among b y′ t in not-both (z .1) (l .missing h b (omega (arith, z .0))))
+                  (λ t. t)
+              | no o ↦ g .missed i b (omega arith) y
+            ];
+            near = omega (arith, g .near);
+          }
 
-        pub way-found : e < span → (q : Bay → Bool) → ((b : ℕ) → b < n → mem wanted b ≡ q b) → (room : List ℕ) (bay : Held) → bay .0 ≡ e
-            → take (d + 1 + 1) room ≡ back before′ (d + 1) e [] → WayFound s x q room (To bay (d + 1 + 1))
-        way-found hit q w room bay same path =
-            let z : mem wanted e and not (mem held e) ≡ true = sym (is-free e hit) ∙ and-right _ _ (l .hit hit) in
-            let is-wanted : mem wanted e ≡ true = and-left _ _ z in
-            let in-queue : In e (take r met′) =
-            or-cases (mem held e) (elem e (take r met′)) (sym (p .queue .seeing e hit) ∙ sym (row-zero seen′ e) ∙ and-left _ _ (l .hit hit))
-            (λ t. not-both t (not-true _ (and-right _ _ z))) (λ t. t) in
-            let k = wider .only e in-queue in
-            let e-in : In e (ringOn s x (d + 1)) = elim (ℕ-discrete (k .0) (d + 1)) [
-              | yes o ↦ rw o at (k .2)
-              | no o ↦ not-both is-wanted (g .missed (k .0) e (omega (arith, k .1)) (k .2))
-            ] in
-            let low : (i b : ℕ) → In b (ringOn s x i) → b < n = in-yard s x most hx in
-            record {
-              nearest = rw same (nearest-of s x q (d + 1) e e-in (sym (w e (low (d + 1) e e-in)) ∙ is-wanted)
-                  (λ i b h y. sym (w b (low i b y)) ∙ g .missed i b (omega arith) y)
-                  (λ b y h. sym (w b (low (d + 1) b y)) ∙ lower b h y));
-              fits = let h = far in omega arith;
-              path = λ y k.
-                  let it : e ≡ y = let u = rw same at k in some-same u in
-                  rw (← it) (path ∙ path-back s most x e (d + 1) (p .queue) hx unheld e-in in-queue);
-            }
+          pub way-found : e < span → (q : Bay → Bool) → ((b : ℕ) → b < n → mem wanted b ≡ q b) → (room : List ℕ) (bay : Held) → bay .0 ≡ e
+              → take (d + 1 + 1) room ≡ back before′ (d + 1) e [] → WayFound s x q room (To bay (d + 1 + 1))
+          way-found hit q w room bay same path =
+              let is-wanted : mem wanted e ≡ true = and-left _ _ (sym (is-free e hit) ∙ and-right _ _ (l .hit hit)) in
+              let queued = in-queue e hit (l .hit hit) in
+              let k = wider .only e queued in
+              let e-in : In e (ringOn s x (d + 1)) = elim (ℕ-discrete (k .0) (d + 1)) [
+                | yes o ↦ rw o at (k .2)
+                | no o ↦ not-both is-wanted (g .missed (k .0) e (omega (arith, k .1)) (k .2))
+              ] in
+              let low : (i b : ℕ) → In b (ringOn s x i) → b < n = in-yard s x most hx in
+              let chosen = taken-chosen (s .joins) most q (ringOn s x (d + 1)) l (low (d + 1) e e-in) e-in (sym (w e (low (d + 1) e e-in)) ∙ is-wanted)
+              (λ b y h. among b y (w b (low (d + 1) b y) ∙ h)) in
+              record {
+                nearest = rw same (sym (nearest-chosen (s .yard) (s .bays) x q (d + 1) chosen (λ i b h y. sym (w b (low i b y)) ∙ g .missed i b (omega arith) y)));
+                fits = let h = far in omega arith;
+                path = λ y k.
+                    let it : e ≡ y = let u = rw same at k in some-same u in
+                    rw (← it) (path ∙ path-back s most x e (d + 1) (p .queue) hx unheld e-in queued);
+              }
 
   -- ## x itself
 
@@ -183,8 +184,8 @@ module _ {n : ℕ} {table held : List ℕ} (s : Shown n table held) (most : n �
   way-here wanted hit q w room bay same path =
       let x-in : In x (ringOn s x 0) = rw first-ring (In-head x []) in
       record {
-        nearest = rw same (nearest-of s x q 0 x x-in (sym (w x hx) ∙ hit) (λ i b h y. absurd (omega arith))
-            (λ b y h. let z : b ≡ x = In-one b x (rw first-ring at y) in absurd (omega arith)));
+        nearest = rw same (sym (nearest-chosen (s .yard) (s .bays) x q 0
+            (rw first-ring (chosen-alone (s .yard) q x [] (sym (w x hx) ∙ hit) (λ b i. In-nil b i))) (λ i b h y. absurd (omega arith))));
         fits = omega arith;
         path = λ y k.
             let it : x ≡ y = let u = rw same at k in some-same u in
@@ -200,9 +201,10 @@ module _ {n : ℕ} {table held : List ℕ} (s : Shown n table held) (most : n �
   pub path-first : (e : Held) (m : ℕ) → WayFound s u isGoal room (To e m) → PathFound s u v room (First m)
   unfolding pathBetween
   path-first e m f =
-      let there = sym (f .nearest) in
-      let same : e .0 ≡ v = eqb-true (e .0) v (find-passes isGoal (nearestFirst (s .yard) (s .bays) u) there) in
-      let v-in : In v (nearestFirst (s .yard) (s .bays) u) = rw same at (find-in isGoal (nearestFirst (s .yard) (s .bays) u) there) in
+      let g = nearest-found (s .yard) (s .bays) u isGoal (sym (f .nearest)) in
+      let same : e .0 ≡ v = eqb-true (e .0) v (g .found .passes) in
+      let e-in : In (e .0) (nearestFirst (s .yard) (s .bays) u) = in-concat (s .yard) (e .0) (rings (s .yard) (s .bays) u) (g .ring) (g .found .there) in
+      let v-in : In v (nearestFirst (s .yard) (s .bays) u) = rw same at e-in in
       let u-in : In u (nearestFirst (s .yard) (s .bays) v) = reached-sym (s .yard) (s .bays) u v (free-of s most u hu u-free) v-in in
       record { fits = f .fits; same = rw u-in (ap some (f .path v (ap some same))) }
 
@@ -213,6 +215,6 @@ module _ {n : ℕ} {table held : List ℕ} (s : Shown n table held) (most : n �
       by-cases (elem u (nearestFirst (s .yard) (s .bays) v))
       (λ i.
       let v-in = reached-sym (s .yard) (s .bays) v u (free-of s most v hv v-free) i in
-      not-both (eq-eqb v v refl) (find-none isGoal (nearestFirst (s .yard) (s .bays) u) v (sym (f .nearest)) v-in))
+      not-both (eq-eqb v v refl) (none-nearest (s .yard) (s .bays) u isGoal (sym (f .nearest)) v v-in))
       (λ o. o) in
       record { fits = omega arith; same = rw out }

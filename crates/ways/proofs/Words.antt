@@ -9,19 +9,19 @@ use native.Mathlib.Numerals.{add-one}
 use native.Mathlib.Omega.{arith}
 use lib.Bits.{bitOr, and-lt}
 use lib.Count.{trailingZeros}
-use lib.ListN.{length, getD, set, take, drop, length-append, length-drop}
-use lib.Seq.{take-suc-set, getD-set-same, getD-set-other, getD-take, getD-drop, length-take-le}
+use lib.ListN.{length, getD, set, take, length-append}
+use lib.Seq.{take-suc-set, getD-set-same, getD-set-other}
 use Rattle.paper.specs.Basics.{_and_, _or_, filter, elem, countFrom, upTo, In, Out}
 use Rattle.paper.proofs.Tests.{by-cases, not-both}
 use Rattle.paper.proofs.Members.{In-nil, In-head, In-tail, In-append, Out-left, Out-right, out-cons, nothing-in-nil, filter-in, filter-passes, in-filter, count-low, count-high, in-count}
 use Rattle.paper.proofs.Admitted.{same-filter}
-use Rattle.words.specs.Sets.{on, mem, memRow, members, words, span, lessWord}
+use Rattle.words.specs.Sets.{on, mem, memRow, words, span, lessWord}
 use Rattle.words.proofs.Bits.{later, later-off, later-on, on-lowest, on-below, on-zero, on-or, on-less}
 use Rattle.words.proofs.Sets.{mem-row, count-split, or-false}
 use Rattle.words.proofs.Besides.{equal-tests}
 use Rattle.rings.proofs.Searching.{elem-append}
 use Rattle.ways.proofs.Queueing.{or-assoc}
-use Rattle.ways.specs.Meeting.{rails, places, inWord, isNew, newIn, new, Queued, Meets}
+use Rattle.ways.specs.Meeting.{places, inWord, isNew, newIn, new, Queued, Meets}
 
 -- ## Counted numbers that pass
 
@@ -254,16 +254,3 @@ module _ (table : List ℕ) (i : ℕ) {a count : ℕ} {seen₀ met₀ before₀ 
   pub meeting-more : {seen′ met′ before′ : List ℕ} {r : ℕ} → Meets (newIn table seen a i) a c seen met before seen′ met′ before′ r
       → Meets (newBelow table seen₀ a (i + 1)) a count seen₀ met₀ before₀ seen′ met′ before′ r
   meeting-more q = rw (passes-more (isNew table seen₀ a) i) (meets-then p (rw new-same at q))
-
--- ## How many rails
-
-pub row-rails : (table : List ℕ) (a k : ℕ) → k ≡ words → a * words + words ≤ length table → length (members (take k (drop (a * words) table))) ≡ rails table a
-unfolding members
-row-rails table a k same h =
-    let row : List ℕ = take words (drop (a * words) table) in
-    let size : length row ≡ words = length-take-le words (drop (a * words) table) (omega (arith, length-drop (a * words) table)) in
-    rw (same, size) (ap length (same-filter (memRow table a) (mem row) (upTo span)
-    (λ y k.
-    let l = count-high 0 span y k in
-    let e : mem row y ≡ on (getD row (y / 64) 0) (y % 64) = unfold mem in refl in
-    rw (e, getD-take words (drop (a * words) table) (y / 64) 0 (omega arith), getD-drop (a * words) table (y / 64) 0) (sym (mem-row table a y)))))

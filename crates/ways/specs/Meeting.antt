@@ -8,12 +8,9 @@ use lib.Dec.{ltb}
 use lib.ListN.{length, getD, take}
 use Rattle.paper.specs.Basics.{_and_, _or_, filter, elem, countFrom, upTo, In, Out}
 use Rattle.words.specs.Sets.{on, mem, memRow, span}
+use Rattle.choice.specs.Taking.{rails}
 
--- how many rails lead to a bay
-abbrev pub rails : List ℕ → ℕ → ℕ
-rails table a = length (filter (memRow table a) (upTo span))
-
--- where they are so few, a queue is faster than rings
+-- where so few rails lead to a bay, a queue is faster than rings
 abbrev pub few : List ℕ → ℕ → Bool
 few table a = ltb (rails table a) 4
 

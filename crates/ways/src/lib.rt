@@ -20,8 +20,7 @@ fn few_rails(table: &[u64], a: usize) -> bool
     requires { ⌜ a * words + words ≤ length (now table) ⌝ }
     ensures { λ r. ⌜ r ≡ few (now (table .entry)) a ⌝ }
 {
-    let from = a * words::WORDS;
-    words::count(&table[from..from + words::WORDS]) < 4
+    choice::count_rails(table, a) < 4
 }
 
 // The bays of word i go to the queue's end, rising, as met from a.
@@ -157,7 +156,7 @@ fn one_by_one(
         }
         done = end;
         d += 1;
-        let e = words::lowest_common(&seen, 0, &free, 0);
+        let e = choice::common(table, &seen, 0, &free, 0);
         if e < words::SPAN {
             trace(&before, e, d, path);
             return Way::To(Bay(e as u16), d + 1);

@@ -35,7 +35,15 @@ use log::Told;
 
 /// Plans from start to goal into `out`; the value of an acceptance is the plan's length.
 pub fn plan(bays: u64, rails: &[u16], start: &[u16], goal: &[u16], out: &mut [u64]) -> (u64, u64) {
-    docket(planner::plan(bays, rails, start, goal, out).map(|length| (ACCEPTED, length)))
+    docket(planner::plan(bays, rails, start, goal, out).map(|planned| (ACCEPTED, planned.length)))
+}
+
+/// The same, and on acceptance how many vacates in the plan, undoing left aside, filled a bay of three rails or more; 0 on refusal.
+pub fn plan_parked(bays: u64, rails: &[u16], start: &[u16], goal: &[u16], out: &mut [u64]) -> (u64, u64, u64) {
+    let planned = planner::plan(bays, rails, start, goal, out);
+    let parked = planned.as_ref().map_or(0, |planned| planned.parked);
+    let (number, value) = docket(planned.map(|planned| (ACCEPTED, planned.length)));
+    (number, value, parked)
 }
 
 /// Whether the plan is legal from the start and brings every carrier home.

@@ -10,8 +10,15 @@ use crate::docket::Refusal;
 use crate::search::Search;
 use crate::yard::Yard;
 
-/// Tests 1 to 8; writes the plan where it is accepted, and answers its length.
-pub fn plan(bays: u64, rails: &[u16], start: &[u16], goal: &[u16], out: &mut [u64]) -> Result<u64, Refusal> {
+/// What is told of a plan that is accepted: how many crossings it has, and how many vacates in it, undoing left aside, filled a bay of
+/// three rails or more.
+pub struct Planned {
+    pub length: u64,
+    pub parked: u64,
+}
+
+/// Tests 1 to 8; writes the plan where it is accepted.
+pub fn plan(bays: u64, rails: &[u16], start: &[u16], goal: &[u16], out: &mut [u64]) -> Result<Planned, Refusal> {
     let mut joined = Yard::NO_RAILS;
     let yard = Yard::open(&mut joined, bays, rails, start, goal, 0)?;
     let room = out.len().min(Yard::MOST_CROSSINGS);
@@ -24,7 +31,7 @@ pub fn plan(bays: u64, rails: &[u16], start: &[u16], goal: &[u16], out: &mut [u6
         return Err(Refusal::Room(needed));
     }
     out[..planner.plan.len()].copy_from_slice(&planner.plan);
-    Ok(needed)
+    Ok(Planned { length: needed, parked: planner.parked })
 }
 
 /// Who stands at an empty bay. A yard of 256 bays has at most 254 carriers, so it is no carrier's number.
@@ -49,6 +56,8 @@ struct Planner<'a> {
     room: usize,
     /// Crossings counted and not stored, once the room is exceeded.
     counted: u64,
+    /// Vacates that filled a junction.
+    parked: u64,
     search: Search<'a>,
 }
 
@@ -79,6 +88,7 @@ impl<'a> Planner<'a> {
             plan: Vec::with_capacity(room.min(1024)),
             room,
             counted: 0,
+            parked: 0,
             search: Search::new(yard, rails),
         }
     }
@@ -161,6 +171,7 @@ impl<'a> Planner<'a> {
         match self.find_way_out(x, held) {
             Some(hole) => {
                 self.shift(x, hole);
+                self.parked += u64::from(self.junctions.has(hole));
                 true
             }
             None => false,
@@ -182,7 +193,8 @@ impl<'a> Planner<'a> {
         self.empty.remove(hole);
     }
 
-    /// The nearest empty bay that is reached from x through bays not held, itself not held. The way to it stands in `search.before`.
+    /// The nearest empty bay that is reached from x through bays not held, itself not held; among the nearest the choice. The way to it
+    /// stands in `search.before`.
     fn find_way_out(&mut self, x: u8, held: Bays) -> Option<u8> {
         let holes = self.empty.without(held);
         if holes.count() <= FEW {
@@ -194,17 +206,21 @@ impl<'a> Planner<'a> {
         self.search.nearest(x, held, holes)
     }
 
-    /// The plain shortest path to the plainly nearest empty bay. Where it meets no held bay no other way out is shorter or lower, since
-    /// held bays only take paths away.
+    /// The plain shortest path to the choice among the plainly nearest empty bays. Where it meets no held bay no other way out is shorter
+    /// or chosen before it, since held bays only take paths away.
     fn look_up_way_out(&mut self, x: u8, held: Bays, holes: Bays) -> Option<u8> {
         let rails = &self.distances.row(x).rails;
-        let mut nearest = None;
+        let (mut least, mut nearest) = (u8::MAX, Bays::NONE);
         holes.each(|hole| {
-            if nearest.is_none_or(|other| rails[hole as usize] < rails[other as usize]) {
-                nearest = Some(hole);
+            let far = rails[hole as usize];
+            if far < least {
+                (least, nearest) = (far, Bays::NONE);
+            }
+            if far == least {
+                nearest.insert(hole);
             }
         });
-        let hole = nearest?;
+        let hole = self.yard.choice(nearest)?;
         let mut bay = x;
         while bay != hole {
             let next = self.distances.next(bay, hole);
@@ -220,7 +236,7 @@ impl<'a> Planner<'a> {
     /// **Swap** of r at u and its neighbour s at w: each junction, nearest to u first, ties lowest, until a trial succeeds.
     fn swap(&mut self, u: u8, w: u8) -> bool {
         let present = (self.at, self.empty);
-        let before = self.plan.len();
+        let (before, parked) = (self.plan.len(), self.parked);
         let mut seen = Bays::only(u);
         let mut ring = seen;
         while !ring.is_none() {
@@ -232,6 +248,7 @@ impl<'a> Planner<'a> {
                     return true;
                 }
                 self.plan.truncate(before);
+                self.parked = parked;
             }
             ring = self.yard.beside(ring).without(seen);
             seen = seen.or(ring);

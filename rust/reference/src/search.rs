@@ -20,7 +20,7 @@ impl<'a> Search<'a> {
         Search { yard, narrow, before: [0; 256], met: [0; 256], rings: [Bays::NONE; 256] }
     }
 
-    /// The lowest of the nearest `wanted` bays that are reached from x through bays not held; `before` has the shortest path to it.
+    /// The choice among the nearest `wanted` bays that are reached from x through bays not held; `before` has the shortest path to it.
     pub fn nearest(&mut self, x: u8, held: Bays, wanted: Bays) -> Option<u8> {
         if self.narrow {
             self.nearest_one_by_one(x, held, wanted)
@@ -46,7 +46,7 @@ impl<'a> Search<'a> {
                 });
                 done += 1;
             }
-            if let Some(bay) = wanted.without(unmet).lowest() {
+            if let Some(bay) = self.yard.choice(wanted.without(unmet)) {
                 return Some(bay);
             }
         }
@@ -66,7 +66,7 @@ impl<'a> Search<'a> {
             m += 1;
             self.rings[m] = ring;
             barred = barred.or(ring);
-            if let Some(found) = ring.and(wanted).lowest() {
+            if let Some(found) = self.yard.choice(ring.and(wanted)) {
                 break found;
             }
         };

@@ -59,6 +59,15 @@ impl<'a> Yard<'a> {
         found
     }
 
+    /// "Take the one with fewest rails, and only then the lowest number." Of a single bay no rails are counted.
+    pub(crate) fn choice(&self, among: Bays) -> Option<u8> {
+        let lowest = among.lowest()?;
+        if among == Bays::only(lowest) {
+            return Some(lowest);
+        }
+        among.into_iter().min_by_key(|&bay| self.joined[bay as usize].count())
+    }
+
     fn reached_from(&self, bay: u8) -> Bays {
         let mut reached = Bays::only(bay);
         let mut edge = reached;

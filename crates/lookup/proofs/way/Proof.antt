@@ -1,10 +1,10 @@
--- `lookup::way` meets its contract. The lowest bay of the first level that has one is the nearest, and the path led to it is the shortest.
+-- `lookup::way` meets its contract. What is taken of the bays in the first level that has one is the nearest, and the path led to it is the shortest.
 -- Assumes nothing.
 use mathlib.Core.Path.{refl}
 use native.Mathlib.Omega.{arith}
 use borrow.Author.Needs.{needs}
 use Rattle.lookup.proofs.Levelling.{levels-few}
-use Rattle.lookup.proofs.Looking.{untold, looked, end-short, distant, way-told}
+use Rattle.lookup.proofs.Looking.{untold, looked, level-rowed, end-short, distant, way-told}
 use Rattle.lookup.proofs.way.Statement.{statement}
 use Rattle.lookup.proofs.way.Tie as tie
 
@@ -38,20 +38,22 @@ mul-if1-2 c = search needs
 returns : tie.Need-returns
 returns c = λ s q w. untold s
 
-mul-lowest-common : tie.Need-mul-lowest-common
-mul-lowest-common c = search needs
+mul-common : tie.Need-mul-common
+mul-common c = search needs
 
-cast-lowest-common : tie.Need-cast-lowest-common
-cast-lowest-common c = search needs
+cast-common : tie.Need-cast-common
+cast-common c = search needs
 
-add-lowest-common : tie.Need-add-lowest-common
-add-lowest-common c = search needs
+add-common : tie.Need-add-common
+add-common c = search needs
 
-slice-aggregate-lowest-common : tie.Need-slice-aggregate-lowest-common
-slice-aggregate-lowest-common c = search needs
+slice-aggregate-common : tie.Need-slice-aggregate-common
+slice-aggregate-common c = search needs
 
-lowest-common-requires : tie.Need-lowest-common-requires
-lowest-common-requires c κs = search needs
+common-requires : tie.Need-common-requires
+common-requires c κs =
+    let p = c .before .before .before .before .before .before .before .before .before .before .before .before .before .before .before .pre in
+    (search needs, search needs, level-rowed (p .7) (p .0) (p .8) _ (p .1) _ _ (c .before .before .if1 .left) (p .2))
 
 cast-t24 : tie.Need-cast-t24
 cast-t24 c = search needs
@@ -60,16 +62,16 @@ add-lead : tie.Need-add-lead
 add-lead c = let p = c .before .before .before .before .before .before .before .before .before .before .before .before .before .before .before .before .pre in let k = levels-few (c .before .before .before .before .first-level .result) (c .before .before .before .before .before .before .before .before .before .before .before .before .before .before .before .before .args .n) (omega (arith, p .1)) (c .before .before .before .before .first-level .ensures .fits) in search needs
 
 lead-requires : tie.Need-lead-requires
-lead-requires c κs = let p = c .before .before .before .before .before .before .before .before .before .before .before .before .before .before .before .before .before .pre in let g = looked (p .0) (p .8) (p .1) (p .9) (c .before .before .before .before .before .before .before .before .before .before .before .keep .ensures) (c .before .before .before .before .before .before .before .before .minus .ensures) (c .before .before .before .before .before .first-level .ensures) (c .before .before .before .before .if1 .left) (c .before .lowest-common .ensures) in (p .0, omega arith, end-short (p .7) g, c .before .before .before .before .if1 .left, p .3, p .5, p .6, distant (p .7) g)
+lead-requires c κs = let p = c .before .before .before .before .before .before .before .before .before .before .before .before .before .before .before .before .before .pre in let g = looked (p .0) (p .8) (p .1) (p .9) (c .before .before .before .before .before .before .before .before .before .before .before .keep .ensures) (c .before .before .before .before .before .before .before .before .minus .ensures) (c .before .before .before .before .before .first-level .ensures) (c .before .before .before .before .if1 .left) (c .before .common .ensures) in (p .0, omega arith, end-short (p .7) g, c .before .before .before .before .if1 .left, p .3, p .5, p .6, distant (p .7) g)
 
 add-t28 : tie.Need-add-t28
-add-t28 c = let p = c .before .before .before .before .before .before .before .before .before .before .before .before .before .before .before .before .before .before .before .before .before .pre in let g = looked (p .0) (p .8) (p .1) (p .9) (c .before .before .before .before .before .before .before .before .before .before .before .before .before .before .before .keep .ensures) (c .before .before .before .before .before .before .before .before .before .before .before .before .minus .ensures) (c .before .before .before .before .before .before .before .before .before .first-level .ensures) (c .before .before .before .before .before .before .before .before .if1 .left) (c .before .before .before .before .before .lowest-common .ensures) in let k = end-short (p .7) g in search needs
+add-t28 c = let p = c .before .before .before .before .before .before .before .before .before .before .before .before .before .before .before .before .before .before .before .before .before .pre in let g = looked (p .0) (p .8) (p .1) (p .9) (c .before .before .before .before .before .before .before .before .before .before .before .before .before .before .before .keep .ensures) (c .before .before .before .before .before .before .before .before .before .before .before .before .minus .ensures) (c .before .before .before .before .before .before .before .before .before .first-level .ensures) (c .before .before .before .before .before .before .before .before .if1 .left) (c .before .before .before .before .before .common .ensures) in let k = end-short (p .7) g in search needs
 
 same-length : tie.Need-same-length
 same-length c = search needs
 
 returns-2 : tie.Need-returns-2
-returns-2 c = let p = c .before .before .before .before .before .before .before .before .before .before .before .before .before .before .before .before .before .before .before .before .before .pre in let g = looked (p .0) (p .8) (p .1) (p .9) (c .before .before .before .before .before .before .before .before .before .before .before .before .before .before .before .keep .ensures) (c .before .before .before .before .before .before .before .before .before .before .before .before .minus .ensures) (c .before .before .before .before .before .before .before .before .before .first-level .ensures) (c .before .before .before .before .before .before .before .before .if1 .left) (c .before .before .before .before .before .lowest-common .ensures) in λ s q w. way-told s g _ (c .before .before .before .lead .ensures (distant s g) (c .if2 .taken)) q w _ refl
+returns-2 c = let p = c .before .before .before .before .before .before .before .before .before .before .before .before .before .before .before .before .before .before .before .before .before .pre in let g = looked (p .0) (p .8) (p .1) (p .9) (c .before .before .before .before .before .before .before .before .before .before .before .before .before .before .before .keep .ensures) (c .before .before .before .before .before .before .before .before .before .before .before .before .minus .ensures) (c .before .before .before .before .before .before .before .before .before .first-level .ensures) (c .before .before .before .before .before .before .before .before .if1 .left) (c .before .before .before .before .before .common .ensures) in λ s q w. way-told s g _ (c .before .before .before .lead .ensures (distant s g) (c .if2 .taken)) q w _ refl
 
 same-length-2 : tie.Need-same-length-2
 same-length-2 c = search needs
@@ -91,11 +93,11 @@ way-spec =
     mul-if1
     mul-if1-2
     returns
-    mul-lowest-common
-    cast-lowest-common
-    add-lowest-common
-    slice-aggregate-lowest-common
-    lowest-common-requires
+    mul-common
+    cast-common
+    add-common
+    slice-aggregate-common
+    common-requires
     cast-t24
     add-lead
     lead-requires

@@ -5,6 +5,8 @@ use native.Mathlib.Omega.{arith}
 use mathlib.Core.Path.{sym, _∙_}
 use borrow.Author.Needs.{needs}
 use Rattle.paper.proofs.Playing.{bay-in}
+use Rattle.paper.proofs.Tests.{and-left}
+use Rattle.choice.proofs.Taking.{table-rowed}
 use Rattle.step.proofs.Stepping.{free, stepped-free, held-fails, met-carrier, met-other, met-beside, stepped-swap}
 use Rattle.step.proofs.step_to.Statement.{statement}
 use Rattle.step.proofs.step_to.Tie as tie
@@ -110,11 +112,11 @@ returns-2 c =
           stepped-swap t (p .most) (z .4) (c .before .before .before .before .before .before .before .before .before .before .before .before .before .before .before .before .before .before .before .before .before .before .before .args .finished) (c .before .before .before .before .before .before .before .before .before .before .before .before .before .before .before .before .before .before .before .before .before .before .before .args .r .0) (c .before .before .before .before .before .before .before .before .before .before .before .before .before .before .before .before .before .before .before .before .before .before .before .args .w .0) (c .before .before .before .before .before .before .before .before .before .before .before .before .before .before .before .before .before .before .before .before .before .before .before .args .placement .now) (p .placed) (z .0) (z .2) (z .3) f (c .before .before .before .before .before .before .swap .ensures .1 t (met-beside t (p .most) (z .4) (c .before .before .before .before .before .before .before .before .before .before .before .before .before .before .before .before .before .before .before .before .before .before .before .args .finished) (c .before .before .before .before .before .before .before .before .before .before .before .before .before .before .before .before .before .before .before .before .before .before .before .args .r .0) (c .before .before .before .before .before .before .before .before .before .before .before .before .before .before .before .before .before .before .before .before .before .before .before .args .w .0) (c .before .before .before .before .before .before .before .before .before .before .before .before .before .before .before .before .before .before .before .before .before .before .before .args .placement .now) (p .placed) (z .0) (z .2) (z .3) f)),
     )
 
-lowest-common-requires : tie.Need-lowest-common-requires
-lowest-common-requires c κs =
+common-requires : tie.Need-common-requires
+common-requires c κs =
     let p = c .before .before .before .before .before .before .before .before .before .before .before .before .before .pre .0 in
     let z = c .before .before .before .before .before .before .before .before .before .before .before .before .before .pre .1 in
-    (omega (arith, p .table-size, z .2), omega (arith, p .empty-size))
+    (omega (arith, p .table-size, z .2), omega (arith, p .empty-size), λ b h i. table-rowed (p .tabled .joins) (p .most) _ (z .2) (p .table-size) b h (and-left _ _ i))
 
 cast-t47 : tie.Need-cast-t47
 cast-t47 c = search needs
@@ -123,7 +125,7 @@ step-aside-requires : tie.Need-step-aside-requires
 step-aside-requires c κs =
     let p = c .before .before .before .before .before .before .before .before .before .before .before .before .before .before .before .before .before .before .before .pre .0 in
     let z = c .before .before .before .before .before .before .before .before .before .before .before .before .before .before .before .before .before .before .before .pre .1 in
-    (p, (z .0, z .1, z .2, z .3, z .4, z .5, omega (arith, c .before .before .before .before .before .before .before .if2 .left), sym (c .before .before .before .before .before .before .before .before .before .before .is-in .ensures) ∙ c .before .before .before .before .before .before .before .before .before .if1 .left, c .before .before .before .before .before .lowest-common .ensures, c .before .before .before .before .if3 .taken))
+    (p, (z .0, z .1, z .2, z .3, z .4, z .5, omega (arith, c .before .before .before .before .before .before .before .if2 .left), sym (c .before .before .before .before .before .before .before .before .before .before .is-in .ensures) ∙ c .before .before .before .before .before .before .before .before .before .if1 .left, c .before .before .before .before .before .common .ensures, c .before .before .before .before .if3 .taken))
 
 same-length-9 : tie.Need-same-length-9
 same-length-9 c = search needs
@@ -183,7 +185,7 @@ step-to-spec =
     same-length-7
     same-length-8
     returns-2
-    lowest-common-requires
+    common-requires
     cast-t47
     step-aside-requires
     same-length-9

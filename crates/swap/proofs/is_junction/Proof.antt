@@ -5,7 +5,7 @@ use Prim.Native.Nat.{ℕ, _+_, _-_, _*_}
 use native.Mathlib.Omega.{arith}
 use lib.Dec.{ltb}
 use Rattle.words.specs.Sets.{words}
-use Rattle.ways.proofs.Words.{row-rails}
+use Rattle.choice.proofs.Counting.{row-rails}
 use borrow.Author.Needs.{needs}
 use Rattle.swap.proofs.Seeking.{junction-rails}
 use Rattle.swap.proofs.is_junction.Statement.{statement}

@@ -5,7 +5,7 @@ use native.Mathlib.Omega.{arith}
 use lib.ListN.{length, take}
 use lib.Seq.{length-take-le}
 use borrow.Author.Needs.{needs}
-use Rattle.paper.proofs.Nearest.{nearest-first}
+use Rattle.paper.proofs.Nearest.{nearest-empty}
 use Rattle.paper.specs.Yard.{isEmpty}
 use Rattle.words.specs.Sets.{span}
 use Rattle.rings.specs.Ways.{endOf}
@@ -34,7 +34,7 @@ same-length c = search needs
 returns : tie.Need-returns
 returns c =
     let p = c .before .before .before .before .before .before .before .before .before .before .before .before .pre in
-    λ s. vacates-none s (p .0) _ (p .1) (p .8) _ _ (sym (p .6)) (sym (p .7)) (ap endOf (sym (c .enum-told .given .1)) ∙ c .before .before .before .way-out .ensures s (isEmpty _) (p .8 .empties) .nearest ∙ sym (nearest-first _ _ _ _))
+    λ s. vacates-none s (p .0) _ (p .1) (p .8) _ _ (sym (p .6)) (sym (p .7)) (ap endOf (sym (c .enum-told .given .1)) ∙ c .before .before .before .way-out .ensures s (isEmpty _) (p .8 .empties) .nearest ∙ sym (nearest-empty _ _ _ _))
 
 array-share-prefix-path : tie.Need-array-share-prefix-path
 array-share-prefix-path c =
@@ -59,7 +59,7 @@ shift-requires c κs =
     let t = rw (c .before .before .before .before .before .before .e .given .1) at (w .ensures (p .9) (isEmpty _) (p .8 .empties)) in
     let kept : length (w .last .1 .1 .1 .1 .1 .0) ≡ span = w .kept .1 .1 .1 .1 .1 .0 in
     let len : length (take (c .before .before .before .before .before .before .e .given .0 .1 .0) (w .last .1 .1 .1 .1 .1 .0)) ≡ c .before .before .before .before .before .before .e .given .0 .1 .0 = length-take-le _ _ (omega (arith, t .fits, p .0, kept)) in
-    (p .0, p .4, omega (arith, len, t .fits, p .0, p .5), p .8, can-shift (p .9) (p .0) _ (p .1) (p .8) (c .before .before .before .before .before .before .before .before .before .before .before .before .before .before .before .before .before .before .args .out .now) (c .before .before .before .before .before .before .before .before .before .before .before .before .before .before .before .before .before .before .args .at) (sym (p .6)) (sym (p .7)) _ (t .nearest ∙ sym (nearest-first _ _ _ _)) _ (t .path _ refl))
+    (p .0, p .4, omega (arith, len, t .fits, p .0, p .5), p .8, can-shift (p .9) (p .0) _ (p .1) (p .8) (c .before .before .before .before .before .before .before .before .before .before .before .before .before .before .before .before .before .before .args .out .now) (c .before .before .before .before .before .before .before .before .before .before .before .before .before .before .before .before .before .before .args .at) (sym (p .6)) (sym (p .7)) _ (t .nearest ∙ sym (nearest-empty _ _ _ _)) _ (t .path _ refl))
 
 same-length-2 : tie.Need-same-length-2
 same-length-2 c = search needs
@@ -82,7 +82,7 @@ returns-2 c =
     let len : length (take (c .before .before .before .before .before .before .before .before .before .before .before .before .before .before .before .e .given .0 .1 .0) (w .last .1 .1 .1 .1 .1 .0)) ≡ c .before .before .before .before .before .before .before .before .before .before .before .before .before .before .before .e .given .0 .1 .0 = length-take-le _ _ (omega (arith, t .fits, p .0, kept)) in
     λ s.
     let v = rw (c .before .before .before .before .before .before .before .before .before .before .before .before .before .before .before .e .given .1) at (w .ensures s (isEmpty _) (p .8 .empties)) in
-    vacates-filled s (p .0) _ (p .1) (p .8) _ _ (sym (p .6)) (sym (p .7)) _ (v .nearest ∙ sym (nearest-first _ _ _ _)) _ (v .path _ refl) _ _ _ _ _ _ refl refl (omega (arith, len, t .fits)) (c .before .before .before .before .before .before .before .before .shift .ensures)
+    vacates-filled s (p .0) _ (p .1) (p .8) _ _ (sym (p .6)) (sym (p .7)) _ (v .nearest ∙ sym (nearest-empty _ _ _ _)) _ (v .path _ refl) _ _ _ _ _ _ refl refl (omega (arith, len, t .fits)) (c .before .before .before .before .before .before .before .before .shift .ensures)
 
 pub fill-nearest-spec : {M : Type 1} → statement M
 fill-nearest-spec =

@@ -5,6 +5,7 @@ use Prim.Native.Nat.{_<_}
 use native.Mathlib.Omega.{arith}
 use borrow.Author.Needs.{needs}
 use Rattle.words.specs.Sets.{span}
+use Rattle.choice.proofs.Taking.{table-rowed}
 use Rattle.vacate.proofs.Vacating.{vacates-empty, vacates-held, vacates-beside, inside-e, empty-e, full-in}
 use Rattle.vacate.proofs.vacate.Statement.{statement}
 use Rattle.vacate.proofs.vacate.Tie as tie
@@ -30,8 +31,10 @@ same-length-2 c = search needs
 returns-2 : tie.Need-returns-2
 returns-2 c = let p = c .before .before .before .before .before .before .before .before .before .before .before .before .pre in λ s. vacates-held s (p .0) _ (p .1) (p .6) _ _ (sym (c .before .before .if1 .left) ∙ c .before .before .before .is-in .ensures) (sym (c .if2 .taken) ∙ c .before .is-in2 .ensures)
 
-lowest-free-requires : tie.Need-lowest-free-requires
-lowest-free-requires c κs = search needs
+free-requires : tie.Need-free-requires
+free-requires c κs =
+    let p = c .before .before .before .before .before .before .before .before .before .before .before .before .before .before .pre in
+    (search needs, p .3, p .4, table-rowed (p .7 .joins) (p .0) _ (p .1) (p .2))
 
 cast-t19 : tie.Need-cast-t19
 cast-t19 c = search needs
@@ -43,8 +46,8 @@ cross-requires c κs =
     let at = c .before .before .before .before .before .before .before .before .before .before .before .before .before .before .before .before .before .before .before .args .at in
     let full = sym (c .before .before .before .before .before .before .before .before .before .if1 .left) ∙ c .before .before .before .before .before .before .before .before .before .before .is-in .ensures in
     let unheld = sym (c .before .before .before .before .before .before .before .if2 .left) ∙ c .before .before .before .before .before .before .before .before .is-in2 .ensures in
-    let low = c .before .before .before .before .before .lowest-free .ensures in
-    let there : c .before .before .before .before .before .lowest-free .result < span = c .before .before .before .before .if3 .taken in
+    let low = c .before .before .before .before .before .free .ensures in
+    let there : c .before .before .before .before .before .free .result < span = c .before .before .before .before .if3 .taken in
     (p .1, inside-e (p .7) (p .0) _ (p .1) (p .6) out at full unheld _ low there, p .0, p .4, omega (arith, p .5), full-in (p .7) (p .0) _ (p .1) (p .6) out at full unheld _ low there, empty-e (p .7) (p .0) _ (p .1) (p .6) out at full unheld _ low there, p .6)
 
 same-length-3 : tie.Need-same-length-3
@@ -64,7 +67,7 @@ returns-3 c =
     let p = c .before .before .before .before .before .before .before .before .before .before .before .before .before .before .before .before .before .before .before .before .before .before .before .before .before .before .before .before .pre in
     let full = sym (c .before .before .before .before .before .before .before .before .before .before .before .before .before .before .before .before .before .before .if1 .left) ∙ c .before .before .before .before .before .before .before .before .before .before .before .before .before .before .before .before .before .before .before .is-in .ensures in
     let unheld = sym (c .before .before .before .before .before .before .before .before .before .before .before .before .before .before .before .before .if2 .left) ∙ c .before .before .before .before .before .before .before .before .before .before .before .before .before .before .before .before .before .is-in2 .ensures in
-    λ s. vacates-beside s (p .0) _ (p .1) (p .6) _ _ full unheld _ (c .before .before .before .before .before .before .before .before .before .before .before .before .before .before .lowest-free .ensures) (c .before .before .before .before .before .before .before .before .before .before .before .before .before .if3 .taken) _ _ _ _ _ _ refl refl (c .before .before .before .before .before .before .before .before .cross .ensures)
+    λ s. vacates-beside s (p .0) _ (p .1) (p .6) _ _ full unheld _ (c .before .before .before .before .before .before .before .before .before .before .before .before .before .before .free .ensures) (c .before .before .before .before .before .before .before .before .before .before .before .before .before .if3 .taken) _ _ _ _ _ _ refl refl (c .before .before .before .before .before .before .before .before .cross .ensures)
 
 fill-nearest-requires : tie.Need-fill-nearest-requires
 fill-nearest-requires c κs =
@@ -97,7 +100,7 @@ vacate-spec =
     is-in-requires-2
     same-length-2
     returns-2
-    lowest-free-requires
+    free-requires
     cast-t19
     cross-requires
     same-length-3

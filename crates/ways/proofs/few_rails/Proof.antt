@@ -1,51 +1,17 @@
--- `ways::few_rails` meets its contract. The four words counted are the row.
+-- `ways::few_rails` meets its contract.
 -- Assumes nothing.
-use mathlib.Core.Path.{_≡_, ap, _∙_}
-use Prim.Native.Nat.{ℕ, _+_, _-_, _*_}
-use native.Mathlib.Omega.{arith}
+use mathlib.Core.Path.{ap}
+use Prim.Native.Nat.{ℕ}
 use lib.Dec.{ltb}
-use Rattle.words.specs.Sets.{words}
-use Rattle.ways.proofs.Words.{row-rails}
 use borrow.Author.Needs.{needs}
 use Rattle.ways.proofs.few_rails.Statement.{statement}
 use Rattle.ways.proofs.few_rails.Tie as tie
 
-mul-from : tie.Need-mul-from
-mul-from c = search needs
-
-add-count : tie.Need-add-count
-add-count c = search needs
-
-mul-count : tie.Need-mul-count
-mul-count c = search needs
-
-sub-count : tie.Need-sub-count
-sub-count c = search needs
-
-part-count-start : tie.Need-part-count-start
-part-count-start c = search needs
-
-part-count-end : tie.Need-part-count-end
-part-count-end c = search needs
-
-count-requires : tie.Need-count-requires
-count-requires c κs = search needs
+count-rails-requires : tie.Need-count-rails-requires
+count-rails-requires c κs = search needs
 
 returns : tie.Need-returns
-returns c =
-    let a : ℕ = c .before .before .before .args .a in
-    let size : a * words + words - a * words ≡ words = omega arith in
-    ap (λ (k : ℕ). ltb k 4) (c .count .ensures ∙ row-rails _ a (a * words + words - a * words) size (c .before .before .before .pre))
+returns c = ap (λ (k : ℕ). ltb k 4) (c .count-rails .ensures)
 
 pub few-rails-spec : {M : Type 1} → statement M
-few-rails-spec =
-    tie.close
-    (tie.spec
-    mul-from
-    add-count
-    mul-count
-    sub-count
-    part-count-start
-    part-count-end
-    count-requires
-    returns)
+few-rails-spec = tie.close (tie.spec count-rails-requires returns)

@@ -7,7 +7,7 @@ use lib.ListN.{length, length-set}
 use lib.Seq.{take-suc-set}
 use Rattle.words.specs.Sets.{words, span}
 use Rattle.rings.specs.Search.{Shown}
-use Rattle.ways.proofs.Finding.{Stage, stage-first, stage-more, way-nowhere, way-found, way-here}
+use Rattle.ways.proofs.Finding.{Stage, stage-first, stage-more, free-rowed, way-nowhere, way-found, way-here}
 use borrow.Author.Needs.{needs}
 use Rattle.ways.proofs.one_by_one.Statement.{statement}
 use Rattle.ways.proofs.one_by_one.Tie as tie
@@ -99,14 +99,19 @@ returns-2 c =
 add-d : tie.Need-add-d Inv-loop μ-loop
 add-d c = let l = c .before .before .before .before .before .before .before .before .before .loop in omega (arith, l .inv .2, c .before .before .before .before .before .before .before .before .before .before .before .before .before .before .before .before .before .before .before .before .before .before .before .before .before .before .before .before .before .pre .0)
 
-slice-aggregate-lowest-common : tie.Need-slice-aggregate-lowest-common Inv-loop μ-loop
-slice-aggregate-lowest-common c = search needs
+slice-aggregate-common : tie.Need-slice-aggregate-common Inv-loop μ-loop
+slice-aggregate-common c = search needs
 
-slice-aggregate-lowest-common-2 : tie.Need-slice-aggregate-lowest-common-2 Inv-loop μ-loop
-slice-aggregate-lowest-common-2 c = search needs
+slice-aggregate-common-2 : tie.Need-slice-aggregate-common-2 Inv-loop μ-loop
+slice-aggregate-common-2 c = search needs
 
-lowest-common-requires : tie.Need-lowest-common-requires Inv-loop μ-loop
-lowest-common-requires c κs = search needs
+common-requires : tie.Need-common-requires Inv-loop μ-loop
+common-requires c κs =
+    let p = c .before .before .before .before .before .before .before .before .before .before .before .before .before .before .before .before .before .before .before .before .before .before .before .before .before .before .before .before .before .before .before .pre in
+    let l = c .before .before .before .before .before .before .before .before .before .before .before .loop in
+    let w = c .before .before .before .before .before .before .before .pass in
+    let g = w .ensures _ _ (l .inv .7 (p .7) .queue) in
+    (search needs, search needs, free-rowed (p .7) (p .0) _ (p .1) (p .6) _ _ _ _ _ _ _ (l .inv .7 (p .7)) _ _ _ _ g (l .inv .0) (rw (w .kept .1 .1 .1 .1 .1 .0) (l .inv .4)) (omega (arith, g .more, c .before .before .if2 .left)) _ _ _ (c .before .before .before .before .before .before .before .before .before .before .before .before .before .before .before .before .keep2 .ensures) (c .before .before .before .before .before .before .before .before .before .before .before .before .before .minus .ensures) (p .2))
 
 slice-aggregate-trace : tie.Need-slice-aggregate-trace Inv-loop μ-loop
 slice-aggregate-trace c = search needs
@@ -139,7 +144,7 @@ returns-3 c =
     let v = c .before .before .before .before .before .before .before .before .before .before .before .before .before .before .pass in
     λ s q f.
     let g = v .ensures _ _ (l .inv .7 s .queue) in
-    way-found s (p .0) _ (p .1) (p .6) _ _ _ _ _ _ _ (l .inv .7 s) _ _ _ _ g (l .inv .0) (rw (v .kept .1 .1 .1 .1 .1 .0) (l .inv .4)) (omega (arith, g .more, c .before .before .before .before .before .before .before .before .before .if2 .left)) _ _ _ (c .before .before .before .before .before .before .before .before .before .before .before .before .before .before .before .before .before .before .before .before .before .before .before .keep2 .ensures) (c .before .before .before .before .before .before .before .before .before .before .before .before .before .before .before .before .before .before .before .before .minus .ensures) _ (c .before .before .before .before .before .before .lowest-common .ensures) (c .before .before .before .before .before .if3 .taken) q f _ _ refl (c .before .before .trace .ensures)
+    way-found s (p .0) _ (p .1) (p .6) _ _ _ _ _ _ _ (l .inv .7 s) _ _ _ _ g (l .inv .0) (rw (v .kept .1 .1 .1 .1 .1 .0) (l .inv .4)) (omega (arith, g .more, c .before .before .before .before .before .before .before .before .before .if2 .left)) _ _ _ (c .before .before .before .before .before .before .before .before .before .before .before .before .before .before .before .before .before .before .before .before .before .before .before .keep2 .ensures) (c .before .before .before .before .before .before .before .before .before .before .before .before .before .before .before .before .before .before .before .before .minus .ensures) _ (c .before .before .before .before .before .before .common .ensures) (c .before .before .before .before .before .if3 .taken) q f _ _ refl (c .before .before .trace .ensures)
 
 loop-less : tie.Need-loop-less Inv-loop μ-loop
 loop-less c = let l = c .before .before .before .before .before .before .before .before .before .before .before .before .before .loop in omega (arith, l .inv .0, l .inv .1)
@@ -152,7 +157,7 @@ loop-again c =
     let g = w .ensures _ _ (l .inv .7 (p .7) .queue) in
     let kept = w .kept .1 .1 .1 .1 .1 .0 in
     let grew = c .before .before .before .before .if2 .left in
-    (omega (arith, g .more, grew), g .most, omega (arith, l .inv .0, l .inv .2), kept ∙ l .inv .3, rw kept (l .inv .4), search needs, search needs, λ s. let h = w .ensures _ _ (l .inv .7 s .queue) in stage-more s (p .0) _ (p .1) (p .6) _ _ _ _ _ _ _ (l .inv .7 s) _ _ _ _ h (l .inv .0) (rw kept (l .inv .4)) (omega (arith, h .more, grew)) _ _ _ (c .before .before .before .before .before .before .before .before .before .before .before .before .before .before .before .before .before .before .keep2 .ensures) (c .before .before .before .before .before .before .before .before .before .before .before .before .before .before .before .minus .ensures) _ (c .before .lowest-common .ensures) (c .if3 .left))
+    (omega (arith, g .more, grew), g .most, omega (arith, l .inv .0, l .inv .2), kept ∙ l .inv .3, rw kept (l .inv .4), search needs, search needs, λ s. let h = w .ensures _ _ (l .inv .7 s .queue) in stage-more s (p .0) _ (p .1) (p .6) _ _ _ _ _ _ _ (l .inv .7 s) _ _ _ _ h (l .inv .0) (rw kept (l .inv .4)) (omega (arith, h .more, grew)) _ _ _ (c .before .before .before .before .before .before .before .before .before .before .before .before .before .before .before .before .before .before .keep2 .ensures) (c .before .before .before .before .before .before .before .before .before .before .before .before .before .before .before .minus .ensures) _ (c .before .common .ensures) (c .if3 .left))
 
 pub one-by-one-spec : {M : Type 1} → statement M
 one-by-one-spec =
@@ -181,9 +186,9 @@ one-by-one-spec =
     same-length-2
     returns-2
     add-d
-    slice-aggregate-lowest-common
-    slice-aggregate-lowest-common-2
-    lowest-common-requires
+    slice-aggregate-common
+    slice-aggregate-common-2
+    common-requires
     slice-aggregate-trace
     trace-requires
     cast-t44

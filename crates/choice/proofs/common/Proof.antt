@@ -1,0 +1,31 @@
+-- `choice::common` meets its contract. The bays of both rows are the set chosen from.
+-- Assumes nothing.
+use Rattle.choice.proofs.Taking.{taken-same, rowed-same}
+use borrow.Author.Needs.{needs}
+use Rattle.choice.proofs.common.Statement.{statement}
+use Rattle.choice.proofs.common.Tie as tie
+
+slice-aggregate-meet-rows : tie.Need-slice-aggregate-meet-rows
+slice-aggregate-meet-rows c = search needs
+
+meet-rows-requires : tie.Need-meet-rows-requires
+meet-rows-requires c κs = search needs
+
+slice-aggregate-of-set : tie.Need-slice-aggregate-of-set
+slice-aggregate-of-set c = search needs
+
+of-set-requires : tie.Need-of-set-requires
+of-set-requires c κs = (search needs, rowed-same (c .before .before .before .before .before .before .before .args .table .now) _ _ (c .before .before .meet-rows .ensures) (c .before .before .before .before .before .before .before .pre .2))
+
+returns : tie.Need-returns
+returns c = taken-same (c .before .before .before .meet-rows .ensures) (c .of-set .ensures)
+
+pub common-spec : {M : Type 1} → statement M
+common-spec =
+    tie.close
+    (tie.spec
+    slice-aggregate-meet-rows
+    meet-rows-requires
+    slice-aggregate-of-set
+    of-set-requires
+    returns)
