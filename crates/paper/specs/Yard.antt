@@ -121,7 +121,7 @@ module _ (Y : Yard) where
 
   -- A carousel: "every bay has exactly two rails".
   unfoldable pub carousel : Bool
-  carousel = not (any (λ v. not (eqb (length (neighbours v)) 2)) (upTo (Y .bays)))
+  carousel = not (any (λ v. not (eqb (railsAt v) 2)) (upTo (Y .bays)))
 
   -- "It is legal at a placement if the carrier stands at from, a rail joins from and to, and to is empty."
   unfoldable pub legal : Placement → Crossing → Bool
