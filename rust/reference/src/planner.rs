@@ -259,8 +259,8 @@ impl<'a> Planner<'a> {
     /// One trial: its crossings stand in the plan from `before` on where it succeeds. The placement is left as the trial left it.
     fn trial(&mut self, u: u8, w: u8, v: u8, before: usize) -> bool {
         let Some((leader, b)) = self.bring(u, w, v) else { return false };
-        let Some((x, y)) = self.clear(v, b) else { return false };
         let follower = self.at[b as usize];
+        let Some((x, y)) = self.clear(leader, follower, v, b) else { return false };
         let undone = self.plan.len();
         self.plan.extend([
             crossing(leader, v, x),
@@ -293,7 +293,7 @@ impl<'a> Planner<'a> {
     }
 
     /// Step 2. Two empty neighbours of v other than b, the lower first.
-    fn clear(&mut self, v: u8, b: u8) -> Option<(u8, u8)> {
+    fn clear(&mut self, leader: u8, follower: u8, v: u8, b: u8) -> Option<(u8, u8)> {
         let mut others = self.yard.joined[v as usize];
         others.remove(b);
         let mut kept = Bays::NONE;
@@ -309,7 +309,48 @@ impl<'a> Planner<'a> {
             }
         }
         let mut pair = kept.into_iter();
-        Some((pair.next()?, pair.next()?))
+        let e = pair.next()?;
+        match pair.next() {
+            Some(y) => Some((e, y)),
+            None => self.go_on(leader, follower, v, b, e).map(|x| (x.min(e), x.max(e))),
+        }
+    }
+
+    /// Clearing ended with the one kept bay e: the first other neighbour x that one of two ways empties beside e. Each attempt starts
+    /// where clearing ended; a failed one leaves no crossings.
+    fn go_on(&mut self, leader: u8, follower: u8, v: u8, b: u8, e: u8) -> Option<u8> {
+        let others = self.yard.joined[v as usize].without(Bays::only(b).with(e));
+        let (present, made) = ((self.at, self.empty), self.plan.len());
+        for around in [false, true] {
+            for x in others {
+                let done = if around { self.vacate_around(leader, follower, v, b, e, x) } else { self.vacate_aside(v, b, e, x) };
+                if done {
+                    return Some(x);
+                }
+                (self.at, self.empty) = present;
+                self.plan.truncate(made);
+            }
+        }
+        None
+    }
+
+    /// First way: x, then e again, which x may have filled.
+    fn vacate_aside(&mut self, v: u8, b: u8, e: u8, x: u8) -> bool {
+        let held = Bays::only(v).with(b);
+        self.vacate(x, held) && self.vacate(e, held.with(x))
+    }
+
+    /// Second way: leader and follower step forward, to e and v; x is vacated, then b again; and they step back.
+    fn vacate_around(&mut self, leader: u8, follower: u8, v: u8, b: u8, e: u8, x: u8) -> bool {
+        self.cross(leader, v, e);
+        self.cross(follower, b, v);
+        let held = Bays::only(v).with(e);
+        let done = self.vacate(x, held) && self.vacate(b, held.with(x));
+        if done {
+            self.cross(follower, v, b);
+            self.cross(leader, e, v);
+        }
+        done
     }
 
     /// Step 4: the crossings of steps 1 and 2 backwards, each reversed, with leader and follower trading places in it.

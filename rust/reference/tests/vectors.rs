@@ -36,6 +36,11 @@ fn plans_of_the_vectors() {
 }
 
 #[test]
+fn plans_where_clearing_goes_on() {
+    assert_eq!(plans(&text("tests/data/plan-e2.txt"), plan), (500, 0));
+}
+
+#[test]
 fn large_plans_of_the_vectors() {
     assert_eq!(plans(&text("tests/data/plan-large.txt"), plan), (7, 0));
 }
