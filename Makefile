@@ -55,19 +55,17 @@ $(OUT)/vault: $(PROGRAM) $(HEADERS) include/sejjekoru.h $(OUT)/libsejjekoru.a
 $(OUT)/lossy_line: examples/lossy_line.c $(OUT)/libsejjekoru.a
 	$(CC) $(WARNINGS) $(CFLAGS) $(LDFLAGS) -Iinclude examples/lossy_line.c $(OUT)/libsejjekoru.a -o $@
 
-$(OUT)/sejjekoru.pc: include/sejjekoru.h
-	printf '%s\n' 'prefix=$(PREFIX)' 'libdir=$(LIBDIR)' 'includedir=$${prefix}/include' '' \
-	  'Name: sejjekoru' 'Description: Planner and bill-proof crossing log for pallet vaults' "Version: $(VERSION)" \
-	  'Cflags: -I$${includedir}' 'Libs: -L$${libdir} -lsejjekoru' >$@
-
-install: all $(OUT)/sejjekoru.pc
+install: all
 	mkdir -p "$(DESTDIR)$(PREFIX)/bin" "$(DESTDIR)$(PREFIX)/include" "$(DESTDIR)$(LIBDIR)/pkgconfig"
 	install -m 755 $(OUT)/vault "$(DESTDIR)$(PREFIX)/bin/vault"
 	install -m 644 include/sejjekoru.h "$(DESTDIR)$(PREFIX)/include/sejjekoru.h"
 	install -m 644 $(OUT)/libsejjekoru.a "$(DESTDIR)$(LIBDIR)/libsejjekoru.a"
 	install -m 755 $(OUT)/$(SONAME) "$(DESTDIR)$(LIBDIR)/$(SONAME)"
 	ln -sf $(SONAME) "$(DESTDIR)$(LIBDIR)/libsejjekoru.so"
-	install -m 644 $(OUT)/sejjekoru.pc "$(DESTDIR)$(LIBDIR)/pkgconfig/sejjekoru.pc"
+	printf '%s\n' 'prefix=$(PREFIX)' 'libdir=$(LIBDIR)' 'includedir=$${prefix}/include' '' \
+	  'Name: sejjekoru' 'Description: Planner and bill-proof crossing log for pallet vaults' "Version: $(VERSION)" \
+	  'Cflags: -I$${includedir}' 'Libs: -L$${libdir} -lsejjekoru' >"$(DESTDIR)$(LIBDIR)/pkgconfig/sejjekoru.pc"
+	chmod 644 "$(DESTDIR)$(LIBDIR)/pkgconfig/sejjekoru.pc"
 
 clean:
 	rm -rf $(OUT)

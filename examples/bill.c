@@ -34,10 +34,10 @@ int main(void)
     uint8_t marks[ROOM] = {0};
     sejjekoru_record record;
     sejjekoru_line lines[CARRIERS];
-    uint64_t length, value;
+    uint64_t parked, length, value;
     size_t i;
 
-    if (sejjekoru_plan(YARD, plan, ROOM, &length) != SEJJEKORU_ACCEPTED
+    if (sejjekoru_plan(YARD, plan, ROOM, &parked, &length) != SEJJEKORU_ACCEPTED
         || sejjekoru_open(YARD, plan, length, marks, length, &record, lines, CARRIERS, &value) != SEJJEKORU_ACCEPTED) {
         return 1;
     }

@@ -2,17 +2,12 @@
 
 use sejjekoru::{Line, Record, Refusal, Reported, Yard, UNTOUCHED};
 
-const YARD: Yard = Yard {
-    bays: 4,
-    rails: &[0, 1, 1, 2, 1, 3],
-    start: &[1, 0],
-    goal: &[0, 1],
-};
+const YARD: Yard = Yard::new(4, &[0, 1, 1, 2, 1, 3], &[1, 0], &[0, 1]);
 
 fn print_books(record: &Record, lines: &[Line]) {
     println!("{} done, highest slot {}", record.done, record.highest);
     for (line, bay) in lines.iter().zip(record.at) {
-        print!("c{} at b{bay}: {} billed", line.carrier, line.billed);
+        print!("{} at {bay}: {} billed", line.carrier, line.billed);
         match line.last {
             UNTOUCHED => println!(),
             name => println!(", last {name}"),
@@ -22,7 +17,7 @@ fn print_books(record: &Record, lines: &[Line]) {
 
 fn main() -> Result<(), Refusal> {
     let mut room = [0; 64];
-    let length = sejjekoru::plan(YARD, &mut room)?;
+    let length = sejjekoru::plan(YARD, &mut room)?.length;
     let plan = &room[..length];
     let mut marks = vec![0; length];
     let (mut record, mut lines) = (Record::default(), [Line::default(); 2]);

@@ -64,14 +64,14 @@ int main(void)
 {
     uint64_t plan[ROOM];
     uint8_t marks[ROOM] = {0};
-    uint64_t length;
+    uint64_t parked, length;
     uint64_t answer;
 
-    answer = sejjekoru_plan(BAYS, rails, ENDS, start, CARRIERS, goal, CARRIERS, plan, TIGHT, &length);
+    answer = sejjekoru_plan(BAYS, rails, ENDS, start, CARRIERS, goal, CARRIERS, plan, TIGHT, &parked, &length);
     if (answer == SEJJEKORU_ROOM) {
         printf("room for %d: %" PRIu64 " needed\n", TIGHT, length);
     }
-    answer = sejjekoru_plan(BAYS, rails, ENDS, start, CARRIERS, goal, CARRIERS, plan, ROOM, &length);
+    answer = sejjekoru_plan(BAYS, rails, ENDS, start, CARRIERS, goal, CARRIERS, plan, ROOM, &parked, &length);
     if (answer != SEJJEKORU_ACCEPTED) {
         return 1;
     }

@@ -2,17 +2,11 @@
 
 use sejjekoru::{Crossing, Refusal, Reported, Yard};
 
-const YARD: Yard = Yard {
-    bays: 4,
-    rails: &[0, 1, 1, 2, 1, 3],
-    start: &[1, 0],
-    goal: &[0, 1],
-};
+const YARD: Yard = Yard::new(4, &[0, 1, 1, 2, 1, 3], &[1, 0], &[0, 1]);
 
 fn print_plan(plan: &[u64]) {
     for &number in plan {
-        let x = Crossing::from(number);
-        println!("(move c{} b{} b{})", x.carrier.0, x.from.0, x.to.0);
+        println!("{}", Crossing::from(number));
     }
     println!("; cost = {} (unit cost)", plan.len());
 }
@@ -41,7 +35,7 @@ fn main() -> Result<(), Refusal> {
     if let Err(Refusal::Room(needed)) = sejjekoru::plan(YARD, &mut room[..5]) {
         println!("room for 5: {needed} needed");
     }
-    let length = sejjekoru::plan(YARD, &mut room)?;
+    let length = sejjekoru::plan(YARD, &mut room)?.length;
     let plan = &room[..length];
     print_plan(plan);
     print_slots(plan)?;

@@ -15,10 +15,10 @@
  *
  * Nothing is kept between calls and nothing is allocated: threads may call at the same time, each with its own of what may be written.
  *
- * Stack, measured on x86-64 and on ARM and rounded up: sejjekoru_plan needs 820 KiB, and more than 512 KiB even for no bays; sejjekoru_shorten 345 KiB;
- * sejjekoru_agrees and sejjekoru_report_billed 40 KiB; sejjekoru_open 24 KiB; check, slots, report and placement 16 KiB; sejjekoru_compare 4 KiB; the
- * functions on a link 24 KiB, map and scenario 16 KiB (measured on ARM). Threads with 512 KiB of stack, as some
- * systems give by default, cannot plan: give them a megabyte or more. tests/stack measures it again.
+ * Stack, measured on x86-64 and on ARM and rounded up: sejjekoru_plan needs 820 KiB, and more than 512 KiB even for no bays; sejjekoru_program and
+ * sejjekoru_program_timed 1,280 KiB; sejjekoru_shorten 345 KiB; sejjekoru_agrees and sejjekoru_report_billed 40 KiB; sejjekoru_open and the functions on
+ * a link 24 KiB; all others 16 KiB or less. Threads with 512 KiB of stack, as some systems give by default, cannot plan: give them a megabyte or more,
+ * and two for the program. tests/stack measures it again.
  *
  * The library of dist/ has unwind tables, so a debugger shows who called; it has no line numbers, since the prover's compiler gives none.
  */
@@ -29,7 +29,7 @@
 #include <stdint.h>
 
 /* The version of this header. A changed signature raises the second number, until the first is 1. */
-#define SEJJEKORU_VERSION "0.2.0"
+#define SEJJEKORU_VERSION "0.3.0"
 
 #ifdef __cplusplus
 extern "C" {
@@ -95,12 +95,16 @@ typedef struct {
     uint32_t last;      /* the last of their names, or SEJJEKORU_UNTOUCHED */
 } sejjekoru_line;
 
-/* Plans, and writes the plan to the first places of `plan`; the value is its length. Answers 0 to 8. */
+/*
+ * Plans, and writes the plan to the first places of `plan`; the value is its length. `parked` becomes the number of times that a carrier was moved
+ * out of the way into a bay of three rails or more, undoing left aside; 0 for a refusal. Answers 0 to 8.
+ */
 uint64_t sejjekoru_plan(uint64_t bays,
                         const uint16_t *rails, size_t rails_len,
                         const uint16_t *start, size_t start_len,
                         const uint16_t *goal, size_t goal_len,
                         uint64_t *plan, size_t plan_len,
+                        uint64_t *parked,
                         uint64_t *value);
 
 /* Whether the plan is legal and brings every carrier home. Answers 0 to 6, 9, 10. */
@@ -235,7 +239,7 @@ uint64_t sejjekoru_reverse(const uint64_t *list, size_t list_len,
  * All that the program prints for a map file and a scenario file: the plan, or one line with the refusal. `map_read` and `scenario_read` say whether
  * the file could be read: 0 for no, and then its bytes do not count. With `shorten` other than 0 the plan is printed without its there-and-back
  * trips. Answers 0 with the number of bytes written, also where what is printed is a refusal; or 8. No print takes more than 180,250 bytes. Of a map
- * its first 4,264 bytes decide, of a scenario its first 49,036. `out` overlaps neither file. Runs with 2 MiB of stack.
+ * its first 4,264 bytes decide, of a scenario its first 49,036. `out` overlaps neither file.
  */
 uint64_t sejjekoru_program(const uint8_t *map, size_t map_len, uint64_t map_read,
                            const uint8_t *scenario, size_t scenario_len, uint64_t scenario_read,

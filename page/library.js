@@ -151,15 +151,25 @@ export class Library {
     return { ...said, orders: { start: new Uint16Array(this.copy(start, bytes)), goal: new Uint16Array(this.copy(goal, bytes)) } };
   }
 
-  /** @param {Yard} yard @param {Orders} orders @returns {Answer & { plan: BigUint64Array }} */
+  /**
+   * The plan, and how many vacates in it filled a bay of three rails or more.
+   * @param {Yard} yard @param {Orders} orders @returns {Answer & { plan: BigUint64Array, parked: number }}
+   */
   plan(yard, orders) {
     let plan = 0;
+    let parked = 0;
     const said = this.ask('sejjekoru_plan', () => {
       const args = this.yard(yard, orders);
       plan = this.room(CROSSINGS * 8);
-      return [...args, plan, BigInt(CROSSINGS)];
+      parked = this.room(8);
+      return [...args, plan, BigInt(CROSSINGS), parked];
     });
-    return { ...said, plan: new BigUint64Array(this.copy(plan, said.answer === ACCEPTED ? said.value * 8 : 0)) };
+    const accepted = said.answer === ACCEPTED;
+    return {
+      ...said,
+      plan: new BigUint64Array(this.copy(plan, accepted ? said.value * 8 : 0)),
+      parked: accepted ? Number(new BigUint64Array(this.copy(parked, 8))[0]) : 0,
+    };
   }
 
   /** @param {Yard} yard @param {Orders} orders @param {BigUint64Array} plan @returns {Answer} */

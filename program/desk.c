@@ -98,10 +98,11 @@ uint64_t find_plan(order *o, const request *asked, uint64_t *value)
     static uint64_t whole[PROGRAM_CROSSINGS];
     static const uint8_t marks[PROGRAM_CROSSINGS];
     size_t length;
+    uint64_t parked;
     uint64_t number = take_files(o, asked, value);
     if (number != SEJJEKORU_ACCEPTED)
         return number;
-    number = sejjekoru_plan(o->bays, o->ends, o->ends_len, o->start, o->carriers, o->goal, o->carriers, whole, PROGRAM_CROSSINGS, value);
+    number = sejjekoru_plan(o->bays, o->ends, o->ends_len, o->start, o->carriers, o->goal, o->carriers, whole, PROGRAM_CROSSINGS, &parked, value);
     if (number != SEJJEKORU_ACCEPTED)
         return number;
     length = (size_t)*value;

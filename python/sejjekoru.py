@@ -12,6 +12,8 @@ exceptions with words. It needs Python 3.8 or later and nothing else.
     for line in books.lines:
         print(line.carrier, line.billed)
 
+A map and a scenario are read from their bytes: `read_scenario(map_file, scenario_file)` is an Order. Functions that take a plan take any list of Crossing.
+
 The library is looked for in the file that SEJJEKORU_LIBRARY names, then in build/ beside this folder (./build-library writes it), then where the system
 keeps its libraries. Planning uses about 800 KiB of stack: see threading.stack_size before you plan in a thread with less.
 """
@@ -19,28 +21,47 @@ keeps its libraries. Planning uses about 800 KiB of stack: see threading.stack_s
 import ctypes
 import ctypes.util
 import os
-from typing import Dict, List, NamedTuple, Optional, Sequence, Tuple
+from typing import Any, Callable, Dict, List, MutableSequence, NamedTuple, Optional, Sequence, Tuple
 
 __all__ = [
     "Order",
+    "Yard",
     "Crossing",
     "Line",
     "Compared",
     "Refused",
     "Books",
+    "Link",
     "plan",
+    "plan_parked",
     "check",
     "slots",
+    "slots_of",
+    "report",
+    "placement",
     "shorten",
     "reverse",
     "compare",
+    "program",
+    "program_timed",
+    "print_plan",
+    "read_plan",
+    "read_reports",
+    "read_map",
+    "read_scenario",
+    "read_survey",
+    "write_survey",
     "version",
 ]
 
 MOST_CROSSINGS = 65536
 _UNTOUCHED = 65536
 _ALREADY = 100
+_MORE = 101
 _CARRIERS = 254
+_MAP_ENDS = 16384
+_SURVEY_ENDS = 2048
+_TEXT = 1 << 18
 
 _WORDS = {
     1: "the yard, the placements or the plan have a size that is not allowed",
@@ -58,10 +79,14 @@ _WORDS = {
     13: "crossing {}, on which this one depends, is not done",
     14: "line {} of the map breaks its layout",
     15: "line {} of the scenario breaks its layout",
-    17: "the scenario has ended already",
-    18: "a piece has more than 256 bytes",
+    16: "line {} of the survey breaks its layout",
+    17: "the scenario over this link has ended",
+    18: "the piece has more than 256 bytes",
     19: "record and lines are not what plan and marks give",
+    20: "slots have editions 1 and 2 and no other",
     25: "a crossing of the plan is done already",
+    26: "line {} of the plan breaks its layout",
+    27: "line {} of the reports breaks its layout",
 }
 
 
@@ -73,6 +98,13 @@ class Refused(Exception):
         super().__init__(f"refused {number}: {words}")
         self.number = number
         self.value = value
+
+
+class Yard(NamedTuple):
+    """The number of bays, and the rails as pairs of bays."""
+
+    bays: int
+    rails: List[Tuple[int, int]]
 
 
 class Order(NamedTuple):
@@ -121,6 +153,20 @@ class _Line(ctypes.Structure):
     _fields_ = [("carrier", ctypes.c_uint32), ("billed", ctypes.c_uint32), ("last", ctypes.c_uint32)]
 
 
+class _Link(ctypes.Structure):
+    _fields_ = [
+        ("start", ctypes.c_uint16 * _CARRIERS),
+        ("goal", ctypes.c_uint16 * _CARRIERS),
+        ("cells", ctypes.c_uint16 * 4096),
+        ("own", ctypes.c_uint32 * 5),
+        ("count", ctypes.c_uint16),
+        ("line", ctypes.c_uint8 * 14),
+        ("phase", ctypes.c_uint16),
+        ("height", ctypes.c_uint8),
+        ("width", ctypes.c_uint8),
+    ]
+
+
 def _find() -> str:
     named = os.environ.get("SEJJEKORU_LIBRARY")
     beside = os.path.join(os.path.dirname(os.path.abspath(__file__)), "..", "build", "libsejjekoru.so")
@@ -137,12 +183,13 @@ def _find() -> str:
 _library = ctypes.CDLL(_find())
 
 
-def _declare(name: str, *types: type) -> "ctypes._NamedFuncPointer":
+def _declare(name: str, *types: Any) -> Callable[..., int]:
     # Every argument has its type: a plain int would be passed as 32 bits, and lengths have 64.
     function = getattr(_library, name)
     function.argtypes = types
     function.restype = ctypes.c_uint64
-    return function
+    called: Callable[..., int] = function
+    return called
 
 
 _number = ctypes.c_uint64
@@ -151,42 +198,79 @@ _value = ctypes.POINTER(ctypes.c_uint64)
 _bays = (ctypes.POINTER(ctypes.c_uint16), _length)
 _long = (ctypes.POINTER(ctypes.c_uint64), _length)
 _slot = (ctypes.POINTER(ctypes.c_uint32), _length)
-_mark = (ctypes.POINTER(ctypes.c_uint8), _length)
+_byte = (ctypes.POINTER(ctypes.c_uint8), _length)
 _line = (ctypes.POINTER(_Line), _length)
 _record = ctypes.POINTER(_Record)
+_link = ctypes.POINTER(_Link)
 _order = (_number, *_bays, *_bays, *_bays)
 
-_plan = _declare("sejjekoru_plan", *_order, *_long, _value)
+_plan = _declare("sejjekoru_plan", *_order, *_long, _value, _value)
 _check = _declare("sejjekoru_check", *_order, *_long, _value)
 _slots = _declare("sejjekoru_slots", *_order, *_long, *_slot, _value)
-_shorten = _declare("sejjekoru_shorten", *_order, *_long, *_mark, *_long, _value)
-_open = _declare("sejjekoru_open", *_order, *_long, *_mark, _record, *_line, _value)
-_agrees = _declare("sejjekoru_agrees", *_order, *_long, *_mark, _record, *_line, _value)
-_report = _declare("sejjekoru_report_billed", *_order, *_long, *_mark, _number, _record, *_line, _value)
+_slots_of = _declare("sejjekoru_slots_of", _number, *_order, *_long, *_slot, _value)
+_report = _declare("sejjekoru_report", *_order, *_long, *_byte, _number, _value)
+_placement = _declare("sejjekoru_placement", *_order, *_long, *_byte, *_bays, _value)
+_shorten = _declare("sejjekoru_shorten", *_order, *_long, *_byte, *_long, _value)
+_open = _declare("sejjekoru_open", *_order, *_long, *_byte, _record, *_line, _value)
+_agrees = _declare("sejjekoru_agrees", *_order, *_long, *_byte, _record, *_line, _value)
+_report_billed = _declare("sejjekoru_report_billed", *_order, *_long, *_byte, _number, _record, *_line, _value)
 _reverse = _declare("sejjekoru_reverse", *_long, *_long, _value)
 _compare = _declare("sejjekoru_compare", *_long, *_long, ctypes.POINTER(ctypes.c_int64), _length, _value, _value)
+_program = _declare("sejjekoru_program", *_byte, _number, *_byte, _number, _number, *_byte, _value)
+_program_timed = _declare("sejjekoru_program_timed", _number, *_byte, _number, *_byte, _number, _number, *_byte, _value)
+_print_plan = _declare("sejjekoru_print_plan", *_long, *_byte, _value)
+_read_plan = _declare("sejjekoru_read_plan", *_byte, *_long, _value)
+_read_reports = _declare("sejjekoru_read_reports", *_byte, *_long, _value)
+_map = _declare("sejjekoru_map", *_byte, _value, *_bays, _value)
+_scenario = _declare("sejjekoru_scenario", *_byte, *_byte, *_bays, *_bays, _value)
+_link_begin = _declare("sejjekoru_link_begin", *_byte, _link, _value)
+_link_piece = _declare("sejjekoru_link_piece", _link, *_byte, _value)
+_link_end = _declare("sejjekoru_link_end", _link, _value)
+_read_survey = _declare("sejjekoru_read_survey", *_byte, _value, *_bays, _value)
+_write_survey = _declare("sejjekoru_write_survey", _number, *_bays, *_byte, _value)
 _version = _library.sejjekoru_version
 _version.argtypes = ()
 _version.restype = ctypes.c_char_p
 
 
-def _list(kind: type, numbers: Sequence[int]) -> "ctypes.Array":
+def _list(kind: Any, numbers: Sequence[int]) -> "ctypes.Array[Any]":
     most = 1 << 8 * ctypes.sizeof(kind)
     for number in numbers:
         if not 0 <= number < most:
             raise ValueError(f"{number} does not fit: a number here is 0 to {most - 1}")
-    return (kind * len(numbers))(*numbers)
+    made: "ctypes.Array[Any]" = (kind * len(numbers))(*numbers)
+    return made
 
 
-def _order_words(order: Order) -> tuple:
-    if not 0 <= order.bays < 1 << 64:
-        raise ValueError(f"{order.bays} bays do not fit")
+def _wide(number: int) -> int:
+    if not 0 <= number < 1 << 64:
+        raise ValueError(f"{number} does not fit into 64 bits")
+    return number
+
+
+def _order_words(order: Order) -> Tuple[Any, ...]:
     ends = _list(ctypes.c_uint16, [end for rail in order.rails for end in rail])
     start, goal = _list(ctypes.c_uint16, order.start), _list(ctypes.c_uint16, order.goal)
-    return (order.bays, ends, len(ends), start, len(start), goal, len(goal))
+    return (_wide(order.bays), ends, len(ends), start, len(start), goal, len(goal))
 
 
-def _pack(plan: Sequence[Crossing]) -> "ctypes.Array":
+def _bytes(data: bytes) -> Tuple[Any, ...]:
+    return ((ctypes.c_uint8 * len(data)).from_buffer_copy(data), len(data))
+
+
+def _file(data: Optional[bytes]) -> Tuple[Any, ...]:
+    return (*_bytes(data or b""), 0 if data is None else 1)
+
+
+def _marks(marks: Optional[Sequence[int]], plan: Sequence[Crossing]) -> "ctypes.Array[Any]":
+    return _list(ctypes.c_uint8, [0] * len(plan) if marks is None else marks)
+
+
+def _pairs(ends: Sequence[int]) -> List[Tuple[int, int]]:
+    return list(zip(ends[::2], ends[1::2]))
+
+
+def _pack(plan: Sequence[Crossing]) -> "ctypes.Array[Any]":
     for crossing in plan:
         if not (0 <= crossing.carrier < 1 << 32 and 0 <= crossing.origin < 1 << 16 and 0 <= crossing.to < 1 << 16):
             raise ValueError(f"{crossing} does not fit into a plan")
@@ -203,11 +287,36 @@ def _told(number: int, value: ctypes.c_uint64) -> int:
     return value.value
 
 
+def _reported(number: int, value: ctypes.c_uint64) -> str:
+    if number == _ALREADY:
+        return "already"
+    _told(number, value)
+    return "accepted"
+
+
+def _written(call: Callable[..., int]) -> bytes:
+    # a text that the room is too short for is asked for again, with the room that it needs
+    room = _TEXT
+    while True:
+        out, value = (ctypes.c_uint8 * room)(), ctypes.c_uint64()
+        number = call(out, room, ctypes.byref(value))
+        if number == 8 and value.value > room:
+            room = value.value
+            continue
+        return bytes(out[: _told(number, value)])
+
+
 def plan(order: Order, room: int = MOST_CROSSINGS) -> List[Crossing]:
     """The plan of an order, of at most `room` crossings. Raises Refused, 1 to 8."""
-    out, value = (ctypes.c_uint64 * room)(), ctypes.c_uint64()
-    length = _told(_plan(*_order_words(order), out, room, ctypes.byref(value)), value)
-    return _unpack(out[:length])
+    return plan_parked(order, room)[0]
+
+
+def plan_parked(order: Order, room: int = MOST_CROSSINGS) -> Tuple[List[Crossing], int]:
+    """The plan, and how often a carrier was moved out of the way into a bay of three rails or more, undoing left aside. Raises Refused, 1 to 8."""
+    out, parked, value = (ctypes.c_uint64 * room)(), ctypes.c_uint64(), ctypes.c_uint64()
+    words = (out, room, ctypes.byref(parked), ctypes.byref(value))
+    length = _told(_plan(*_order_words(order), *words), value)
+    return _unpack(out[:length]), parked.value
 
 
 def check(order: Order, crossings: Sequence[Crossing]) -> None:
@@ -224,11 +333,43 @@ def slots(order: Order, crossings: Sequence[Crossing]) -> List[int]:
     return list(out)
 
 
-def shorten(order: Order, crossings: Sequence[Crossing]) -> List[Crossing]:
-    """A plan of which nothing is done, without its there-and-back trips. Raises Refused, 1 to 6, 9, 10."""
+def slots_of(edition: int, order: Order, crossings: Sequence[Crossing]) -> List[int]:
+    """The slot of each crossing by edition 1 or 2. Edition 1 is `slots`; by edition 2 a carrier may roll into a bay in the slot in which another rolls out.
+
+    Raises Refused: 20 for another edition, then 1 to 6, 9, 10.
+    """
     value, packed = ctypes.c_uint64(), _pack(crossings)
-    marks, out = (ctypes.c_uint8 * len(packed))(), (ctypes.c_uint64 * len(packed))()
-    words = (packed, len(packed), marks, len(packed), out, len(packed), ctypes.byref(value))
+    out = (ctypes.c_uint32 * len(packed))()
+    _told(_slots_of(_wide(edition), *_order_words(order), packed, len(packed), out, len(packed), ctypes.byref(value)), value)
+    return list(out)
+
+
+def report(order: Order, crossings: Sequence[Crossing], marks: MutableSequence[int], name: int) -> str:
+    """Reports a crossing as done: "accepted", and its mark becomes 1, or "already" if it was done. `marks` has a 0 or 1 for each crossing.
+
+    Raises Refused, 1 to 6, 9 to 13; then the marks stay as they were. `Books` keeps the bills too.
+    """
+    value, packed, held = ctypes.c_uint64(), _pack(crossings), _list(ctypes.c_uint8, marks)
+    words = (packed, len(packed), held, len(held), _wide(name), ctypes.byref(value))
+    answer = _reported(_report(*_order_words(order), *words), value)
+    if answer == "accepted":
+        marks[name] = 1
+    return answer
+
+
+def placement(order: Order, crossings: Sequence[Crossing], marks: Sequence[int]) -> List[int]:
+    """The bay of each carrier, by the marks. Raises Refused, 1 to 6, 9 to 11."""
+    value, packed, held = ctypes.c_uint64(), _pack(crossings), _list(ctypes.c_uint8, marks)
+    at = (ctypes.c_uint16 * len(order.start))()
+    _told(_placement(*_order_words(order), packed, len(packed), held, len(held), at, len(at), ctypes.byref(value)), value)
+    return list(at)
+
+
+def shorten(order: Order, crossings: Sequence[Crossing], marks: Optional[Sequence[int]] = None) -> List[Crossing]:
+    """A plan of which nothing is done, without its there-and-back trips. Raises Refused, 1 to 6, 9 to 11, and 25 if a mark says that something is done."""
+    value, packed, held = ctypes.c_uint64(), _pack(crossings), _marks(marks, crossings)
+    out = (ctypes.c_uint64 * len(packed))()
+    words = (packed, len(packed), held, len(held), out, len(packed), ctypes.byref(value))
     return _unpack(out[: _told(_shorten(*_order_words(order), *words), value)])
 
 
@@ -252,9 +393,73 @@ def compare(first: Sequence[Crossing], second: Sequence[Crossing]) -> Compared:
     return Compared(equal, _unpack(rest), {carrier: difference for carrier, difference in enumerate(held) if difference})
 
 
+def program(map_file: Optional[bytes], scenario_file: Optional[bytes], shortened: bool = False) -> bytes:
+    """All that the program prints for the bytes of a map and a scenario; None for a file that could not be read.
+
+    A refusal is printed too, as `; refused N V`, and not raised. For exceptions use `read_scenario` and `plan`.
+    """
+    files = (*_file(map_file), *_file(scenario_file), int(shortened))
+    return _written(lambda *out: _program(*files, *out))
+
+
+def program_timed(edition: int, map_file: Optional[bytes], scenario_file: Optional[bytes], shortened: bool = False) -> bytes:
+    """As `program`, each crossing with its time by the slots of edition 1 or 2. Another edition is printed as `; refused 20`."""
+    files = (_wide(edition), *_file(map_file), *_file(scenario_file), int(shortened))
+    return _written(lambda *out: _program_timed(*files, *out))
+
+
+def print_plan(crossings: Sequence[Crossing]) -> bytes:
+    """Any crossings as the program prints them: one a line, then the cost. Raises Refused, 1, for more than 65,536."""
+    packed = _pack(crossings)
+    return _written(lambda *out: _print_plan(packed, len(packed), *out))
+
+
+def read_plan(plan_file: bytes) -> List[Crossing]:
+    """Reads a printed plan. Raises Refused: 26 with the first bad line, 1 for more than 65,536 crossings."""
+    value, room = ctypes.c_uint64(), min(plan_file.count(b"\n") + 1, MOST_CROSSINGS)
+    out = (ctypes.c_uint64 * room)()
+    return _unpack(out[: _told(_read_plan(*_bytes(plan_file), out, room, ctypes.byref(value)), value)])
+
+
+def read_reports(reports_file: bytes) -> List[int]:
+    """Reads reported names, one a line. Raises Refused, 27, with the first bad line."""
+    value, room = ctypes.c_uint64(), reports_file.count(b"\n") + 1
+    out = (ctypes.c_uint64 * room)()
+    return list(out[: _told(_read_reports(*_bytes(reports_file), out, room, ctypes.byref(value)), value)])
+
+
+def read_map(map_file: bytes) -> Yard:
+    """The yard of a map. Raises Refused, 14, with the first bad line."""
+    bays, value, ends = ctypes.c_uint64(), ctypes.c_uint64(), (ctypes.c_uint16 * _MAP_ENDS)()
+    count = _told(_map(*_bytes(map_file), ctypes.byref(bays), ends, _MAP_ENDS, ctypes.byref(value)), value)
+    return Yard(bays.value, _pairs(ends[:count]))
+
+
+def read_scenario(map_file: bytes, scenario_file: bytes) -> Order:
+    """The order of a scenario on its map. Raises Refused: 14, then 15, with the first bad line of the map or of the scenario."""
+    yard, value = read_map(map_file), ctypes.c_uint64()
+    start, goal = (ctypes.c_uint16 * _CARRIERS)(), (ctypes.c_uint16 * _CARRIERS)()
+    words = (*_bytes(map_file), *_bytes(scenario_file), start, _CARRIERS, goal, _CARRIERS, ctypes.byref(value))
+    carriers = _told(_scenario(*words), value)
+    return Order(yard.bays, yard.rails, start[:carriers], goal[:carriers])
+
+
+def read_survey(survey_file: bytes) -> Yard:
+    """The yard of a surveyors' file (DIMACS edge file). Raises Refused: 16 with the first bad line, then 1 to 3."""
+    bays, value, ends = ctypes.c_uint64(), ctypes.c_uint64(), (ctypes.c_uint16 * _SURVEY_ENDS)()
+    count = _told(_read_survey(*_bytes(survey_file), ctypes.byref(bays), ends, _SURVEY_ENDS, ctypes.byref(value)), value)
+    return Yard(bays.value, _pairs(ends[:count]))
+
+
+def write_survey(bays: int, rails: Sequence[Tuple[int, int]]) -> bytes:
+    """A yard as a surveyors' file, in its plain form. Raises Refused, 1 to 3."""
+    ends = _list(ctypes.c_uint16, [end for rail in rails for end in rail])
+    return _written(lambda *out: _write_survey(_wide(bays), ends, len(ends), *out))
+
+
 def version() -> str:
     """The version of the library that is linked."""
-    return _version().decode()
+    return str(_version().decode())
 
 
 class Books:
@@ -266,16 +471,16 @@ class Books:
     def __init__(self, order: Order, crossings: Sequence[Crossing], marks: Optional[Sequence[int]] = None) -> None:
         self._order = _order_words(order)
         self._plan = _pack(crossings)
-        self._marks = _list(ctypes.c_uint8, [0] * len(crossings) if marks is None else marks)
+        self._marks = _marks(marks, crossings)
         self._record = _Record()
         self._lines = (_Line * len(order.start))()
         value = ctypes.c_uint64()
         _told(_open(*self._words(), *self._account(value)), value)
 
-    def _words(self) -> tuple:
+    def _words(self) -> Tuple[Any, ...]:
         return (*self._order, self._plan, len(self._plan), self._marks, len(self._marks))
 
-    def _account(self, value: ctypes.c_uint64) -> tuple:
+    def _account(self, value: ctypes.c_uint64) -> Tuple[Any, ...]:
         return (ctypes.byref(self._record), self._lines, len(self._lines), ctypes.byref(value))
 
     def report(self, name: int) -> str:
@@ -283,11 +488,7 @@ class Books:
         if not 0 <= name < 1 << 64:
             raise Refused(12, 0)
         value = ctypes.c_uint64()
-        number = _report(*self._words(), name, *self._account(value))
-        if number == _ALREADY:
-            return "already"
-        _told(number, value)
-        return "accepted"
+        return _reported(_report_billed(*self._words(), name, *self._account(value)), value)
 
     def agrees(self) -> bool:
         """Whether record and lines are what plan, start and marks give."""
@@ -307,9 +508,34 @@ class Books:
     @property
     def done(self) -> int:
         """How many crossings are done."""
-        return self._record.done
+        return int(self._record.done)
 
     @property
     def lines(self) -> List[Line]:
         """The account lines, one for each carrier."""
         return [Line(x.carrier, x.billed, None if x.last == _UNTOUCHED else x.last) for x in self._lines]
+
+
+class Link:
+    """A scenario that comes over a serial link in pieces. It takes no piece before `begin` and none after `end`."""
+
+    def __init__(self) -> None:
+        self._state = _Link()
+
+    def begin(self, map_file: bytes) -> None:
+        """Opens the link for a scenario on this map, whatever came before. Raises Refused, 14, with the first bad line; then the link is as it was."""
+        value = ctypes.c_uint64()
+        _told(_link_begin(*_bytes(map_file), ctypes.byref(self._state), ctypes.byref(value)), value)
+
+    def piece(self, data: bytes) -> None:
+        """The next 0 to 256 bytes; lines may be broken anywhere. Raises Refused: 17 on a link that is not open, 18 for a longer piece."""
+        value = ctypes.c_uint64()
+        number = _link_piece(ctypes.byref(self._state), *_bytes(data), ctypes.byref(value))
+        if number != _MORE:
+            _told(number, value)
+
+    def end(self) -> Tuple[List[int], List[int]]:
+        """The scenario is over: the bay of each carrier at the start and at the goal. Raises Refused: 15 with the first bad line, 17 if the link is not open."""
+        value = ctypes.c_uint64()
+        carriers = _told(_link_end(ctypes.byref(self._state), ctypes.byref(value)), value)
+        return self._state.start[:carriers], self._state.goal[:carriers]

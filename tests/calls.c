@@ -96,7 +96,7 @@ static uint64_t end(uint64_t answer)
 
 /* ## The order of a call, and the calls */
 
-static uint64_t bays, value, name;
+static uint64_t bays, parked, value, name;
 static uint16_t rails[MOST], start[MOST], goal[MOST];
 static size_t ends, starts, goals, crossings, mark_count, line_count;
 static uint64_t plan[MOST], other[MOST];
@@ -109,6 +109,7 @@ static void order_arguments(const char *function)
 {
     begin(function);
     value = 77;
+    parked = 78;
     number(bays);
     LIST(rails, ends);
     LIST(start, starts);
@@ -121,8 +122,9 @@ static uint64_t call_plan(size_t room)
 {
     order_arguments("sejjekoru_plan");
     LIST(other, room);
+    POINTER(&parked);
     POINTER(&value);
-    return end(sejjekoru_plan(ORDER, other, room, &value));
+    return end(sejjekoru_plan(ORDER, other, room, &parked, &value));
 }
 
 static uint64_t call_check(void)

@@ -32,11 +32,13 @@ static void holds(const char *what, int truth)
 
 static const uint16_t rail[2] = {0, 1};
 static sejjekoru_record record;
+static uint64_t parked = 78;
 
 /* No list at all. */
 static void nothing(uint64_t bays, uint64_t due, uint64_t due_value)
 {
-    told("plan of nothing", sejjekoru_plan(bays, NULL, 0, NULL, 0, NULL, 0, NULL, 0, &value), due, due_value);
+    told("plan of nothing", sejjekoru_plan(bays, NULL, 0, NULL, 0, NULL, 0, NULL, 0, &parked, &value), due, due_value);
+    holds("nothing parked of nothing", parked == 0);
     told("check of nothing", sejjekoru_check(bays, NULL, 0, NULL, 0, NULL, 0, NULL, 0, &value), due, due_value);
     told("slots of nothing", sejjekoru_slots(bays, NULL, 0, NULL, 0, NULL, 0, NULL, 0, NULL, 0, &value), due,
          due_value);
@@ -56,9 +58,10 @@ static void nothing(uint64_t bays, uint64_t due, uint64_t due_value)
 /* Y8: two bays, one rail, no carriers. */
 static void empty_plan(void)
 {
-    told("Y8 plan", sejjekoru_plan(2, rail, 2, NULL, 0, NULL, 0, NULL, 0, &value), 0, 0);
+    told("Y8 plan", sejjekoru_plan(2, rail, 2, NULL, 0, NULL, 0, NULL, 0, &parked, &value), 0, 0);
+    holds("Y8 parked", parked == 0);
     /* so many carriers that two more are none: still too many, and no list is read */
-    told("a crowd", sejjekoru_plan(2, rail, 2, NULL, SIZE_MAX - 1, NULL, SIZE_MAX - 1, NULL, 0, &value), SEJJEKORU_CROWD, 0);
+    told("a crowd", sejjekoru_plan(2, rail, 2, NULL, SIZE_MAX - 1, NULL, SIZE_MAX - 1, NULL, 0, &parked, &value), SEJJEKORU_CROWD, 0);
     told("Y8 check", sejjekoru_check(2, rail, 2, NULL, 0, NULL, 0, NULL, 0, &value), 0, 0);
     told("Y8 slots", sejjekoru_slots(2, rail, 2, NULL, 0, NULL, 0, NULL, 0, NULL, 0, &value), 0, 0);
     told("Y8 report", sejjekoru_report(2, rail, 2, NULL, 0, NULL, 0, NULL, 0, NULL, 0, 0, &value), 12, 0);
@@ -95,7 +98,7 @@ static void crowd(void)
 {
     const uint16_t at[1] = {0};
     uint64_t plan[1] = {5};
-    told("Y9 plan", sejjekoru_plan(2, rail, 2, at, 1, at, 1, plan, 1, &value), 4, 0);
+    told("Y9 plan", sejjekoru_plan(2, rail, 2, at, 1, at, 1, plan, 1, &parked, &value), 4, 0);
     told("Y9 check", sejjekoru_check(2, rail, 2, at, 1, at, 1, NULL, 0, &value), 4, 0);
     told("no goal", sejjekoru_check(2, rail, 2, at, 1, NULL, 0, NULL, 0, &value), 1, 0);
     holds("a refusal wrote", plan[0] == 5);

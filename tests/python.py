@@ -1,4 +1,4 @@
-"""The Python module on document 01's yards, whose answers were worked by hand there."""
+"""The Python module on document 01's yards, whose answers were worked by hand there, and on the vectors, which were made elsewhere."""
 
 import ctypes
 import os
@@ -11,7 +11,8 @@ sys.path.insert(0, os.path.join(os.path.dirname(os.path.abspath(__file__)), ".."
 
 import sejjekoru as s  # noqa: E402
 
-HEADER = (pathlib.Path(__file__).resolve().parent.parent / "include" / "sejjekoru.h").read_text(encoding="utf-8")
+ROOT = pathlib.Path(__file__).resolve().parent.parent
+HEADER = (ROOT / "include" / "sejjekoru.h").read_text(encoding="utf-8")
 T = [(0, 1), (1, 2), (1, 3)]
 RING = [(0, 1), (1, 2), (2, 3), (3, 0)]
 LINE = [(0, 1), (1, 2), (2, 3)]
@@ -112,16 +113,191 @@ def comparing():
 
 
 def vectors(name):
-    path = pathlib.Path(__file__).resolve().parent / "vectors" / "02" / name
+    path = ROOT / "tests" / "vectors" / "02" / name
     return [tuple(part.strip() for part in line.split("=>")) for line in path.read_text(encoding="ascii").splitlines()]
 
 
+def crossing(number):
+    return s.Crossing(number >> 32, number >> 16 & 65535, number & 65535)
+
+
 def crossings(numbers):
-    return [s.Crossing(n >> 32, n >> 16 & 65535, n & 65535) for n in map(int, numbers.split())]
+    return [crossing(int(number)) for number in numbers.split()]
+
+
+def standing():
+    """Document 01's Y1: where the carriers stand after each report, and the refusals of marks and names."""
+    y1 = s.Order(4, T, [1, 0], [0, 1])
+    plan, marks = s.plan(y1), [0] * 6
+    places = [[1, 0], [2, 0], [2, 1], [2, 3], [1, 3], [0, 3], [0, 1]]
+    refused(13, 0, s.report, y1, plan, marks, 1)
+    for name, place in enumerate(places[:6]):
+        assert s.placement(y1, plan, marks) == place
+        assert s.report(y1, plan, marks, name) == "accepted" and s.report(y1, plan, marks, name) == "already"
+    assert s.placement(y1, plan, marks) == places[6] and marks == [1] * 6
+    refused(12, 0, s.report, y1, plan, marks, 6)
+    refused(11, 0, s.placement, y1, plan, [0, 1, 0, 0, 0, 0])
+    refused(11, 0, s.report, y1, plan, bytearray(5), 0)
+    refused(25, 0, s.shorten, y1, plan, [1, 0, 0, 0, 0, 0])
+    refused(11, 0, s.shorten, y1, plan, [2, 0, 0, 0, 0, 0])
+
+
+def logged():
+    """The vectors of check, slots and report: numbers, each list behind its count, the answer's number and value, what the lent list then holds."""
+    data = ROOT / "crates" / "log_cases" / "data"
+
+    def cases(name, inputs):
+        for line in (data / name).read_text(encoding="ascii").splitlines()[1:]:
+            numbers = iter(map(int, line.split()))
+            order = s.Order(next(numbers), *([next(numbers) for _ in range(next(numbers))] for _ in range(3)))
+            lists = [[next(numbers) for _ in range(next(numbers))] for _ in range(inputs)]
+            # an odd number of rail ends is no list of pairs
+            if len(order.rails) % 2 == 0:
+                ends = iter(order.rails)
+                yield order._replace(rails=list(zip(ends, ends))), [crossing(n) for n in lists[0]], lists[1:], list(numbers)
+
+    run = 0
+    for order, plan, _, (number, value) in cases("check", 1):
+        told(number, value, s.check, order, plan)
+        run += 1
+    for order, plan, _, (room, number, value, count, *slots) in cases("slots", 1):
+        if room >= len(plan):
+            found = told(number, value, s.slots, order, plan)
+            assert found is None or found == slots[: len(plan)]
+            run += 1
+    for order, plan, (marks,), (name, number, value, count, *after) in cases("report", 2):
+        held = list(marks)
+        # 99 is these files' number for "already"
+        found = told(0 if number == 99 else number, value, s.report, order, plan, held, name)
+        assert held == after and found == {0: "accepted", 99: "already"}.get(number)
+        run += 1
+    assert run >= 1000, run
+
+
+def told(number, value, what, *words):
+    """What the call answers, if it is due to be accepted; else it is refused as it is due."""
+    if number == 0:
+        return what(*words)
+    return refused(number, value, what, *words)
+
+
+def printed(what):
+    """What the program would print: the plan, or the refusal."""
+    try:
+        return what()
+    except s.Refused as r:
+        carried = f" {r.value}" if r.number in (2, 3, 5, 6, 7, 8, 9, 10, 13, 14, 15) else ""
+        return f"; refused {r.number}{carried}\n".encode()
+
+
+def files():
+    """Every pair of files: the whole program, and the same by reading, planning and printing, with the scenario whole and over the link."""
+    run = 0
+    for due_file in sorted((ROOT / "tests" / "files").glob("*.out")):
+        due, map_file, scenario = (due_file.with_suffix(kind).read_bytes() for kind in (".out", ".map", ".scen"))
+        assert s.program(map_file, scenario) == due, due_file
+        assert printed(lambda: s.print_plan(s.plan(s.read_scenario(map_file, scenario)))) == due, due_file
+        assert printed(lambda: s.print_plan(s.plan(linked(map_file, scenario, 1 + run % 256)))) == due, due_file
+        if not due.startswith(b"; refused"):
+            plan = [tuple(map(int, move)) for move in re.findall(rb"\(move c(\d+) b(\d+) b(\d+)\)", due)]
+            assert s.read_plan(due) == plan, due_file
+        run += 1
+    assert run == 260, run
+
+
+def linked(map_file, scenario, length):
+    """The order of a scenario that comes in pieces of this length."""
+    link = s.Link()
+    refused(17, 0, link.piece, b"")
+    link.begin(map_file)
+    refused(18, 0, link.piece, bytes(257))
+    for place in range(0, len(scenario), length):
+        link.piece(scenario[place : place + length])
+    try:
+        return s.Order(*s.read_map(map_file), *link.end())
+    finally:
+        refused(17, 0, link.end)
+        refused(17, 0, link.piece, bytes(257))
+
+
+def by_hand():
+    """README's yard as files: its six crossings, with and without times; a bad line of each file."""
+    map_file = b"type octile\nheight 2\nwidth 3\nmap\n...\n@.@\n"
+    scenario = b"version 1\n0\tm.map\t3\t2\t1\t0\t0\t0\t1\n0\tm.map\t3\t2\t0\t0\t1\t0\t1\n"
+    assert s.read_map(map_file) == (4, T)
+    assert s.read_scenario(map_file, scenario) == (4, T, [1, 0], [0, 1])
+    lines = ["(move c0 b1 b2)", "(move c1 b0 b1)", "(move c1 b1 b3)", "(move c0 b2 b1)", "(move c0 b1 b0)", "(move c1 b3 b1)"]
+    cost = "; cost = 6 (unit cost)\n"
+    for shortened in (False, True):
+        assert s.program(map_file, scenario, shortened).decode() == "\n".join(lines) + "\n" + cost
+    assert s.program(None, scenario) == b"; refused 14 0\n" and s.program(map_file, None) == b"; refused 15 0\n"
+    timed = "".join(f"{time}: {line} [1]\n" for time, line in enumerate(lines))
+    assert s.program_timed(1, map_file, scenario).decode() == timed + cost
+    assert s.program_timed(3, None, None) == b"; refused 20\n"
+    refused(14, 2, s.read_map, b"type octile\nheight two\n")
+    refused(15, 1, s.read_scenario, map_file, b"version 2\n")
+    refused(26, 2, s.read_plan, b"; a comment\n(move c0 b1)\n")
+    refused(27, 3, s.read_reports, b"0\n1\n\n")
+    assert s.read_reports(b"0\r\n012\n4294967295") == [0, 12, (1 << 32) - 1] and s.read_reports(b"") == s.read_plan(b"") == []
+    refused(1, 0, s.read_plan, b"(move c0 b1 b2)\n" * 65537)
+    assert s.read_plan(b"(move c0 b1 b2)\n" * 65536) == [s.Crossing(0, 1, 2)] * 65536
+    refused(1, 0, s.print_plan, [s.Crossing(0, 1, 2)] * 65537)
+    longest = s.print_plan([s.Crossing((1 << 32) - 1, 65535, 65535)] * 65536)
+    assert longest == b"(move c4294967295 b65535 b65535)\n" * 65536 + b"; cost = 65536 (unit cost)\n"
+
+
+def timed():
+    """Both timed prints of the vectors."""
+    run = 0
+    for map_path in (ROOT / "tests" / "vectors" / "02" / "timed").glob("*.map"):
+        map_file, scenario = map_path.read_bytes(), map_path.with_suffix(".scen").read_bytes()
+        for edition in (1, 2):
+            assert s.program_timed(edition, map_file, scenario) == map_path.with_suffix(f".timed{edition}").read_bytes(), map_path
+            run += 1
+    assert run == 120, run
+
+
+def editions():
+    """The vectors of slots by either edition that lend a slot for each crossing."""
+    run = 0
+    for request, expected in vectors("editions.txt"):
+        head, ends, start, goal, plan = request.split("|")
+        edition, bays, room = map(int, head.split()[1:])
+        ends, start, goal = ([int(word) for word in field.split()] for field in (ends, start, goal))
+        if len(ends) % 2 or room < len(plan.split()) or max([0, *ends, *start, *goal]) > 65535:
+            continue
+        order = s.Order(bays, list(zip(ends[::2], ends[1::2])), start, goal)
+        if expected.startswith("ok"):
+            assert s.slots_of(edition, order, crossings(plan)) == [int(slot) for slot in expected.split(":")[1].split()], request
+        else:
+            number, value = (*map(int, expected.split()[1:]), 0)[:2]
+            refused(number, value, s.slots_of, edition, order, crossings(plan))
+        run += 1
+    assert run == 197, run
+
+
+def surveys():
+    """The vectors of surveyors' files: read, and what was read is written in its plain form."""
+    run = 0
+    for request, expected in vectors("dimacs.txt"):
+        survey = bytes.fromhex(request.split("|")[1])
+        if expected.startswith("ok"):
+            bays, ends, plain = expected[2:].split(":")
+            ends = [int(end) for end in ends.split()]
+            yard = s.read_survey(survey)
+            assert yard == (int(bays), list(zip(ends[::2], ends[1::2]))), request
+            assert s.write_survey(*yard) == bytes.fromhex(plain), request
+        else:
+            number, value = (*map(int, expected.split()[1:]), 0)[:2]
+            refused(number, value, s.read_survey, survey)
+        run += 1
+    assert run == 300, run
+    refused(2, 1, s.write_survey, 3, [(0, 1), (1, 0)])
+    refused(3, 2, s.write_survey, 3, [(0, 1)])
 
 
 def types():
-    """Every argument that the module declares has the header's type."""
+    """Every function of the header is declared, and every argument has the header's type."""
     kinds = {
         "uint64_t": ctypes.c_uint64,
         "size_t": ctypes.c_size_t,
@@ -132,18 +308,23 @@ def types():
         "int64_t *": ctypes.POINTER(ctypes.c_int64),
         "sejjekoru_record *": ctypes.POINTER(s._Record),
         "sejjekoru_line *": ctypes.POINTER(s._Line),
+        "sejjekoru_link *": ctypes.POINTER(s._Link),
     }
     compared = 0
     for name, words in re.findall(r"^uint64_t (sejjekoru_\w+)\(([^)]*)\);", HEADER, re.M):
         function = getattr(s._library, name)
-        if function.argtypes is None:
-            continue
+        assert function.argtypes is not None, f"{name} is not in the module"
         declared = [re.sub(r"const |\w+$", "", " ".join(word.split())).strip() for word in words.split(",")]
         assert list(function.argtypes) == [kinds[word] for word in declared], name
         assert function.restype == ctypes.c_uint64, name
         compared += 1
-    assert compared >= 9, compared
+    assert compared >= 23, compared
     assert ctypes.sizeof(s._Record) == 520 and ctypes.sizeof(s._Line) == 12 and ctypes.sizeof(ctypes.c_size_t) == 8
+    assert ctypes.sizeof(s._Link) == 9248 and s._Link.phase.offset == 9244 and s._Link.cells.offset == 1016
+    for number in re.findall(r"^    SEJJEKORU_\w+ = (\d+),? +/\*", HEADER, re.M):
+        assert int(number) in (0, 100, 101) or int(number) in s._WORDS, f"{number} has no words"
+    for name in s.__all__:
+        assert getattr(s, name).__doc__, f"{name} has no docstring"
 
 
 def widths():
@@ -174,6 +355,13 @@ def main():
     reports()
     backwards()
     comparing()
+    standing()
+    logged()
+    files()
+    by_hand()
+    timed()
+    editions()
+    surveys()
     types()
     widths()
     in_a_thread()

@@ -8,9 +8,9 @@
 #include <stdlib.h>
 #include <string.h>
 
-enum { STACK = 8 << 20, PAINT = 0xa5, KIB = 1024, CALLS = 15 };
+enum { STACK = 8 << 20, PAINT = 0xa5, KIB = 1024, CALLS = 24 };
 
-static uint64_t bays, plan[65536], out[65536], answer, value;
+static uint64_t bays, plan[65536], out[65536], answer, parked, value;
 static uint16_t rails[2048], start[254], goal[254];
 static size_t ends, carriers, crossings;
 static uint32_t slots[65536];
@@ -21,20 +21,27 @@ static int64_t differences[254];
 static uint16_t at[254];
 static uint64_t longer;
 static sejjekoru_link over;
-static const char map[] = "type octile\nheight 1\nwidth 3\nmap\n...\n", scenario[] = "version 1\n0\tt\t3\t1\t1\t0\t0\t0\t1\n";
+/* the same order as files, what is read from them, and the plan and the yard as texts */
+static char map[512], scenario[16384], survey[16384], text[1 << 20];
+static size_t survey_len, text_len;
+static uint64_t read_bays, read_plan[65536];
+static uint16_t read_rails[16384], read_start[254], read_goal[254];
 
 #define ORDER bays, rails, ends, start, carriers, goal, carriers
 #define PLAN ORDER, plan, crossings
-#define BYTES(text) (const uint8_t *)text, sizeof text - 1
+#define BYTES(file) (const uint8_t *)file, strlen(file)
+#define FILES BYTES(map), 1, BYTES(scenario), 1, 1
 
 static const char *const names[CALLS] = {"plan", "check", "slots", "report", "shorten", "open", "agrees", "report_billed",
-                                         "compare", "placement", "map", "scenario", "link_begin", "link_piece", "link_end"};
-static const size_t promised[CALLS] = {820, 16, 16, 16, 345, 24, 40, 40, 4, 16, 16, 16, 24, 24, 24}; /* KiB */
+                                         "compare", "placement", "map", "scenario", "link_begin", "link_piece", "link_end", "reverse",
+                                         "slots_of", "program", "program_timed", "print_plan", "read_plan", "read_reports", "read_survey",
+                                         "write_survey"};
+static const size_t promised[CALLS] = {820, 16, 16, 16, 345, 24, 40, 40, 4, 16, 16, 16, 24, 24, 24, 4, 16, 1280, 1280, 4, 4, 4, 16, 16}; /* KiB */
 
 static void *call(void *which)
 {
     switch (*(int *)which) {
-    case 0: answer = sejjekoru_plan(ORDER, out, 65536, &value); break;
+    case 0: answer = sejjekoru_plan(ORDER, out, 65536, &parked, &value); break;
     case 1: answer = sejjekoru_check(PLAN, &value); break;
     case 2: answer = sejjekoru_slots(PLAN, slots, 65536, &value); break;
     case 3: answer = sejjekoru_report(PLAN, marks, crossings, 0, &value); break;
@@ -44,11 +51,20 @@ static void *call(void *which)
     case 7: answer = sejjekoru_report_billed(PLAN, marks, crossings, 0, &record, lines, carriers, &value); break;
     case 8: answer = sejjekoru_compare(plan, crossings, plan, crossings, differences, 254, &longer, &value); break;
     case 9: answer = sejjekoru_placement(PLAN, marks, crossings, at, carriers, &value); break;
-    case 10: answer = sejjekoru_map(BYTES(map), &bays, rails, 2048, &value); break;
-    case 11: answer = sejjekoru_scenario(BYTES(map), BYTES(scenario), start, 254, goal, 254, &value); break;
+    case 10: answer = sejjekoru_map(BYTES(map), &read_bays, read_rails, 16384, &value); break;
+    case 11: answer = sejjekoru_scenario(BYTES(map), BYTES(scenario), read_start, 254, read_goal, 254, &value); break;
     case 12: answer = sejjekoru_link_begin(BYTES(map), &over, &value); break;
-    case 13: answer = sejjekoru_link_piece(&over, BYTES(scenario), &value); break;
+    case 13: answer = sejjekoru_link_piece(&over, (const uint8_t *)scenario, strlen(scenario) < 256 ? strlen(scenario) : 256, &value); break;
     case 14: answer = sejjekoru_link_end(&over, &value); break;
+    case 15: answer = sejjekoru_reverse(plan, crossings, out, 65536, &value); break;
+    case 16: answer = sejjekoru_slots_of(2, PLAN, slots, 65536, &value); break;
+    case 17: answer = sejjekoru_program(FILES, (uint8_t *)text, sizeof text, &value); break;
+    case 18: answer = sejjekoru_program_timed(2, FILES, (uint8_t *)text, sizeof text, &value); break;
+    case 19: answer = sejjekoru_print_plan(plan, crossings, (uint8_t *)text, sizeof text, &value); text_len = (size_t)value; break;
+    case 20: answer = sejjekoru_read_plan((const uint8_t *)text, text_len, read_plan, 65536, &value); break;
+    case 21: answer = sejjekoru_read_reports((const uint8_t *)"0\n1\n12\n", 7, read_plan, 65536, &value); break;
+    case 22: answer = sejjekoru_read_survey((const uint8_t *)survey, survey_len, &read_bays, read_rails, 16384, &value); break;
+    case 23: answer = sejjekoru_write_survey(bays, rails, ends, (uint8_t *)text, sizeof text, &value); break;
     default: break;
     }
     return NULL;
@@ -71,6 +87,23 @@ static size_t used(int which)
     while (left < STACK && stack[left] == PAINT)
         left++;
     return STACK - left;
+}
+
+/* The order of `yard` as a map, a scenario and a survey. */
+static void write_files(unsigned side)
+{
+    char *end = map + sprintf(map, "type octile\nheight %u\nwidth %u\nmap\n", side, side);
+    unsigned row;
+    size_t i;
+    for (row = 0; row < side; row++)
+        end += sprintf(end, "%.*s\n", (int)side, "................");
+    end = scenario + sprintf(scenario, "version 1\n");
+    for (i = 0; i < carriers; i++)
+        end += sprintf(end, "0\tm\t%u\t%u\t%u\t%u\t%u\t%u\t1\n", side, side, start[i] % side, start[i] / side, goal[i] % side, goal[i] / side);
+    end = survey + sprintf(survey, "p edge %u %u\n", side * side, (unsigned)ends / 2);
+    for (i = 0; i < ends; i += 2)
+        end += sprintf(end, "e %u %u\n", rails[i] + 1u, rails[i + 1] + 1u);
+    survey_len = (size_t)(end - survey);
 }
 
 /* A square grid with so many carriers, each at another's goal. */
@@ -97,6 +130,7 @@ static void yard(unsigned side, size_t count)
         start[i] = (uint16_t)i;
         goal[i] = (uint16_t)((i + count / 2) % count);
     }
+    write_files(side);
 }
 
 int main(void)

@@ -4,7 +4,7 @@
 use crate::books::Books;
 use reference::Job;
 use sejjekoru::trains::sejjekoru_slots_of;
-use sejjekoru::{ask, Line, Record};
+use sejjekoru::{ask, Bay, Carrier, Line, Record};
 use std::cell::Cell;
 use std::fmt::Debug;
 use yards::Order;
@@ -32,12 +32,16 @@ impl Guard for u64 {
     const GUARD: u64 = 0xA5A5_A5A5_A5A5_A5A5;
 }
 
+impl Guard for Bay {
+    const GUARD: Bay = Bay(u16::GUARD);
+}
+
 impl Guard for Record {
-    const GUARD: Record = Record { at: [u16::GUARD; 256], done: u32::GUARD, highest: u32::GUARD };
+    const GUARD: Record = Record { at: [Bay::GUARD; 256], done: u32::GUARD, highest: u32::GUARD };
 }
 
 impl Guard for Line {
-    const GUARD: Line = Line { carrier: u32::GUARD, billed: u32::GUARD, last: u32::GUARD };
+    const GUARD: Line = Line { carrier: Carrier(u32::GUARD), billed: u32::GUARD, last: u32::GUARD };
 }
 
 /// A list between guard places, all of them cells, so that a store through its pointer, wanted or not, is seen.
@@ -76,9 +80,9 @@ impl<T: Guard> Lent<T> {
 /// The order, lent.
 struct Lists {
     bays: u64,
-    rails: Lent<u16>,
-    start: Lent<u16>,
-    goal: Lent<u16>,
+    rails: Lent<Bay>,
+    start: Lent<Bay>,
+    goal: Lent<Bay>,
 }
 
 /// Marks, record and lines, lent.
@@ -100,11 +104,11 @@ impl LentBooks {
 
 fn laid_out(record: &reference::Record) -> Record {
     let reference::Record { at, done, highest } = *record;
-    Record { at, done, highest }
+    Record { at: at.map(Bay), done, highest }
 }
 
 fn listed(lines: &[reference::Line]) -> Vec<Line> {
-    lines.iter().map(|&reference::Line { carrier, billed, last }| Line { carrier, billed, last }).collect()
+    lines.iter().map(|&reference::Line { carrier, billed, last }| Line { carrier: Carrier(carrier), billed, last }).collect()
 }
 
 pub struct Asked<'a> {
@@ -118,12 +122,13 @@ impl<'a> Asked<'a> {
 
     fn lists(&self) -> Lists {
         let Order { bays, rails, start, goal } = self.order;
-        Lists { bays: *bays, rails: Lent::new(rails), start: Lent::new(start), goal: Lent::new(goal) }
+        let lent = |list| Lent::new(Bay::list(list));
+        Lists { bays: *bays, rails: lent(rails), start: lent(start), goal: lent(goal) }
     }
 
     fn kept(&self, lists: &Lists) -> bool {
         let Order { rails, start, goal, .. } = self.order;
-        lists.rails.is(rails) && lists.start.is(start) && lists.goal.is(goal)
+        lists.rails.is(Bay::list(rails)) && lists.start.is(Bay::list(start)) && lists.goal.is(Bay::list(goal))
     }
 
     fn job<'b>(&'b self, plan: &'b [u64]) -> Job<'b> {
@@ -134,12 +139,12 @@ impl<'a> Asked<'a> {
     pub fn plan(&self, room: usize) -> u64 {
         let Order { bays, rails, start, goal } = self.order;
         let mut expected = vec![u64::GUARD; room];
-        let answer = reference::plan(*bays, rails, start, goal, &mut expected);
-        let (lists, out) = (self.lists(), Lent::room(room));
+        let (number, value, parked) = reference::plan_parked(*bays, rails, start, goal, &mut expected);
+        let (lists, out, counted) = (self.lists(), Lent::room(room), Lent::room(1));
         // SAFETY: each pointer comes with the length of its own list, and nothing else points there.
-        let told = unsafe { ask!(sejjekoru_plan, lists, [out]) };
-        let kept = self.kept(&lists) && out.is(&expected);
-        self.agreed("plan", told, answer, kept, &room)
+        let told = unsafe { ask!(sejjekoru_plan, lists, [out], counted.as_ptr()) };
+        let kept = self.kept(&lists) && out.is(&expected) && counted.is(&[parked]);
+        self.agreed("plan", told, (number, value), kept, &room)
     }
 
     pub fn check(&self, plan: &[u64]) -> u64 {
@@ -211,7 +216,7 @@ impl<'a> Asked<'a> {
         let (lists, lent, lent_marks, at) = (self.lists(), Lent::new(plan), Lent::new(marks), Lent::room(room));
         // SAFETY: as in `plan`.
         let told = unsafe { ask!(sejjekoru_placement, lists, [lent], [lent_marks], [at]) };
-        let kept = self.kept(&lists) && lent.is(plan) && lent_marks.is(marks) && at.is(&expected);
+        let kept = self.kept(&lists) && lent.is(plan) && lent_marks.is(marks) && at.is(Bay::list(&expected));
         self.agreed("placement", told, answer, kept, &(plan, marks, room))
     }
 

@@ -4,7 +4,7 @@
 use crate::files::pair;
 use crate::tally::Tally;
 use sejjekoru::files::{map_told, scenario_told, CARRIERS, PIECE};
-use sejjekoru::Link;
+use sejjekoru::{Bay, Link};
 use std::path::Path;
 use yards::Dice;
 
@@ -50,7 +50,7 @@ fn one([maps, scenarios, links]: &mut [Tally; 3], dice: &mut Dice, map: &[u8], s
     let needed = reference::link::map(map, &mut marked(16_384)).1 as usize;
     for room in [16_384, needed, needed.saturating_sub(1), 0] {
         let (mut told, mut due) = (marked(room), marked(room));
-        let answer = map_told(map, &mut told);
+        let answer = map_told(map, Bay::list_mut(&mut told));
         same("map", answer, reference::link::map(map, &mut due), map, scenario);
         same("map: rails", told, due, map, scenario);
         maps.add(answer.0);
@@ -59,7 +59,7 @@ fn one([maps, scenarios, links]: &mut [Tally; 3], dice: &mut Dice, map: &[u8], s
     let (few, all) = (carriers.saturating_sub(1), CARRIERS);
     for (starts, goals) in [(all, all), (carriers, carriers), (few, all), (all, few)] {
         let (mut told, mut due) = ((marked(starts), marked(goals)), (marked(starts), marked(goals)));
-        let answer = scenario_told(map, scenario, &mut told.0, &mut told.1);
+        let answer = scenario_told(map, scenario, Bay::list_mut(&mut told.0), Bay::list_mut(&mut told.1));
         same("scenario", answer, reference::link::scenario(map, scenario, &mut due.0, &mut due.1), map, scenario);
         same("scenario: lists", told, due, map, scenario);
         scenarios.add(answer.0);
@@ -103,8 +103,8 @@ fn cut<'a>(links: &mut Tally, map: &[u8], scenario: &[u8], pieces: impl Iterator
     check("link: end", told, plain.end(&mut start, &mut goal));
     if told.0 == 0 {
         let carriers = told.1 as usize;
-        same("link: starts", &link.start[..carriers], &start[..carriers], map, scenario);
-        same("link: goals", &link.goal[..carriers], &goal[..carriers], map, scenario);
+        same("link: starts", Bay::numbers(&link.start[..carriers]), &start[..carriers], map, scenario);
+        same("link: goals", Bay::numbers(&link.goal[..carriers]), &goal[..carriers], map, scenario);
     }
     let before = link.clone();
     check("link: after the end", link.piece_told(&long), plain.piece(&long));

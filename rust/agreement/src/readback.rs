@@ -12,17 +12,17 @@ pub fn run() {
         let mut dice = Dice::new(0x0900_0000 + seed);
         let plan = list(&mut dice);
         let mut file = vec![0; 40 * plan.len() + 40];
-        let (number, written) = prints::print_plan(&plan, &mut file);
+        let (number, written) = prints::print_plan_numbers(&plan, &mut file);
         file.truncate(written as usize);
         let mut back = vec![u64::MAX; plan.len()];
-        let again = prints::read_plan(&file, &mut back);
+        let again = prints::read_plan_numbers(&file, &mut back);
         assert_eq!((number, again), (0, (0, plan.len() as u64)), "seed {seed}");
         assert_eq!(back, plan, "seed {seed}");
         damage(&mut dice, &mut file);
-        counts[compare(&mut dice, &file, plan.len(), prints::read_plan, reference::read_plan)] += 1;
+        counts[compare(&mut dice, &file, plan.len(), prints::read_plan_numbers, reference::read_plan)] += 1;
         let mut names: Vec<u8> = plan.iter().flat_map(|w| format!("{}\n", w >> 32).into_bytes()).collect();
         damage(&mut dice, &mut names);
-        counts[compare(&mut dice, &names, plan.len(), prints::read_reports, reference::read_reports)] += 1;
+        counts[compare(&mut dice, &names, plan.len(), prints::read_reports_numbers, reference::read_reports)] += 1;
     }
     println!("read plans and reports: {FILES} of each agree; 0: {}, 8: {}, 26: {}, 27: {}", counts[0], counts[8], counts[26], counts[27]);
     assert!([0, 8, 26, 27].iter().all(|&n| counts[n] > 0), "some answer never came up");

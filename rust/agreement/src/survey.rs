@@ -3,7 +3,7 @@
 
 use crate::lent::{Guard, Lent};
 use crate::tally::Tally;
-use sejjekoru::{read_survey_numbers, write_survey_numbers};
+use sejjekoru::{read_survey_numbers, write_survey_numbers, Bay};
 use yards::Dice;
 
 const FILES: u64 = 60_000;
@@ -136,7 +136,7 @@ fn read(file: &[u8], room: usize) -> u64 {
     let rails = unsafe { std::slice::from_raw_parts_mut(lent.as_ptr(), room) };
     // SAFETY: as above, and nobody writes there.
     let bytes = unsafe { std::slice::from_raw_parts(text.as_ptr(), file.len()) };
-    let told = read_survey_numbers(bytes, rails);
+    let told = read_survey_numbers(bytes, Bay::list_mut(rails));
     if told != due || !text.is(file) || !lent.is(&expected) {
         println!("read a survey: library {told:?}, reference {due:?}, room {room}\n{:?}", String::from_utf8_lossy(file));
         std::process::exit(1);
@@ -144,8 +144,8 @@ fn read(file: &[u8], room: usize) -> u64 {
     if due.0 == 0 {
         let ends = &expected[..due.1 as usize];
         let (mut canonical, mut again) = (vec![0; 10_256], vec![0; MOST_ENDS]);
-        let (number, length) = write_survey_numbers(due.2, ends, &mut canonical);
-        let back = read_survey_numbers(&canonical[..length as usize], &mut again);
+        let (number, length) = write_survey_numbers(due.2, Bay::list(ends), &mut canonical);
+        let back = read_survey_numbers(&canonical[..length as usize], Bay::list_mut(&mut again));
         if number != 0 || back != due || again[..ends.len()] != *ends {
             println!("a survey that was read and written does not read back: {:?}", String::from_utf8_lossy(file));
             std::process::exit(1);
@@ -162,7 +162,7 @@ fn write(bays: u64, rails: &[u16], room: usize) -> u64 {
     let out = unsafe { std::slice::from_raw_parts_mut(lent.as_ptr(), room) };
     // SAFETY: as above, and nobody writes there.
     let ends = unsafe { std::slice::from_raw_parts(held.as_ptr(), rails.len()) };
-    let told = write_survey_numbers(bays, ends, out);
+    let told = write_survey_numbers(bays, Bay::list(ends), out);
     if told != due || !held.is(rails) || !lent.is(&expected) {
         println!("write a survey: library {told:?}, reference {due:?}, bays {bays}, rails {rails:?}, room {room}");
         std::process::exit(1);

@@ -1,5 +1,5 @@
-//! How long the proved library takes and how long the Rust reference takes, in one run on the same inputs, as tables for the README.
-//! A time is that of the thread on its core, the least of several repeats; of several yards the middle one is shown. Nothing here passes or fails by the clock.
+//! How long the proved library takes and how long the Rust reference takes, in one run on the same inputs, as tables for docs/FIGURES.md.
+//! A time is that of the thread on its core, the minimum of several repeats; of several yards the median is shown. Nothing here passes or fails by the clock.
 
 mod bills;
 mod compare;
@@ -34,5 +34,5 @@ fn main() {
 
 fn yard(order: &Order) -> Yard<'_> {
     let Order { bays, rails, start, goal } = order;
-    Yard { bays: *bays, rails, start, goal }
+    Yard::new(*bays, rails, start, goal)
 }

@@ -1,6 +1,6 @@
 //! The planner on crowded grids, lines with sidings, random yards and two slow ones.
 
-use crate::timing::{middle, race, ratio, written};
+use crate::timing::{median, race, ratio, written};
 use crate::yard;
 use sejjekoru::numbers;
 use std::hint::black_box;
@@ -11,7 +11,7 @@ const ROOM: usize = 65_536;
 
 pub fn tables() {
     println!("## Planning\n");
-    println!("| Yard | Carriers | Yards | Crossings: least, middle, most | Library | Reference | Ratio | Slowest, library |");
+    println!("| Yard | Carriers | Yards | Crossings: minimum, median, maximum | Library | Reference | Ratio | Slowest, library |");
     println!("|---|---|---|---|---|---|---|---|");
     for carriers in [60, 128, 200, 240, 254] {
         let orders = (0..15).map(|seed| carried(grid(16, 16), carriers, seed)).collect();
@@ -49,8 +49,8 @@ fn row(name: &str, orders: Vec<Order>) {
     let mut crossings: Vec<u64> = timed.iter().map(|timed| timed.crossings).collect();
     let mut library: Vec<Duration> = timed.iter().map(|timed| timed.library).collect();
     let mut reference: Vec<Duration> = timed.iter().map(|timed| timed.reference).collect();
-    let crossing = middle(&mut crossings);
-    let (one, other) = (middle(&mut library), middle(&mut reference));
+    let crossing = median(&mut crossings);
+    let (one, other) = (median(&mut library), median(&mut reference));
     println!(
         "| {name} | {carriers} | {} | {}, {crossing}, {} | {} | {} | {} | {} |",
         orders.len(),
@@ -68,12 +68,12 @@ fn time(order: &Order) -> Timed {
     let Order { bays, rails, start, goal } = order;
     let (mut out, mut other) = (vec![0; ROOM], vec![0; ROOM]);
     let answer = numbers::plan(yard(order), &mut out);
-    assert_eq!(answer, reference::plan(*bays, rails, start, goal, &mut other));
+    assert_eq!(answer, reference::plan_parked(*bays, rails, start, goal, &mut other));
     assert!(out == other);
     let (library, reference) = race(
         Duration::from_millis(100),
         || numbers::plan(yard(black_box(order)), &mut out),
-        || reference::plan(*bays, black_box(rails), start, goal, &mut other),
+        || reference::plan_parked(*bays, black_box(rails), start, goal, &mut other),
     );
     let crossings = if matches!(answer.0, 0 | 8) { answer.1 } else { 0 };
     Timed { library, reference, crossings }

@@ -43,7 +43,7 @@ fn day(carriers: usize, crossings: usize) -> (Order, Vec<u64>) {
     let mut room = vec![0; 65_536];
     let mut plan = Vec::new();
     while plan.len() < crossings {
-        let (number, length) = numbers::plan(yard(&next), &mut room);
+        let (number, length, _) = numbers::plan(yard(&next), &mut room);
         assert_eq!(number, 0);
         plan.extend(&room[..length as usize]);
         next.start = next.goal;

@@ -65,7 +65,7 @@ fn on_the_core() -> Duration {
     Duration::new(time.seconds as u64, time.nanoseconds as u32)
 }
 
-pub fn middle<T: Ord + Copy>(list: &mut [T]) -> T {
+pub fn median<T: Ord + Copy>(list: &mut [T]) -> T {
     list.sort();
     list[list.len() / 2]
 }

@@ -45,7 +45,7 @@ fn saved(carriers: usize) -> String {
     for seed in 0..20 {
         let mut dice = Dice::new(0x0800 + seed);
         let order = Order::on(256, grid(16, 16)).with_carriers(carriers, &mut dice);
-        let (number, length) = numbers::plan(yard(&order), &mut room);
+        let (number, length, _) = numbers::plan(yard(&order), &mut room);
         if number != 0 {
             continue;
         }

@@ -1,7 +1,7 @@
 //! The vectors, run and compared whole: answers, carried values, and the end contents of every lent list.
 //! Those of check, slots and reports are read where the proved programs read them, as numbers with each list behind its count.
 
-use reference::{check, plan, program, report, slots};
+use reference::{check, plan_parked as plan, program, report, slots};
 use std::path::{Path, PathBuf};
 use yards::vectors::{plans, reverses};
 
@@ -38,6 +38,16 @@ fn plans_of_the_vectors() {
 #[test]
 fn plans_where_clearing_goes_on() {
     assert_eq!(plans(&text("tests/data/plan-e2.txt"), plan), (500, 0));
+}
+
+#[test]
+fn plans_with_the_choice() {
+    assert_eq!(plans(&text("tests/data/plan-e2-e9.txt"), plan), (500, 0));
+}
+
+#[test]
+fn plans_on_carousels() {
+    assert_eq!(plans(&text("tests/data/plan-e2-e9-e3.txt"), plan), (500, 0));
 }
 
 #[test]

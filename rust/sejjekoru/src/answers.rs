@@ -36,18 +36,31 @@ pub enum Refusal {
     BadMap(u64),
     /// 15: the first bad line of the scenario, from 1.
     BadScenario(u64),
+    /// 16: the first line of a surveyors' file that breaks its layout or is missing, from 1.
+    BadSurvey(u64),
     /// 17: the scenario over this link has ended.
     Ended,
     /// 18: a piece of a scenario has more than 256 bytes.
     LongPiece,
-    /// 16: the first line of a surveyors' file that breaks its layout or is missing, from 1.
-    BadSurvey(u64),
     /// 19: record and lines are not those of this plan, start and marks.
     Disagrees,
     /// 20: slots have two editions, 1 and 2.
     Edition,
     /// 25: a crossing of the plan to be shortened is done.
     Begun,
+    /// 26: the first bad line of a file with a printed plan, from 1.
+    BadPlan(u64),
+    /// 27: the first bad line of a file with reported names, from 1.
+    BadReports(u64),
+}
+
+/// What planning answers.
+#[derive(Clone, Copy, Debug, PartialEq, Eq, Hash)]
+pub struct Planned {
+    /// The number of crossings.
+    pub length: usize,
+    /// How many vacates in the plan, undoing left aside, filled a bay of three rails or more.
+    pub parked: usize,
 }
 
 /// What a report that is not refused answers.
@@ -89,18 +102,20 @@ pub(crate) fn told((number, value): (u64, u64)) -> Result<u64, Refusal> {
         13 => Refusal::Early(value),
         14 => Refusal::BadMap(value),
         15 => Refusal::BadScenario(value),
+        16 => Refusal::BadSurvey(value),
         17 => Refusal::Ended,
         18 => Refusal::LongPiece,
-        16 => Refusal::BadSurvey(value),
         19 => Refusal::Disagrees,
         20 => Refusal::Edition,
         25 => Refusal::Begun,
+        26 => Refusal::BadPlan(value),
+        27 => Refusal::BadReports(value),
         _ => unreachable!("the library is proved to answer no other number"),
     })
 }
 
 impl Refusal {
-    /// The number in document 01's table; those from 16 to 25 are document 02's.
+    /// The number in the table of refusals.
     ///
     /// ```
     /// use sejjekoru::{Carrier, Refusal};
@@ -126,12 +141,14 @@ impl Refusal {
             Refusal::Early(_) => 13,
             Refusal::BadMap(_) => 14,
             Refusal::BadScenario(_) => 15,
+            Refusal::BadSurvey(_) => 16,
             Refusal::Ended => 17,
             Refusal::LongPiece => 18,
-            Refusal::BadSurvey(_) => 16,
             Refusal::Disagrees => 19,
             Refusal::Edition => 20,
             Refusal::Begun => 25,
+            Refusal::BadPlan(_) => 26,
+            Refusal::BadReports(_) => 27,
         }
     }
 
@@ -144,6 +161,7 @@ impl Refusal {
             Refusal::Start(c) | Refusal::Goal(c) | Refusal::Stopped(c) | Refusal::Missed(c) => Some(u64::from(c.0)),
             Refusal::Rail(v) | Refusal::Room(v) | Refusal::Illegal(v) | Refusal::Early(v) => Some(v),
             Refusal::BadMap(v) | Refusal::BadScenario(v) | Refusal::BadSurvey(v) => Some(v),
+            Refusal::BadPlan(v) | Refusal::BadReports(v) => Some(v),
         }
     }
 }
@@ -174,6 +192,8 @@ impl fmt::Display for Refusal {
             Refusal::Disagrees => write!(f, "record and lines are not what plan and marks give"),
             Refusal::Edition => write!(f, "slots have editions 1 and 2 and no other"),
             Refusal::Begun => write!(f, "a crossing of the plan is done already"),
+            Refusal::BadPlan(line) => write!(f, "line {line} of the plan breaks its layout"),
+            Refusal::BadReports(line) => write!(f, "line {line} of the reports breaks its layout"),
         }
     }
 }

@@ -1,11 +1,13 @@
 //! What is kept beside a plan as its reports come in, laid out as `include/sejjekoru.h` says.
 
+use crate::{Bay, Carrier};
+
 /// Where the carriers stand, how many crossings are done, and the highest slot in which anything is done, or 0.
 #[repr(C)]
 #[derive(Clone, Copy, Debug, PartialEq, Eq)]
 pub struct Record {
     /// The bay of each carrier; 0 beyond the carriers.
-    pub at: [u16; 256],
+    pub at: [Bay; 256],
     /// How many crossings are done.
     pub done: u32,
     /// The highest slot in which anything is done, or 0.
@@ -15,7 +17,7 @@ pub struct Record {
 /// Room for a record, for `open` to fill.
 impl Default for Record {
     fn default() -> Self {
-        Record { at: [0; 256], done: 0, highest: 0 }
+        Record { at: [Bay(0); 256], done: 0, highest: 0 }
     }
 }
 
@@ -24,7 +26,7 @@ impl Default for Record {
 #[derive(Clone, Copy, Debug, Default, PartialEq, Eq)]
 pub struct Line {
     /// Line c is carrier c's.
-    pub carrier: u32,
+    pub carrier: Carrier,
     /// Its crossings that are done.
     pub billed: u32,
     /// The last of their names, or [`UNTOUCHED`].

@@ -1,7 +1,7 @@
 //! What owns its lists: a plan of any length, and the books of a plan from opening to all done.
 
 use crate::answers::{reported, told};
-use crate::{numbers, Line, Record, Refusal, Reported, Yard};
+use crate::{numbers, Bay, Line, Record, Refusal, Reported, Yard};
 use alloc::vec;
 use alloc::vec::Vec;
 
@@ -15,18 +15,18 @@ const CROSSINGS: usize = 65_536;
 /// As [`crate::plan`]; [`Refusal::Room`] only for a plan of more than 65,536 crossings.
 ///
 /// ```
-/// use sejjekoru::{plan_vec, Carrier, Refusal, Yard};
+/// use sejjekoru::{plan_vec, Bay, Carrier, Refusal, Yard};
 ///
-/// let yard = Yard { bays: 4, rails: &[0, 1, 1, 2, 2, 3], start: &[0], goal: &[3] };
+/// let yard = Yard::new(4, &[0, 1, 1, 2, 2, 3], &[0], &[3]);
 /// assert_eq!(plan_vec(yard)?.len(), 3);
-/// let in_the_way = Yard { start: &[0, 1], goal: &[1, 0], ..yard };
+/// let in_the_way = Yard { start: Bay::list(&[0, 1]), goal: Bay::list(&[1, 0]), ..yard };
 /// assert_eq!(plan_vec(in_the_way), Err(Refusal::Stopped(Carrier(1))));
 /// # Ok::<(), Refusal>(())
 /// ```
 pub fn plan_vec(yard: Yard) -> Result<Vec<u64>, Refusal> {
     let mut plan = vec![0; CROSSINGS];
-    let length = crate::plan(yard, &mut plan)?;
-    plan.truncate(length);
+    let planned = crate::plan(yard, &mut plan)?;
+    plan.truncate(planned.length);
     plan.shrink_to_fit();
     Ok(plan)
 }
@@ -40,7 +40,7 @@ pub fn plan_vec(yard: Yard) -> Result<Vec<u64>, Refusal> {
 /// ```
 /// use sejjekoru::{check, plan_vec, reverse_vec, Yard};
 ///
-/// let yard = Yard { bays: 4, rails: &[0, 1, 1, 2, 1, 3], start: &[1, 0], goal: &[0, 1] };
+/// let yard = Yard::new(4, &[0, 1, 1, 2, 1, 3], &[1, 0], &[0, 1]);
 /// let rollback = reverse_vec(&plan_vec(yard)?)?;
 /// let turned = Yard { start: yard.goal, goal: yard.start, ..yard };
 /// assert_eq!(check(turned, &rollback), Ok(()));
@@ -54,12 +54,12 @@ pub fn reverse_vec(list: &[u64]) -> Result<Vec<u64>, Refusal> {
 
 /// A plan with its marks, its running record and one account line for each carrier. They agree at all times.
 ///
-/// The marks are what has to be saved before a report is acknowledged: with plan and marks the books are opened again after a restart.
+/// Save the marks before you acknowledge a report: with plan and marks the books are opened again after a restart.
 ///
 /// ```
 /// use sejjekoru::{plan_vec, Books, Refusal, Reported, Yard};
 ///
-/// let yard = Yard { bays: 4, rails: &[0, 1, 1, 2, 1, 3], start: &[1, 0], goal: &[0, 1] };
+/// let yard = Yard::new(4, &[0, 1, 1, 2, 1, 3], &[1, 0], &[0, 1]);
 /// let mut books = Books::open(yard, plan_vec(yard)?)?;
 /// assert_eq!(books.report(1), Err(Refusal::Early(0)));
 /// for name in 0..6 {
@@ -128,6 +128,11 @@ impl<'a> Books<'a> {
     /// Where the carriers stand, how many crossings are done, and the highest slot in which anything is.
     pub fn record(&self) -> &Record {
         &self.record
+    }
+
+    /// Where the carriers stand, by the reports so far: place c is carrier c's bay.
+    pub fn placement(&self) -> &[Bay] {
+        &self.record.at[..self.lines.len()]
     }
 
     /// The bill: line c is carrier c's.

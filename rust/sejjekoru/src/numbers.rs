@@ -1,11 +1,13 @@
 //! The functions over slices, with the answer as the library tells it: the documents' number and the value that goes with it.
 
-use crate::{ask, raw, Line, Record, Yard};
+use crate::{ask, raw, Bay, Line, Record, Yard};
 
-/// As [`crate::plan`].
-pub fn plan(yard: Yard, room: &mut [u64]) -> (u64, u64) {
+/// As [`crate::plan`]; with the vacates that filled a bay of three rails or more.
+pub fn plan(yard: Yard, room: &mut [u64]) -> (u64, u64, u64) {
+    let mut parked = u64::MAX;
     // SAFETY: each pointer comes with its own slice's length, and what is written is borrowed alone.
-    unsafe { ask!(sejjekoru_plan, yard, [mut room]) }
+    let (number, value) = unsafe { ask!(sejjekoru_plan, yard, [mut room], &mut parked) };
+    (number, value, parked)
 }
 
 /// As [`crate::check`].
@@ -33,7 +35,7 @@ pub fn shorten(yard: Yard, plan: &[u64], marks: &[u8], room: &mut [u64]) -> (u64
 }
 
 /// As [`crate::placement`].
-pub fn placement(yard: Yard, plan: &[u64], marks: &[u8], at: &mut [u16]) -> (u64, u64) {
+pub fn placement(yard: Yard, plan: &[u64], marks: &[u8], at: &mut [Bay]) -> (u64, u64) {
     // SAFETY: as in `plan`.
     unsafe { ask!(sejjekoru_placement, yard, [plan], [marks], [mut at]) }
 }

@@ -1,6 +1,6 @@
-//! The functions of the library as `include/sejjekoru.h` declares them. What a caller sees to is said there.
+//! The functions of the library as `include/sejjekoru.h` declares them; a [`Bay`] is its `uint16_t`. What the caller must ensure is said there.
 
-use crate::{Line, Record};
+use crate::{Bay, Line, Record};
 
 /// Every function is handed the yard first and `value` last; what is its own stands between them.
 macro_rules! declare {
@@ -10,11 +10,11 @@ macro_rules! declare {
             /// As `include/sejjekoru.h` declares it.
             pub fn $function(
                 bays: u64,
-                rails: *const u16,
+                rails: *const Bay,
                 rails_len: usize,
-                start: *const u16,
+                start: *const Bay,
                 start_len: usize,
-                goal: *const u16,
+                goal: *const Bay,
                 goal_len: usize,
                 $($own: $kind,)*
                 value: *mut u64,
@@ -25,12 +25,12 @@ macro_rules! declare {
 }
 
 declare! {
-    sejjekoru_plan(plan: *mut u64, plan_len: usize);
+    sejjekoru_plan(plan: *mut u64, plan_len: usize, parked: *mut u64);
     sejjekoru_check(plan: *const u64, plan_len: usize);
     sejjekoru_slots(plan: *const u64, plan_len: usize, slots: *mut u32, slots_len: usize);
     sejjekoru_report(plan: *const u64, plan_len: usize, marks: *mut u8, marks_len: usize, name: u64);
     sejjekoru_shorten(plan: *const u64, plan_len: usize, marks: *const u8, marks_len: usize, out: *mut u64, out_len: usize);
-    sejjekoru_placement(plan: *const u64, plan_len: usize, marks: *const u8, marks_len: usize, at: *mut u16, at_len: usize);
+    sejjekoru_placement(plan: *const u64, plan_len: usize, marks: *const u8, marks_len: usize, at: *mut Bay, at_len: usize);
     sejjekoru_open(
         plan: *const u64, plan_len: usize, marks: *const u8, marks_len: usize, record: *mut Record, lines: *mut Line, lines_len: usize
     );

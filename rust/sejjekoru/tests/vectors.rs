@@ -3,8 +3,8 @@
 use sejjekoru::{numbers, Yard};
 use yards::vectors::{plans, reverses};
 
-fn plan(bays: u64, rails: &[u16], start: &[u16], goal: &[u16], room: &mut [u64]) -> (u64, u64) {
-    numbers::plan(Yard { bays, rails, start, goal }, room)
+fn plan(bays: u64, rails: &[u16], start: &[u16], goal: &[u16], room: &mut [u64]) -> (u64, u64, u64) {
+    numbers::plan(Yard::new(bays, rails, start, goal), room)
 }
 
 #[test]

@@ -34,13 +34,13 @@ const GUARD: u64 = u64::MAX;
 
 impl Owned {
     fn yard(&self) -> Yard<'_> {
-        Yard { bays: self.0, rails: &self.1, start: &self.2, goal: &self.3 }
+        Yard::new(self.0, &self.1, &self.2, &self.3)
     }
 
     fn plan(&self, room: usize) -> Result<Vec<u64>, Refusal> {
         let mut lent = vec![GUARD; room];
         let answer = plan(self.yard(), &mut lent);
-        let written = answer.unwrap_or(0);
+        let written = answer.map_or(0, |planned| planned.length);
         assert!(lent[written..].iter().all(|&number| number == GUARD));
         lent.truncate(written);
         answer.map(|_| lent)
@@ -180,13 +180,16 @@ impl Books {
 #[test]
 fn bills_of_y1() {
     let mut books = Books::opened();
-    assert_eq!(books.lines[0], Line { carrier: 0, billed: 0, last: UNTOUCHED });
-    assert_eq!((&books.record.at[..3], books.record.done, books.record.highest), (&[1, 0, 0][..], 0, 0));
+    assert_eq!(books.lines[0], Line { carrier: Carrier(0), billed: 0, last: UNTOUCHED });
+    assert_eq!((&books.record.at[..3], books.record.done, books.record.highest), (Bay::list(&[1, 0, 0]), 0, 0));
     let told = [1, 6, 0, 0, 1].map(|name| books.report(name));
     let (accepted, already) = (Ok(Reported::Accepted), Ok(Reported::Already));
     assert_eq!(told, [Err(Refusal::Early(0)), Err(Refusal::Unknown), accepted, already, accepted]);
-    assert_eq!(books.lines, [Line { carrier: 0, billed: 1, last: 0 }, Line { carrier: 1, billed: 1, last: 1 }, Line::default()]);
-    assert_eq!((&books.record.at[..3], books.record.done, books.record.highest), (&[2, 1, 0][..], 2, 2));
+    assert_eq!(
+        books.lines,
+        [Line { carrier: Carrier(0), billed: 1, last: 0 }, Line { carrier: Carrier(1), billed: 1, last: 1 }, Line::default()]
+    );
+    assert_eq!((&books.record.at[..3], books.record.done, books.record.highest), (Bay::list(&[2, 1, 0]), 2, 2));
     assert_eq!(books.agree(), Ok(true));
     books.record.highest = 1;
     assert_eq!((books.agree(), books.report(2)), (Ok(false), Err(Refusal::Disagrees)));
@@ -205,6 +208,9 @@ fn a_line_for_each_carrier() {
     assert_eq!(books.report(0), Ok(Reported::Accepted));
 }
 
+/// Where the carriers of Y1 stand after each report.
+const STANDING: [[u16; 2]; 6] = [[2, 0], [2, 1], [2, 3], [1, 3], [0, 3], [0, 1]];
+
 /// The books that own their lists, from opening to all done, with a repeat and a restart after each report.
 #[test]
 fn owned_books_of_y1() {
@@ -217,6 +223,7 @@ fn owned_books_of_y1() {
         assert_eq!(books.report(name), Ok(Reported::Accepted));
         assert_eq!(books.report(name), Ok(Reported::Already));
         assert!(books.agree());
+        assert_eq!(books.placement(), Bay::list(&STANDING[name as usize]));
         let again = sejjekoru::Books::reopen(yard, books.plan().to_vec(), books.marks().to_vec()).unwrap();
         assert_eq!((again.record(), again.lines()), (books.record(), books.lines()));
     }
@@ -262,10 +269,14 @@ fn refusals_in_words() {
         Refusal::Early(41),
         Refusal::BadMap(41),
         Refusal::BadScenario(41),
+        Refusal::BadSurvey(41),
         Refusal::Ended,
         Refusal::LongPiece,
         Refusal::Disagrees,
+        Refusal::Edition,
         Refusal::Begun,
+        Refusal::BadPlan(41),
+        Refusal::BadReports(41),
     ];
     for refusal in all {
         let words = refusal.to_string();

@@ -13,7 +13,7 @@ pub fn reverses(text: &str, reverse: impl Fn(&[u64], &mut [u64]) -> (u64, u64)) 
         let list: Vec<u64> = fitting(list).expect("numbers of 64 bits");
         let mut out = vec![UNTOUCHED; room];
         let (number, value) = reverse(&list, &mut out);
-        let (expected_number, expected_value, written) = answer(expected);
+        let (expected_number, expected_value, _, written) = answer(expected);
         assert_eq!((number, value), (expected_number, expected_value), "{request}");
         assert_eq!(out[..written.len()], written[..], "{request}");
         assert!(out[written.len()..].iter().all(|&number| number == UNTOUCHED), "{request}");
