@@ -10,12 +10,14 @@ use native.Mathlib.Omega.{arith}
 use lib.ListN.{length}
 use lib.Dec.{leb, eqb}
 use native.Mathlib.Decide.{ℕ-discrete, decLt}
-use borrow.Author.Tests.{eq-eqb, ne-eqb, lt-leb}
-use Rattle.paper.specs.Basics.{if_then_else_, _and_, _or_, filter, elem, without, countFrom, upTo}
-use Rattle.paper.specs.Procedure.{_then_, vacate, clearingHeld, Cleared, following, clearing, clear}
+use borrow.Author.Tests.{eq-eqb, ne-eqb, lt-leb, not-true}
+use Rattle.paper.specs.Basics.{if_then_else_, _and_, _or_, filter, elem, without, countFrom, upTo, Out}
+use Rattle.paper.specs.Procedure.{_then_, vacate, clearingHeld, Cleared, following, clearing, clearOnce}
 use Rattle.paper.specs.Yard.{Bay, Yard, Placement, isEmpty, Crossing, after, joined, neighbours}
 use Rattle.bring.specs.Acting.{Ready, Tabled, Acts}
-use Rattle.paper.proofs.Tests.{by-cases, not-both, and-left, and-right, and-both}
+use Rattle.paper.proofs.Members.{in-count}
+use Rattle.paper.proofs.Vacating.{vacate-vacates}
+use Rattle.paper.proofs.Tests.{by-cases, not-both, never, and-left, and-right, and-both}
 use Rattle.words.specs.Sets.{mem, words, span, memRow, Lowest}
 use Rattle.words.proofs.Sets.{zeros, mem-zeros, row-zero}
 use Rattle.vacate.specs.Placed.{Played, Placed, Unchanged}
@@ -23,8 +25,8 @@ use Rattle.rings.specs.Search.{Shown}
 use Rattle.vacate.proofs.Playing.{played-none, played-then}
 use Rattle.bring.proofs.Acting.{acted-done, acted-failed}
 use Rattle.bring.proofs.Bringing.{pair-view}
-use Rattle.clear.specs.Keeping.{Among, Stuck, KeepsOne, TwoBy, Clears, from, HoldsTwo}
-use Rattle.clear.specs.declared.Two.the-variants.{Both}
+use Rattle.clear.specs.Keeping.{Among, Stuck, KeepsOne, KeepsNone, TwoBy, KeptAlone, Clears, from, HoldsTwo}
+use Rattle.clear.specs.declared.Two.the-variants.{Both, Single}
 use Rattle.bring.specs.declared.Tried.the-variants.{Done}
 use Rattle.bring.specs.declared.Tried.the-variants.{Failed}
 use Rattle.clear.specs.declared.Two.the-variants.{Short}
@@ -36,6 +38,10 @@ pub same-again : {p standing empty out p′ standing′ empty′ out′ p″ sta
 same-again s a =
     let u = a .fails (acted-failed a) .1 in
     record { same-placement = u .same-placement ∙ s .same-placement; same-standing = u .same-standing ∙ s .same-standing; same-empty = u .same-empty ∙ s .same-empty; same-list = u .same-list ∙ s .same-list }
+
+pub unchanged-played : {n : ℕ} {p standing empty out p′ standing′ empty′ out′ : List ℕ} {at : ℕ} → Placed n p standing empty → Unchanged p standing empty out p′ standing′ empty′ out′
+    → Played [] n p p′ standing′ empty′ out at out′ at
+unchanged-played {n} {p} {standing} {empty} {out} {at = at} k s = rw (s .same-placement, s .same-standing, s .same-empty, s .same-list) (played-none n p standing empty out at k)
 
 pub stuck-none : (Y : Yard) (held : List Bay) (others : List ℕ) (a x : ℕ) (p : Placement) → Lowest (mem others) a span x → Stuck Y held others a x p
 stuck-none Y held others a x p l y h k m = not-both m (l .before y h k)
@@ -66,22 +72,39 @@ keeps-here h k o s same acts =
     }
 
 pub two-short : (at k : ℕ) → TwoBy at k Short
-two-short at k = record { few = λ x y m e. let z : _≡_ {A = ℕ} 0 1 = cc in absurd (omega arith) }
+two-short at k = record { few = λ x y m e. never (cc); single = λ x m e. never (cc) }
 
-pub two-both : {at k m : ℕ} {x y : Numbered} → x .0 < span → y .0 < span → m ≤ at + k → TwoBy at k (Both x y m)
-two-both {at} {k} {m} {x} {y} hx hy h = record {
+pub two-both : {at k m : ℕ} {x y : Numbered} → x .0 < span → y .0 < span → m ≤ at + k → at ≤ m → TwoBy at k (Both x y m)
+two-both {at} {k} {m} {x} {y} hx hy h l = record {
   few = λ u v w e.
       let a : x ≡ u = cc in
       let b : y ≡ v = cc in
       let c : m ≡ w = cc in
-      (rw a at hx, rw b at hy, omega arith);
+      (rw a at hx, rw b at hy, omega arith, omega arith);
+  single = λ u w e. never (cc);
 }
 
-pub two-more : {at m : ℕ} {r : Two} → m ≤ at + span → TwoBy m span r → TwoBy at 512 r
-two-more h b = record { few = λ x y k e. let f = b .few x y k e in (f .0, f .1, omega (arith, f .2)) }
+pub two-single : {at k m : ℕ} {x : Numbered} → x .0 < span → m ≤ at + k → at ≤ m → TwoBy at k (Single x m)
+two-single {at} {k} {m} {x} hx h l = record {
+  few = λ u v w e. never (cc);
+  single = λ u w e.
+      let a : x ≡ u = cc in
+      let c : m ≡ w = cc in
+      (rw a at hx, omega arith, omega arith);
+}
 
-pub two-far : {at m : ℕ} {r : Two} → m ≤ at + 66048 → TwoBy m 512 r → TwoBy at 70000 r
-two-far h b = record { few = λ x y k e. let f = b .few x y k e in (f .0, f .1, omega (arith, f .2)) }
+-- counted from an earlier count
+pub two-from : {at m k : ℕ} {r : Two} (d : ℕ) → at ≤ m → m ≤ at + d → TwoBy m k r → TwoBy at (d + k) r
+two-from d l h b = record {
+  few = λ x y k e. let f = b .few x y k e in (f .0, f .1, omega (arith, f .2), omega (arith, f .3));
+  single = λ x k e. let f = b .single x k e in (f .0, omega (arith, f .1), omega (arith, f .2));
+}
+
+pub two-within : {at k d : ℕ} {r : Two} → k ≤ d → TwoBy at k r → TwoBy at d r
+two-within h b = record {
+  few = λ x y k e. let f = b .few x y k e in (f .0, f .1, omega (arith, f .2), f .3);
+  single = λ x k e. let f = b .single x k e in (f .0, omega (arith, f .1), f .2);
+}
 
 pub clears-two : {c : Cleared} {n : ℕ} {p out : List ℕ} {at : ℕ} {p′ standing′ empty′ out′ : List ℕ} {x y : Numbered} {m : ℕ} → c .kept ≡ x .0 ∷ y .0 ∷ [] → Played (c .moves) n p p′ standing′ empty′ out at out′ m
     → Clears c n p out at p′ standing′ empty′ out′ (Both x y m)
@@ -91,11 +114,23 @@ clears-two {x = x} {y = y} {m = m} e d = record {
       let b : y ≡ v = cc in
       let k : m ≡ w = cc in
       (rw (← a, ← b) e, rw (← k) d);
-  short = λ q. let z : _≡_ {A = ℕ} 0 1 = cc in absurd (omega arith);
+  single = λ u w q. never (cc);
+  short = λ q. never (cc);
 }
 
-pub clears-short : {c : Cleared} {n : ℕ} {p out : List ℕ} {at : ℕ} {p′ standing′ empty′ out′ : List ℕ} → length (c .kept) < 2 → Clears c n p out at p′ standing′ empty′ out′ Short
-clears-short h = record { both = λ x y m e. let z : _≡_ {A = ℕ} 0 1 = cc in absurd (omega arith); short = λ e. h }
+pub clears-single : {c : Cleared} {n : ℕ} {p out : List ℕ} {at : ℕ} {p′ standing′ empty′ out′ : List ℕ} {x : Numbered} {m : ℕ} → KeptAlone c n p out at p′ standing′ empty′ out′ (x .0) m
+    → Clears c n p out at p′ standing′ empty′ out′ (Single x m)
+clears-single {x = x} {m = m} d = record {
+  both = λ u v w q. never (cc);
+  single = λ u w q.
+      let a : x ≡ u = cc in
+      let k : m ≡ w = cc in
+      rw (← a, ← k) d;
+  short = λ q. never (cc);
+}
+
+pub clears-short : {c : Cleared} {n : ℕ} {p out : List ℕ} {at : ℕ} {p′ standing′ empty′ out′ : List ℕ} → c .kept ≡ [] → Clears c n p out at p′ standing′ empty′ out′ Short
+clears-short h = record { both = λ x y m e. never (cc); single = λ x m e. never (cc); short = λ e. h }
 
 pub clears-as : {c c′ : Cleared} {n : ℕ} {p out : List ℕ} {at : ℕ} {p′ standing′ empty′ out′ : List ℕ} {r : Two} → c ≡ c′ → Clears c′ n p out at p′ standing′ empty′ out′ r → Clears c n p out at p′ standing′ empty′ out′ r
 clears-as e h = rw e h
@@ -169,20 +204,22 @@ second-both {Y} {v} {b} {x} {y} {others} {a} {n} {p} k =
     ∙ ap (following (k .moves)) (clearing-full Y v b (x .0) (y .0) (from (mem others) (y .0 + 1) n) (after p (k .moves))) in
     clears-two (ap (λ (c : Cleared). c .kept) e) (rw (ap (λ (c : Cleared). c .moves) e, append-nil) (k .played))
 
-pub second-short : (Y : Yard) (v b x : Bay) (others : List ℕ) (a n : ℕ) (p : List ℕ) → a ≤ n → n ≤ span → Stuck Y (v ∷ b ∷ x ∷ []) others a span p
-    → length (clearing Y v b (x ∷ []) (from (mem others) a n) p .kept) < 2
-second-short Y v b x others a n p h most s =
-    let e : clearing Y v b (x ∷ []) (from (mem others) a n) p ≡ record { moves = []; kept = x ∷ [] } =
-    clearing-none Y v b (x ∷ []) (omega arith) (mem others) p a n h (λ y k l m. s y k (omega arith) m) in
-    rw (ap (λ (c : Cleared). c .kept) e) (omega arith)
+pub second-single : {Y : Yard} {v b : Bay} {x : Numbered} {others : List ℕ} {a n : ℕ} {p out p′ standing′ empty′ out′ : List ℕ} {at : ℕ} → a ≤ n → n ≤ span → x .0 < n → Out (x .0) p
+    → KeepsNone Y (v ∷ b ∷ x .0 ∷ []) others a n p out at p′ standing′ empty′ out′
+    → Clears (clearing Y v b (x .0 ∷ []) (from (mem others) a n) p) n p out at p′ standing′ empty′ out′ (Single x at)
+unfolding after
+second-single {Y} {v} {b} {x} {others} {a} {n} {p} h most low o k =
+    let e : clearing Y v b (x .0 ∷ []) (from (mem others) a n) p ≡ record { moves = []; kept = x .0 ∷ [] } =
+    clearing-none Y v b (x .0 ∷ []) (omega arith) (mem others) p a n h (λ y i l m. k .stuck y i (omega arith) m) in
+    clears-single (record { kept = ap (λ (c : Cleared). c .kept) e; low = low; free = rw (k .played .moved) o; played = rw (ap (λ (c : Cleared). c .moves) e) (k .played) })
 
 -- the first bay kept, and what follows
 pub first-none : (Y : Yard) (v b : Bay) (others : List ℕ) (n : ℕ) (p : List ℕ) → n ≤ span → Stuck Y (v ∷ b ∷ []) others 0 span p
-    → length (clearing Y v b [] (from (mem others) 0 n) p .kept) < 2
+    → clearing Y v b [] (from (mem others) 0 n) p .kept ≡ []
 first-none Y v b others n p most s =
     let e : clearing Y v b [] (from (mem others) 0 n) p ≡ record { moves = []; kept = [] } =
     clearing-none Y v b [] (omega arith) (mem others) p 0 n (omega arith) (λ y k l m. s y k (omega arith) m) in
-    rw (ap (λ (c : Cleared). c .kept) e) (omega arith)
+    ap (λ (c : Cleared). c .kept) e
 
 pub first-then : {Y : Yard} {v b : Bay} {others : List ℕ} {n : ℕ} {p out q standing₁ empty₁ out₁ p′ standing′ empty′ out′ : List ℕ} {at x m : ℕ} {r : Two}
     → KeepsOne Y (v ∷ b ∷ []) others 0 n p out at q standing₁ empty₁ out₁ x m
@@ -193,6 +230,7 @@ first-then {Y} {v} {b} {others} {n} {p} {q = q} {x = x} f s =
     clearing-one Y v b [] (omega arith) (mem others) p 0 n x (f .moves) (f .above) (f .low) (f .other) (f .stuck) (f .made) ∙ rw (f .played .moved) in
     clears-as e (record {
       both = λ y z k d. let t = s .both y z k d in (t .0, played-then (f .played) (t .1));
+      single = λ y k d. let t = s .single y k d in record { kept = t .kept; low = t .low; free = t .free; played = played-then (f .played) (t .played) };
       short = λ d. s .short d;
     })
 
@@ -272,8 +310,8 @@ module _ {Y : Yard} {v b : Bay} {n : ℕ} {others : List ℕ} (w : Around Y v b 
   whole : (ws : List ℕ) → filter (mem ws) (countFrom 0 n) ≡ from (mem ws) 0 n
   whole ws = let e : n - 0 ≡ n = omega arith in rw e
 
-  pub clear-none : {x : ℕ} → Lowest (λ y. memRow others 0 y and memRow empty 0 y) 0 span x → span ≤ x → clear Y v b p ≡ clearing Y v b [] (from (mem others) 0 n) p
-  unfolding clear
+  pub clear-none : {x : ℕ} → Lowest (λ y. memRow others 0 y and memRow empty 0 y) 0 span x → span ≤ x → clearOnce Y v b p ≡ clearing Y v b [] (from (mem others) 0 n) p
+  unfolding clearOnce
   clear-none l h =
       let e : filter (emptyOf others) (countFrom 0 n) ≡ [] = filter-none (emptyOf others) 0 n (λ y i m. l .before y i (omega arith)) in
       rw (around-is, empties-is, e, without-nil) (rw (whole others))
@@ -296,14 +334,14 @@ module _ {Y : Yard} {v b : Bay} {n : ℕ} {others : List ℕ} (w : Around Y v b 
     unfolding without
     left = filter-both (mem others) (λ y. not (elem y (x ∷ []))) (countFrom 0 n) ∙ filter-same _ (mem others′) 0 n (λ y i m. sym (f y ∙ rw eqb-elem))
 
-    pub clear-one : {y : ℕ} → Lowest (λ y. memRow others′ 0 y and memRow empty 0 y) 0 span y → span ≤ y → clear Y v b p ≡ clearing Y v b (x ∷ []) (from (mem others′) 0 n) p
-    unfolding clear
+    pub clear-one : {y : ℕ} → Lowest (λ y. memRow others′ 0 y and memRow empty 0 y) 0 span y → span ≤ y → clearOnce Y v b p ≡ clearing Y v b (x ∷ []) (from (mem others′) 0 n) p
+    unfolding clearOnce
     clear-one l′ h =
         let e : filter (emptyOf others′) (countFrom (suc x) (n - suc x)) ≡ [] = filter-none (emptyOf others′) (suc x) (n - suc x) (λ y i m. l′ .before y (omega arith) (omega arith)) in
         rw (around-is, empties-is, firsts, e, left, whole others′)
 
-    pub clear-two : {y : ℕ} → Lowest (λ y. memRow others′ 0 y and memRow empty 0 y) 0 span y → y < n → clear Y v b p ≡ record { moves = []; kept = x ∷ y ∷ [] }
-    unfolding clear
+    pub clear-two : {y : ℕ} → Lowest (λ y. memRow others′ 0 y and memRow empty 0 y) 0 span y → y < n → clearOnce Y v b p ≡ record { moves = []; kept = x ∷ y ∷ [] }
+    unfolding clearOnce
     clear-two {y} l′ hy =
         let hit = l′ .hit (omega arith) in
         let far : x < y = elim (decLt x y) [
@@ -342,6 +380,16 @@ holdsTwo t v b h₁ h₂ f g = record { one = v; two = b; holds = λ y h. pair-v
 
 pub lowest-in : {n : ℕ} {others : List ℕ} {x : ℕ} (empty : List ℕ) → Among n others → Lowest (λ y. memRow others 0 y and memRow empty 0 y) 0 span x → x < span → x < n
 lowest-in {others = others} {x = x} empty i l h = i .low x h (sym (row-zero others x) ∙ and-left _ _ (l .hit h))
+
+-- the lowest empty neighbour is empty, and a bay that was kept is
+pub lowest-free : {n : ℕ} {empty p standing : List ℕ} {x : ℕ} (others : List ℕ) → Placed n p standing empty → Lowest (λ y. memRow others 0 y and memRow empty 0 y) 0 span x → x < n → n ≤ span → Out x p
+lowest-free {empty = empty} {p = p} {x = x} others k l h most =
+    not-true (elem x p) (sym (k .empties x h) ∙ sym (row-zero empty x) ∙ and-right _ _ (l .hit (omega arith)))
+
+pub kept-free : {n : ℕ} {table : List ℕ} (t : Tabled n table) {held : List Bay} {others : List ℕ} {a : ℕ} {p standing empty out p′ standing′ empty′ out′ : List ℕ} {at x m : ℕ} → Placed n p standing empty
+    → KeepsOne (t .yard) held others a n p out at p′ standing′ empty′ out′ x m → Out x p′
+kept-free t {held = held} {p = p} {x = x} k o =
+    rw (o .played .moved) (vacate-vacates (t .yard) held x p (o .moves) (k .apart) (in-count 0 (t .yard .bays) x (omega arith) (omega (arith, t .joins .bays, o .low))) (o .made) .empties)
 
 pub ready-again : {table p standing empty : List ℕ} → Ready table p standing empty → (p′ standing′ empty′ : List ℕ) → length standing′ ≡ length standing → length empty′ ≡ length empty → Placed (length standing) p′ standing′ empty′ → Ready table p′ standing′ empty′
 ready-again f p′ standing′ empty′ kw kf k = record {

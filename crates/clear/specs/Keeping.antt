@@ -6,12 +6,12 @@ use mathlib.Core.List.{List, [], _∷_}
 use mathlib.Core.Option.{none, some}
 use Prim.Native.Nat.{ℕ, _≤_, _<_, _-_, _+_}
 use lib.ListN.{length}
-use Rattle.paper.specs.Basics.{filter, elem, countFrom}
-use Rattle.paper.specs.Procedure.{vacate, Cleared, clearing, clear}
+use Rattle.paper.specs.Basics.{filter, elem, countFrom, Out}
+use Rattle.paper.specs.Procedure.{vacate, Cleared, clearing, clearOnce}
 use Rattle.paper.specs.Yard.{Bay, Yard, Placement, Crossing}
 use Rattle.words.specs.Sets.{mem, span}
 use Rattle.vacate.specs.Placed.{Played}
-use Rattle.clear.specs.declared.Two.the-variants.{Both}
+use Rattle.clear.specs.declared.Two.the-variants.{Both, Single}
 use Rattle.clear.specs.declared.Kept.{Kept}
 use Rattle.clear.specs.declared.Kept.the-variants.{Nothing}
 use Rattle.clear.specs.declared.Kept.the-variants.{One}
@@ -26,7 +26,7 @@ pub record Among (n : ℕ) (ws : List ℕ) : Type 0 where
 -- ## One bay
 
 abbrev pub KeptBy : ℕ → Kept → Type 0
-KeptBy at (One x m) = (x .0 < span) × (m ≤ at + span)
+KeptBy at (One x m) = (x .0 < span) × (m ≤ at + span) × (at ≤ m)
 KeptBy at Nothing = Unit {0}
 
 -- none of the others from a on and below x can be vacated
@@ -43,23 +43,37 @@ pub record KeepsOne (Y : Yard) (held : List Bay) (others : List ℕ) (a n : ℕ)
   pub made : vacate Y held x p ≡ some moves
   pub played : Played moves n p p′ standing′ empty′ out at out′ m
 
+-- none of the others from a on can be vacated, and nobody has moved
+pub record KeepsNone (Y : Yard) (held : List Bay) (others : List ℕ) (a n : ℕ) (p out : List ℕ) (at : ℕ) (p′ standing′ empty′ out′ : List ℕ) : Type 0 where
+  pub stuck : Stuck Y held others a span p
+  pub played : Played [] n p p′ standing′ empty′ out at out′ at
+
 abbrev pub Keeps : Yard → List Bay → List ℕ → ℕ → ℕ → List ℕ → List ℕ → ℕ → List ℕ → List ℕ → List ℕ → List ℕ → Kept → Type 0
 Keeps Y held others a n p out at p′ standing′ empty′ out′ (One x m) = KeepsOne Y held others a n p out at p′ standing′ empty′ out′ (x .0) m
-Keeps Y held others a n p out at p′ standing′ empty′ out′ Nothing = Stuck Y held others a span p
+Keeps Y held others a n p out at p′ standing′ empty′ out′ Nothing = KeepsNone Y held others a n p out at p′ standing′ empty′ out′
 
 -- ## Two bays
 
+-- the bays are small, and at most k crossings were counted
 pub record TwoBy (at k : ℕ) (r : Two) : Type 0 where
-  pub few : (x y : Numbered) (m : ℕ) → r ≡ Both x y m → (x .0 < span) × (y .0 < span) × (m ≤ at + k)
+  pub few : (x y : Numbered) (m : ℕ) → r ≡ Both x y m → (x .0 < span) × (y .0 < span) × (m ≤ at + k) × (at ≤ m)
+  pub single : (x : Numbered) (m : ℕ) → r ≡ Single x m → (x .0 < span) × (m ≤ at + k) × (at ≤ m)
 
--- as the paper's clearing: two bays are kept and its crossings were played, or there are fewer
+-- one bay is kept, which is empty, and the crossings were played
+pub record KeptAlone (c : Cleared) (n : ℕ) (p out : List ℕ) (at : ℕ) (p′ standing′ empty′ out′ : List ℕ) (x m : ℕ) : Type 0 where
+  pub kept : c .kept ≡ x ∷ []
+  pub low : x < n
+  pub free : Out x p′
+  pub played : Played (c .moves) n p p′ standing′ empty′ out at out′ m
+
+-- as the paper's clearing: two bays are kept, or one, and its crossings were played; or none is kept
 pub record Clears (c : Cleared) (n : ℕ) (p out : List ℕ) (at : ℕ) (p′ standing′ empty′ out′ : List ℕ) (r : Two) : Type 0 where
   pub both : (x y : Numbered) (m : ℕ) → r ≡ Both x y m → (c .kept ≡ x .0 ∷ y .0 ∷ []) × Played (c .moves) n p p′ standing′ empty′ out at out′ m
-  pub short : r ≡ Short → length (c .kept) < 2
+  pub single : (x : Numbered) (m : ℕ) → r ≡ Single x m → KeptAlone c n p out at p′ standing′ empty′ out′ (x .0) m
+  pub short : r ≡ Short → c .kept ≡ []
 
--- (the code's clear has the same name)
 abbrev pub clears : Yard → Bay → Bay → Placement → Cleared
-clears Y v b p = clear Y v b p
+clears Y v b p = clearOnce Y v b p
 
 abbrev pub clearingFrom : Yard → Bay → Bay → List Bay → List Bay → Placement → Cleared
 clearingFrom Y v b kept xs p = clearing Y v b kept xs p

@@ -1,11 +1,12 @@
-// Clear: two neighbours of the junction, other than the follower's bay, are kept empty; the empty ones first, then those that can
-// be vacated, in rising order.
+// Clear, once through the neighbours of the junction other than the follower's bay: two of them are kept empty, the empty ones first,
+// then those that can be vacated, in rising order.
 use bring::Tried;
 use docket::Bay;
 ghost use mathlib.Core.Path.{_≡_};
 ghost use mathlib.Core.List.{[], _∷_};
 ghost use Prim.Native.Nat.{_+_, _^_, _≤_, _<_};
 ghost use lib.ListN.{length};
+ghost use Rattle.paper.specs.Basics.{Out};
 ghost use Rattle.words.specs.Sets.{mem, words, span};
 ghost use Rattle.rings.specs.Search.{Shown};
 ghost use Rattle.bring.specs.Acting.{Tabled, Ready};
@@ -17,9 +18,10 @@ pub enum Kept {
     Nothing,
 }
 
-// The two bays that are kept, with the count of crossings afterwards.
+// The two bays that are kept, or the only one, with the count of crossings afterwards; or none is.
 pub enum Two {
     Both(Bay, Bay, usize),
+    Single(Bay, usize),
     Short,
 }
 
@@ -51,7 +53,7 @@ fn keep_one(
     Kept::Nothing
 }
 
-// With the bay x kept, one of the others, from a on, is kept too.
+// With the bay x kept, one of the others, from a on, is kept too, if one can be vacated.
 fn keep_second(
     table: &[u64],
     others: &[u64],
@@ -65,13 +67,13 @@ fn keep_second(
     at: usize,
 ) -> Two
     requires { ⌜ Ready (now table) (now placement) (now standing) (now empty) ⌝ }
-    requires { ⌜ (length (now others) ≡ words) × (length (now held) ≡ words) × (a ≤ length (now standing)) × (x .0 < span) × Among (length (now standing)) (now others) × (at < 2 ^ 62) × HoldsTwo (now held) ⌝ }
+    requires { ⌜ (length (now others) ≡ words) × (length (now held) ≡ words) × (a ≤ length (now standing)) × (x .0 < length (now standing)) × Among (length (now standing)) (now others) × (at < 2 ^ 62) × HoldsTwo (now held) × Out (x .0) (now placement) ⌝ }
     ensures { λ r. ⌜ (TwoBy at span r) × ((t : Tabled (length (now (standing .entry))) (now (table .entry))) (h : HoldsTwo (now (held .entry))) → Clears (clearingFrom (t .yard) (h .one) (h .two) (x .0 ∷ []) (from (mem (now (others .entry))) a (length (now (standing .entry)))) (now (placement .entry))) (length (now (standing .entry))) (now (placement .entry)) (now (out .entry)) at (now (placement .exit)) (now (standing .exit)) (now (empty .exit)) (now (out .exit)) r) ⌝ }
 {
     words::join(held, x.0 as usize);
     let second = keep_one(table, others, a, held, placement, standing, empty, out, at);
     let Kept::One(y, m) = second else {
-        return Two::Short;
+        return Two::Single(x, at);
     };
     Two::Both(x, y, m)
 }

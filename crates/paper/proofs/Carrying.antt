@@ -21,7 +21,8 @@ use Rattle.paper.proofs.Shortest.{Shortest, shortest-path}
 use Rattle.paper.proofs.Playing.{Apart, Legal, legal-facts, legal-of, after-append, after-length, plan-head, plan-tail, plan-cons, plan-append, bay-in, placeOf-bay, placeOf-there, move-self, move-other, move-apart, Sound, Good}
 use Rattle.paper.proofs.Vacating.{vacate-vacates, vacate-empty}
 use Rattle.paper.proofs.Trading.{traded-bay, trade-first, trade-second, trade-other}
-use Rattle.paper.proofs.Swapping.{same-moves, cross-some, then-runs, then-split, Chain, way-tail, swap-trades}
+use Rattle.paper.proofs.Actions.{same-moves, cross-some, then-runs, then-split}
+use Rattle.paper.proofs.Swapping.{Chain, way-tail, swap-trades}
 
 pub plan-good : (Y : Yard) → Sound Y → (p : Placement) (xs : List Crossing) → Good Y p → legalPlan Y p xs ≡ true → Good Y (after p xs)
 unfolding after

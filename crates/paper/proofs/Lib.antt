@@ -10,6 +10,8 @@ pub mod Playing
 pub mod Reversing
 pub mod Making
 pub mod Vacating
+pub mod Actions
+pub mod GoingOn
 pub mod Trading
 pub mod Swapping
 pub mod Carrying

@@ -13,17 +13,16 @@ use borrow.Author.Tests.{not-true, ltb-true, ltb-false, eqb-true, eqb-false, ne-
 use Rattle.paper.specs.Basics.{_and_, filter, elem, without, upTo, In, Out, NoDup}
 use Rattle.paper.specs.Yard.{Bay, Carrier, Yard, Placement, Crossing, crossing, bayOf, isEmpty, move, after, joined, legal, legalPlan, neighbours, junction}
 use Rattle.paper.specs.Path.{nearestFirst, shortestPath, Free, Route, Way}
-use Rattle.paper.specs.Procedure.{Made, only, together, Action, _then_, cross, exchange, traded, undo, Cleared, following, vacate, bring, clearing, clear, finish, trialLed, trial, swap, clearingHeld, theirBays}
-use Rattle.paper.proofs.Tests.{by-cases, by-option, not-both, never-some, and-left, and-right}
-use Rattle.paper.proofs.Members.{first-of, nothing-in-nil, In-head, In-tail, In-cases, In-one, In-append, Out-head, nodup-left, nodup-drop, nodup-append, nodup-filter, nodup-take, nodup-count, take-in, filter-in, filter-passes}
+use Rattle.paper.specs.Procedure.{Made, only, together, _then_, cross, exchange, traded, undo, Cleared, following, vacate, bring, clearing, clearOnce, aside, around, firstKept, goOn, goneOn, clear, finish, trialLed, trial, swap, clearingHeld, theirBays}
+use Rattle.paper.proofs.Tests.{by-cases, by-option, either, some-from, not-both, never-some, and-left, and-right}
+use Rattle.paper.proofs.Members.{first-of, nothing-in-nil, In-head, In-tail, In-cases, In-one, In-append, Out-head, nodup-left, nodup-drop, nodup-append, nodup-filter, nodup-take, nodup-count, take-in, filter-in, filter-passes, without-in, without-out, out-cons, Out-tail}
 use Rattle.paper.proofs.Rings.{joined-sym, reached-sym, walk-free, reached-walk}
 use Rattle.paper.proofs.Shortest.{shortest-path}
 use Rattle.paper.proofs.Playing.{Apart, Legal, legal-of, after-append, after-length, plan-append, bay-in, move-self, move-other, move-apart, move-empties, move-out, Sound}
 use Rattle.paper.proofs.Vacating.{plan-apart, Vacated, vacate-vacates}
+use Rattle.paper.proofs.Actions.{eqb-comm, same-moves, then-split, cross-split, Pulled, pulled}
+use Rattle.paper.proofs.GoingOn.{two-held, Attempted, aside-empties, around-empties}
 use Rattle.paper.proofs.Trading.{traded-length, traded-bay, trade-first, trade-second, trade-other, which, undo-undoes}
-
-pub eqb-comm : (a b : ℕ) → eqb a b ≡ false → eqb b a ≡ false
-eqb-comm a b e = ne-eqb b a (λ q. eqb-false a b e (sym q))
 
 -- Where the two carriers stand, a at the first's bay and b at the second's, with c and d empty, and nobody else moved since p₀.
 pub record Duo (L M : Carrier) (p₀ p : Placement) (a b c d : Bay) : Type 0 where
@@ -104,36 +103,6 @@ module _ (Y : Yard) (L M : Carrier) (differ : eqb L M ≡ false) (p₀ : Placeme
         is-traded L M differ p₀ hL hM _ (s6 .1 .len) (s6 .1 .first ∙ sym (s .second)) (s6 .1 .second ∙ sym (s .first)) (s6 .1 .rest),
       )
 
-pub same-moves : {a b : Made} → a ≡ b → a .moves ≡ b .moves
-same-moves e = ap (λ (m : Made). m .moves) e
-
--- both parts of a run of two actions
-pub then-split : {P : Type 0} (f g : Action) (p : Placement) (m : Made) → (f then g) p ≡ some m
-    → ((a b : Made) → f p ≡ some a → g (after p (a .moves)) ≡ some b → m ≡ together a b → P) → P
-unfolding _then_
-then-split f g p m h k =
-    by-option (f p)
-    (λ e. never-some m (rw e at h))
-    (λ a e. by-option (g (after p (a .moves)))
-    (λ d. never-some m (rw (e, d) at h))
-    (λ b d. let z = rw (e, d) at h in k a b e d (cc)))
-
-pub then-runs : (f g : Action) (p : Placement) (a b : Made) → f p ≡ some a → g (after p (a .moves)) ≡ some b → (f then g) p ≡ some (together a b)
-unfolding _then_
-then-runs f g p a b h k = rw (h, k)
-
-pub cross-some : (c : Carrier) (to : Bay) (p : Placement) (m : Made) → cross c to p ≡ some m → m ≡ only (crossing c (bayOf p c) to ∷ [])
-unfolding cross
-cross-some c to p m h = cc
-
-pub cross-split : {P : Type 0} (c : Carrier) (to : Bay) (g : Action) (p : Placement) (m : Made) → (cross c to then g) p ≡ some m
-    → ((b : Made) → g (move p (crossing c (bayOf p c) to)) ≡ some b → m ≡ together (only (crossing c (bayOf p c) to ∷ [])) b → P) → P
-unfolding _then_ cross after
-cross-split c to g p m h k =
-    by-option (g (move p (crossing c (bayOf p c) to)))
-    (λ d. never-some m (rw d at h))
-    (λ b d. let z = rw d at h in k b d (cc))
-
 -- from u, a rail to each bay of the list in turn, and the last is v
 abbrev pub Chain : Yard → Bay → List Bay → Bay → Type 0
 Chain Y u [] v = u ≡ v
@@ -161,34 +130,8 @@ module _ (Y : Yard) (sound : Sound Y) (L M : Carrier) (differ : eqb L M ≡ fals
     pub leads : bayOf (after p xs) L ≡ v
     pub follows : joined Y (bayOf (after p xs) M) v ≡ true
 
-  -- The leader crosses from u to x and the follower from w to u.
-  pub record Pulled (u w x : Bay) (p : Placement) : Type 0 where
-    pub apart : Apart (move (move p (crossing L u x)) (crossing M w u))
-    pub leader : bayOf (move (move p (crossing L u x)) (crossing M w u)) L ≡ x
-    pub follower : bayOf (move (move p (crossing L u x)) (crossing M w u)) M ≡ u
-    pub second-bay : bayOf (move p (crossing L u x)) M ≡ w
-    pub both-legal : legalPlan Y p (crossing L u x ∷ crossing M w u ∷ []) ≡ true
-
-  pulled : (u w x : Bay) (p : Placement) → Apart p → L < length p → M < length p → bayOf p L ≡ u → bayOf p M ≡ w
-      → joined Y u x ≡ true → joined Y w u ≡ true → Out x p → Pulled u w x p
-  unfolding legalPlan
-  pulled u w x p apart hL hM at-L at-M ux wu o =
-      let c = crossing L u x in
-      let l : Legal Y p c = record { there = hL; stands = at-L; rail = ux; free = o } in
-      let q = move p c in
-      let m : bayOf q M ≡ w = move-other Y p c l M (eqb-comm L M differ) ∙ at-M in
-      let d = crossing M w u in
-      let k : Legal Y q d = record { there = rw length-set hM; stands = m; rail = wu; free = move-empties Y p c l apart } in
-      record {
-        apart = move-apart Y q d k (move-apart Y p c l apart);
-        leader = move-other Y q d k L differ ∙ move-self Y p c l;
-        follower = move-self Y q d k;
-        second-bay = m;
-        both-legal = rw (legal-of Y p c l, legal-of Y q d k);
-      }
-
   -- crossings, the two that pull, and then what brings the rest of the way
-  brought-more : (u w x v : Bay) (p : Placement) (ms rest : List Crossing) → legalPlan Y p ms ≡ true → Pulled u w x (after p ms)
+  brought-more : (u w x v : Bay) (p : Placement) (ms rest : List Crossing) → legalPlan Y p ms ≡ true → Pulled Y L M differ u w x (after p ms)
       → Brought v (move (move (after p ms) (crossing L u x)) (crossing M w u)) rest
       → Brought v p (ms ++ (crossing L u x ∷ crossing M w u ∷ rest))
   unfolding after
@@ -219,7 +162,7 @@ module _ (Y : Yard) (sound : Sound Y) (L M : Carrier) (differ : eqb L M ≡ fals
       let vac = vacate-vacates Y held x p vacated apart (sound .inside (bayOf p L) x (ch .0)) e in
       let kL : bayOf (after p ms) L ≡ bayOf p L = vac .keeps L hL (In-head (bayOf p L) (bayOf p M ∷ [])) in
       let kM : bayOf (after p ms) M ≡ bayOf p M = vac .keeps M hM (In-tail (bayOf p M) (bayOf p L) (bayOf p M ∷ []) (In-head (bayOf p M) [])) in
-      let pl = pulled (bayOf p L) (bayOf p M) x (after p ms) (plan-apart Y p ms apart (vac .legal)) (rw after-length hL) (rw after-length hM)
+      let pl = pulled Y L M differ (bayOf p L) (bayOf p M) x (after p ms) (plan-apart Y p ms apart (vac .legal)) (rw after-length hL) (rw after-length hM)
       kL kM (ch .0) j (vac .empties) in
       let ih = bring-brings ahead v (move (move (after p ms) (crossing L (bayOf p L) x)) (crossing M (bayOf p M) (bayOf p L))) more (pl .apart)
       (simp (length-set, after-length) hL) (simp (length-set, after-length) hM)
@@ -242,21 +185,18 @@ module _ (Y : Yard) (sound : Sound Y) where
     unfolding after legalPlan
     as-kept p kept n f = record { legal = refl; stays = λ k h i. refl; kept-empty = f; nodup = n }
 
-    cleared-more : (x : Bay) (kept : List Bay) (p : Placement) (m : Made) (c : Cleared) → Vacated Y (clearingHeld v b kept) x p (m .moves)
+    -- crossings that leave those at v and b in place, and then what clears
+    cleared-then : (p : Placement) (m : Made) (c : Cleared) → legalPlan Y p (m .moves) ≡ true
+        → ((k : Carrier) → k < length p → In (bayOf p k) (v ∷ b ∷ []) → bayOf (after p (m .moves)) k ≡ bayOf p k)
         → ClearedIs v b (after p (m .moves)) c → ClearedIs v b p (following m c)
-    cleared-more x kept p m c vac r =
-        let ms = m .moves in
-        let near : (z : Bay) → In z (v ∷ b ∷ []) → In z (v ∷ b ∷ kept) =
-        λ z i. In-cases z v (b ∷ []) i (λ q. rw q (In-head v (b ∷ kept)))
-        (λ k. In-tail z v (b ∷ kept) (rw (In-one z b k) (In-head b kept))) in
-        record {
-          legal = plan-append Y p ms (c .made .moves) (vac .legal) (r .legal);
-          stays = λ k h i.
-              let first : bayOf (after p ms) k ≡ bayOf p k = vac .keeps k h (near (bayOf p k) i) in
-              rw after-append (r .stays k (rw after-length h) (rw first i) ∙ first);
-          kept-empty = λ z i. let t = r .kept-empty z i in (t .0, rw after-append (t .1));
-          nodup = r .nodup;
-        }
+    cleared-then p m c l s r = record {
+      legal = plan-append Y p (m .moves) (c .made .moves) l (r .legal);
+      stays = λ k h i.
+          let first : bayOf (after p (m .moves)) k ≡ bayOf p k = s k h i in
+          rw after-append (r .stays k (rw after-length h) (rw first i) ∙ first);
+      kept-empty = λ z i. let t = r .kept-empty z i in (t .0, rw after-append (t .1));
+      nodup = r .nodup;
+    }
 
     clearing-clears : (others kept : List Bay) (p : Placement) → Apart p → NoDup (kept ++ others)
         → ((z : Bay) → In z kept → (joined Y v z ≡ true) × Out z p) → ((z : Bay) → In z others → joined Y v z ≡ true)
@@ -271,17 +211,18 @@ module _ (Y : Yard) (sound : Sound Y) where
         (λ m h.
         let ms = m .moves in
         let vac = vacate-vacates Y (clearingHeld v b kept) x p m apart (sound .inside v x (g x (In-head x xs))) h in
-        rw (e, h) (cleared-more x kept p m (clearing Y v b (kept ++ (x ∷ [])) xs (after p ms)) vac
+        rw (e, h) (cleared-then p m (clearing Y v b (kept ++ (x ∷ [])) xs (after p ms)) (vac .legal)
+        (λ k l i. vac .keeps k l (two-held (bayOf p k) v b kept i))
         (clearing-clears xs (kept ++ (x ∷ [])) (after p ms) (plan-apart Y p ms apart (vac .legal)) (rw append-assoc n)
         (λ z i. In-append z kept (x ∷ []) i
         (λ k. ((f z k) .0, vac .spares z (In-tail z v (b ∷ kept) (In-tail z b kept k)) ((f z k) .1)))
         (λ k. rw (In-one z x k) (g x (In-head x xs), vac .empties)))
         (λ z i. g z (In-tail z x xs i))))))
 
-    -- 2. Clear.
-    pub clear-clears : (p : Placement) → Apart p → ClearedIs v b p (clear Y v b p)
-    unfolding clear neighbours without
-    clear-clears p apart =
+    -- 2. Clear, once through the neighbours.
+    pub once-clears : (p : Placement) → Apart p → ClearedIs v b p (clearOnce Y v b p)
+    unfolding clearOnce neighbours without
+    once-clears p apart =
         let around = filter (λ y. not (elem y (b ∷ []))) (filter (joined Y v) (upTo (Y .bays))) in
         let kept = take 2 (filter (isEmpty p) around) in
         let joins : (z : Bay) → In z around → joined Y v z ≡ true =
@@ -294,6 +235,70 @@ module _ (Y : Yard) (sound : Sound Y) where
         let j = take-in 2 (filter (isEmpty p) around) z i in
         (joins z (filter-in (isEmpty p) around z j), not-true (elem z p) (filter-passes (isEmpty p) around z j)))
         (λ z i. joins z (filter-in _ around z i))
+
+  module _ (L M : Carrier) (differ : eqb L M ≡ false) (v b : Bay) where
+    -- The leader stands at v and the follower at b, beside it.
+    pub record Stand (p : Placement) : Type 0 where
+      pub apart : Apart p
+      pub there : L < length p
+      pub follows : M < length p
+      pub at-v : bayOf p L ≡ v
+      pub at-b : bayOf p M ≡ b
+      pub beside : joined Y v b ≡ true
+
+    kept-with : (e x : Bay) (p : Placement) (m : Made) → joined Y v e ≡ true → joined Y v x ≡ true → (x ≡ e → ⊥) → Attempted Y v b e x p (m .moves)
+        → ClearedIs v b p (record { made = m; kept = x ∷ e ∷ [] })
+    kept-with e x p m ve vx n a = record {
+      legal = a .legal;
+      stays = a .stays;
+      kept-empty = λ z i. In-cases z x (e ∷ []) i (λ q. rw q (vx, a .empties)) (λ k. rw (In-one z e k) (ve, a .empties-kept));
+      nodup = (out-cons x e [] n (nothing-in-nil x), (nothing-in-nil e, tt));
+    }
+
+    -- going on from where clearing ended, with e kept
+    going-on : (e : Bay) (p : Placement) (c : Cleared) → Stand p → joined Y v e ≡ true → Out e p → goOn Y L M v b e p ≡ some c → ClearedIs v b p c
+    unfolding goOn firstKept neighbours
+    going-on e p c s ve o h =
+        let others = without (b ∷ e ∷ []) (filter (joined Y v) (upTo (Y .bays))) in
+        let joins : (x : Bay) → In x others → joined Y v x ≡ true =
+        λ x i. filter-passes (joined Y v) (upTo (Y .bays)) x (without-in (b ∷ e ∷ []) (filter (joined Y v) (upTo (Y .bays))) x i) in
+        let other : (x : Bay) → In x others → Out x (b ∷ e ∷ []) = λ x i. without-out (b ∷ e ∷ []) (filter (joined Y v) (upTo (Y .bays))) x i in
+        let not-e : (x : Bay) → In x others → x ≡ e → ⊥ = λ x i. Out-head x e [] (Out-tail x b (e ∷ []) (other x i)) in
+        either (firstKept Y (aside Y v b e) e others p) (firstKept Y (around Y L M v b e) e others p) h
+        (λ f. first-of _ others f (λ x i d.
+        let t = some-from (λ (m : Made). record { made = m; kept = x ∷ e ∷ [] }) (aside Y v b e x p) d in
+        rw (← t .2) (kept-with e x p (t .0) ve (joins x i) (not-e x i)
+        (aside-empties Y v b e x p (t .0) (s .apart) (sound .inside v x (joins x i)) (sound .inside v e ve) (t .1)))))
+        (λ n f. first-of _ others f (λ x i d.
+        let t = some-from (λ (m : Made). record { made = m; kept = x ∷ e ∷ [] }) (around Y L M v b e x p) d in
+        rw (← t .2) (kept-with e x p (t .0) ve (joins x i) (not-e x i)
+        (around-empties Y sound L M differ v b e x p (s .apart) (s .there) (s .follows) (s .at-v) (s .at-b) ve (s .beside) (joins x i) o
+        (Out-head x b (e ∷ []) (other x i)) (t .0) (t .1)))))
+
+    goes-on : (p : Placement) (m : Made) (kept : List Bay) → Stand p → ClearedIs v b p (record { made = m; kept = kept })
+        → ClearedIs v b p (goneOn Y L M v b p m kept)
+    unfolding goneOn
+    goes-on p m [] s r = r
+    goes-on p m (e ∷ []) s r =
+        let made = m .moves in
+        let k = r .kept-empty e (In-head e []) in
+        let stand : Stand (after p made) = record {
+          apart = plan-apart Y p made (s .apart) (r .legal);
+          there = rw after-length (s .there);
+          follows = rw after-length (s .follows);
+          at-v = r .stays L (s .there) (rw (s .at-v) (In-head v (b ∷ []))) ∙ s .at-v;
+          at-b = r .stays M (s .follows) (rw (s .at-b) (In-tail b v (b ∷ []) (In-head b []))) ∙ s .at-b;
+          beside = s .beside;
+        } in
+        by-option (goOn Y L M v b e (after p made))
+        (λ h. rw h r)
+        (λ c h. rw h (cleared-then v b p m c (r .legal) (r .stays) (going-on e (after p made) c stand (k .0) (k .1) h)))
+    goes-on p m (x ∷ y ∷ rest) s r = r
+
+    -- 2. Clear.
+    pub clear-clears : (p : Placement) → Stand p → ClearedIs v b p (clear Y L M v b p)
+    unfolding clear
+    clear-clears p s = let once = clearOnce Y v b p in goes-on p (once .made) (once .kept) s (once-clears v b p (s .apart))
 
 -- legal, and then the two have traded places
 abbrev pub Trades : Yard → Carrier → Carrier → Placement → List Crossing → Type 0
@@ -352,8 +357,15 @@ module _ (Y : Yard) (sound : Sound Y) (L M : Carrier) (differ : eqb L M ≡ fals
       let brought = made .moves in
       let p₁ = after p brought in
       let b = bayOf p₁ M in
-      let cl = clear-clears Y sound v b p₁ (plan-apart Y p brought apart (br .legal)) in
-      let c = clear Y v b p₁ in
+      let cl = clear-clears Y sound L M differ v b p₁ (record {
+        apart = plan-apart Y p brought apart (br .legal);
+        there = rw after-length hL;
+        follows = rw after-length hM;
+        at-v = br .leads;
+        at-b = refl;
+        beside = joined-sym Y b v (br .follows);
+      }) in
+      let c = clear Y L M v b p₁ in
       let at-L : bayOf (after p (brought ++ c .made .moves)) L ≡ v =
       rw after-append (cl .stays L (rw after-length hL) (rw (br .leads) (In-head v (b ∷ []))) ∙ br .leads) in
       let at-M : bayOf (after p (brought ++ c .made .moves)) M ≡ b =

@@ -11,7 +11,7 @@ use lib.Dec.{eqb}
 use borrow.Author.Tests.{not-true, not-false, ne-eqb}
 use Rattle.paper.specs.Basics.{if-some_then_else_, elem, upTo, In, Out}
 use Rattle.paper.specs.Yard.{Bay, Carrier, Yard, Placement, Crossing, crossing, bayOf, carrierAt, isEmpty, move, after, joined, legalPlan}
-use Rattle.paper.specs.Path.{rings, ringOf, inward, shortestPath, Free, nearestOf}
+use Rattle.paper.specs.Path.{nearestOf, rings, ringOf, inward, shortestPath, Free}
 use Rattle.paper.specs.Procedure.{Made, only, shift, vacate, nearestEmpty, filledBy, parking}
 use Rattle.paper.proofs.Tests.{by-cases, by-option, not-both, never-some}
 use Rattle.paper.proofs.Members.{Out-head, Out-tail}

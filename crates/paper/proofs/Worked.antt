@@ -21,7 +21,7 @@ use Rattle.paper.specs.Log
 
 -- every definition of the rules, opened, so that the checker computes with them
 unfoldable pub computing : Unit {0}
-unfolding Basics._and_ Basics._or_ Basics.filter Basics.any Basics.find Basics.concat Basics.firstOf Basics.firstBad Basics.lowestOf Basics.elem Basics.placeOf Basics.without Basics.countFrom Yard.occupied Yard.pack Yard.unpack Yard.reverseOf Yard.after Yard.joined Yard.neighbours Yard.carousel Yard.junction Yard.legal Yard.legalPlan Path.nextRing Path.ringsFrom Path.fewer Path.choice Path.nearestOf Path.ringOf Path.inward Path.shortestPath Path.pathBetween Procedure._then_ Procedure.cross Procedure.shift Procedure.nearestEmpty Procedure.vacate Procedure.exchange Procedure.trade Procedure.undo Procedure.bring Procedure.clearing Procedure.clear Procedure.finish Procedure.trialLed Procedure.trial Procedure.swap Procedure.step Procedure.orStuck Procedure.onward Procedure._next_ Procedure.go Procedure.homeAt Procedure.wayHome Procedure.along Procedure.carry Procedure.carryFrom Procedure.procedure Dependence.depend Dependence.highest Dependence.slotsAfter Dependence.slots Dependence.undoneBefore Dependence.outOfOrder Dependence.doneOf Dependence.undoneOf Dependence.countOf Docket.railsOf Docket.badSize Docket.badRail Docket.apartBay Docket.badPlace Docket.firstIllegal Docket.notHome Docket.badMarks Answers.firstSix Answers.crossingsOf Answers.within Answers.unless Answers.plan Answers.written Answers.accepts Answers.tell Answers.marksAfter Answers.check Answers.slotsRefusal Answers.slotsEnd Answers.report Log.reports Log.marksFrom Log.namesFrom
+unfolding Basics._and_ Basics._or_ Basics.filter Basics.any Basics.find Basics.concat Basics.firstOf Basics.firstBad Basics.lowestOf Basics.elem Basics.placeOf Basics.without Basics.countFrom Yard.occupied Yard.pack Yard.unpack Yard.reverseOf Yard.after Yard.joined Yard.neighbours Yard.carousel Yard.junction Yard.legal Yard.legalPlan Path.nextRing Path.ringsFrom Path.ringOf Path.inward Path.shortestPath Path.pathBetween Procedure._then_ Procedure.cross Procedure.shift Procedure.nearestEmpty Procedure.vacate Procedure.exchange Procedure.trade Procedure.undo Procedure.bring Procedure.clearing Procedure.clearOnce Procedure.aside Procedure.around Procedure.firstKept Procedure.goOn Procedure.goneOn Procedure.clear Procedure.finish Procedure.trialLed Procedure.trial Procedure.swap Procedure.step Procedure.orStuck Procedure.onward Procedure._next_ Procedure.go Procedure.homeAt Procedure.wayHome Procedure.along Procedure.carry Procedure.carryFrom Procedure.procedure Dependence.depend Dependence.highest Dependence.slotsAfter Dependence.slots Dependence.undoneBefore Dependence.outOfOrder Dependence.doneOf Dependence.undoneOf Dependence.countOf Docket.railsOf Docket.badSize Docket.badRail Docket.apartBay Docket.badPlace Docket.firstIllegal Docket.notHome Docket.badMarks Answers.firstSix Answers.crossingsOf Answers.within Answers.unless Answers.plan Answers.written Answers.accepts Answers.tell Answers.marksAfter Answers.check Answers.slotsRefusal Answers.slotsEnd Answers.report Log.reports Log.marksFrom Log.namesFrom Path.fewer Path.choice Path.nearestOf Answers.parkedOf Answers.beside Answers.planParked
 computing = tt
 
 -- a yard, and the names then reported one after the other from fresh marks
@@ -152,6 +152,29 @@ pub room-for-five : (planEnd 4 T (1 ∷ 0 ∷ []) (0 ∷ 1 ∷ []) (7 ∷ 7 ∷ 
     ≡ (7 ∷ 7 ∷ 7 ∷ 7 ∷ 7 ∷ []) ∷ (map pack Y1-plan ++ (7 ∷ [])) ∷ []
 unfolding computing
 room-for-five = refl
+
+-- ## Clearing goes on
+
+-- a triangle of bays 0, 1, 2, with bay 3 beside 0 and bay 4 beside 1; carrier 2 stands at 2, and carriers 0 and 1 trade bays 0 and 3
+abbrev triangle : List Bay
+triangle = 0 ∷ 1 ∷ 0 ∷ 2 ∷ 0 ∷ 3 ∷ 1 ∷ 2 ∷ 1 ∷ 4 ∷ []
+
+-- At junction 0 bay 1 alone is kept: the carrier at 2 goes to 1, and from there to 4.
+abbrev saved-aside : Worked
+saved-aside = worked 5 triangle (0 ∷ 3 ∷ 2 ∷ []) (3 ∷ 0 ∷ 2 ∷ []) []
+    (accepted (crossing 2 2 1 ∷ crossing 2 1 4 ∷ crossing 0 0 1 ∷ crossing 1 3 0 ∷ crossing 1 0 2 ∷ crossing 0 1 0 ∷ crossing 0 0 3 ∷ crossing 1 2 0 ∷ crossing 2 4 1 ∷ crossing 2 1 2 ∷ []))
+    (1 ∷ 2 ∷ 3 ∷ 4 ∷ 5 ∷ 6 ∷ 7 ∷ 8 ∷ 7 ∷ 9 ∷ []) []
+
+-- At junction 1, the follower at 0, bay 4 alone is kept: the two go forth to 4 and 1, the carrier at 2 goes to 0 and from there to 3, and the two go back.
+abbrev saved-around : Worked
+saved-around = worked 5 triangle (3 ∷ 0 ∷ 2 ∷ []) (0 ∷ 3 ∷ 2 ∷ []) []
+    (accepted (crossing 1 0 1 ∷ crossing 0 3 0 ∷ crossing 1 1 4 ∷ crossing 0 0 1 ∷ crossing 2 2 0 ∷ crossing 2 0 3 ∷ crossing 0 1 0 ∷ crossing 1 4 1 ∷ crossing 1 1 2 ∷ crossing 0 0 1 ∷ crossing 0 1 4 ∷ crossing 1 2 1 ∷ crossing 1 1 0 ∷ crossing 0 4 1 ∷ crossing 0 1 4 ∷ crossing 1 0 1 ∷ crossing 2 3 0 ∷ crossing 2 0 2 ∷ crossing 1 1 0 ∷ crossing 0 4 1 ∷ crossing 1 0 3 ∷ crossing 0 1 0 ∷ []))
+    (1 ∷ 2 ∷ 2 ∷ 3 ∷ 4 ∷ 5 ∷ 6 ∷ 7 ∷ 8 ∷ 9 ∷ 10 ∷ 11 ∷ 12 ∷ 13 ∷ 14 ∷ 15 ∷ 16 ∷ 17 ∷ 18 ∷ 19 ∷ 19 ∷ 20 ∷ []) []
+
+-- The two ways each save a yard in which clearing once is not enough.
+pub ways-worked : map (λ w. computed (w .given)) (saved-aside ∷ saved-around ∷ []) ≡ map (λ w. w .said) (saved-aside ∷ saved-around ∷ [])
+unfolding computing
+ways-worked = refl
 
 -- T, start 1,0, goal 0,1: what the check says of these plans
 abbrev checked : List Crossing → Option Refusal

@@ -127,12 +127,41 @@ module _ (Y : Yard) where
       then (λ m. following m (clearing v b (kept ++ (x ∷ [])) xs (after p (m .moves))))
       else passed
 
-  -- 2. Clear: "The follower is at b. Keep the empty neighbours of v other than b, at most the two lowest."
-  unfoldable pub clear : Bay → Bay → Placement → Cleared
-  clear v b p =
-      let around = without (b ∷ []) (neighbours Y v) in
-      let kept = take 2 (filter (isEmpty p) around) in
-      clearing v b kept (without kept around) p
+  -- 2. Clear: "The follower is at b. Keep the empty neighbours of v other than b, at most the two lowest." Then once through the others.
+  unfoldable pub clearOnce : Bay → Bay → Placement → Cleared
+  clearOnce v b p =
+      let others = without (b ∷ []) (neighbours Y v) in
+      let kept = take 2 (filter (isEmpty p) others) in
+      clearing v b kept (without kept others) p
+
+  -- The first way to go on with the one kept bay e: "vacate x holding v and b; then vacate e holding v, b and x."
+  unfoldable pub aside : Bay → Bay → Bay → Bay → Action
+  aside v b e x = vacate Y (v ∷ b ∷ []) x then vacate Y (v ∷ b ∷ x ∷ []) e
+
+  -- The second: "leader v→e, follower b→v, vacate x holding v and e, vacate b holding v, e and x, follower v→b, leader e→v." What is
+  -- vacated is as in the first, with b and e in each other's place.
+  unfoldable pub around : Carrier → Carrier → Bay → Bay → Bay → Bay → Action
+  around L M v b e x = cross L e then cross M v then aside v e b x then cross M b then cross L v
+
+  -- "for each other neighbour x except b, rising": the first attempt that succeeds counts, and x is kept with e
+  unfoldable pub firstKept : (Bay → Action) → Bay → List Bay → Placement → Option Cleared
+  firstKept attempt e xs p = firstOf (λ x. attempt x p >>= λ m. some (record { made = m; kept = x ∷ e ∷ [] })) xs
+
+  -- "First, for each [..]. If that never works, for each x [..]. Each attempt starts from the placement at which clearing ended".
+  unfoldable pub goOn : Carrier → Carrier → Bay → Bay → Bay → Placement → Option Cleared
+  goOn L M v b e p =
+      let others = without (b ∷ e ∷ []) (neighbours Y v) in
+      orElse (firstKept (aside v b e) e others p) (firstKept (around L M v b e) e others p)
+
+  -- "If clearing ends with exactly one kept bay e, go on": from p, by what is made and the bays kept
+  unfoldable pub goneOn : Carrier → Carrier → Bay → Bay → Placement → Made → List Bay → Cleared
+  goneOn L M v b p m [] = record { made = m; kept = [] }
+  goneOn L M v b p m (e ∷ []) = if-some goOn L M v b e (after p (m .moves)) then following m else record { made = m; kept = e ∷ [] }
+  goneOn L M v b p m (x ∷ y ∷ rest) = record { made = m; kept = x ∷ y ∷ rest }
+
+  -- The whole of step 2, with leader L at v and follower M at b.
+  unfoldable pub clear : Carrier → Carrier → Bay → Bay → Placement → Cleared
+  clear L M v b p = let once = clearOnce v b p in goneOn L M v b p (once .made) (once .kept)
 
   -- Steps 3 and 4 after what steps 1 and 2 made: "Fewer than two at the end: the trial fails." The vacates are counted once, "undoing
   -- left aside".
@@ -148,7 +177,7 @@ module _ (Y : Yard) where
       bring L M ahead p >>= λ brought.
       let p₁ = after p (brought .moves) in
       let b = bayOf p₁ M in
-      let cleared = clear v b p₁ in
+      let cleared = clear L M v b p₁ in
       finish L M v b (together brought (cleared .made)) (cleared .kept)
 
   -- "Take the shortest path from u to v. If its second bay is w, s leads and r follows; otherwise r leads."

@@ -12,7 +12,7 @@ use lib.ListN.{length}
 use borrow.Author.Tests.{not-true, not-false}
 use Rattle.paper.specs.Basics.{_and_, elem}
 use Rattle.paper.specs.Yard.{Bay, Crossing, crossing, carrierAt, isEmpty, joined, railsAt}
-use Rattle.paper.specs.Path.{Free, rings, ringOf, shortestPath, Rather}
+use Rattle.paper.specs.Path.{Free, Rather, rings, ringOf, shortestPath}
 use Rattle.paper.specs.Procedure.{nearestEmpty, shift, vacate}
 use Rattle.paper.proofs.Tests.{never-some, not-both, and-left, and-right, and-both}
 use Rattle.paper.proofs.Members.{count-high, in-count}

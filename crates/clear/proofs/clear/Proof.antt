@@ -4,7 +4,7 @@ use mathlib.Core.Path.{_≡_}
 use native.Mathlib.Omega.{arith}
 use lib.ListN.{length}
 use borrow.Author.Needs.{needs}
-use Rattle.clear.proofs.Clearing.{lowest-in, two-short, two-both, two-more, clears-short, clears-as, twoShown, first-none, first-then, clear-none, clear-one, clear-two, around-of, inside-of, inside-less, holdsTwo, ready-again, clears-both}
+use Rattle.clear.proofs.Clearing.{lowest-in, two-short, two-both, two-from, two-within, clears-short, clears-as, twoShown, first-none, first-then, clear-none, clear-one, clear-two, around-of, inside-of, inside-less, holdsTwo, lowest-free, kept-free, ready-again, clears-both}
 use Rattle.clear.specs.declared.Kept.the-variants.{Nothing}
 use Rattle.clear.specs.declared.Kept.the-variants.{One}
 use Rattle.clear.proofs.clear.Statement.{statement}
@@ -81,7 +81,7 @@ returns c =
     let j = inside-less i _ _ (c .before .before .before .before .before .remove2 .ensures) in
     let hx = lowest-in _ i (c .before .before .before .before .before .before .before .before .lowest-common .ensures) (c .before .before .before .before .before .before .before .if1 .taken) in
     let hy = lowest-in _ j (c .before .lowest-common2 .ensures) (c .if2 .taken) in
-    (two-both (c .before .before .before .before .before .before .before .if1 .taken) (c .if2 .taken) (omega arith), λ t. clears-both (clear-two (around-of t _ _ _ _ (p .most) (z .0) (c .before .before .before .before .before .before .before .before .before .before .before .before .before .before .before .before .before .before .before .before .before .before .before .before .join-row .ensures) (c .before .before .before .before .before .before .before .before .before .before .before .before .before .before .before .before .before .before .before .before .remove .ensures)) (p .most) (p .placed) (c .before .before .before .before .before .before .before .before .lowest-common .ensures) hx _ (c .before .before .before .before .before .remove2 .ensures) (c .before .lowest-common2 .ensures) hy) _ _ (p .placed))
+    (two-both (c .before .before .before .before .before .before .before .if1 .taken) (c .if2 .taken) (omega arith) (omega arith), λ t. clears-both (clear-two (around-of t _ _ _ _ (p .most) (z .0) (c .before .before .before .before .before .before .before .before .before .before .before .before .before .before .before .before .before .before .before .before .before .before .before .before .join-row .ensures) (c .before .before .before .before .before .before .before .before .before .before .before .before .before .before .before .before .before .before .before .before .remove .ensures)) (p .most) (p .placed) (c .before .before .before .before .before .before .before .before .lowest-common .ensures) hx _ (c .before .before .before .before .before .remove2 .ensures) (c .before .lowest-common2 .ensures) hy) _ _ (p .placed))
 
 slice-aggregate-keep-second : tie.Need-slice-aggregate-keep-second
 slice-aggregate-keep-second c = search needs
@@ -97,7 +97,8 @@ keep-second-requires c κs =
     let p = c .before .before .before .before .before .before .before .before .before .before .before .before .before .before .before .before .before .before .before .before .before .before .before .before .before .before .before .before .before .before .before .before .before .before .before .before .before .before .pre .0 in
     let z = c .before .before .before .before .before .before .before .before .before .before .before .before .before .before .before .before .before .before .before .before .before .before .before .before .before .before .before .before .before .before .before .before .before .before .before .before .before .before .pre .1 in
     let i = inside-of (p .tabled) _ _ _ _ (z .0) (c .before .before .before .before .before .before .before .before .before .before .before .before .before .before .before .before .before .before .before .before .before .before .before .before .before .before .before .before .before .before .join-row .ensures) (c .before .before .before .before .before .before .before .before .before .before .before .before .before .before .before .before .before .before .before .before .before .before .before .before .before .before .remove .ensures) in
-    (p, (search needs, search needs, omega arith, c .before .before .before .before .before .before .before .before .before .before .before .before .before .if1 .taken, inside-less i _ _ (c .before .before .before .before .before .before .before .before .before .before .before .remove2 .ensures), omega (arith, z .2), holdsTwo (p .tabled) _ _ _ _ (c .before .before .before .before .before .before .before .before .before .before .before .before .before .before .before .before .before .before .before .before .before .before .alone .ensures) (c .before .before .before .before .before .before .before .before .before .before .before .before .before .before .before .before .before .before .join .ensures)))
+    let hx = lowest-in _ i (c .before .before .before .before .before .before .before .before .before .before .before .before .before .before .lowest-common .ensures) (c .before .before .before .before .before .before .before .before .before .before .before .before .before .if1 .taken) in
+    (p, (search needs, search needs, omega arith, hx, inside-less i _ _ (c .before .before .before .before .before .before .before .before .before .before .before .remove2 .ensures), omega (arith, z .2), holdsTwo (p .tabled) _ _ _ _ (c .before .before .before .before .before .before .before .before .before .before .before .before .before .before .before .before .before .before .before .before .before .before .alone .ensures) (c .before .before .before .before .before .before .before .before .before .before .before .before .before .before .before .before .before .before .join .ensures), lowest-free _ (p .placed) (c .before .before .before .before .before .before .before .before .before .before .before .before .before .before .lowest-common .ensures) hx (p .most)))
 
 same-length-2 : tie.Need-same-length-2
 same-length-2 c = search needs
@@ -117,7 +118,7 @@ returns-2 c =
     let z = c .before .before .before .before .before .before .before .before .before .before .before .before .before .before .before .before .before .before .before .before .before .before .before .before .before .before .before .before .before .before .before .before .before .before .before .before .before .before .before .before .before .before .before .before .before .before .before .before .pre .1 in
     let i = inside-of (p .tabled) _ _ _ _ (z .0) (c .before .before .before .before .before .before .before .before .before .before .before .before .before .before .before .before .before .before .before .before .before .before .before .before .before .before .before .before .before .before .before .before .before .before .before .before .before .before .before .before .join-row .ensures) (c .before .before .before .before .before .before .before .before .before .before .before .before .before .before .before .before .before .before .before .before .before .before .before .before .before .before .before .before .before .before .before .before .before .before .before .before .remove .ensures) in
     let hx = lowest-in _ i (c .before .before .before .before .before .before .before .before .before .before .before .before .before .before .before .before .before .before .before .before .before .before .before .before .lowest-common .ensures) (c .before .before .before .before .before .before .before .before .before .before .before .before .before .before .before .before .before .before .before .before .before .before .before .if1 .taken) in
-    (two-more (omega arith) (c .before .before .before .before .before .before .before .before .before .keep-second .ensures .0), λ t. clears-as (clear-one (around-of t _ _ _ _ (p .most) (z .0) (c .before .before .before .before .before .before .before .before .before .before .before .before .before .before .before .before .before .before .before .before .before .before .before .before .before .before .before .before .before .before .before .before .before .before .before .before .before .before .before .before .join-row .ensures) (c .before .before .before .before .before .before .before .before .before .before .before .before .before .before .before .before .before .before .before .before .before .before .before .before .before .before .before .before .before .before .before .before .before .before .before .before .remove .ensures)) (p .most) (p .placed) (c .before .before .before .before .before .before .before .before .before .before .before .before .before .before .before .before .before .before .before .before .before .before .before .before .lowest-common .ensures) hx _ (c .before .before .before .before .before .before .before .before .before .before .before .before .before .before .before .before .before .before .before .before .before .remove2 .ensures) (c .before .before .before .before .before .before .before .before .before .before .before .before .before .before .before .before .before .lowest-common2 .ensures) (c .before .before .before .before .before .before .before .before .before .before .before .before .before .before .before .before .if2 .left)) (c .before .before .before .before .before .before .before .before .before .keep-second .ensures .1 t (holdsTwo t _ _ _ _ (c .before .before .before .before .before .before .before .before .before .before .before .before .before .before .before .before .before .before .before .before .before .before .before .before .before .before .before .before .before .before .before .before .alone .ensures) (c .before .before .before .before .before .before .before .before .before .before .before .before .before .before .before .before .before .before .before .before .before .before .before .before .before .before .before .before .join .ensures))))
+    (two-within (omega arith) (c .before .before .before .before .before .before .before .before .before .keep-second .ensures .0), λ t. clears-as (clear-one (around-of t _ _ _ _ (p .most) (z .0) (c .before .before .before .before .before .before .before .before .before .before .before .before .before .before .before .before .before .before .before .before .before .before .before .before .before .before .before .before .before .before .before .before .before .before .before .before .before .before .before .before .join-row .ensures) (c .before .before .before .before .before .before .before .before .before .before .before .before .before .before .before .before .before .before .before .before .before .before .before .before .before .before .before .before .before .before .before .before .before .before .before .before .remove .ensures)) (p .most) (p .placed) (c .before .before .before .before .before .before .before .before .before .before .before .before .before .before .before .before .before .before .before .before .before .before .before .before .lowest-common .ensures) hx _ (c .before .before .before .before .before .before .before .before .before .before .before .before .before .before .before .before .before .before .before .before .before .remove2 .ensures) (c .before .before .before .before .before .before .before .before .before .before .before .before .before .before .before .before .before .lowest-common2 .ensures) (c .before .before .before .before .before .before .before .before .before .before .before .before .before .before .before .before .if2 .left)) (c .before .before .before .before .before .before .before .before .before .keep-second .ensures .1 t (holdsTwo t _ _ _ _ (c .before .before .before .before .before .before .before .before .before .before .before .before .before .before .before .before .before .before .before .before .before .before .before .before .before .before .before .before .before .before .before .before .alone .ensures) (c .before .before .before .before .before .before .before .before .before .before .before .before .before .before .before .before .before .before .before .before .before .before .before .before .before .before .before .before .join .ensures))))
 
 slice-aggregate-keep-one : tie.Need-slice-aggregate-keep-one
 slice-aggregate-keep-one c = search needs
@@ -155,7 +156,7 @@ returns-3 c =
     let p = c .before .before .before .before .before .before .before .before .before .before .before .before .before .before .before .before .before .before .before .before .before .before .before .before .before .before .before .before .before .before .before .before .before .before .before .before .before .before .before .before .before .before .pre .0 in
     let z = c .before .before .before .before .before .before .before .before .before .before .before .before .before .before .before .before .before .before .before .before .before .before .before .before .before .before .before .before .before .before .before .before .before .before .before .before .before .before .before .before .before .before .pre .1 in
     let e : c .before .before .before .before .before .before .before .before .before .before .keep-one .result ≡ Nothing = c .enum-told .given .1 in
-    (two-short _ _, λ t. clears-short (rw (clear-none (around-of t _ _ _ _ (p .most) (z .0) (c .before .before .before .before .before .before .before .before .before .before .before .before .before .before .before .before .before .before .before .before .before .before .before .before .before .before .before .before .before .before .before .before .before .before .join-row .ensures) (c .before .before .before .before .before .before .before .before .before .before .before .before .before .before .before .before .before .before .before .before .before .before .before .before .before .before .before .before .before .before .remove .ensures)) (p .most) (p .placed) (c .before .before .before .before .before .before .before .before .before .before .before .before .before .before .before .before .before .before .lowest-common .ensures) (c .before .before .before .before .before .before .before .before .before .before .before .before .before .before .before .before .before .if1 .left)) (first-none _ _ _ _ _ _ (p .most) (rw e at (c .before .before .before .before .before .before .before .before .before .before .keep-one .ensures .1 (twoShown t (holdsTwo t _ _ _ _ (c .before .before .before .before .before .before .before .before .before .before .before .before .before .before .before .before .before .before .before .before .before .before .before .before .before .before .alone .ensures) (c .before .before .before .before .before .before .before .before .before .before .before .before .before .before .before .before .before .before .before .before .before .before .join .ensures))))))))
+    (two-short _ _, λ t. clears-short (rw (clear-none (around-of t _ _ _ _ (p .most) (z .0) (c .before .before .before .before .before .before .before .before .before .before .before .before .before .before .before .before .before .before .before .before .before .before .before .before .before .before .before .before .before .before .before .before .before .before .join-row .ensures) (c .before .before .before .before .before .before .before .before .before .before .before .before .before .before .before .before .before .before .before .before .before .before .before .before .before .before .before .before .before .before .remove .ensures)) (p .most) (p .placed) (c .before .before .before .before .before .before .before .before .before .before .before .before .before .before .before .before .before .before .lowest-common .ensures) (c .before .before .before .before .before .before .before .before .before .before .before .before .before .before .before .before .before .if1 .left)) (first-none _ _ _ _ _ _ (p .most) ((rw e at (c .before .before .before .before .before .before .before .before .before .before .keep-one .ensures .1 (twoShown t (holdsTwo t _ _ _ _ (c .before .before .before .before .before .before .before .before .before .before .before .before .before .before .before .before .before .before .before .before .before .before .before .before .before .before .alone .ensures) (c .before .before .before .before .before .before .before .before .before .before .before .before .before .before .before .before .before .before .before .before .before .before .join .ensures))))) .stuck))))
 
 slice-aggregate-keep-second-3 : tie.Need-slice-aggregate-keep-second-3
 slice-aggregate-keep-second-3 c = omega (arith, c .before .before .before .before .before .before .before .before .before .before .before .before .before .before .before .before .before .before .before .before .before .before .before .before .before .before .before .before .before .before .before .before .remove .kept .0, c .before .before .before .before .before .before .before .before .before .before .before .before .before .before .before .before .before .before .before .before .before .before .before .before .before .before .before .before .before .before .before .before .before .before .before .before .join-row .kept .0)
@@ -183,7 +184,7 @@ keep-second-requires-2 c κs =
     let i = inside-of (p .tabled) _ _ _ _ (z .0) (c .before .before .before .before .before .before .before .before .before .before .before .before .before .before .before .before .before .before .before .before .before .before .before .before .before .before .before .before .before .before .before .before .before .before .before .before .before .before .before .before .before .before .join-row .ensures) (c .before .before .before .before .before .before .before .before .before .before .before .before .before .before .before .before .before .before .before .before .before .before .before .before .before .before .before .before .before .before .before .before .before .before .before .before .before .before .remove .ensures) in
     let kw : length (c .before .before .before .before .before .before .before .before .before .before .before .before .before .before .before .before .before .before .keep-one .last .1 .1 .1 .1 .1 .0) ≡ length (c .before .before .before .before .before .before .before .before .before .before .before .before .before .before .before .before .before .before .before .before .before .before .before .before .before .before .before .before .before .before .before .before .before .before .before .before .before .before .before .before .before .before .before .before .before .before .before .before .before .before .args .standing .now) = c .before .before .before .before .before .before .before .before .before .before .before .before .before .before .before .before .before .before .keep-one .kept .1 .1 .1 .1 .1 .0 in
     let kf = c .before .before .before .before .before .before .before .before .before .before .before .before .before .before .before .before .before .before .keep-one .kept .1 .1 .1 .1 .1 .1 .0 in
-    (ready-again p _ _ _ kw kf (o .played .placed), (omega (arith, c .before .before .before .before .before .before .before .before .before .before .before .before .before .before .before .before .before .before .before .before .before .before .before .before .before .before .before .before .before .before .before .before .before .before .before .before .before .before .remove .kept .0, c .before .before .before .before .before .before .before .before .before .before .before .before .before .before .before .before .before .before .before .before .before .before .before .before .before .before .before .before .before .before .before .before .before .before .before .before .before .before .before .before .before .before .join-row .kept .0), omega (arith, c .before .before .before .before .before .before .before .before .before .before .before .before .before .before .before .before .before .before .before .before .before .before .before .before .before .before .before .before .before .before .join .kept .0, c .before .before .before .before .before .before .before .before .before .before .before .before .before .before .before .before .before .before .before .before .before .before .before .before .before .before .before .before .before .before .before .before .before .before .alone .kept .0), omega (arith, o .low, kw), few .0, rw kw i, omega (arith, few .1, z .2), h))
+    (ready-again p _ _ _ kw kf (o .played .placed), (omega (arith, c .before .before .before .before .before .before .before .before .before .before .before .before .before .before .before .before .before .before .before .before .before .before .before .before .before .before .before .before .before .before .before .before .before .before .before .before .before .before .remove .kept .0, c .before .before .before .before .before .before .before .before .before .before .before .before .before .before .before .before .before .before .before .before .before .before .before .before .before .before .before .before .before .before .before .before .before .before .before .before .before .before .before .before .before .before .join-row .kept .0), omega (arith, c .before .before .before .before .before .before .before .before .before .before .before .before .before .before .before .before .before .before .before .before .before .before .before .before .before .before .before .before .before .before .join .kept .0, c .before .before .before .before .before .before .before .before .before .before .before .before .before .before .before .before .before .before .before .before .before .before .before .before .before .before .before .before .before .before .before .before .before .before .alone .kept .0), omega (arith, o .low, kw), rw kw (o .low), rw kw i, omega (arith, few .1, z .2), h, kept-free (p .tabled) (p .placed) o))
 
 same-length-10 : tie.Need-same-length-10
 same-length-10 c = search needs
@@ -204,7 +205,7 @@ returns-4 c =
     let e : c .before .before .before .before .before .before .before .before .before .before .before .before .before .before .before .before .before .before .before .before .before .before .before .before .before .before .before .before .keep-one .result ≡ One (c .before .before .before .before .before .before .before .before .before .before .before .before .before .before .before .before .before .before .first .given .0 .0) (c .before .before .before .before .before .before .before .before .before .before .before .before .before .before .before .before .before .before .first .given .0 .1 .0) = c .before .before .before .before .before .before .before .before .before .before .before .before .before .before .before .before .before .before .first .given .1 in
     let few = rw e at (c .before .before .before .before .before .before .before .before .before .before .before .before .before .before .before .before .before .before .before .before .before .before .before .before .before .before .before .before .keep-one .ensures .0) in
     let kw : length (c .before .before .before .before .before .before .before .before .before .before .before .before .before .before .before .before .before .before .before .before .before .before .before .before .before .before .before .before .keep-one .last .1 .1 .1 .1 .1 .0) ≡ length (c .before .before .before .before .before .before .before .before .before .before .before .before .before .before .before .before .before .before .before .before .before .before .before .before .before .before .before .before .before .before .before .before .before .before .before .before .before .before .before .before .before .before .before .before .before .before .before .before .before .before .before .before .before .before .before .before .before .before .before .before .args .standing .now) = c .before .before .before .before .before .before .before .before .before .before .before .before .before .before .before .before .before .before .before .before .before .before .before .before .before .before .before .before .keep-one .kept .1 .1 .1 .1 .1 .0 in (
-      two-more (few .1) (c .before .before .before .before .before .before .before .before .before .keep-second2 .ensures .0),
+      two-from 256 (few .2) (few .1) (c .before .before .before .before .before .before .before .before .before .keep-second2 .ensures .0),
       λ t.
           let h = holdsTwo t _ _ _ _ (c .before .before .before .before .before .before .before .before .before .before .before .before .before .before .before .before .before .before .before .before .before .before .before .before .before .before .before .before .before .before .before .before .before .before .before .before .before .before .before .before .before .before .before .before .alone .ensures) (c .before .before .before .before .before .before .before .before .before .before .before .before .before .before .before .before .before .before .before .before .before .before .before .before .before .before .before .before .before .before .before .before .before .before .before .before .before .before .before .before .join .ensures) in
           let o = rw e at (c .before .before .before .before .before .before .before .before .before .before .before .before .before .before .before .before .before .before .before .before .before .before .before .before .before .before .before .before .keep-one .ensures .1 (twoShown t h)) in

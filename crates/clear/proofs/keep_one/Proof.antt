@@ -9,9 +9,9 @@ use borrow.Author.Needs.{needs}
 use Rattle.words.specs.Sets.{mem, span}
 use Rattle.rings.specs.Search.{Shown}
 use Rattle.vacate.specs.Placed.{Unchanged}
-use Rattle.bring.proofs.Acting.{acted-failed}
+use Rattle.bring.proofs.Acting.{acted-done, acted-failed}
 use Rattle.clear.specs.Keeping.{Stuck}
-use Rattle.clear.proofs.Clearing.{same-again, stuck-none, stuck-more, keeps-here, ready-again}
+use Rattle.clear.proofs.Clearing.{same-again, unchanged-played, stuck-none, stuck-more, keeps-here, ready-again}
 use Rattle.bring.specs.declared.Tried.the-variants.{Done}
 use Rattle.bring.specs.declared.Tried.the-variants.{Failed}
 use Rattle.clear.proofs.keep_one.Statement.{statement}
@@ -69,7 +69,7 @@ returns c =
     let e : c .before .before .before .before .before .before .before .before .before .before .before .make-room .result ≡ Done (c .before .vacated .given .0 .0) = c .before .vacated .given .1 in
     let few = rw e at (c .before .before .before .before .before .before .before .before .before .before .before .make-room .ensures .0) in
     let f = rw kw at (c .before .before .before .before .before .before .before .before .before .before .before .make-room .ensures .1) in
-    ((t, few), λ w. keeps-here (v .1) (z .3 .low _ t (v .2 t)) (v .2 t) (v .8 w) (v .7) (rw e at (f w)))
+    ((t, few, omega (arith, acted-done (rw e at (f (z .5))) .2 .counted)), λ w. keeps-here (v .1) (z .3 .low _ t (v .2 t)) (v .2 t) (v .8 w) (v .7) (rw e at (f w)))
 
 enum-told : tie.Need-enum-told Inv-loop μ-loop
 enum-told c = search needs
@@ -118,7 +118,9 @@ same-length-8 : tie.Need-same-length-8 Inv-loop μ-loop
 same-length-8 c = search needs
 
 returns-2 : tie.Need-returns-2 Inv-loop μ-loop
-returns-2 c = (tt, λ v y h k m. c .before .loop .inv .8 v y h (omega (arith, c .loop-test .left)) m)
+returns-2 c =
+    let v = c .before .loop .inv in
+    (tt, λ w. record { stuck = λ y h k m. v .8 w y h (omega (arith, c .loop-test .left)) m; played = unchanged-played (c .before .before .before .before .before .before .before .before .before .before .pre .0 .placed) (v .7) })
 
 pub keep-one-spec : {M : Type 1} → statement M
 keep-one-spec =

@@ -3,7 +3,7 @@
 use mathlib.Core.Path.{_≡_}
 use native.Mathlib.Omega.{arith}
 use borrow.Author.Needs.{needs}
-use Rattle.clear.proofs.Clearing.{two-short, two-both, clears-short, heldShown, second-both, second-short}
+use Rattle.clear.proofs.Clearing.{two-single, two-both, heldShown, second-both, second-single}
 use Rattle.clear.specs.declared.Kept.the-variants.{Nothing}
 use Rattle.clear.specs.declared.Kept.the-variants.{One}
 use Rattle.clear.proofs.keep_second.Statement.{statement}
@@ -47,7 +47,7 @@ returns c =
     let p = c .before .before .before .before .before .before .before .before .before .before .before .before .before .before .before .before .before .before .before .before .before .before .before .before .before .before .before .before .pre .0 in
     let z = c .before .before .before .before .before .before .before .before .before .before .before .before .before .before .before .before .before .before .before .before .before .before .before .before .before .before .before .before .pre .1 in
     let e : c .before .before .before .before .before .before .before .before .before .before .keep-one .result ≡ Nothing = c .enum-told .given .1 in
-    (two-short _ _, λ t h. clears-short (second-short _ _ _ _ _ _ _ _ (z .2) (p .most) (rw e at (c .before .before .before .before .before .before .before .before .before .before .keep-one .ensures .1 (heldShown t h _ (c .before .before .before .before .before .before .before .before .before .before .before .before .before .before .before .before .before .before .join .ensures))))))
+    (two-single (omega (arith, z .3, p .most)) (omega arith) (omega arith), λ t h. second-single (z .2) (p .most) (z .3) (z .7) (rw e at (c .before .before .before .before .before .before .before .before .before .before .keep-one .ensures .1 (heldShown t h _ (c .before .before .before .before .before .before .before .before .before .before .before .before .before .before .before .before .before .before .join .ensures)))))
 
 same-length-6 : tie.Need-same-length-6
 same-length-6 c = search needs
@@ -69,7 +69,7 @@ returns-2 c =
     let z = c .before .before .before .before .before .before .before .before .before .before .before .before .before .before .before .before .before .before .before .before .before .before .before .before .before .before .before .before .before .pre .1 in
     let e : c .before .before .before .before .before .before .before .before .before .before .before .keep-one .result ≡ One (c .before .second .given .0 .0) (c .before .second .given .0 .1 .0) = c .before .second .given .1 in
     let few = rw e at (c .before .before .before .before .before .before .before .before .before .before .before .keep-one .ensures .0) in
-    (two-both (z .3) (few .0) (few .1), λ t h. second-both (rw e at (c .before .before .before .before .before .before .before .before .before .before .before .keep-one .ensures .1 (heldShown t h _ (c .before .before .before .before .before .before .before .before .before .before .before .before .before .before .before .before .before .before .before .join .ensures)))))
+    (two-both (omega (arith, z .3, c .before .before .before .before .before .before .before .before .before .before .before .before .before .before .before .before .before .before .before .before .before .before .before .before .before .before .before .before .before .pre .0 .most)) (few .0) (few .1) (few .2), λ t h. second-both (rw e at (c .before .before .before .before .before .before .before .before .before .before .before .keep-one .ensures .1 (heldShown t h _ (c .before .before .before .before .before .before .before .before .before .before .before .before .before .before .before .before .before .before .before .join .ensures)))))
 
 pub keep-second-spec : {M : Type 1} → statement M
 keep-second-spec =
