@@ -6,7 +6,7 @@ pub mod Circling
 pub mod Leading
 pub mod Ordering
 pub mod Mirroring
-pub mod Walking
+pub mod Seeing
 pub mod Opening
 pub mod Crowding
 pub mod Counting

@@ -14,7 +14,7 @@ use Rattle.paper.specs.Procedure.{planned, stuck}
 use Rattle.paper.specs.Docket.{stopped, room, yardOf}
 use Rattle.paper.specs.Answers.{Answer, accepted, refused, within, firstSix}
 use Rattle.paper.proofs.Tests.{by-cases, never}
-use Rattle.paper.proofs.Planning.{TooLong, within-stuck, within-fits, within-long}
+use Rattle.paper.proofs.Planning.{within-stuck, within-fits, within-long}
 use Rattle.paper.proofs.Admitted.{clean-of, sound-of, good-of}
 use Rattle.carousels.specs.Carousel.{carousel}
 use Rattle.carousels.specs.Leads.{Leads}

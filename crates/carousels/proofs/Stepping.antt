@@ -55,7 +55,7 @@ module _ (Y : Yard) (sound : Sound Y) (o : Round Y) (goals : Placement) (r : Car
     step-goes : Some (step Y r r w p)
     unfolding step cross
     step-goes =
-        let room = room-ahead Y sound goals r p due roomy o w rest rail free route in
+        let room = room-ahead Y sound goals r p due o roomy w rest rail free route in
         let runs = then-runs (vacate Y (holding r r p) w) (cross r w) p (room .0) _ (room .1) refl in
         by-option (step Y r r w p)
         (λ h. never-some _ (sym ((none-both _ _ h) .0) ∙ runs))
