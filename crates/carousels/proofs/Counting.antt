@@ -17,7 +17,7 @@ use Rattle.carousels.proofs.Circling.{seen-between}
 use Rattle.carousels.proofs.Ordering.{Three, order-kept}
 use Rattle.carousels.proofs.Seeing.{far, onBay, far-low, far-own, far-some, far-same, far-on, on-none}
 use Rattle.carousels.proofs.Opening.{same, goals-good, now-low, then-low, own-low, finished-there, home-place}
-use Rattle.carousels.proofs.Crowding.{crowded}
+use Rattle.carousels.proofs.Crowding.{no-more}
 
 module _ (Y : Yard) (sound : Sound Y) (goals : Placement) (r : Carrier) (p : Placement) (due : Due Y goals r p) (o : Round Y) where
   -- the carrier that stands d places on from r
@@ -38,13 +38,11 @@ module _ (Y : Yard) (sound : Sound Y) (goals : Placement) (r : Carrier) (p : Pla
       λ j h. by-cases (eqb j 0)
       (λ e. rw (eqb-true j 0 e, on-none Y o (bayOf p r) own) (bay-in p r (due .turn)))
       (λ e. let ne = eqb-false j 0 e in all j (omega arith) h) in
-      crowded (length p) at
-      (λ j h. placeOf-there p (onBay Y o (bayOf p r) j) (taken j (omega arith)))
+      let few = no-more (Y .bays) (length p) (λ j h. at j) (λ j h. placeOf-there p (onBay Y o (bayOf p r) j) (taken j h))
       (λ i j hi hj e.
-      let a = at-far i (omega arith) (taken i (omega arith)) in
-      let b = at-far j (omega arith) (taken j (omega arith)) in
       let s : far Y o (bayOf p r) (bayOf p (at i)) ≡ far Y o (bayOf p r) (bayOf p (at j)) = ap (λ c. far Y o (bayOf p r) (bayOf p c)) e in
-      omega arith)
+      omega (arith, at-far i hi (taken i hi), at-far j hj (taken j hj))) in
+      omega arith
 
   -- ## A finished carrier f further on than r's goal: not every place up to it is taken
 
@@ -111,10 +109,12 @@ module _ (Y : Yard) (sound : Sound Y) (goals : Placement) (r : Carrier) (p : Pla
 
     pub not-all-between : ⊥
     not-all-between =
-        crowded (far Y o (bayOf p r) (bayOf p f) - 2) (λ i. far-then (at (suc i)) - 1)
+        let D = far Y o (bayOf p r) (bayOf p f) in
+        let few = no-more (D - 1) (D - 2) (λ i h. far-then (at (suc i)) - 1)
         (λ i h. omega (arith, then-on (suc i) (omega arith) (omega arith), then-before (suc i) (omega arith) (omega arith)))
         (λ i j hi hj e.
         let on-i = then-on (suc i) (omega arith) (omega arith) in
         let on-j = then-on (suc j) (omega arith) (omega arith) in
         let z = then-once (suc i) (suc j) (omega arith) (omega arith) (omega arith) (omega arith) (omega arith) in
-        omega arith)
+        omega arith) in
+        omega arith

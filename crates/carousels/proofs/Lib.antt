@@ -1,4 +1,4 @@
-pub mod Fitting
+pub mod Crowding
 pub mod GoingRound
 pub mod Closing
 pub mod OneRing
@@ -8,7 +8,6 @@ pub mod Ordering
 pub mod Mirroring
 pub mod Seeing
 pub mod Opening
-pub mod Crowding
 pub mod Counting
 pub mod Room
 pub mod Stepping
