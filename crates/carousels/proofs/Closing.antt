@@ -3,20 +3,16 @@
 use mathlib.Core.Path.{_≡_, refl, sym, _∙_, ap}
 use mathlib.Core.Bool.{true}
 use mathlib.Core.Logic.{_⊎_, inl, inr, ⊎-elim}
-use mathlib.Core.List.{List, [], _∷_}
 use Prim.Native.Nat.{ℕ, zero, suc, _<_, _≤_}
 use native.Mathlib.Omega.{arith}
 use lib.Dec.{eqb, ltb}
-use lib.ListN.{length}
 use borrow.Author.Tests.{eqb-true, eqb-false, ltb-true, ltb-false}
-use Rattle.paper.specs.Basics.{elem, upTo, In, NoDup}
 use Rattle.paper.specs.Yard.{Bay, Yard, joined}
 use Rattle.paper.proofs.Tests.{by-cases}
-use Rattle.paper.proofs.Members.{In-nil, In-head, In-tail, In-cases, in-count}
 use Rattle.paper.proofs.Rings.{joined-sym}
 use Rattle.paper.proofs.Playing.{Sound}
 use Rattle.carousels.specs.Round.{Next}
-use Rattle.carousels.proofs.Fitting.{no-longer, count-length}
+use Rattle.carousels.proofs.Crowding.{no-more}
 use Rattle.carousels.proofs.GoingRound.{GoingRound}
 
 -- the first k bays of the walk are different bays
@@ -83,49 +79,8 @@ module _ (Y : Yard) (sound : Sound Y) (w : GoingRound Y) where
 
   -- ## As many bays as the yard has
 
-  -- the first k bays, the latest first
-  pub walked : ℕ → List Bay
-  walked zero = []
-  walked (suc k) = at k ∷ walked k
-
-  pub walked-length : (k : ℕ) → length (walked k) ≡ k
-  unfolding walked
-  walked-length zero = refl
-  walked-length (suc k) = ap suc (walked-length k)
-
-  pub in-walked : (k i : ℕ) → i < k → In (at i) (walked k)
-  unfolding walked
-  in-walked zero i l = absurd (omega arith)
-  in-walked (suc k) i l =
-      by-cases (eqb i k)
-      (λ e. rw (eqb-true i k e) (In-head (at k) (walked k)))
-      (λ e. let d = eqb-false i k e in In-tail (at i) (at k) (walked k) (in-walked k i (omega arith)))
-
-  walked-in : (k : ℕ) (x : Bay) → In x (walked k) → (i : ℕ) × (i < k) × (x ≡ at i)
-  unfolding walked
-  walked-in zero x i = In-nil x i
-  walked-in (suc k) x i =
-      In-cases x (at k) (walked k) i
-      (λ e. (k, omega arith, e))
-      (λ h. let t = walked-in k x h in (t .0, omega arith, t .2))
-
-  walked-once : (k : ℕ) → Different at k → NoDup (walked k)
-  unfolding walked
-  walked-once zero d = tt
-  walked-once (suc k) d = (
-    by-cases (elem (at k) (walked k))
-        (λ i. let t = walked-in k (at k) i in let same = d k (t .0) (omega arith) (omega arith) (t .2) in absurd (omega arith))
-        (λ o. o),
-    walked-once k (λ i j hi hj e. d i j (omega arith) (omega arith) e),
-  )
-
   pub few : (k : ℕ) → Different at k → k ≤ Y .bays
-  few k d =
-      let l = no-longer (walked k) (upTo (Y .bays)) (walked-once k d)
-      (λ x i.
-      let t = walked-in k x i in
-      rw (t .2) (in-count 0 (Y .bays) (at (t .0)) (omega arith) (let h = w .low (t .0) in omega arith))) in
-      omega (arith, l, walked-length k, count-length 0 (Y .bays))
+  few k d = no-more k (Y .bays) (λ i l. at i) (λ i l. w .low i) (λ i j hi hj e. d i j hi hj e)
 
   pub closes-somewhere : (m : ℕ) × Closed at m
   closes-somewhere =

@@ -9,138 +9,112 @@ use borrow.Author.Tests.{eqb-true, eqb-false}
 use Rattle.paper.specs.Basics.{In}
 use Rattle.paper.specs.Yard.{Carrier, Yard, Placement, bayOf, carrierAt}
 use Rattle.paper.proofs.Tests.{by-cases}
-use Rattle.paper.proofs.Playing.{Sound, Good, bay-in, placeOf-bay, placeOf-there}
+use Rattle.paper.proofs.Playing.{Sound, bay-in, placeOf-bay, placeOf-there}
 use Rattle.carousels.specs.Round.{Round}
 use Rattle.carousels.specs.Due.{Due}
-use Rattle.carousels.specs.Order.{ahead, further, stands, Before}
-use Rattle.carousels.proofs.Circling.{ahead-low, ahead-self, ahead-same, ahead-some, seen-between, further-none, ahead-further}
-use Rattle.carousels.proofs.Ordering.{low, stands-low, stands-apart, Three, order-kept}
-use Rattle.carousels.proofs.Walking.{bayOn, place-on}
-use Rattle.carousels.proofs.Opening.{same, goals-good, at-start, at-goal, finished-low, finished-home}
-use Rattle.carousels.proofs.Crowding.{crowded}
+use Rattle.carousels.specs.Order.{Before}
+use Rattle.carousels.proofs.Circling.{seen-between}
+use Rattle.carousels.proofs.Ordering.{Three, order-kept}
+use Rattle.carousels.proofs.Seeing.{far, onBay, far-low, far-own, far-some, far-same, far-on, on-none}
+use Rattle.carousels.proofs.Opening.{same, goals-good, now-low, then-low, own-low, finished-there, home-place}
+use Rattle.carousels.proofs.Crowding.{no-more}
 
-module _ (Y : Yard) (o : Round Y) (p : Placement) (good : Good Y p) (i : ℕ) (hi : i < Y .bays) where
-  -- the carrier that stands d places on from place i
-  abbrev on-carrier : ℕ → Carrier
-  on-carrier d = carrierAt p (bayOn Y o i hi d)
+module _ (Y : Yard) (sound : Sound Y) (goals : Placement) (r : Carrier) (p : Placement) (due : Due Y goals r p) (o : Round Y) where
+  -- the carrier that stands d places on from r
+  abbrev at : ℕ → Carrier
+  at d = carrierAt p (onBay Y o (bayOf p r) d)
 
-  module _ (d : ℕ) (hd : d < Y .bays) (taken : In (bayOn Y o i hi d) p) where
-    on-there : on-carrier d < length p
-    on-there = placeOf-there p (bayOn Y o i hi d) taken
+  own : bayOf p r < Y .bays
+  own = own-low Y sound goals r p due
 
-    on-stands : stands Y o p (on-carrier d) ≡ further (Y .bays) i d
-    on-stands = ap (o .place) (placeOf-bay p (bayOn Y o i hi d) taken) ∙ place-on Y o i hi d hd
+  at-far : (d : ℕ) → d < Y .bays → In (onBay Y o (bayOf p r) d) p → far Y o (bayOf p r) (bayOf p (at d)) ≡ d
+  at-far d h taken = ap (far Y o (bayOf p r)) (placeOf-bay p (onBay Y o (bayOf p r) d) taken) ∙ far-on Y o (bayOf p r) own d h
 
-    on-far : ahead (Y .bays) i (stands Y o p (on-carrier d)) ≡ d
-    on-far = ap (ahead (Y .bays) i) on-stands ∙ ahead-further (Y .bays) i d hi hd
+  -- ## Two empty bays in the yard: not every place is taken
 
-  -- no carrier stands at two places
-  on-once : (d e : ℕ) → d < Y .bays → e < Y .bays → In (bayOn Y o i hi d) p → In (bayOn Y o i hi e) p → on-carrier d ≡ on-carrier e → d ≡ e
-  on-once d e hd he td te z =
-      sym (on-far d hd td) ∙ ap (λ c. ahead (Y .bays) i (stands Y o p c)) z ∙ on-far e he te
+  pub not-all-taken : length p + 2 ≤ Y .bays → ((j : ℕ) → 0 < j → j < Y .bays → In (onBay Y o (bayOf p r) j) p) → ⊥
+  not-all-taken roomy all =
+      let taken : (j : ℕ) → j < Y .bays → In (onBay Y o (bayOf p r) j) p =
+      λ j h. by-cases (eqb j 0)
+      (λ e. rw (eqb-true j 0 e, on-none Y o (bayOf p r) own) (bay-in p r (due .turn)))
+      (λ e. let ne = eqb-false j 0 e in all j (omega arith) h) in
+      let few = no-more (Y .bays) (length p) (λ j h. at j) (λ j h. placeOf-there p (onBay Y o (bayOf p r) j) (taken j h))
+      (λ i j hi hj e.
+      let s : far Y o (bayOf p r) (bayOf p (at i)) ≡ far Y o (bayOf p r) (bayOf p (at j)) = ap (λ c. far Y o (bayOf p r) (bayOf p c)) e in
+      omega (arith, at-far i hi (taken i hi), at-far j hj (taken j hj))) in
+      omega arith
 
-module _ (Y : Yard) (sound : Sound Y) (goals : Placement) (r : Carrier) (p : Placement) (due : Due Y goals r p)
-    (roomy : length p + 2 ≤ Y .bays) (o : Round Y) where
-  -- with two empty bays in the yard, not every place further on is taken
-  pub not-all-taken : ((j : ℕ) → 0 < j → j < Y .bays → In (bayOn Y o (stands Y o p r) (at-start Y sound goals r p due o) j) p) → ⊥
-  not-all-taken all =
-      let n = Y .bays in
-      let U = stands Y o p r in
-      let hU = at-start Y sound goals r p due o in
-      let own : In (bayOn Y o U hU 0) p =
-      rw (ap (o .bay) (further-none n U hU) ∙ o .bay-place (bayOf p r) (low Y o (bayOf p r) (due .good .inside r (due .turn))))
-      (bay-in p r (due .turn)) in
-      let taken : (j : ℕ) → j < n → In (bayOn Y o U hU j) p =
-      λ j h. by-cases (eqb j 0) (λ e. rw (eqb-true j 0 e) own) (λ e. let ne = eqb-false j 0 e in all j (omega arith) h) in
-      crowded (length p) (on-carrier Y o p (due .good) U hU)
-      (λ j h. on-there Y o p (due .good) U hU j (omega arith) (taken j (omega arith)))
-      (λ j k hj hk e. on-once Y o p (due .good) U hU j k (omega arith) (omega arith) (taken j (omega arith)) (taken k (omega arith)) e)
+  -- ## A finished carrier f further on than r's goal: not every place up to it is taken
 
-  -- nor every place up to a finished carrier f, if r's goal is on the way there
-  module _ (f : Carrier) (hf : f < r) (goal-on : 0 < ahead (Y .bays) (stands Y o p r) (stands Y o goals r))
-      (goal-before : ahead (Y .bays) (stands Y o p r) (stands Y o goals r) < ahead (Y .bays) (stands Y o p r) (stands Y o p f))
-      (all : (j : ℕ) → 0 < j → j < ahead (Y .bays) (stands Y o p r) (stands Y o p f)
-      → In (bayOn Y o (stands Y o p r) (at-start Y sound goals r p due o) j) p) where
-    -- the carrier j places on from r
-    abbrev C : ℕ → Carrier
-    C j = on-carrier Y o p (due .good) (stands Y o p r) (at-start Y sound goals r p due o) j
+  module _ (f : Carrier) (hf : f < r) (goal-on : 0 < far Y o (bayOf p r) (bayOf goals r))
+      (goal-before : far Y o (bayOf p r) (bayOf goals r) < far Y o (bayOf p r) (bayOf p f))
+      (all : (j : ℕ) → 0 < j → j < far Y o (bayOf p r) (bayOf p f) → In (onBay Y o (bayOf p r) j) p) where
+    f-low : bayOf p f < Y .bays
+    f-low = now-low Y sound goals r p due f (finished-there Y sound goals r p due f hf)
 
-    -- how far on from r it stands at the goals
-    abbrev far-then : ℕ → ℕ
-    far-then j = ahead (Y .bays) (stands Y o goals r) (stands Y o goals (C j))
+    -- how far on from r's goal the carrier's goal is
+    abbrev far-then : Carrier → ℕ
+    far-then c = far Y o (bayOf goals r) (bayOf goals c)
 
-    to-f : ahead (Y .bays) (stands Y o p r) (stands Y o p f) < Y .bays
-    to-f = ahead-low (Y .bays) (stands Y o p r) (stands Y o p f) (at-start Y sound goals r p due o) (finished-low Y sound goals r p due o f hf)
+    -- the carrier j places on from r, which is not so far as f
+    module _ (j : ℕ) (on : 0 < j) (before : j < far Y o (bayOf p r) (bayOf p f)) where
+      far-now : far Y o (bayOf p r) (bayOf p (at j)) ≡ j
+      far-now = at-far j (omega (arith, far-low Y o (bayOf p r) own (bayOf p f) f-low)) (all j on before)
 
-    module _ (j : ℕ) (some : 0 < j) (before : j < ahead (Y .bays) (stands Y o p r) (stands Y o p f)) where
-      far-now : ahead (Y .bays) (stands Y o p r) (stands Y o p (C j)) ≡ j
-      far-now = on-far Y o p (due .good) (stands Y o p r) (at-start Y sound goals r p due o) j (omega (arith, to-f)) (all j some before)
+      there : at j < length p
+      there = placeOf-there p (onBay Y o (bayOf p r) j) (all j on before)
 
-      c-there : C j < length p
-      c-there = on-there Y o p (due .good) (stands Y o p r) (at-start Y sound goals r p due o) j (omega (arith, to-f)) (all j some before)
+      three : Three p r (at j) f
+      three = record {
+        a-there = due .turn;
+        b-there = there;
+        c-there = finished-there Y sound goals r p due f hf;
+        ab = λ z.
+            let s : far Y o (bayOf p r) (bayOf p r) ≡ far Y o (bayOf p r) (bayOf p (at j)) = ap (λ c. far Y o (bayOf p r) (bayOf p c)) z in
+            omega (arith, far-now, far-own Y o (bayOf p r) own);
+        ac = λ z. omega arith;
+        bc = λ z.
+            let s : far Y o (bayOf p r) (bayOf p (at j)) ≡ far Y o (bayOf p r) (bayOf p f) = ap (λ c. far Y o (bayOf p r) (bayOf p c)) z in
+            omega (arith, far-now);
+      }
 
-      not-r : r ≡ C j → ⊥
-      not-r z =
-          let e : ahead (Y .bays) (stands Y o p r) (stands Y o p r) ≡ ahead (Y .bays) (stands Y o p r) (stands Y o p (C j)) =
-          ap (λ c. ahead (Y .bays) (stands Y o p r) (stands Y o p c)) z in
-          let s = ahead-self (Y .bays) (stands Y o p r) (at-start Y sound goals r p due o) in
-          let k = far-now in
-          omega arith
-
-      not-f : C j ≡ f → ⊥
-      not-f z =
-          let e : ahead (Y .bays) (stands Y o p r) (stands Y o p (C j)) ≡ ahead (Y .bays) (stands Y o p r) (stands Y o p f) =
-          ap (λ c. ahead (Y .bays) (stands Y o p r) (stands Y o p c)) z in
-          let k = far-now in
-          omega arith
-
-      c-goal : stands Y o goals (C j) < Y .bays
-      c-goal = stands-low Y o goals (goals-good Y sound goals r p due) (C j) (omega (arith, same Y sound goals r p due, c-there))
-
-      -- at the goals too it stands behind r and before f
-      then-on : 0 < far-then j
+      -- at the goals too it stands behind r
+      then-on : 0 < far-then (at j)
       then-on =
-          ahead-some (Y .bays) (stands Y o goals r) (stands Y o goals (C j)) (at-goal Y sound goals r p due o) c-goal
-          (λ z. not-r (stands-apart Y o goals (goals-good Y sound goals r p due) r (C j)
-          (omega (arith, same Y sound goals r p due, due .turn)) (omega (arith, same Y sound goals r p due, c-there)) z))
+          far-some Y o (bayOf goals r) (then-low Y sound goals r p due r (due .turn)) (bayOf goals (at j)) (then-low Y sound goals r p due (at j) there)
+          (λ z. three .ab (goals-good Y sound goals r p due .apart r (at j) (omega (arith, same Y sound goals r p due, due .turn))
+          (omega (arith, same Y sound goals r p due, there)) (sym z)))
 
-      then-before : far-then j + ahead (Y .bays) (stands Y o p r) (stands Y o goals r) < ahead (Y .bays) (stands Y o p r) (stands Y o p f)
+      -- and before f
+      then-before : far Y o (bayOf p r) (bayOf goals r) + far-then (at j) < far Y o (bayOf p r) (bayOf p f)
       then-before =
-          let n = Y .bays in
-          let three : Three p r (C j) f = record {
-            a-there = due .turn;
-            b-there = c-there;
-            c-there = omega (arith, due .turn);
-            ab = not-r;
-            ac = λ z. omega arith;
-            bc = not-f;
-          } in
-          let now : Before Y o p r (C j) f = let k = far-now in omega arith in
-          let kept : Before Y o goals r (C j) f = (order-kept Y sound o p goals (due .good) (due .leads) r (C j) f three) .0 now in
-          let here : far-then j < ahead n (stands Y o goals r) (stands Y o p f) = rw (finished-home Y sound goals r p due o f hf) at kept in
-          let e = seen-between n (stands Y o p r) (stands Y o goals r) (stands Y o p f) (at-start Y sound goals r p due o)
-          (at-goal Y sound goals r p due o) (finished-low Y sound goals r p due o f hf) (omega arith) in
+          let now : Before Y o p r (at j) f = omega (arith, far-now) in
+          let kept : Before Y o goals r (at j) f = (order-kept Y sound o p goals (due .good) (due .leads) r (at j) f three) .0 now in
+          let then-f : far-then (at j) < far Y o (bayOf goals r) (bayOf p f) = rw (home-place Y sound goals r p due o f hf) at kept in
+          let e = seen-between (Y .bays) (o .place (bayOf p r)) (o .place (bayOf goals r)) (o .place (bayOf p f)) (o .place-low (bayOf p r) own)
+          (o .place-low (bayOf goals r) (then-low Y sound goals r p due r (due .turn))) (o .place-low (bayOf p f) f-low) (omega arith) in
           omega arith
 
-    then-once : (i j : ℕ) (si : 0 < i) (sj : 0 < j) (bi : i < ahead (Y .bays) (stands Y o p r) (stands Y o p f))
-        (bj : j < ahead (Y .bays) (stands Y o p r) (stands Y o p f)) → far-then i ≡ far-then j → i ≡ j
+    -- no two of them at one place
+    then-once : (i j : ℕ) (si : 0 < i) (sj : 0 < j) (bi : i < far Y o (bayOf p r) (bayOf p f)) (bj : j < far Y o (bayOf p r) (bayOf p f))
+        → far-then (at i) ≡ far-then (at j) → i ≡ j
     then-once i j si sj bi bj e =
-        let place = ahead-same (Y .bays) (stands Y o goals r) (stands Y o goals (C i)) (stands Y o goals (C j)) (at-goal Y sound goals r p due o)
-        (c-goal i si bi) (c-goal j sj bj) e in
-        let carrier = stands-apart Y o goals (goals-good Y sound goals r p due) (C i) (C j)
-        (omega (arith, same Y sound goals r p due, c-there i si bi)) (omega (arith, same Y sound goals r p due, c-there j sj bj)) place in
-        sym (far-now i si bi) ∙ ap (λ c. ahead (Y .bays) (stands Y o p r) (stands Y o p c)) carrier ∙ far-now j sj bj
+        let ti = there i si bi in
+        let tj = there j sj bj in
+        let one-goal = far-same Y o (bayOf goals r) (then-low Y sound goals r p due r (due .turn)) (bayOf goals (at i)) (bayOf goals (at j))
+        (then-low Y sound goals r p due (at i) ti) (then-low Y sound goals r p due (at j) tj) e in
+        let one = goals-good Y sound goals r p due .apart (at i) (at j) (omega (arith, same Y sound goals r p due))
+        (omega (arith, same Y sound goals r p due)) one-goal in
+        sym (far-now i si bi) ∙ ap (λ c. far Y o (bayOf p r) (bayOf p c)) one ∙ far-now j sj bj
 
     pub not-all-between : ⊥
     not-all-between =
-        let D = ahead (Y .bays) (stands Y o p r) (stands Y o p f) in
-        crowded (D - 2) (λ i. far-then (suc i) - 1)
-        (λ i h.
-        let some = then-on (suc i) (omega arith) (omega arith) in
-        let before = then-before (suc i) (omega arith) (omega arith) in
-        omega arith)
+        let D = far Y o (bayOf p r) (bayOf p f) in
+        let few = no-more (D - 1) (D - 2) (λ i h. far-then (at (suc i)) - 1)
+        (λ i h. omega (arith, then-on (suc i) (omega arith) (omega arith), then-before (suc i) (omega arith) (omega arith)))
         (λ i j hi hj e.
-        let some-i = then-on (suc i) (omega arith) (omega arith) in
-        let some-j = then-on (suc j) (omega arith) (omega arith) in
+        let on-i = then-on (suc i) (omega arith) (omega arith) in
+        let on-j = then-on (suc j) (omega arith) (omega arith) in
         let z = then-once (suc i) (suc j) (omega arith) (omega arith) (omega arith) (omega arith) (omega arith) in
-        omega arith)
+        omega arith) in
+        omega arith

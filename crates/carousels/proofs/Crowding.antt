@@ -1,4 +1,4 @@
--- So many cannot stand at fewer places, each at its own.
+-- Those who stand each at a place of its own are no more than the places.
 use mathlib.Core.Path.{_≡_}
 use Prim.Native.Nat.{ℕ, zero, suc, _<_, _≤_, _-_}
 use native.Mathlib.Omega.{arith}
@@ -18,21 +18,36 @@ by-closed t x f g =
     (λ e. let l = ltb-true t x e in f l (rw e (omega arith)))
     (λ e. g (ltb-false t x e) (rw e))
 
-pub crowded : (m : ℕ) (h : ℕ → ℕ) → ((i : ℕ) → i ≤ m → h i < m) → ((i j : ℕ) → i ≤ m → j ≤ m → h i ≡ h j → i ≡ j) → ⊥
-crowded zero h low once = let z = low 0 (omega arith) in omega arith
-crowded (suc m) h low once =
-    let t = h (suc m) in
-    let ht = low (suc m) (omega arith) in
-    let other : (i : ℕ) → i ≤ m → h i ≡ t → ⊥ = λ i k e. let z = once i (suc m) (omega arith) (omega arith) e in omega arith in
-    crowded m (λ i. closed-up t (h i))
-    (λ i k.
-    let hi = low i (omega arith) in
-    let ne = other i k in
-    by-closed t (h i) (λ l e. omega arith) (λ l e. omega arith))
-    (λ i j ki kj e.
-    let ne = other i ki in
-    let me = other j kj in
-    once i j (omega arith) (omega arith)
-    (by-closed t (h i)
-    (λ l a. by-closed t (h j) (λ k b. omega arith) (λ k b. absurd (omega arith)))
-    (λ l a. by-closed t (h j) (λ k b. absurd (omega arith)) (λ k b. omega arith))))
+one-too-many : (m : ℕ) (h : (i : ℕ) → i ≤ m → ℕ) → ((i : ℕ) (a : i ≤ m) → h i a < m)
+    → ((i j : ℕ) (a : i ≤ m) (b : j ≤ m) → h i a ≡ h j b → i ≡ j) → ⊥
+one-too-many zero h low once = let z = low 0 (omega arith) in omega arith
+one-too-many (suc m) h low once =
+    let last : suc m ≤ suc m = omega arith in
+    let within : (i : ℕ) → i ≤ m → i ≤ suc m = λ i a. omega arith in
+    let t = h (suc m) last in
+    let other : (i : ℕ) (a : i ≤ m) → h i (within i a) ≡ t → ⊥ =
+    λ i a e. let z = once i (suc m) (within i a) last e in omega arith in
+    one-too-many m (λ i a. closed-up t (h i (within i a)))
+    (λ i a.
+    let hi = low i (within i a) in
+    let ht = low (suc m) last in
+    let ne = other i a in
+    by-closed t (h i (within i a)) (λ l e. omega arith) (λ l e. omega arith))
+    (λ i j a b e.
+    let ne = other i a in
+    let me = other j b in
+    once i j (within i a) (within j b)
+    (by-closed t (h i (within i a))
+    (λ l x. by-closed t (h j (within j b)) (λ k y. omega arith) (λ k y. absurd (omega arith)))
+    (λ l x. by-closed t (h j (within j b)) (λ k y. absurd (omega arith)) (λ k y. omega arith))))
+
+-- k of them, the i-th at place h i, below n
+pub no-more : (k n : ℕ) (h : (i : ℕ) → i < k → ℕ) → ((i : ℕ) (a : i < k) → h i a < n)
+    → ((i j : ℕ) (a : i < k) (b : j < k) → h i a ≡ h j b → i ≡ j) → k ≤ n
+no-more k n h low once =
+    by-cases (ltb n k)
+    (λ e.
+    let l = ltb-true n k e in
+    let within : (i : ℕ) → i ≤ n → i < k = λ i a. omega arith in
+    absurd (one-too-many n (λ i a. h i (within i a)) (λ i a. low i (within i a)) (λ i j a b z. once i j (within i a) (within j b) z)))
+    (λ e. ltb-false n k e)

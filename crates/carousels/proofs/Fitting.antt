@@ -1,13 +1,13 @@
 -- A list in which nothing stands twice, and whose members are all in another list, is no longer than that list.
-use mathlib.Core.Path.{_≡_, refl, sym, ap}
+use mathlib.Core.Path.{_≡_, sym, ap}
 use mathlib.Core.Bool.{not}
 use mathlib.Core.List.{List, [], _∷_}
-use Prim.Native.Nat.{ℕ, zero, suc, _<_, _≤_}
+use Prim.Native.Nat.{ℕ, _<_, _≤_}
 use native.Mathlib.Omega.{arith}
 use lib.Dec.{eqb}
 use lib.ListN.{length}
 use borrow.Author.Tests.{eqb-true, eq-eqb}
-use Rattle.paper.specs.Basics.{filter, countFrom, In, NoDup}
+use Rattle.paper.specs.Basics.{filter, In, NoDup}
 use Rattle.paper.proofs.Tests.{by-cases, not-both}
 use Rattle.paper.proofs.Members.{In-nil, In-head, In-tail, In-cases, in-filter}
 
@@ -44,8 +44,3 @@ no-longer (x ∷ xs) ys n f =
     let ih = no-longer xs (others x ys) (n .1)
     (λ z i. in-others x z ys (f z (In-tail z x xs i)) (λ e. not-both (rw e at i) (n .0))) in
     omega arith
-
-pub count-length : (a k : ℕ) → length (countFrom a k) ≡ k
-unfolding countFrom
-count-length a zero = refl
-count-length a (suc k) = ap suc (count-length (suc a) k)

@@ -1,3 +1,4 @@
+pub mod Crowding
 pub mod Fitting
 pub mod GoingRound
 pub mod Closing
@@ -7,9 +8,8 @@ pub mod Circling
 pub mod Leading
 pub mod Ordering
 pub mod Mirroring
-pub mod Walking
+pub mod Seeing
 pub mod Opening
-pub mod Crowding
 pub mod Counting
 pub mod Room
 pub mod Stepping

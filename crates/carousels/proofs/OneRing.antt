@@ -13,14 +13,14 @@ use Rattle.paper.specs.Basics.{find, upTo}
 use Rattle.paper.specs.Yard.{Bay, Yard, Placement, joined, carousel}
 use Rattle.paper.specs.Docket.{yardOf, apartBay}
 use Rattle.paper.specs.Answers.{firstSix}
-use Rattle.paper.proofs.Members.{in-count, count-high, nodup-count, find-some, find-in, find-passes}
+use Rattle.paper.proofs.Members.{in-count, count-high, find-some, find-in, find-passes}
 use Rattle.paper.proofs.Rings.{Walk, here, on, reached-walk}
 use Rattle.paper.proofs.Playing.{Sound}
 use Rattle.paper.proofs.Admitted.{clean-of, sound-of, all-reached}
 use Rattle.carousels.specs.Round.{Next, Round}
-use Rattle.carousels.proofs.Fitting.{no-longer, count-length}
+use Rattle.carousels.proofs.Crowding.{no-more}
 use Rattle.carousels.proofs.GoingRound.{GoingRound, going-round}
-use Rattle.carousels.proofs.Closing.{Closed, beside-walk, three-or-more, closes-somewhere, few, walked, walked-length, in-walked}
+use Rattle.carousels.proofs.Closing.{Closed, beside-walk, three-or-more, closes-somewhere, few}
 
 module _ (Y : Yard) (sound : Sound Y) (all-joined : apartBay Y ≡ none) (w : GoingRound Y) where
   abbrev at : ℕ → Bay
@@ -46,12 +46,9 @@ module _ (Y : Yard) (sound : Sound Y) (all-joined : apartBay Y ≡ none) (w : Go
 
     as-many : m ≡ Y .bays
     as-many =
-        let most = few Y sound w m (c .different) in
-        let least = no-longer (upTo (Y .bays)) (walked Y sound w m) (nodup-count 0 (Y .bays))
-        (λ b i.
-        let t = every-bay b (let h = count-high 0 (Y .bays) b i in omega arith) in
-        rw (t .2) at (in-walked Y sound w m (t .0) (t .1))) in
-        omega (arith, most, least, walked-length Y sound w m, count-length 0 (Y .bays))
+        let least = no-more (Y .bays) m (λ b l. (every-bay b l) .0) (λ b l. (every-bay b l) .1)
+        (λ a b la lb e. sym ((every-bay a la) .2) ∙ ap at e ∙ (every-bay b lb) .2) in
+        omega (arith, few Y sound w m (c .different))
 
   module _ (c : Closed at (Y .bays)) where
     -- the first place on the walk at which the bay stands

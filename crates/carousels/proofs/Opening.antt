@@ -6,10 +6,8 @@ use mathlib.Core.Logic.{_⊎_, inl, inr, ⊎-elim}
 use mathlib.Core.List.{List}
 use Prim.Native.Nat.{ℕ, _<_, _≤_}
 use native.Mathlib.Omega.{arith}
-use lib.Dec.{eqb}
 use lib.ListN.{length, take, length-take}
 use lib.Seq.{getD-take}
-use borrow.Author.Tests.{eqb-true, eqb-false}
 use Rattle.paper.specs.Basics.{elem, In, Out}
 use Rattle.paper.specs.Yard.{Bay, Carrier, Yard, Placement, bayOf, carrierAt}
 use Rattle.paper.specs.Path.{Free, Way}
@@ -19,12 +17,12 @@ use Rattle.paper.proofs.Nearest.{walk-way}
 use Rattle.paper.proofs.Playing.{Sound, Good, bay-in, placeOf-bay, placeOf-there}
 use Rattle.carousels.specs.Round.{Round}
 use Rattle.carousels.specs.Due.{Due}
-use Rattle.carousels.specs.Order.{ahead, further, stands, Before}
-use Rattle.carousels.proofs.Circling.{ahead-low, ahead-self, ahead-same, ahead-back, seen-between, seen-past, further-none, further-ahead, ahead-further}
+use Rattle.carousels.specs.Order.{Before}
+use Rattle.carousels.proofs.Circling.{ahead-back, seen-between, seen-past}
 use Rattle.carousels.proofs.Leading.{leads-length, leads-good}
-use Rattle.carousels.proofs.Ordering.{low, stands-low, stands-apart, Three, order-kept}
+use Rattle.carousels.proofs.Ordering.{low, Three, order-kept}
 use Rattle.carousels.proofs.Mirroring.{mirror, mirror-ahead}
-use Rattle.carousels.proofs.Walking.{first-met, bayOn, place-on, walk-on}
+use Rattle.carousels.proofs.Seeing.{Met, first-met, one-place, far, onBay, far-low, far-own, far-same, far-on, on-far, on-none, walk-on}
 
 -- ## The bays of finished carriers
 
@@ -42,6 +40,8 @@ module _ (r : Carrier) (p : Placement) (hr : r ≤ length p) where
   pub out-finished : (b : Bay) → ((c : Carrier) → c < r → bayOf p c ≡ b → ⊥) → Out b (take r p)
   out-finished b f = by-cases (elem b (take r p)) (λ i. let w = whose b i in absurd (f (w .0) (w .1) (w .2))) (λ e. e)
 
+-- ## What is known when it is r's turn
+
 module _ (Y : Yard) (sound : Sound Y) (goals : Placement) (r : Carrier) (p : Placement) (due : Due Y goals r p) where
   pub same : length p ≡ length goals
   same = leads-length Y (due .leads)
@@ -49,111 +49,112 @@ module _ (Y : Yard) (sound : Sound Y) (goals : Placement) (r : Carrier) (p : Pla
   pub goals-good : Good Y goals
   goals-good = leads-good Y sound (due .good) (due .leads)
 
-  -- r's bay is no finished carrier's
+  -- the bays of carriers, now and at the goals, are bays of the yard
+  pub now-low : (c : Carrier) → c < length p → bayOf p c < Y .bays
+  now-low c h = low Y (bayOf p c) (due .good .inside c h)
+
+  pub then-low : (c : Carrier) → c < length p → bayOf goals c < Y .bays
+  then-low c h = low Y (bayOf goals c) (goals-good .inside c (omega (arith, same)))
+
+  pub own-low : bayOf p r < Y .bays
+  own-low = now-low r (due .turn)
+
+  -- the finished carriers are among all
+  pub finished-there : (c : Carrier) → c < r → c < length p
+  finished-there c h = omega (arith, due .turn)
+
+  -- no finished carrier stands at r's bay or at its goal
+  pub not-own : (c : Carrier) → c < r → bayOf p c ≡ bayOf p r → ⊥
+  not-own c h e = let z = due .good .apart c r (finished-there c h) (due .turn) e in omega arith
+
+  not-goal : (c : Carrier) → c < r → bayOf p c ≡ bayOf goals r → ⊥
+  not-goal c h e =
+      let z = goals-good .apart c r (omega (arith, same, due .turn)) (omega (arith, same, due .turn)) (sym (due .home c h) ∙ e) in
+      omega arith
+
+  -- and at its own goal each stands now
+  pub home-place : (o : Round Y) (c : Carrier) → c < r → o .place (bayOf goals c) ≡ o .place (bayOf p c)
+  home-place o c h = ap (o .place) (sym (due .home c h))
+
   pub own-free : Free Y (take r p) (bayOf p r)
-  own-free = (
-    due .good .inside r (due .turn),
-    out-finished r p (omega (arith, due .turn)) (bayOf p r)
-        (λ c h e. let z = due .good .apart c r (omega (arith, due .turn)) (due .turn) e in absurd (omega arith)),
-  )
+  own-free = (due .good .inside r (due .turn), out-finished r p (omega (arith, due .turn)) (bayOf p r) not-own)
+
+  -- ## One way round
 
   -- going up, one meets a finished carrier before r's goal
   abbrev Barred : Round Y → Type 0
-  Barred o = (f : Carrier) × (f < r) × (ahead (Y .bays) (stands Y o p r) (stands Y o p f) < ahead (Y .bays) (stands Y o p r) (stands Y o goals r))
+  Barred o = (f : Carrier) × (f < r) × (far Y o (bayOf p r) (bayOf p f) < far Y o (bayOf p r) (bayOf goals r))
 
   module _ (o : Round Y) where
-    pub at-start : stands Y o p r < Y .bays
-    at-start = stands-low Y o p (due .good) r (due .turn)
-
-    pub at-goal : stands Y o goals r < Y .bays
-    at-goal = stands-low Y o goals goals-good r (omega (arith, same, due .turn))
-
-    pub finished-low : (c : Carrier) → c < r → stands Y o p c < Y .bays
-    finished-low c h = stands-low Y o p (due .good) c (omega (arith, due .turn))
-
-    -- a finished carrier stands at its goal
-    pub finished-home : (c : Carrier) → c < r → stands Y o goals c ≡ stands Y o p c
-    finished-home c h = ap (o .place) (sym (due .home c h))
-
-    -- and not at r's
-    not-at-goal : (c : Carrier) → c < r → stands Y o p c ≡ stands Y o goals r → ⊥
-    not-at-goal c h e =
-        let z = stands-apart Y o goals goals-good c r (omega (arith, same, due .turn)) (omega (arith, same, due .turn)) (finished-home c h ∙ e) in
-        omega arith
-
     -- nobody finished on the way up: that is the way
-    way-up : ((j : ℕ) → 0 < j → j ≤ ahead (Y .bays) (stands Y o p r) (stands Y o goals r) → Out (bayOn Y o (stands Y o p r) at-start j) (take r p))
+    way-up : ((j : ℕ) → 0 < j → j ≤ far Y o (bayOf p r) (bayOf goals r) → Out (onBay Y o (bayOf p r) j) (take r p))
         → (l : List Bay) × Way Y (take r p) (bayOf p r) l (bayOf goals r)
     way-up f =
-        let n = Y .bays in
-        let U = stands Y o p r in
-        let d = ahead n U (stands Y o goals r) in
-        let w = walk-on Y o U at-start (take r p) 0 d (omega arith) (ahead-low n U (stands Y o goals r) at-start at-goal) f in
-        let from : bayOn Y o U at-start 0 ≡ bayOf p r =
-        ap (o .bay) (further-none n U at-start) ∙ o .bay-place (bayOf p r) (low Y o (bayOf p r) (due .good .inside r (due .turn))) in
-        let to : bayOn Y o U at-start d ≡ bayOf goals r =
-        ap (o .bay) (further-ahead n U (stands Y o goals r) at-start at-goal)
-        ∙ o .bay-place (bayOf goals r) (low Y o (bayOf goals r) (goals-good .inside r (omega (arith, same, due .turn)))) in
-        let v : Walk Y (take r p) (bayOf p r) (w .0) (bayOf goals r) = rw (from, to) at (w .1) in
+        let u = bayOf p r in
+        let g = bayOf goals r in
+        let hg = then-low r (due .turn) in
+        let w = walk-on Y o u own-low (take r p) 0 (far Y o u g) (omega arith) (far-low Y o u own-low g hg) f in
+        let v : Walk Y (take r p) u (w .0) g = rw (on-none Y o u own-low, on-far Y o u own-low g hg) at (w .1) in
         let t = walk-way Y (take r p) own-free v in
         (t .0, t .2)
 
-    way-or-barred : ((l : List Bay) × Way Y (take r p) (bayOf p r) l (bayOf goals r)) ⊎ Barred o
-    way-or-barred =
-        let n = Y .bays in
-        let U = stands Y o p r in
-        let d = ahead n U (stands Y o goals r) in
-        ⊎-elim
-        (λ f. inl (way-up f))
-        (λ m.
-        let j = m .at in
-        let hj : j < n = omega (arith, m .within, ahead-low n U (stands Y o goals r) at-start at-goal) in
-        let w = whose r p (omega (arith, due .turn)) (bayOn Y o U at-start j) (m .hit) in
-        let at : stands Y o p (w .0) ≡ further n U j = ap (o .place) (w .2) ∙ place-on Y o U at-start j hj in
-        let far : ahead n U (stands Y o p (w .0)) ≡ j = ap (ahead n U) at ∙ ahead-further n U j at-start hj in
-        let short : ahead n U (stands Y o p (w .0)) ≡ d → ⊥ =
-        λ z. not-at-goal (w .0) (w .1) (ahead-same n U (stands Y o p (w .0)) (stands Y o goals r) at-start (finished-low (w .0) (w .1)) at-goal z) in
-        inr (w .0, w .1, omega (arith, m .within)))
-        (first-met (λ j. elem (bayOn Y o U at-start j) (take r p)) d)
+    barred : Met (λ j. elem (onBay Y o (bayOf p r) j) (take r p)) (far Y o (bayOf p r) (bayOf goals r)) → Barred o
+    barred m =
+        let u = bayOf p r in
+        let g = bayOf goals r in
+        let hg = then-low r (due .turn) in
+        let (f, hf, is-f) = whose r p (omega (arith, due .turn)) (onBay Y o u (m .at)) (m .hit) in
+        let met : far Y o u (bayOf p f) ≡ m .at = ap (far Y o u) is-f ∙ far-on Y o u own-low (m .at) (omega (arith, m .within, far-low Y o u own-low g hg)) in
+        let apart : far Y o u (bayOf p f) ≡ far Y o u g → ⊥ =
+        λ z. not-goal f hf (far-same Y o u own-low (bayOf p f) g (now-low f (finished-there f hf)) hg z) in
+        (f, hf, omega (arith, m .within))
 
-  -- Barred both ways, r would have to pass a finished carrier.
+    way-or-barred : ((l : List Bay) × Way Y (take r p) (bayOf p r) l (bayOf goals r)) ⊎ Barred o
+    way-or-barred = ⊎-elim (λ f. inl (way-up f)) (λ m. inr (barred m)) (first-met _ (far Y o (bayOf p r) (bayOf goals r)))
+
+  -- ## Not barred both ways
+
+  -- With f before the goal and e after it, r would have to pass one of them.
+  not-around : (o : Round Y) (f e : Carrier) → f < r → e < r → far Y o (bayOf p r) (bayOf p f) < far Y o (bayOf p r) (bayOf goals r)
+      → far Y o (bayOf p r) (bayOf goals r) < far Y o (bayOf p r) (bayOf p e) → ⊥
+  not-around o f e hf he before behind =
+      let n = Y .bays in
+      let u = bayOf p r in
+      let g = bayOf goals r in
+      let U = o .place-low u own-low in
+      let G = o .place-low g (then-low r (due .turn)) in
+      let F = o .place-low (bayOf p f) (now-low f (finished-there f hf)) in
+      let E = o .place-low (bayOf p e) (now-low e (finished-there e he)) in
+      let three : Three p r f e = record {
+        a-there = due .turn;
+        b-there = finished-there f hf;
+        c-there = finished-there e he;
+        ab = λ z. omega arith;
+        ac = λ z. omega arith;
+        bc = λ z. let s : far Y o u (bayOf p f) ≡ far Y o u (bayOf p e) = ap (λ c. far Y o u (bayOf p c)) z in omega arith;
+      } in
+      let kept : Before Y o goals r f e = (order-kept Y sound o p goals (due .good) (due .leads) r f e three) .0 (omega arith) in
+      let then-here : far Y o g (bayOf p f) < far Y o g (bayOf p e) = rw (home-place o f hf, home-place o e he) at kept in
+      let past = seen-past n (o .place u) (o .place g) (o .place (bayOf p f)) U G F before in
+      let on = seen-between n (o .place u) (o .place g) (o .place (bayOf p e)) U G E (omega arith) in
+      let small = far-low Y o u own-low (bayOf p e) (now-low e (finished-there e he)) in
+      omega arith
+
+  -- what is met before the goal going down is behind it going up
   not-both-barred : (o : Round Y) → Barred o → Barred (mirror Y o) → ⊥
   not-both-barred o (f, hf, up) (e, he, down) =
       let n = Y .bays in
-      let U = stands Y o p r in
-      let G = stands Y o goals r in
-      let F = stands Y o p f in
-      let E = stands Y o p e in
-      let hU = at-start o in
-      let hG = at-goal o in
-      let hF = finished-low o f hf in
-      let hE = finished-low o e he in
-      let own = low Y o (bayOf p r) (due .good .inside r (due .turn)) in
-      let his = low Y o (bayOf p e) (due .good .inside e (omega (arith, due .turn))) in
-      let goal = low Y o (bayOf goals r) (goals-good .inside r (omega (arith, same, due .turn))) in
-      let down-E : ahead n E U < ahead n G U = rw (mirror-ahead Y o (bayOf p r) (bayOf p e) own his, mirror-ahead Y o (bayOf p r) (bayOf goals r) own goal) at down in
-      let U-not-G : U ≡ G → ⊥ = λ z. let s = ahead-self n U hU in let t : ahead n U G ≡ ahead n U U = ap (ahead n U) (sym z) in omega arith in
-      let U-not-E : U ≡ E → ⊥ = λ z. let k = stands-apart Y o p (due .good) r e (due .turn) (omega (arith, due .turn)) z in omega arith in
-      let back-G = ahead-back n U G hU hG U-not-G in
-      let back-E = ahead-back n U E hU hE U-not-E in
-      let low-E = ahead-low n U E hU hE in
-      let between : ahead n U G < ahead n U E = omega arith in
-      by-cases (eqb f e)
-      (λ z. let s : ahead n U F ≡ ahead n U E = ap (λ c. ahead n U (stands Y o p c)) (eqb-true f e z) in omega arith)
-      (λ z.
-      let three : Three p r f e = record {
-        a-there = due .turn;
-        b-there = omega (arith, due .turn);
-        c-there = omega (arith, due .turn);
-        ab = λ k. omega arith;
-        ac = λ k. omega arith;
-        bc = eqb-false f e z;
-      } in
-      let kept : Before Y o goals r f e = (order-kept Y sound o p goals (due .good) (due .leads) r f e three) .0 (omega arith) in
-      let kept-here : ahead n G F < ahead n G E = rw (finished-home o f hf, finished-home o e he) at kept in
-      let past = seen-past n U G F hU hG hF up in
-      let on-E = seen-between n U G E hU hG hE (omega arith) in
-      omega arith)
+      let u = bayOf p r in
+      let g = bayOf goals r in
+      let hg = then-low r (due .turn) in
+      let his = now-low e (finished-there e he) in
+      let turned-round : far Y o (bayOf p e) u < far Y o g u = rw (mirror-ahead Y o u (bayOf p e) own-low his, mirror-ahead Y o u g own-low hg) at down in
+      let u-not-g : o .place u ≡ o .place g → ⊥ =
+      λ z. let s : far Y o u g ≡ far Y o u u = ap (far Y o u) (sym (one-place Y o u g own-low hg z)) in let t = far-own Y o u own-low in omega arith in
+      let u-not-e : o .place u ≡ o .place (bayOf p e) → ⊥ = λ z. not-own e he (sym (one-place Y o u (bayOf p e) own-low his z)) in
+      let back-g = ahead-back n (o .place u) (o .place g) (o .place-low u own-low) (o .place-low g hg) u-not-g in
+      let back-e = ahead-back n (o .place u) (o .place (bayOf p e)) (o .place-low u own-low) (o .place-low (bayOf p e) his) u-not-e in
+      not-around o f e hf he up (omega arith)
 
   -- r's goal is reached from r's bay past no finished carrier.
   pub way-open : Round Y → (l : List Bay) × Way Y (take r p) (bayOf p r) l (bayOf goals r)

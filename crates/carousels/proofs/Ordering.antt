@@ -51,20 +51,20 @@ pub record Three (p : Placement) (a b c : Carrier) : Type 0 where
 flip : {A B : Type 0} → (A ↔ B) → (B ↔ A)
 flip e = (e .1, e .0)
 
-module _ (Y : Yard) (o : Round Y) where
-  -- a bay of the yard, as a number below n
-  pub low : (b : Bay) → In b (upTo (Y .bays)) → b < Y .bays
-  low b i = let h = count-high 0 (Y .bays) b i in omega arith
+-- a bay of the yard is a number below n
+pub low : (Y : Yard) (b : Bay) → In b (upTo (Y .bays)) → b < Y .bays
+low Y b i = let h = count-high 0 (Y .bays) b i in omega arith
 
+module _ (Y : Yard) (o : Round Y) where
   pub stands-low : (p : Placement) → Good Y p → (c : Carrier) → c < length p → stands Y o p c < Y .bays
-  stands-low p good c h = o .place-low (bayOf p c) (low (bayOf p c) (good .inside c h))
+  stands-low p good c h = o .place-low (bayOf p c) (low Y (bayOf p c) (good .inside c h))
 
   -- different carriers stand at different places
   pub stands-apart : (p : Placement) → Good Y p → (a b : Carrier) → a < length p → b < length p → stands Y o p a ≡ stands Y o p b → a ≡ b
   stands-apart p good a b ha hb e =
       let same : bayOf p a ≡ bayOf p b =
-      sym (o .bay-place (bayOf p a) (low (bayOf p a) (good .inside a ha)))
-      ∙ ap (o .bay) e ∙ o .bay-place (bayOf p b) (low (bayOf p b) (good .inside b hb)) in
+      sym (o .bay-place (bayOf p a) (low Y (bayOf p a) (good .inside a ha)))
+      ∙ ap (o .bay) e ∙ o .bay-place (bayOf p b) (low Y (bayOf p b) (good .inside b hb)) in
       good .apart a b ha hb same
 
   -- Between p and q one carrier has gone on to the next place.
@@ -133,7 +133,7 @@ module _ (Y : Yard) (sound : Sound Y) (o : Round Y) where
   -- a legal crossing leads to a place next to the one it leaves
   pub next-place : (a b : Bay) → joined Y a b ≡ true → Next (Y .bays) (o .place a) (o .place b) ⊎ Next (Y .bays) (o .place b) (o .place a)
   next-place a b j =
-      o .beside a b (low Y o a (sound .inside b a (joined-sym Y a b j))) (low Y o b (sound .inside a b j)) j
+      o .beside a b (low Y a (sound .inside b a (joined-sym Y a b j))) (low Y b (sound .inside a b j)) j
 
   move-good : (p : Placement) (x : Crossing) → Good Y p → Legal Y p x → Good Y (move p x)
   unfolding after legalPlan

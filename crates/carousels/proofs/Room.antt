@@ -20,12 +20,10 @@ use Rattle.paper.proofs.Nearest.{walk-way, none-near-exactly}
 use Rattle.paper.proofs.Playing.{Sound}
 use Rattle.carousels.specs.Round.{Next, Round}
 use Rattle.carousels.specs.Due.{Due}
-use Rattle.carousels.specs.Order.{ahead, further, stands}
-use Rattle.carousels.proofs.Circling.{ahead-self, ahead-same, ahead-some, to-next, further-ahead, ahead-further}
 use Rattle.carousels.proofs.Ordering.{low, next-place}
 use Rattle.carousels.proofs.Mirroring.{mirror, mirror-next}
-use Rattle.carousels.proofs.Walking.{first-met, bayOn, place-on, walk-on}
-use Rattle.carousels.proofs.Opening.{in-finished, whose, at-start}
+use Rattle.carousels.proofs.Seeing.{first-met, far, onBay, far-own, far-some, far-same, far-next, far-on, on-far, walk-on}
+use Rattle.carousels.proofs.Opening.{in-finished, whose, now-low, own-low, finished-there}
 use Rattle.carousels.proofs.Counting.{not-all-taken, not-all-between}
 
 -- there is an answer
@@ -45,147 +43,107 @@ vacate-finds Y held x p free b l empty way =
     (λ a k. never-some _ (sym (rw (e, free .1, k) at h)))))
     (λ a h. (a, h))
 
-module _ (Y : Yard) (sound : Sound Y) (goals : Placement) (r : Carrier) (p : Placement) (due : Due Y goals r p)
-    (roomy : length p + 2 ≤ Y .bays) where
+module _ (Y : Yard) (sound : Sound Y) (goals : Placement) (r : Carrier) (p : Placement) (due : Due Y goals r p) where
+  own : bayOf p r < Y .bays
+  own = own-low Y sound goals r p due
+
+  -- a bay that is not held is not r's
+  free-not-own : (b : Bay) → Free Y (holding r r p) b → b ≡ bayOf p r → ⊥
+  free-not-own b free e = Out-head b (bayOf p r) (take r p) (free .1) e
+
   module _ (o : Round Y) where
-    -- the bay j places on from r
-    abbrev on-bay : ℕ → Bay
-    on-bay j = bayOn Y o (stands Y o p r) (at-start Y sound goals r p due o) j
-
-    -- an empty bay, with none that is held on the way there
-    record Gap : Type 0 where
-      far : ℕ
-      some : 0 < far
-      fits : far < Y .bays
-      free : (j : ℕ) → 0 < j → j ≤ far → Out (on-bay j) (holding r r p)
-      empty : Out (on-bay far) p
-
     -- how far on from r a bay is
     abbrev far-to : Bay → ℕ
-    far-to b = ahead (Y .bays) (stands Y o p r) (o .place b)
+    far-to b = far Y o (bayOf p r) b
 
-    far-on : (j : ℕ) → j < Y .bays → far-to (on-bay j) ≡ j
-    far-on j h =
-        ap (ahead (Y .bays) (stands Y o p r)) (place-on Y o (stands Y o p r) (at-start Y sound goals r p due o) j h)
-        ∙ ahead-further (Y .bays) (stands Y o p r) j (at-start Y sound goals r p due o) h
-
-    far-own : far-to (bayOf p r) ≡ 0
-    far-own = ahead-self (Y .bays) (stands Y o p r) (at-start Y sound goals r p due o)
-
-    not-own : (j : ℕ) → 0 < j → j < Y .bays → on-bay j ≡ bayOf p r → ⊥
-    not-own j pos h z = let e : far-to (on-bay j) ≡ far-to (bayOf p r) = ap far-to z in let k = far-on j h in let s = far-own in omega arith
-
-    find-gap : (D : ℕ) → D ≤ Y .bays → ((j : ℕ) → 0 < j → j < D → Out (on-bay j) (take r p))
-        → (((j : ℕ) → 0 < j → j < D → In (on-bay j) p) → ⊥) → Gap
-    find-gap D hD clear not-all =
-        ⊎-elim
-        (λ f. absurd (not-all (λ j a b. not-false (elem (on-bay j) p) (f j a (omega arith)))))
-        (λ m. record {
-          far = m .at;
-          some = m .some;
-          fits = omega (arith, m .within, m .some);
-          free = λ j a b. out-cons (on-bay j) (bayOf p r) (take r p) (not-own j a (omega (arith, m .within))) (clear j a (omega (arith, m .within)));
-          empty = not-true (elem (on-bay (m .at)) p) (m .hit);
-        })
-        (first-met (λ j. isEmpty p (on-bay j)) (D - 1))
-
-    -- ## A route cut at r and at f stays between the two
+    -- ## A route cut at r and at a finished carrier f stays between the two
 
     module _ (f : Carrier) (hf : f < r) where
-      -- a free bay of the yard is neither r's nor f's
-      free-far : (b : Bay) → Free Y (holding r r p) b → (0 < far-to b) × (far-to b ≡ far-to (bayOf p f) → ⊥)
-      free-far b free =
-          let n = Y .bays in
-          let hb = low Y o b (free .0) in
-          let own = low Y o (bayOf p r) (due .good .inside r (due .turn)) in
-          let his = low Y o (bayOf p f) (due .good .inside f (omega (arith, due .turn))) in
-          let hU = at-start Y sound goals r p due o in (
-            ahead-some n (stands Y o p r) (o .place b) hU (o .place-low b hb)
-                (λ z. Out-head b (bayOf p r) (take r p) (free .1) (sym (o .bay-place b hb) ∙ ap (o .bay) (sym z) ∙ o .bay-place (bayOf p r) own)),
-            λ z.
-                let same-place = ahead-same n (stands Y o p r) (o .place b) (stands Y o p f) hU (o .place-low b hb) (o .place-low (bayOf p f) his) z in
-                let same-bay : bayOf p f ≡ b = sym (o .bay-place (bayOf p f) his) ∙ ap (o .bay) (sym same-place) ∙ o .bay-place b hb in
-                not-both (rw same-bay at (in-finished r p (omega (arith, due .turn)) f hf)) (Out-tail b (bayOf p r) (take r p) (free .1)),
-          )
+      free-not-f : (b : Bay) → Free Y (holding r r p) b → far-to b ≡ far-to (bayOf p f) → ⊥
+      free-not-f b free e =
+          let is-f : bayOf p f ≡ b =
+          sym (far-same Y o (bayOf p r) own b (bayOf p f) (low Y b (free .0)) (now-low Y sound goals r p due f (finished-there Y sound goals r p due f hf)) e) in
+          not-both (rw is-f at (in-finished r p (omega (arith, due .turn)) f hf)) (Out-tail b (bayOf p r) (take r p) (free .1))
+
+      -- one step of it
+      step-stays : (x y : Bay) → Free Y (holding r r p) x → Free Y (holding r r p) y → joined Y x y ≡ true
+          → far-to x < far-to (bayOf p f) → far-to y < far-to (bayOf p f)
+      step-stays x y free-x free-y rail h =
+          let ne = free-not-f y free-y in
+          ⊎-elim
+          (λ k. let e = far-next Y o (bayOf p r) own x y (low Y x (free-x .0)) (low Y y (free-y .0)) k (free-not-own y free-y) in omega arith)
+          (λ k. let e = far-next Y o (bayOf p r) own y x (low Y y (free-y .0)) (low Y x (free-x .0)) k (free-not-own x free-x) in omega arith)
+          (next-place Y sound o x y rail)
 
       route-stays : (x : Bay) (l : List Bay) (v : Bay) → Free Y (holding r r p) x → far-to x < far-to (bayOf p f) → Route Y (holding r r p) x l v
           → (0 < far-to v) × (far-to v < far-to (bayOf p f))
-      route-stays x [] v free h route = rw (← route) ((free-far x free) .0, h)
-      route-stays x (y ∷ l) v free h route =
-          let n = Y .bays in
-          let hU = at-start Y sound goals r p due o in
-          let hx = o .place-low x (low Y o x (free .0)) in
-          let free-y = route .1 in
-          let hy = o .place-low y (low Y o y (free-y .0)) in
-          let at-x = (free-far x free) .0 in
-          let at-y = free-far y free-y in
-          let some-y = at-y .0 in
-          let not-f = at-y .1 in
-          let U-not : (b : Bay) → 0 < far-to b → stands Y o p r ≡ o .place b → ⊥ =
-          λ b s z. let e : far-to (bayOf p r) ≡ far-to b = ap (ahead n (stands Y o p r)) z in let k = far-own in omega arith in
-          let nearer : far-to y < far-to (bayOf p f) =
-          ⊎-elim
-          (λ k. let e = to-next n (stands Y o p r) (o .place x) (o .place y) hU hx hy k (U-not y some-y) in omega arith)
-          (λ k. let e = to-next n (stands Y o p r) (o .place y) (o .place x) hU hy hx k (U-not x at-x) in omega arith)
-          (next-place Y sound o x y (route .0)) in
-          route-stays y l v free-y nearer (route .2)
+      route-stays x [] v free h route = rw (← route) (far-some Y o (bayOf p r) own x (low Y x (free .0)) (free-not-own x free), h)
+      route-stays x (y ∷ l) v free h route = route-stays y l v (route .1) (step-stays x y free (route .1) (route .0) h) (route .2)
 
-    -- ## From r on through w there is an empty bay
+    -- ## From r on there is an empty bay, with none that is held on the way there
 
-    module _ (w : Bay) (free-w : Free Y (holding r r p) w) (beside : Next (Y .bays) (stands Y o p r) (o .place w))
+    record Gap : Type 0 where
+      at : ℕ
+      on : 0 < at
+      fits : at < Y .bays
+      free : (j : ℕ) → 0 < j → j ≤ at → Out (onBay Y o (bayOf p r) j) (holding r r p)
+      empty : Out (onBay Y o (bayOf p r) at) p
+
+    -- where not all places before D are taken, and none of them is a finished carrier's
+    find-gap : (D : ℕ) → D ≤ Y .bays → ((j : ℕ) → 0 < j → j < D → Out (onBay Y o (bayOf p r) j) (take r p))
+        → (((j : ℕ) → 0 < j → j < D → In (onBay Y o (bayOf p r) j) p) → ⊥) → Gap
+    find-gap D hD clear not-all =
+        let u = bayOf p r in
+        let away : (j : ℕ) → 0 < j → j < Y .bays → onBay Y o u j ≡ u → ⊥ =
+        λ j a h e. let s : far-to (onBay Y o u j) ≡ far-to u = ap far-to e in omega (arith, far-on Y o u own j h, far-own Y o u own) in
+        ⊎-elim
+        (λ f. absurd (not-all (λ j a b. not-false (elem (onBay Y o u j) p) (f j a (omega arith)))))
+        (λ m. record {
+          at = m .at;
+          on = m .some;
+          fits = omega (arith, m .within, m .some);
+          free = λ j a b. out-cons (onBay Y o u j) u (take r p) (away j a (omega (arith, m .within))) (clear j a (omega (arith, m .within)));
+          empty = not-true (elem (onBay Y o u (m .at)) p) (m .hit);
+        })
+        (first-met (λ j. isEmpty p (onBay Y o u j)) (D - 1))
+
+    module _ (roomy : length p + 2 ≤ Y .bays) (w : Bay) (free-w : Free Y (holding r r p) w) (beside : Next (Y .bays) (o .place (bayOf p r)) (o .place w))
         (rest : List Bay) (route : Route Y (holding r r p) w rest (bayOf goals r)) where
-      hw : w < Y .bays
-      hw = low Y o w (free-w .0)
-
       far-w : far-to w ≡ 1
-      far-w =
-          let n = Y .bays in
-          let hU = at-start Y sound goals r p due o in
-          let apart : stands Y o p r ≡ o .place w → ⊥ =
-          λ z. Out-head w (bayOf p r) (take r p) (free-w .1)
-          (sym (o .bay-place w hw) ∙ ap (o .bay) (sym z) ∙ o .bay-place (bayOf p r) (low Y o (bayOf p r) (due .good .inside r (due .turn)))) in
-          let e = to-next n (stands Y o p r) (stands Y o p r) (o .place w) hU hU (o .place-low w hw) beside apart in
-          let s = ahead-self n (stands Y o p r) hU in
-          omega arith
+      far-w = omega (arith, far-next Y o (bayOf p r) own (bayOf p r) w own (low Y w (free-w .0)) beside (free-not-own w free-w), far-own Y o (bayOf p r) own)
 
-      on-w : on-bay 1 ≡ w
-      on-w =
-          let e : further (Y .bays) (stands Y o p r) 1 ≡ o .place w =
-          ap (further (Y .bays) (stands Y o p r)) (sym far-w)
-          ∙ further-ahead (Y .bays) (stands Y o p r) (o .place w) (at-start Y sound goals r p due o) (o .place-low w hw) in
-          ap (o .bay) e ∙ o .bay-place w hw
-
+      -- up to the first finished carrier that is met, or all round
       gap : Gap
       gap =
           let n = Y .bays in
+          let u = bayOf p r in
           ⊎-elim
-          (λ clear. find-gap n (omega arith) (λ j a b. clear j a (omega arith)) (λ all. not-all-taken Y sound goals r p due roomy o all))
+          (λ clear. find-gap n (omega arith) (λ j a b. clear j a (omega arith)) (not-all-taken Y sound goals r p due o roomy))
           (λ m.
           let hm : m .at < n = omega (arith, m .within, m .some) in
-          let f = whose r p (omega (arith, due .turn)) (on-bay (m .at)) (m .hit) in
-          let far-f : far-to (bayOf p (f .0)) ≡ m .at = ap far-to (f .2) ∙ far-on (m .at) hm in
-          let w-before : far-to w < far-to (bayOf p (f .0)) =
-          let e = far-w in let ne = (free-far (f .0) (f .1) w free-w) .1 in omega (arith, m .some) in
-          let goal = route-stays (f .0) (f .1) w rest (bayOf goals r) free-w w-before route in
+          let (f, hf, is-f) = whose r p (omega (arith, due .turn)) (onBay Y o u (m .at)) (m .hit) in
+          let far-f : far-to (bayOf p f) ≡ m .at = ap far-to is-f ∙ far-on Y o u own (m .at) hm in
+          let w-not-f = free-not-f f hf w free-w in
+          let goal = route-stays f hf w rest (bayOf goals r) free-w (omega (arith, m .some, far-w)) route in
           find-gap (m .at) (omega arith) (m .before)
-          (λ all. not-all-between Y sound goals r p due roomy o (f .0) (f .1) (goal .0) (goal .1) (λ j a b. all j a (omega arith))))
-          (first-met (λ j. elem (on-bay j) (take r p)) (n - 1))
+          (λ all. not-all-between Y sound goals r p due o f hf (goal .0) (goal .1) (λ j a b. all j a (omega arith))))
+          (first-met (λ j. elem (onBay Y o u j) (take r p)) (n - 1))
 
       room-up : Some (vacate Y (holding r r p) w p)
       room-up =
+          let u = bayOf p r in
           let g = gap in
-          let k = walk-on Y o (stands Y o p r) (at-start Y sound goals r p due o) (holding r r p) 1 (g .far) (omega (arith, g .some)) (g .fits)
-          (λ j a b. g .free j (omega arith) b) in
-          let walk : Walk Y (holding r r p) w (k .0) (on-bay (g .far)) = rw on-w at (k .1) in
+          let k = walk-on Y o u own (holding r r p) 1 (g .at) (omega (arith, g .on)) (g .fits) (λ j a b. g .free j (omega arith) b) in
+          let begins : onBay Y o u 1 ≡ w = ap (onBay Y o u) (sym far-w) ∙ on-far Y o u own w (low Y w (free-w .0)) in
+          let walk : Walk Y (holding r r p) w (k .0) (onBay Y o u (g .at)) = rw begins at (k .1) in
           let way = walk-way Y (holding r r p) free-w walk in
-          vacate-finds Y (holding r r p) w p free-w (on-bay (g .far)) (way .0) (g .empty) (way .2)
+          vacate-finds Y (holding r r p) w p free-w (onBay Y o u (g .at)) (way .0) (g .empty) (way .2)
 
   -- The next bay of a route to r's goal that avoids r's bay and the finished carriers' can be vacated.
-  pub room-ahead : Round Y → (w : Bay) (rest : List Bay) → joined Y (bayOf p r) w ≡ true → Free Y (holding r r p) w
+  pub room-ahead : Round Y → length p + 2 ≤ Y .bays → (w : Bay) (rest : List Bay) → joined Y (bayOf p r) w ≡ true → Free Y (holding r r p) w
       → Route Y (holding r r p) w rest (bayOf goals r) → Some (vacate Y (holding r r p) w p)
-  room-ahead o w rest rail free route =
+  room-ahead o roomy w rest rail free route =
       ⊎-elim
-      (λ k. room-up o w free k rest route)
-      (λ k. room-up (mirror Y o) w free
-      (mirror-next Y o (bayOf p r) w (low Y o (bayOf p r) (due .good .inside r (due .turn))) (low Y o w (free .0)) k) rest route)
+      (λ k. room-up o roomy w free k rest route)
+      (λ k. room-up (mirror Y o) roomy w free (mirror-next Y o (bayOf p r) w own (low Y w (free .0)) k) rest route)
       (next-place Y sound o (bayOf p r) w rail)

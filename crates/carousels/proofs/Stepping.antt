@@ -17,7 +17,7 @@ use Rattle.paper.specs.Procedure.{Made, only, together, vacate, cross, step, ho
 use Rattle.paper.proofs.Tests.{by-option, not-both, never-some, none-both}
 use Rattle.paper.proofs.Members.{Out-head, Out-tail, out-cons}
 use Rattle.paper.proofs.Playing.{Sound, after-length}
-use Rattle.paper.proofs.Swapping.{then-runs}
+use Rattle.paper.proofs.Actions.{then-runs}
 use Rattle.paper.proofs.Carrying.{plan-good, Stepped, step-steps}
 use Rattle.carousels.specs.Round.{Round}
 use Rattle.carousels.specs.Due.{Due}
@@ -55,7 +55,7 @@ module _ (Y : Yard) (sound : Sound Y) (o : Round Y) (goals : Placement) (r : Car
     step-goes : Some (step Y r r w p)
     unfolding step cross
     step-goes =
-        let room = room-ahead Y sound goals r p due roomy o w rest rail free route in
+        let room = room-ahead Y sound goals r p due o roomy w rest rail free route in
         let runs = then-runs (vacate Y (holding r r p) w) (cross r w) p (room .0) _ (room .1) refl in
         by-option (step Y r r w p)
         (λ h. never-some _ (sym ((none-both _ _ h) .0) ∙ runs))

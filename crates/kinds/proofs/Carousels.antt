@@ -25,7 +25,7 @@ pub two-none : (table : List ℕ) → TwoBelow table 0
 two-none table = record { two = λ a h. absurd (omega arith) }
 
 pub two-more : {table : List ℕ} {v : ℕ} → TwoBelow table v → rails table v ≡ 2 → TwoBelow table (v + 1)
-two-more {table} {v} t e = record { two = λ a h. elim (ℕ-discrete a v) [ | yes q ↦ rw q e | no q ↦ t .two a (omega arith) ] }
+two-more {table} {v} t e = record { two = λ a h. elim (ℕ-discrete a v) [ yes q ↦ rw q e | no q ↦ t .two a (omega arith) ] }
 
 module _ (Y : Yard) {n : ℕ} {table : List ℕ} (t : Table Y n table) (most : n ≤ span) where
   pub not-carousel : (v : ℕ) → v < n → (rails table v ≡ 2 → ⊥) → false ≡ carousel Y
