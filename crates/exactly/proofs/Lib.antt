@@ -1,0 +1,10 @@
+pub mod First
+pub mod Lists
+pub mod Numbers
+pub mod Six
+pub mod Plans
+pub mod Marks
+pub mod Planning
+pub mod Checking
+pub mod Reporting
+pub mod Spelled

@@ -1,0 +1,6 @@
+pub mod Shortening
+pub mod Billing
+pub mod Verdicts
+pub mod Comparing
+pub mod Linking
+pub mod Reading

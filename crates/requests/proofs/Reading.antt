@@ -1,0 +1,149 @@
+-- Functions that read a file first: its layout before all else, then what is tested of what was read, then the room. Each refusal exactly if its words hold and
+-- nothing before it applies.
+use mathlib.Core.Path.{_≡_, refl, sym, _∙_, ap}
+use mathlib.Core.Bool.{Bool, true, false, not}
+use mathlib.Core.List.{List, [], _∷_}
+use mathlib.Core.Logic.{_↔_, _⊎_, inl, inr, ⊎-elim}
+use mathlib.Core.Option.{Option, none, some}
+use Prim.Native.Nat.{ℕ, suc, _<_, _≤_}
+use native.Mathlib.Omega.{arith}
+use lib.Dec.{ltb, leb}
+use lib.ListN.{length}
+use borrow.Author.Tests.{ltb-true, lt-ltb, leb-true, leb-false, le-leb, lt-leb}
+use Rattle.paper.specs.Basics.{if_then_else_, _or_, elem}
+use Rattle.paper.specs.Yard.{Bay, most-crossings}
+use Rattle.paper.specs.Docket.{Refusal, size, room, badMap, badScenario, badSurvey, ended, badPlan, badReports, number, carried, Verdict, granted, denied, unlessDenied}
+use Rattle.paper.specs.Text.{Text, Read, good, badLine}
+use Rattle.paper.specs.Map.{Grid, railEnds}
+use Rattle.paper.proofs.Tests.{by-cases, not-both, never, or-left, or-right, or-cases}
+use Rattle.exactly.specs.First.{Given, numbersOf}
+use Rattle.exactly.proofs.First.{given-number}
+use Rattle.handing.specs.Handing.{handed}
+use Rattle.readback.specs.Files.{planVerdict, reportsVerdict}
+use Rattle.readers.specs.Reading.{laying, laidVerdict}
+use Rattle.survey.specs.Survey.{readSurvey, readRefusal}
+use Rattle.survey.proofs.Broken.{BreaksAfter, broken-exactly}
+use Rattle.surveying.specs.Says.{readAnswer}
+use Rattle.requests.specs.Rows.{surveyRows}
+use Rattle.requests.proofs.Verdicts.{survey-denies}
+
+room-same : {m k : ℕ} → denied (room m) ≡ denied (room k) → m ≡ k
+room-same h = cc
+
+-- ## A printed plan: 26, 1, 8. A file of reports: 27, 8.
+
+handed-8 : (needed has m : ℕ) → (handed needed has ≡ denied (room m)) ↔ ((m ≡ needed) × (has < needed))
+unfolding handed
+handed-8 needed has m = (
+  λ h. by-cases (leb needed has)
+      (λ e. let k : granted needed ≡ denied (room m) = rw e at h in never (cc))
+      (λ e. let k : denied (room needed) ≡ denied (room m) = rw e at h in (sym (room-same k), leb-false _ _ e)),
+  λ k. let e : leb needed has ≡ false = lt-leb _ _ (k .1) in rw e (ap (λ j. denied (room j)) (sym (k .0))),
+)
+
+handed-only : {P : Type 0} (needed has : ℕ) (r : Refusal) → handed needed has ≡ denied r → (r ≡ room needed → P) → P
+unfolding handed
+handed-only needed has r h f =
+    by-cases (leb needed has)
+    (λ e. let k : granted needed ≡ denied r = rw e at h in never (cc))
+    (λ e. let k : denied (room needed) ≡ denied r = rw e at h in f (let z : room needed ≡ r = cc in sym z))
+
+module _ (has : ℕ) where
+  pub plan-file-26 : (r : Read (List ℕ)) (n : ℕ) → (planVerdict r has ≡ denied (badPlan n)) ↔ (r ≡ badLine n)
+  plan-file-26 (badLine k) n = (λ h. let z : k ≡ n = cc in ap badLine z, λ h. let z : k ≡ n = cc in ap (λ j. denied (badPlan j)) z)
+  plan-file-26 (good ns) n = (
+    λ h. by-cases (leb (length ns) most-crossings)
+        (λ e. handed-only (length ns) has (badPlan n) (rw e at h) (λ q. never (cc)))
+        (λ e. let k : denied size ≡ denied (badPlan n) = rw e at h in never (cc)),
+    λ h. never (cc),
+  )
+
+  pub plan-file-1 : (r : Read (List ℕ)) → (planVerdict r has ≡ denied size) ↔ ((ns : List ℕ) × (r ≡ good ns) × (most-crossings < length ns))
+  plan-file-1 (badLine k) = (λ h. never (cc), λ h. let q = h .1 in never (cc))
+  plan-file-1 (good ns) = (
+    λ h. by-cases (leb (length ns) most-crossings)
+        (λ e. handed-only (length ns) has size (rw e at h) (λ q. never (cc)))
+        (λ e. (ns, refl, leb-false _ _ e)),
+    λ k.
+        let z : ns ≡ k .0 = let q = k .1 in cc in
+        let l : most-crossings < length ns = rw z (k .2) in
+        let e : leb (length ns) most-crossings ≡ false = lt-leb _ _ l in
+        rw e,
+  )
+
+  pub plan-file-8 : (r : Read (List ℕ)) (m : ℕ) → (planVerdict r has ≡ denied (room m))
+      ↔ ((ns : List ℕ) × (r ≡ good ns) × (length ns ≤ most-crossings) × (m ≡ length ns) × (has < length ns))
+  plan-file-8 (badLine k) m = (λ h. never (cc), λ h. let q = h .1 in never (cc))
+  plan-file-8 (good ns) m = (
+    λ h. by-cases (leb (length ns) most-crossings)
+        (λ e. let k = handed-8 (length ns) has m .0 (rw e at h) in (ns, refl, leb-true _ _ e, k .0, k .1))
+        (λ e. let k : denied size ≡ denied (room m) = rw e at h in never (cc)),
+    λ k.
+        let z : ns ≡ k .0 = let q = k .1 in cc in
+        let l : length ns ≤ most-crossings = rw z (k .2) in
+        let e : leb (length ns) most-crossings ≡ true = le-leb _ _ l in
+        rw e (handed-8 (length ns) has m .1 (rw z (k .3), rw z (k .4))),
+  )
+
+  pub reports-file-27 : (r : Read (List ℕ)) (n : ℕ) → (reportsVerdict r has ≡ denied (badReports n)) ↔ (r ≡ badLine n)
+  reports-file-27 (badLine k) n = (λ h. let z : k ≡ n = cc in ap badLine z, λ h. let z : k ≡ n = cc in ap (λ j. denied (badReports j)) z)
+  reports-file-27 (good ns) n = (λ h. handed-only (length ns) has (badReports n) h (λ q. never (cc)), λ h. never (cc))
+
+  pub reports-file-8 : (r : Read (List ℕ)) (m : ℕ) → (reportsVerdict r has ≡ denied (room m)) ↔ ((ns : List ℕ) × (r ≡ good ns) × (m ≡ length ns) × (has < length ns))
+  reports-file-8 (badLine k) m = (λ h. never (cc), λ h. let q = h .1 in never (cc))
+  reports-file-8 (good ns) m = (
+    λ h. let k = handed-8 (length ns) has m .0 h in (ns, refl, k .0, k .1),
+    λ k. let z : ns ≡ k .0 = let q = k .1 in cc in handed-8 (length ns) has m .1 (rw z (k .2), rw z (k .3)),
+  )
+
+-- ## A map alone: 14, 8
+
+pub map-file-14 : (lent : ℕ) (r : Read Grid) (n : ℕ) → (laidVerdict lent (laying r) ≡ denied (badMap n)) ↔ (r ≡ badLine n)
+map-file-14 lent (badLine k) n = (λ h. let z : k ≡ n = cc in ap badLine z, λ h. let z : k ≡ n = cc in ap (λ j. denied (badMap j)) z)
+map-file-14 lent (good G) n = (
+  λ h. by-cases (ltb lent (length (railEnds G)))
+      (λ e. let k : denied (room (length (railEnds G))) ≡ denied (badMap n) = rw e at h in never (cc))
+      (λ e. let k : granted (length (railEnds G)) ≡ denied (badMap n) = rw e at h in never (cc)),
+  λ h. never (cc),
+)
+
+pub map-file-8 : (lent : ℕ) (r : Read Grid) (m : ℕ) → (laidVerdict lent (laying r) ≡ denied (room m))
+    ↔ ((G : Grid) × (r ≡ good G) × (m ≡ length (railEnds G)) × (lent < length (railEnds G)))
+map-file-8 lent (badLine k) m = (λ h. never (cc), λ h. let q = h .1 in never (cc))
+map-file-8 lent (good G) m = (
+  λ h. by-cases (ltb lent (length (railEnds G)))
+      (λ e. let k : denied (room (length (railEnds G))) ≡ denied (room m) = rw e at h in (G, refl, sym (room-same k), ltb-true _ _ e))
+      (λ e. let k : granted (length (railEnds G)) ≡ denied (room m) = rw e at h in never (cc)),
+  λ k.
+      let z : G ≡ k .0 = let q = k .1 in cc in
+      let l : lent < length (railEnds G) = rw z (k .3) in
+      let e : ltb lent (length (railEnds G)) ≡ true = lt-ltb _ _ l in
+      rw e (ap (λ j. denied (room j)) (rw z (sym (k .2)))),
+)
+
+-- ## A surveyors' file: 16, then 1 to 3, then 8
+
+module _ (lent : ℕ) where
+  survey-never-16 : (n : ℕ) (ends : List Bay) (l : ℕ) → unlessDenied (readRefusal n ends lent) (length ends) ≡ denied (badSurvey l) → ⊥
+  unfolding elem
+  survey-never-16 n ends l h =
+      not-both (given-number (surveyRows n ends lent) 16 (some l) (survey-denies n ends lent (badSurvey l) .0 h)) refl
+
+  of-survey : (r : Read (ℕ × List Bay)) (n : ℕ) → (readAnswer r lent ≡ denied (badSurvey n)) ↔ (r ≡ badLine n)
+  of-survey (badLine k) n = (λ h. let z : k ≡ n = cc in ap badLine z, λ h. let z : k ≡ n = cc in ap (λ j. denied (badSurvey j)) z)
+  of-survey (good y) n = (λ h. absurd (survey-never-16 (y .0) (y .1) n h), λ h. never (cc))
+
+  -- 16 exactly if the layout is broken, with the first bad line, before all else.
+  pub survey-16 : (file : Text) (d : ℕ) → (readAnswer (readSurvey file) lent ≡ denied (badSurvey (suc d))) ↔ BreaksAfter file d
+  survey-16 file d =
+      let e = of-survey (readSurvey file) (suc d) in
+      let f = broken-exactly file d in
+      (λ h. f .0 (e .0 h), λ k. e .1 (f .1 k))
+
+  -- Where the layout is kept, 1 to 3 and 8 decide.
+  pub survey-then : (file : Text) (n : ℕ) (ends : List Bay) → readSurvey file ≡ good (n, ends) → (r : Refusal)
+      → (readAnswer (readSurvey file) lent ≡ denied r) ↔ Given (surveyRows n ends lent) (number r) (carried r)
+  survey-then file n ends h r =
+      let e : readAnswer (readSurvey file) lent ≡ unlessDenied (readRefusal n ends lent) (length ends) = ap (λ f. readAnswer f lent) h in
+      let f = survey-denies n ends lent r in
+      (λ k. f .0 (sym e ∙ k), λ g. e ∙ f .1 g)

@@ -1,0 +1,163 @@
+-- Demand 3 over any mix of calls. A billed report that answers 19 changes nothing, every other one answers what the paper's report does, and openings and agreement tests touch no
+-- mark: so the marks and names are those of the paper's run of the reports that were heard.
+use mathlib.Core.Path.{_≡_, refl, sym, _∙_, ap}
+use mathlib.Core.Bool.{Bool, true, false}
+use mathlib.Core.Logic.{_↔_}
+use mathlib.Core.List.{List, [], _∷_, map}
+use mathlib.Core.Option.{none}
+use Prim.Native.Nat.{ℕ, _<_}
+use native.Mathlib.Omega.{arith}
+use lib.ListN.{length, set}
+use borrow.Author.Tests.{eq-eqb}
+use Rattle.paper.specs.Basics.{if_then_else_, if-some_then_else_, orElse, when}
+use Rattle.paper.specs.Yard.{Bay, Placement, Crossing, pack, crossings}
+use Rattle.paper.specs.Dependence.{fresh}
+use Rattle.paper.specs.Docket.{yardOf, badMarks}
+use Rattle.paper.specs.Answers.{Report, accept, already, refuse, accepts, check, marksAfter, plan as planned, accepted}
+use Rattle.paper.specs.Log.{Request, answerTo, marksBy, marksFrom, namesFrom, marksOf, namesOf}
+use Rattle.paper.proofs.Tests.{by-cases, not-both}
+use Rattle.paper.proofs.Logging.{fine, plan-lawful, kept-from-fresh}
+use Rattle.paper.proofs.Demands.{Demand3, demand-3}
+use Rattle.paper.proofs.Handing.{handed-passes}
+use Rattle.trips.specs.Trips.{shorten}
+use Rattle.trips.proofs.Shortened.{shortened-passes}
+use Rattle.bills.specs.Answering.{Billed, told, disagrees, changes, opening, marksThen}
+use Rattle.bills.specs.Keeping.{Books, answerOn, booksBy}
+use Rattle.bills.proofs.Keeping.{told-or-19, nothing-changed, opened as opened-afresh, eleven-exactly, agrees-exactly, billing-told, kept-afresh}
+use Rattle.runs.specs.Runs.{Call, reported, billed, opened, compared, requestOf, booksAfter, accepting, booksThen, namesThen, LogDemand, Agreed, asking, Demand3Mixed}
+
+-- ## The paper's run
+
+-- an answer other than 19
+heeded : Billed → Bool
+heeded (told r) = true
+heeded disagrees = false
+
+marked-by : (ms : List ℕ) (i : ℕ) (r : Report) → (if accepts r then set ms i 1 else ms) ≡ marksAfter ms i r
+unfolding accepts marksAfter
+marked-by ms i accept = refl
+marked-by ms i already = refl
+marked-by ms i (refuse x) = refl
+
+module _ (plan : List ℕ) where
+  -- the reports that were heard: all plain ones, and the billed ones that did not answer 19
+  heardNow : Books → Call → List Request → List Request
+  heardNow b (reported q) rest = q ∷ rest
+  heardNow b (billed q) rest = if heeded (answerOn plan b q) then q ∷ rest else rest
+  heardNow b (opened q) rest = rest
+  heardNow b (compared q) rest = rest
+
+  heard : Books → List Call → List Request
+  heard b [] = []
+  heard b (c ∷ cs) = heardNow b c (heard (booksAfter plan b c) cs)
+
+  by-billing : {P : Type 0} (b : Books) (q : Request) → (answerOn plan b q ≡ told (answerTo plan (b .marks) q) → P) → (answerOn plan b q ≡ disagrees → P) → P
+  by-billing b q f g = told-or-19 (q .bays) (q .ends) (q .starts) (q .goals) plan (b .marks) (b .running) (b .lines) (q .name) f g
+
+  -- where it did not answer 19 the marks are the paper's
+  paper-marks : (b : Books) (q : Request) → answerOn plan b q ≡ told (answerTo plan (b .marks) q) → booksBy plan b q .marks ≡ marksBy plan (b .marks) q
+  unfolding marksThen changes
+  paper-marks b q e = rw e (marked-by (b .marks) (q .name) (answerTo plan (b .marks) q))
+
+  -- where it did they stay
+  marks-stay : (b : Books) (q : Request) → answerOn plan b q ≡ disagrees → booksBy plan b q .marks ≡ b .marks
+  unfolding marksThen changes
+  marks-stay b q e = rw e
+
+  run-is : (b : Books) (cs : List Call)
+      → (booksThen plan b cs .marks ≡ marksFrom plan (b .marks) (heard b cs)) × (namesThen plan b cs ≡ namesFrom plan (b .marks) (heard b cs))
+  unfolding heard heardNow heeded booksThen namesThen marksFrom namesFrom changes
+  run-is b [] = (refl, refl)
+  run-is b (reported q ∷ cs) =
+      let ih = run-is (booksAfter plan b (reported q)) cs in
+      (ih .0, ap (λ l. if accepts (answerTo plan (b .marks) q) then q .name ∷ l else l) (ih .1))
+  run-is b (billed q ∷ cs) =
+      let ih = run-is (booksBy plan b q) cs in
+      by-billing b q
+      (λ e.
+      let s : booksBy plan b q .marks ≡ marksBy plan (b .marks) q = paper-marks b q e in (
+        rw e (ih .0 ∙ ap (λ ms. marksFrom plan ms (heard (booksBy plan b q) cs)) s),
+        rw e (ap (λ l. if accepts (answerTo plan (b .marks) q) then q .name ∷ l else l) (ih .1 ∙ ap (λ ms. namesFrom plan ms (heard (booksBy plan b q) cs)) s)),
+      ))
+      (λ e.
+      let s : booksBy plan b q .marks ≡ b .marks = marks-stay b q e in (
+        rw e (ih .0 ∙ ap (λ ms. marksFrom plan ms (heard (booksBy plan b q) cs)) s),
+        rw e (ih .1 ∙ ap (λ ms. namesFrom plan ms (heard (booksBy plan b q) cs)) s),
+      ))
+  run-is b (opened q ∷ cs) = run-is (booksAfter plan b (opened q)) cs
+  run-is b (compared q ∷ cs) = run-is b cs
+
+  marks-kept : (b : Books) (c : Call) → accepting plan b c ≡ false → booksAfter plan b c .marks ≡ b .marks
+  unfolding marksThen accepts marksAfter
+  marks-kept b (reported q) h = by-answer (answerTo plan (b .marks) q) h
+    where
+      by-answer : (r : Report) → accepts r ≡ false → marksAfter (b .marks) (q .name) r ≡ b .marks
+      by-answer accept e = not-both refl e
+      by-answer already e = refl
+      by-answer (refuse x) e = refl
+  marks-kept b (billed q) h = rw h
+  marks-kept b (opened q) h = refl
+  marks-kept b (compared q) h = refl
+
+-- ## The demand
+
+log-of : (n : ℕ) (ends : List Bay) (starts goals : Placement) (plan : List ℕ) (qs : List Request) → Demand3 n ends starts goals plan qs
+    → LogDemand n ends starts goals plan (marksOf plan qs) (namesOf plan qs)
+log-of n ends starts goals plan qs d = record {
+  lawful = d .lawful;
+  same = d .same;
+  marked = d .marked;
+  once = d .once;
+  repeats = d .repeats;
+  answered = d .answered;
+  goes-on = d .goes-on;
+  all-home = d .all-home;
+}
+
+module _ (n : ℕ) (ends : List Bay) (starts goals : Placement) (plan : List ℕ) (passes : check n ends starts goals plan ≡ none) where
+  fine-marks : (qs : List Request) → badMarks (crossings plan) (marksOf plan qs) ≡ false
+  fine-marks qs =
+      fine (yardOf n ends) starts (crossings plan) (plan-lawful n ends starts goals plan passes) (marksOf plan qs) (namesOf plan qs)
+      (kept-from-fresh n ends starts goals plan passes qs)
+
+  open-passes : (marks : List ℕ) (lent : ℕ) → badMarks (crossings plan) marks ≡ false → lent ≡ length starts → opening n ends starts goals plan marks lent ≡ none
+  unfolding opening
+  open-passes marks lent f e = rw (eleven-exactly n ends starts goals plan marks .1 (passes, f), eq-eqb lent (length starts) e)
+
+  -- Over any mix of calls on a plan that passes the check, from fresh marks and any record and lines.
+  pub demand-3-mixed : (b : Books) → b .marks ≡ fresh plan → (cs : List Call) → Demand3Mixed n ends starts goals plan b cs
+  demand-3-mixed b start cs =
+      let r = run-is plan b cs in
+      let qs = heard plan b cs in
+      let e = booksThen plan b cs in
+      let m : e .marks ≡ marksOf plan qs = r .0 ∙ ap (λ ms. marksFrom plan ms qs) start in
+      let names : namesThen plan b cs ≡ namesOf plan qs = r .1 ∙ ap (λ ms. namesFrom plan ms qs) start in
+      let ok : badMarks (crossings plan) (e .marks) ≡ false = ap (badMarks (crossings plan)) m ∙ fine-marks qs in
+      record {
+        log = rw (m, names) (log-of n ends starts goals plan qs (demand-3 n ends starts goals plan passes qs));
+        unchanged = λ c h. marks-kept plan e c h;
+        opens = λ i k. opened-afresh n ends starts goals plan (e .marks) (e .running) (e .lines) (open-passes (e .marks) (length (e .lines)) ok k) .0;
+        keeps = λ q f. kept-afresh (yardOf n ends) starts plan (plan-lawful n ends starts goals plan passes) e q f;
+        agreeing = λ f. agrees-exactly n ends starts goals plan (e .marks) (e .running) (e .lines) .1 (eleven-exactly n ends starts goals plan (e .marks) .1 (passes, ok), f);
+        alike = λ i f. billing-told n ends starts goals plan (e .marks) (e .running) (e .lines) i passes ok f;
+      }
+
+  -- ## Of a plan that was shortened before any mark
+
+  abbrev shorter : List ℕ
+  shorter = map pack (shorten (crossings plan))
+
+  pub shortened-demand-3 : (qs : List Request) → Demand3 n ends starts goals shorter qs
+  shortened-demand-3 qs = demand-3 n ends starts goals shorter (shortened-passes n ends starts goals plan passes .0) qs
+
+-- the same over any mix, of the plan that shortening gives and of every plan handed out
+pub shortened-mixed : (n : ℕ) (ends : List Bay) (starts goals : Placement) (plan : List ℕ) → check n ends starts goals plan ≡ none
+    → (b : Books) → b .marks ≡ fresh (map pack (shorten (crossings plan))) → (cs : List Call)
+    → Demand3Mixed n ends starts goals (map pack (shorten (crossings plan))) b cs
+shortened-mixed n ends starts goals plan passes b start cs =
+    demand-3-mixed n ends starts goals (map pack (shorten (crossings plan))) (shortened-passes n ends starts goals plan passes .0) b start cs
+
+pub handed-mixed : (n : ℕ) (ends : List Bay) (starts goals : Placement) (lent : ℕ) (xs : List Crossing) → planned n ends starts goals lent ≡ accepted xs
+    → (b : Books) → b .marks ≡ fresh (map pack xs) → (cs : List Call) → Demand3Mixed n ends starts goals (map pack xs) b cs
+handed-mixed n ends starts goals lent xs h b start cs =
+    demand-3-mixed n ends starts goals (map pack xs) (handed-passes n ends starts goals lent xs h .0) b start cs
