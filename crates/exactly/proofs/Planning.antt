@@ -8,11 +8,11 @@ use Prim.Native.Nat.{ℕ}
 use lib.ListN.{length}
 use Rattle.paper.specs.Basics.{if-some_then_else_, orElse, elem, _and_}
 use Rattle.paper.specs.Yard.{Bay, Placement, Crossing}
-use Rattle.paper.specs.Procedure.{Outcome, planned, stuck, procedure}
+use Rattle.paper.specs.Procedure.{Made, Outcome, planned, stuck, procedure}
 use Rattle.paper.specs.Docket.{Refusal, number, carried, yardOf, no-7, no-8}
 use Rattle.paper.specs.Answers.{Answer, accepted, refused, crossingsOf, within, unless, plan, firstSix}
 use Rattle.paper.proofs.Tests.{by-option, never, never-some}
-use Rattle.paper.proofs.Planning.{accepted-exactly}
+use Rattle.paper.proofs.Planning.{Gives, accepted-exactly}
 use Rattle.exactly.specs.First.{Row, carrying, NoneOf, Given, distinct}
 use Rattle.exactly.specs.Words.{TooLong}
 use Rattle.exactly.specs.Rows.{planRows}
@@ -20,23 +20,23 @@ use Rattle.exactly.proofs.First.{Reads, after-it, exactly, nothing-exac
 use Rattle.exactly.proofs.Six.{Refuses, six-reads}
 use Rattle.exactly.proofs.Plans.{reads-7, reads-8-by}
 
-unstuck : (o : Outcome) → no-7 o ≡ none → (xs : List Crossing) × (o ≡ planned xs)
-unstuck (planned xs) h = (xs, refl)
+unstuck : (o : Outcome) → no-7 o ≡ none → (m : Made) × (o ≡ planned m)
+unstuck (planned m) h = (m, refl)
 unstuck (stuck c) h = never (cc)
 
 module _ (lent : ℕ) (o : Outcome) where
   -- 8 of an outcome
   abbrev Long : ℕ → Type 0
-  Long v = (xs : List Crossing) × (o ≡ planned xs) × (v ≡ length xs) × TooLong lent (length xs)
+  Long v = (m : Made) × (o ≡ planned m) × (v ≡ length (m .moves)) × TooLong lent (length (m .moves))
 
   long-reads : no-7 o ≡ none → Refuses (no-8 lent (length (crossingsOf o))) (carrying 8 Long ∷ [])
   unfolding crossingsOf
   long-reads h =
       let u = unstuck o h in
-      let same : crossingsOf o ≡ u .0 = ap crossingsOf (u .1) in
+      let same : crossingsOf o ≡ u .0 .moves = ap crossingsOf (u .1) in
       reads-8-by lent (length (crossingsOf o)) Long
       (λ t. (u .0, u .1, ap length same, rw same at t))
-      (λ v w. let e : crossingsOf o ≡ w .0 = ap crossingsOf (w .1) in (w .2 ∙ ap length (sym e), rw e (w .3)))
+      (λ v w. let e : crossingsOf o ≡ w .0 .moves = ap crossingsOf (w .1) in (w .2 ∙ ap length (sym e), rw e (w .3)))
 
   within-reads : Refuses (orElse (no-7 o) (no-8 lent (length (crossingsOf o)))) (carrying 7 (λ c. o ≡ stuck c) ∷ carrying 8 Long ∷ [])
   within-reads = after-it number carried (reads-7 o) long-reads
@@ -78,7 +78,7 @@ module _ (n : ℕ) (ends : List Bay) (starts goals : Placement) (lent : ℕ) whe
       (λ h. e .0 (f .0 (sym plan-is ∙ h)), λ g. plan-is ∙ f .1 (e .1 g))
 
   -- It accepts a plan exactly if none of them applies, and the plan is the procedure's.
-  pub plan-accepts : (xs : List Crossing) → (plan n ends starts goals lent ≡ accepted xs) ↔ (NoneOf (planRows n ends starts goals lent) × (outcome ≡ planned xs))
+  pub plan-accepts : (xs : List Crossing) → (plan n ends starts goals lent ≡ accepted xs) ↔ (NoneOf (planRows n ends starts goals lent) × Gives outcome xs)
   unfolding crossingsOf
   plan-accepts xs =
       let e = nothing-exactly number carried plan-reads in (
@@ -86,5 +86,5 @@ module _ (n : ℕ) (ends : List Bay) (starts goals : Placement) (lent : ℕ) whe
           by-option tests (λ t. e .0 t) (λ r t. let q : accepted xs ≡ refused r = sym h ∙ plan-is ∙ ap (λ t. if-some t then refused else accepted (crossingsOf outcome)) t in never (cc)),
           (accepted-exactly n ends starts goals lent xs) .0 h .1,
         ),
-        λ k. plan-is ∙ ap (λ t. if-some t then refused else accepted (crossingsOf outcome)) (e .1 (k .0)) ∙ ap (λ o. accepted (crossingsOf o)) (k .1),
+        λ k. plan-is ∙ ap (λ t. if-some t then refused else accepted (crossingsOf outcome)) (e .1 (k .0)) ∙ ap (λ o. accepted (crossingsOf o)) (k .1 .1) ∙ ap accepted (k .1 .2),
       )

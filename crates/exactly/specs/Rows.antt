@@ -6,8 +6,8 @@ use mathlib.Core.Option.{Option, none, some}
 use mathlib.Core.Path.{_≡_}
 use Prim.Native.Nat.{ℕ}
 use lib.ListN.{length}
-use Rattle.paper.specs.Yard.{Bay, Placement, Crossing, crossings, after}
-use Rattle.paper.specs.Procedure.{Outcome, planned, stuck, procedure}
+use Rattle.paper.specs.Yard.{Bay, Placement, crossings, after}
+use Rattle.paper.specs.Procedure.{Made, Outcome, planned, stuck, procedure}
 use Rattle.paper.specs.Docket.{number, carried, yardOf}
 use Rattle.paper.specs.Answers.{Report, accept, already, refuse}
 use Rattle.exactly.specs.First.{Row, plain, carrying}
@@ -49,7 +49,7 @@ module _ (n : ℕ) (ends : List Bay) (starts goals : Placement) where
 
   -- 8: the procedure's plan is longer than the lent list, or over 65,536: its length
   abbrev pub NoRoom : ℕ → ℕ → Type 0
-  NoRoom lent v = (xs : List Crossing) × (procedure (yardOf n ends) goals starts ≡ planned xs) × (v ≡ length xs) × TooLong lent (length xs)
+  NoRoom lent v = (m : Made) × (procedure (yardOf n ends) goals starts ≡ planned m) × (v ≡ length (m .moves)) × TooLong lent (length (m .moves))
 
   -- "Planning tests 1 to 8 by number."
   abbrev pub planRows : ℕ → List Row
