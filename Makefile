@@ -18,10 +18,10 @@ WARNINGS = -std=c99 -Wall -Wextra -pedantic
 PROCESSOR = $$($(CC) -dumpmachine | sed 's/-.*//; s/^arm64$$/aarch64/; s/^amd64$$/x86_64/')
 VERSION = $$(sed -n 's/^.define SEJJEKORU_VERSION "\(.*\)"$$/\1/p' include/sejjekoru.h)
 # raised when a program that was linked with the library before could no longer run with it
-SONAME = libsejjekoru.so.0
+SONAME = libsejjekoru.so.1
 
 # what a caller gets of it
-PARTS = libsejjekoru.a libsejjekoru.so.0 libsejjekoru.so vault lossy_line
+PARTS = libsejjekoru.a libsejjekoru.so.1 libsejjekoru.so vault lossy_line
 
 all: $(OUT)/libsejjekoru.a $(OUT)/$(SONAME) $(OUT)/libsejjekoru.so $(OUT)/vault $(OUT)/lossy_line
 

@@ -2,8 +2,12 @@
 """The planning rules as plain Python, from documents 01 and 02 (E2 and E9), with nothing taken from the crates or from rust/reference.
 
 tests/model.py plan FILE      compares the model with plan vectors (`ok LENGTH PARKED : plan`)
+tests/model.py answers FILE   prints plan vectors (`ok LENGTH : plan`) with the model's answers; refusals 1 to 6 stay as they are
 tests/model.py vacate FILE    prints crates/search_cases/data/vacate for the requests of vacate vectors, with the model's answers
+tests/model.py files FOLDER   writes the print of each map and scenario of the folder that was a plan, or refused by 7 or 8
+tests/model.py timed FOLDER   the same with the slots of both editions
 """
+import glob
 import sys
 
 MOST = 65536
@@ -202,38 +206,117 @@ def requests(name):
             yield numbers(head.split(" ", 1)[1]), [numbers(one) for one in lists], answer.strip()
 
 
-def main():
-    verb, name = sys.argv[1:]
-    if verb == "plan":
-        agree = other = 0
-        for (bays, room), (ends, starts, goals), answer in requests(name):
-            try:
-                vault = plan(Yard(bays, ends), room, starts, goals)
-                said = f"ok {len(vault.list)} {vault.parked} : " + " ".join(str(packed(c)) for c in vault.list)
-            except Stop as stop:
-                said = "refused %d %d" % stop.args
-            except (IndexError, KeyError):
-                said = "?"
-            if said.strip() == answer:
-                agree += 1
-            else:
-                other += 1
-                print(f"case {agree + other}: {said[:70]} / {answer[:70]}")
-        print(f"{agree} of {agree + other} agree")
-        return
+def answer(bays, room, ends, starts, goals):
+    """The number, what it carries or the length, how many were parked, and the plan."""
+    try:
+        vault = plan(Yard(bays, ends), room, starts, goals)
+        return 0, len(vault.list), vault.parked, vault.list
+    except Stop as stop:
+        return (*stop.args, 0, [])
+
+
+def told(number, value, parked, crossings):
+    if number:
+        return f"refused {number} {value}"
+    counts = str(value) if parked is None else f"{value} {parked}"
+    return f"ok {counts} : " + " ".join(str(packed(crossing)) for crossing in crossings)
+
+
+def early(text):
+    """A refusal by 1 to 6, of which the model says nothing."""
+    words = text.split()
+    return words[0] == "refused" and int(words[1]) < 7
+
+
+def compare(name):
+    agree = cases = 0
+    for (bays, room), lists, expected in requests(name):
+        cases += 1
+        if early(expected) or told(*answer(bays, room, *lists)).strip() == expected:
+            agree += 1
+        else:
+            print(f"case {cases} does not agree")
+    print(f"{agree} of {cases} agree")
+
+
+def answers(name):
+    with open(name) as lines:
+        for line, ((bays, room), lists, expected) in zip(lines, requests(name)):
+            if not early(expected):
+                number, value, _, crossings = answer(bays, room, *lists)
+                said = told(number, value, None, crossings)
+                if said.strip() != expected:
+                    line = line.split("=>")[0] + "=> " + said + "\n"
+            print(line, end="")
+
+
+def vacates(name):
     cases = []
     for (bays, x), (ends, placement, held), _ in requests(name):
         vault = Vault(Yard(bays, ends), placement)
         was = x not in placement
         done = vault.vacate(x, set(held))
-        told = 0 if was else 1 if done else 2
         row = [bays, x]
         for one in (ends, placement, held):
             row += [len(one), *one]
-        row += [told, len(vault.list), *(packed(c) for c in vault.list)]
+        row += [0 if was else 1 if done else 2, len(vault.list), *(packed(crossing) for crossing in vault.list)]
         cases.append(" ".join(map(str, row)))
     print(len(cases))
     print("\n".join(cases))
 
 
-main()
+def prints(folder, end):
+    """The files with this end that hold a plan or a refusal by 7 or 8; each with the model's answer for its map and scenario."""
+    for name in sorted(glob.glob(f"{folder}/*.{end}")):
+        last = open(name).read().splitlines()[-1]
+        if not last.startswith(("; cost", "; refused 7 ", "; refused 8 ")):
+            continue
+        given = name[: -len(end)]
+        rows = open(given + "map").read().splitlines()[4:]
+        cells = [(y, x) for y, row in enumerate(rows) for x, letter in enumerate(row) if letter in ".G"]
+        bay = {cell: number for number, cell in enumerate(cells)}
+        ends = [end for y, x in cells for cell in ((y, x + 1), (y + 1, x)) if cell in bay for end in (bay[y, x], bay[cell])]
+        lines = [line.split("\t") for line in open(given + "scen").read().splitlines()[1:]]
+        starts = [bay[int(line[5]), int(line[4])] for line in lines]
+        goals = [bay[int(line[7]), int(line[6])] for line in lines]
+        yield name, answer(len(cells), 8192, ends, starts, goals)
+
+
+def write(name, number, value, moves):
+    with open(name, "w") as out:
+        out.writelines(move + "\n" for move in moves)
+        out.write(f"; refused {number} {value}\n" if number else f"; cost = {value} (unit cost)\n")
+
+
+def move(crossing):
+    return "(move c%d b%d b%d)" % crossing
+
+
+def files(folder):
+    for name, (number, value, _, crossings) in prints(folder, "out"):
+        write(name, number, value, map(move, crossings))
+
+
+def slots(crossings, edition):
+    """Edition 1: above every earlier crossing of the carrier or of either bay. Edition 2: above the carrier's, and no lower than the latest out of the bay entered."""
+    carrier, bay, out, told = {}, {}, {}, []
+    for c, a, b in crossings:
+        if edition == 1:
+            slot = 1 + max(carrier.get(c, 0), bay.get(a, 0), bay.get(b, 0))
+            bay[a] = bay[b] = slot
+        else:
+            slot = max(1 + carrier.get(c, 0), out.get(b, 0))
+            out[a] = slot
+        carrier[c] = slot
+        told.append(slot)
+    return told
+
+
+def timed(folder):
+    for edition in (1, 2):
+        for name, (number, value, _, crossings) in prints(folder, f"timed{edition}"):
+            at = slots(crossings, edition)
+            write(name, number, value, [f"{slot - 1}: {move(crossing)} [1]" for slot, crossing in zip(at, crossings)])
+
+
+{"plan": compare, "answers": answers, "vacate": vacates, "files": files, "timed": timed}[sys.argv[1]](sys.argv[2])

@@ -6,7 +6,7 @@ use mathlib.Core.Option.{Option, none, some}
 use Prim.Native.Nat.{ℕ, _≤_, _<_, _+_}
 use native.Mathlib.Omega.{arith}
 use lib.ListN.{length, length-append, length-map}
-use Rattle.bring.specs.Acting.{AsFar, FilledIn, Counts, Tallied, Within, Acts, Tries, Proceeds}
+use Rattle.bring.specs.Acting.{AsFar, FilledIn, Filling, Counts, Tallied, Within, Acts, Tries, Proceeds}
 use Rattle.paper.specs.Basics.{upTo, In}
 use Rattle.paper.specs.Procedure.{Made, only, together, parking, vacate}
 use Rattle.paper.specs.Yard.{Bay, Yard, Crossing, pack, after}
@@ -45,6 +45,19 @@ tallied-only w e = record {
   counted = w .counted;
   parks = omega (arith, e);
   few = λ h. omega (arith, h, e, w .counted);
+}
+
+-- a vacate that filled bay e
+pub tallied-filled : {xs : List Crossing} {n : ℕ} {p p′ standing′ empty′ out out′ : List ℕ} {at r : Tally} (Y : Yard) (e : Bay)
+    → Played xs n p p′ standing′ empty′ out (at .crossings) out′ (r .crossings) → 0 < length xs → Filling Y e (at .parked) (r .parked)
+    → Tallied (record { moves = xs; parked = parking Y e }) n p p′ standing′ empty′ out at out′ r
+tallied-filled Y e w some-crossed f = record {
+  moved = w .moved;
+  placed = w .placed;
+  stored = w .stored;
+  counted = w .counted;
+  parks = f .0;
+  few = λ h. omega (arith, h, f .1, some-crossed, w .counted);
 }
 
 -- nothing made

@@ -39,6 +39,20 @@ pub record Ready (table placement standing empty : List ℕ) : Type 0 where
 abbrev pub AsFar : ℕ → ℕ → Type 0
 AsFar j k = min j (2 ^ 32) ≡ min k (2 ^ 32)
 
+-- nothing is counted yet
+abbrev pub nothing : Tally
+nothing = record { crossings = 0; parked = 0 }
+
+-- one tally, and what was counted from nothing after it
+pub record Added (at more r : Tally) : Type 0 where
+  pub crossings : r .crossings ≡ at .crossings + more .crossings
+  pub parks : AsFar (r .parked) (at .parked + more .parked)
+  pub few : r .parked ≤ at .parked + more .parked
+
+-- what a vacate makes by the one crossing to bay e
+abbrev pub filledWith : Yard → Crossing → Bay → Made
+filledWith Y x e = record { moves = x ∷ []; parked = parking Y e }
+
 -- the vacate that filled bay e is counted, if it is one of three rails or more
 abbrev pub Filling : Yard → Bay → ℕ → ℕ → Type 0
 Filling Y e before after = AsFar after (before + parking Y e) × (after ≤ before + 1)

@@ -14,7 +14,7 @@ ghost use Rattle.paper.specs.Procedure.{only, trade};
 ghost use Rattle.words.specs.Sets.{words, span};
 ghost use Rattle.rings.specs.Search.{Shown};
 ghost use Rattle.vacate.specs.Placed.{Placed};
-ghost use Rattle.bring.specs.Acting.{Tabled, Ready, AsFar, FilledIn, Filling, Counts, Tallied, Within, Acts, Tries, entering, junctions, vacates, brings};
+ghost use Rattle.bring.specs.Acting.{Tabled, Ready, AsFar, Added, FilledIn, Filling, filledWith, Counts, Tallied, Within, Acts, Tries, entering, junctions, vacates, brings};
 ghost use Rattle.bring.specs.Turning.{Crossings, Small, Holds, turned, numbers};
 
 // What is counted: crossings, and the vacates that filled a bay of three rails or more.
@@ -34,21 +34,37 @@ pub fn is_junction(table: &[u64], n: usize, v: Bay) -> bool
     requires { ⌜ (n ≤ span) × (v .0 < n) × (n * words ≤ length (now table)) ⌝ }
     ensures { λ r. ⌜ ((t : Tabled n (now (table .entry))) → r ≡ junctions (t .yard) (v .0)) ⌝ }
 {
-    let from = v.0 as usize * words::WORDS;
-    2 < words::count(&table[from..from + words::WORDS])
+    2 < choice::count_rails(table, v.0 as usize)
 }
 
 // Far more vacates than any plan has crossings. The count stops here, so that nobody who adds to it has to show that it has room.
 const ENOUGH: usize = 4294967296;
 
-// One more.
-fn one_more(parked: usize) -> usize
-    ensures { λ r. ⌜ AsFar r (parked + 1) × (r ≤ parked + 1) ⌝ }
+// So many, and as many more.
+fn add_parked(parked: usize, more: usize) -> usize
+    ensures { λ r. ⌜ AsFar r (parked + more) × (r ≤ parked + more) ⌝ }
 {
-    if parked < ENOUGH {
-        return parked + 1;
+    if ENOUGH <= parked {
+        return parked;
     }
-    parked
+    if ENOUGH <= more {
+        return more;
+    }
+    parked + more
+}
+
+// One tally, and what was counted from nothing after it.
+pub fn add(at: Tally, more: Tally) -> Tally
+    requires { ⌜ at .crossings + more .crossings < 2 ^ 63 ⌝ }
+    ensures { λ r. ⌜ Added at more r ⌝ }
+{
+    let before = at.crossings;
+    let after = more.crossings;
+    let parked = add_parked(at.parked, more.parked);
+    Tally {
+        crossings: before + after,
+        parked,
+    }
 }
 
 // The tally after a vacate that filled bay e, with so many crossings afterwards.
@@ -60,7 +76,7 @@ pub fn tally_filled(table: &[u64], n: usize, e: Bay, crossings: usize, at: Tally
     if is_junction(table, n, e) {
         return Tally {
             crossings,
-            parked: one_more(before),
+            parked: add_parked(before, 1),
         };
     }
     Tally {
@@ -121,8 +137,28 @@ pub fn cross(
     Tally { crossings, parked }
 }
 
+// The carrier at bay a crosses to the empty bay b beside it, by which a is vacated.
+pub fn fill(
+    table: &[u64],
+    placement: &mut [u16],
+    standing: &mut [u16],
+    empty: &mut [u64],
+    a: Bay,
+    b: Bay,
+    out: &mut [u64],
+    at: Tally,
+) -> Tally
+    requires { ⌜ (a .0 < length (now standing)) × (b .0 < length (now standing)) × (length (now standing) ≤ span) × (length (now empty) ≡ words) × (at .crossings < 2 ^ 63) × In (a .0) (now placement) × Out (b .0) (now placement) × Placed (length (now standing)) (now placement) (now standing) (now empty) × (length (now standing) * words ≤ length (now table)) ⌝ }
+    ensures { λ r. ⌜ ((t : Tabled (length (now (standing .entry))) (now (table .entry))) → Tallied (filledWith (t .yard) (crossing (carrierAt (now (placement .entry)) (a .0)) (a .0) (b .0)) (b .0)) (length (now (standing .entry))) (now (placement .entry)) (now (placement .exit)) (now (standing .exit)) (now (empty .exit)) (now (out .entry)) at (now (out .exit)) r) ⌝ }
+{
+    let n = standing.len();
+    let before = at.crossings;
+    let crossings = vacate::cross(placement, standing, empty, a, b, out, before);
+    tally_filled(table, n, b, crossings, at)
+}
+
 // l crosses into the empty bay x, and m into l's old bay.
-fn enter(
+pub fn enter(
     l: Carrier,
     m: Carrier,
     x: Bay,

@@ -2,6 +2,7 @@
 -- other, are the paper's carry.
 -- Assumes nothing.
 use mathlib.Core.Path.{_≡_, sym, _∙_, ap, refl}
+use mathlib.Core.Bool.{true, false}
 use mathlib.Core.List.{List, [], _∷_, _++_, append-nil, append-assoc, dropLast}
 use mathlib.Core.Option.{none, some}
 use Prim.Native.Nat.{ℕ, suc, _≤_, _<_, _-_, _+_}
@@ -14,25 +15,31 @@ use borrow.Author.Tests.{eqb-false, eqb-true}
 use mathlib.Core.Logic.{inl, inr, ⊎-elim}
 use Rattle.paper.specs.Basics.{_or_, elem}
 use Rattle.paper.specs.Path.{Route}
-use Rattle.paper.specs.Procedure.{step, Outcome, planned, stuck, orStuck, onward, _next_, pathOf, go, wayHome, along, carry, carryFrom, procedure}
-use Rattle.paper.specs.Yard.{Bay, Carrier, Yard, Placement, bayOf, Crossing, after}
+use Rattle.paper.specs.Procedure.{Made, only, together, step, Outcome, planned, stuck, orStuck, onward, _next_, pathOf, go, wayHome, along, carry, carryFrom, procedure}
+use Rattle.paper.specs.Yard.{Bay, Carrier, Yard, Placement, bayOf, Crossing, after, carousel}
 use Rattle.step.proofs.Stepping.{sound-of}
 use Rattle.paper.proofs.Carrying.{Gone, go-goes, path-short, carry-carries}
 use Rattle.paper.proofs.Members.{nothing-in-nil, out-cons}
 use Rattle.paper.proofs.Swapping.{Chain}
 use Rattle.paper.proofs.Tests.{by-cases, by-option, never, never-some, some-same}
 use Rattle.go.specs.Going.{planOf, Linked}
-use Rattle.words.specs.Sets.{mem, span}
+use Rattle.words.specs.Sets.{mem, span, words}
+use Rattle.words.proofs.Sets.{zeros}
 use Rattle.rings.specs.Search.{Shown}
+use Rattle.rings.specs.Ways.{PathFound}
+use Rattle.rings.specs.declared.Path.{Path}
 use Rattle.rings.proofs.Searching.{elem-append, elem-one}
 use Rattle.home.specs.Homing.{Settled, AtMost, Stages, Homeward}
-use Rattle.vacate.specs.Placed.{Placed, Played}
-use Rattle.vacate.proofs.Playing.{played-none, played-then}
-use Rattle.bring.specs.Acting.{Tabled}
-use Rattle.trial.proofs.Copying.{part, in-bays}
+use Rattle.paper.proofs.Making.{together-assoc, together-none, none-together}
+use Rattle.vacate.specs.Placed.{Placed}
+use Rattle.bring.specs.Acting.{Tabled, Tallied, nothing}
+use Rattle.bring.specs.declared.Tally.{Tally}
+use Rattle.bring.proofs.Acting.{tallied-none, tallied-then}
+use Rattle.clear_on.proofs.Attempting.{in-bays}
+use Rattle.trial.proofs.Copying.{part}
 use Rattle.step.specs.Asking.{Loopless, BaysBelow}
 use Rattle.home.proofs.Homing.{stages-done, stages-stuck}
-use Rattle.carry.specs.Carrying.{Goals, HomeBelow, EndsAt, OnPath, Settles}
+use Rattle.carry.specs.Carrying.{Goals, HomeBelow, EndsAt, OnPath, Settles, PathPast}
 use Rattle.home.specs.declared.Staged.the-variants.{Planned}
 use Rattle.home.specs.declared.Staged.{Staged}
 use Rattle.home.specs.declared.Staged.the-variants.{Stuck}
@@ -93,20 +100,20 @@ settles-stuck = record { below = λ m e. never (cc) }
 
 -- ## Outcomes
 
-plan-some : (o : Outcome) (xs : List Crossing) → planOf o ≡ some xs → o ≡ planned xs
+plan-some : (o : Outcome) (xs : Made) → planOf o ≡ some xs → o ≡ planned xs
 plan-some (planned ys) xs e = ap planned (some-same e)
 plan-some (stuck c) xs e = never-some xs e
 
 go-none : (Y : Yard) (goals : Placement) (r : Carrier) (l : List Bay) (p : Placement) → planOf (go Y goals r l p) ≡ none → go Y goals r l p ≡ stuck r
 unfolding go _next_ onward orStuck
-go-none Y goals r [] p h = never-some [] (sym h)
+go-none Y goals r [] p h = never-some (only []) (sym h)
 go-none Y goals r (w ∷ ws) p h =
     by-option (step Y r r w p)
     (λ e. rw e)
-    (λ a e. let k = rw e at h in rw e (on-stuck a (go Y goals r ws (after p a)) (go-none Y goals r ws (after p a)) k))
+    (λ a e. let k = rw e at h in rw e (on-stuck a (go Y goals r ws (after p (a .moves))) (go-none Y goals r ws (after p (a .moves))) k))
   where
-    on-stuck : (a : List Crossing) (o : Outcome) → (planOf o ≡ none → o ≡ stuck r) → planOf (onward o (λ b. planned (a ++ b))) ≡ none → onward o (λ b. planned (a ++ b)) ≡ stuck r
-    on-stuck a (planned b) f k = never-some (a ++ b) (sym k)
+    on-stuck : (a : Made) (o : Outcome) → (planOf o ≡ none → o ≡ stuck r) → planOf (onward o (λ b. planned (together a b))) ≡ none → onward o (λ b. planned (together a b)) ≡ stuck r
+    on-stuck a (planned b) f k = never-some (together a b) (sym k)
     on-stuck a (stuck c) f k = f refl
 
 linked-chain : {n : ℕ} {table : List ℕ} (t : Tabled n table) → n ≤ span → (u : Bay) (l : List Bay) (v : Bay) → u < n → Linked n table u l → EndsAt u l v → Chain (t .yard) u l v
@@ -120,14 +127,14 @@ module _ {n : ℕ} {table : List ℕ} (t : Tabled n table) (most : n ≤ span) (
   abbrev gone : Outcome
   gone = go (t .yard) goals r (way .ahead) p
 
-  module _ (a : List Crossing) (e : planOf gone ≡ some a) where
-    goes-there : Gone (t .yard) (sound-of t most loopless) goals r (bayOf p r) (way .ahead) (bayOf goals r) p a
+  module _ (a : Made) (e : planOf gone ≡ some a) where
+    goes-there : Gone (t .yard) (sound-of t most loopless) goals r (bayOf p r) (way .ahead) (bayOf goals r) p (a .moves)
     goes-there =
         go-goes (t .yard) (sound-of t most loopless) goals r (way .ahead) (bayOf p r) (bayOf goals r) p a
         (record { apart = k .apart; inside = λ c h. in-bays t (k .inside c h) }) hr refl
         (linked-chain t most (bayOf p r) (way .ahead) (bayOf goals r) (k .inside r hr) (way .linked) (way .ends)) (way .once) (plan-some gone a e)
 
-    settled-after : Settled goals (suc r) (bayOf p r) (way .ahead) (bayOf goals r ∷ []) (after p a)
+    settled-after : Settled goals (suc r) (bayOf p r) (way .ahead) (bayOf goals r ∷ []) (after p (a .moves))
     settled-after c h =
         by-cases (eqb c r)
         (λ d. inl (rw (eqb-true c r d) (goes-there .arrives)))
@@ -141,7 +148,7 @@ module _ {n : ℕ} {table : List ℕ} (t : Tabled n table) (most : n ≤ span) (
         ))
         (goes-there .others c low))
 
-    pub homeward : (q : Placement) → q ≡ after p a → 1 ≤ length (way .ahead) → Homeward n table goals (r + 1) (dropLast (way .ahead)) q
+    pub homeward : (q : Placement) → q ≡ after p (a .moves) → 1 ≤ length (way .ahead) → Homeward n table goals (r + 1) (dropLast (way .ahead)) q
     homeward q moved long =
         let split = sym (last-split (bayOf p r) (way .ahead) (bayOf goals r) long (way .ends)) in
         rw add-one (record {
@@ -156,25 +163,25 @@ module _ {n : ℕ} {table : List ℕ} (t : Tabled n table) (most : n ≤ span) (
     ahead-is : drop 1 path ≡ way .ahead
     ahead-is = ap (drop 1) (way .starts)
 
-    carry-is : carry (t .yard) goals r p ≡ onward gone (λ a. onward (wayHome (t .yard) goals (suc r) (dropLast (way .ahead)) (after p a)) (λ b. planned (a ++ b)))
+    carry-is : carry (t .yard) goals r p ≡ onward gone (λ a. onward (wayHome (t .yard) goals (suc r) (dropLast (way .ahead)) (after p (a .moves))) (λ b. planned (together a b)))
     unfolding carry along _next_
     carry-is = rw (← short, ahead-is)
 
-    pub carried-stuck : {out : List ℕ} {at : ℕ} {p′ standing′ empty′ out′ : List ℕ} {f : Named} → f .0 ≡ r → planOf gone ≡ none → Stages (carry (t .yard) goals r p) n p out at p′ standing′ empty′ out′ (Stuck f)
+    pub carried-stuck : {out : List ℕ} {at : Tally} {p′ standing′ empty′ out′ : List ℕ} {f : Named} → f .0 ≡ r → planOf gone ≡ none → Stages (carry (t .yard) goals r p) n p out at p′ standing′ empty′ out′ (Stuck f)
     unfolding onward
     carried-stuck q e = stages-stuck (carry-is ∙ rw (go-none (t .yard) goals r (way .ahead) p e) (ap stuck (sym q)))
 
-    module _ (a : List Crossing) (e : planOf gone ≡ some a) where
-      pub carried-short : {out : List ℕ} {at : ℕ} {p′ standing′ empty′ out′ : List ℕ} {m : ℕ} → length (way .ahead) < 2 → Played a n p p′ standing′ empty′ out at out′ m
+    module _ (a : Made) (e : planOf gone ≡ some a) where
+      pub carried-short : {out : List ℕ} {at : Tally} {p′ standing′ empty′ out′ : List ℕ} {m : Tally} → length (way .ahead) < 2 → Tallied a n p p′ standing′ empty′ out at out′ m
           → Stages (carry (t .yard) goals r p) n p out at p′ standing′ empty′ out′ (Planned m)
       unfolding onward wayHome
-      carried-short h w = stages-done (carry-is ∙ rw (plan-some gone a e, drop-last-short (way .ahead) h, append-nil a)) w
+      carried-short h w = stages-done (carry-is ∙ rw (plan-some gone a e, drop-last-short (way .ahead) h) (ap planned (together-none a))) w
 
-      pub carried-home : {out out₁ : List ℕ} {at m : ℕ} {q standing₁ empty₁ p′ standing′ empty′ out′ : List ℕ} {z : Staged} → Played a n p q standing₁ empty₁ out at out₁ m
+      pub carried-home : {out out₁ : List ℕ} {at m : Tally} {q standing₁ empty₁ p′ standing′ empty′ out′ : List ℕ} {z : Staged} → Tallied a n p q standing₁ empty₁ out at out₁ m
           → Stages (wayHome (t .yard) goals (r + 1) (dropLast (way .ahead)) q) n q out₁ m p′ standing′ empty′ out′ z → Stages (carry (t .yard) goals r p) n p out at p′ standing′ empty′ out′ z
       unfolding onward
       carried-home w s′ = let s = rw add-one at s′ in record {
-        plans = λ b d. let x = s .plans b d in (a ++ x .0, carry-is ∙ rw (plan-some gone a e, ← (w .moved), x .1), played-then w (x .2));
+        plans = λ b d. let x = s .plans b d in (together a (x .0), carry-is ∙ rw (plan-some gone a e, ← (w .moved), x .1), tallied-then w (x .2));
         stops = λ c d. carry-is ∙ rw (plan-some gone a e, ← (w .moved), s .stops c d);
       }
 
@@ -194,6 +201,14 @@ route-ends Y held u (x ∷ xs) v r = route-ends Y held x xs v (r .2)
 abbrev pub settledShown : {n : ℕ} {table settled : List ℕ} (t : Tabled n table) (r : Carrier) (p : Placement) → BaysBelow r p settled → Shown n table settled
 settledShown t r p s = record { yard = t .yard; bays = take r p; joins = t .joins; holds = λ b h. s .bays b }
 
+-- the path past the bays avoided, by whether the yard is a carousel
+pub past-held : {n : ℕ} {table held : List ℕ} (s : Shown n table held) (u v : Bay) (room : List ℕ) (r : Path) → true ≡ carousel (s .yard) → PathFound s u v room r → PathPast s u v room r
+past-held s u v room r e f = record { fits = f .fits; same = rw (← e) (f .same) }
+
+pub past-none : {n : ℕ} {table held : List ℕ} (s : Shown n table held) (f : Shown n table (zeros words)) (u v : Bay) (room : List ℕ) (r : Path) → f .yard ≡ s .yard → f .bays ≡ [] → false ≡ carousel (s .yard)
+    → PathFound f u v room r → PathPast s u v room r
+past-none s f u v room r same bare e found = record { fits = found .fits; same = rw (← e, ← same, ← bare) (found .same) }
+
 pub on-path : {n : ℕ} {table : List ℕ} (t : Tabled n table) → n ≤ span → Loopless n table → (goals : List ℕ) (r : Carrier) (p : Placement) {standing empty : List ℕ} → Placed n p standing empty
     → Goals n goals p → r < length p → HomeBelow r goals p → (path : List ℕ) → some path ≡ pathOf (t .yard) goals r p → OnPath n table (bayOf p r) (bayOf goals r) path
 on-path t most loopless goals r p k g hr hm path e =
@@ -209,42 +224,42 @@ on-path t most loopless goals r p k g hr hm path e =
     }
 
 -- where there is no path r is stuck
-pub carried-nowhere : {n : ℕ} {table : List ℕ} (t : Tabled n table) (goals : List ℕ) (r : Carrier) (p : Placement) {out : List ℕ} {at : ℕ} {p′ standing′ empty′ out′ : List ℕ} {f : Named} → f .0 ≡ r
+pub carried-nowhere : {n : ℕ} {table : List ℕ} (t : Tabled n table) (goals : List ℕ) (r : Carrier) (p : Placement) {out : List ℕ} {at : Tally} {p′ standing′ empty′ out′ : List ℕ} {f : Named} → f .0 ≡ r
     → none ≡ pathOf (t .yard) goals r p → Stages (carry (t .yard) goals r p) n p out at p′ standing′ empty′ out′ (Stuck f)
 unfolding carry
 carried-nowhere t goals r p q e = stages-stuck (rw (← e) (ap stuck (sym q)))
 
 -- ## All carriers
 
--- the crossings, and then what the rest gives
-abbrev beforeAll : List Crossing → Outcome → Outcome
-beforeAll xs (planned ys) = planned (xs ++ ys)
+-- what is made, and then what the rest gives
+abbrev beforeAll : Made → Outcome → Outcome
+beforeAll xs (planned ys) = planned (together xs ys)
 beforeAll xs (stuck c) = stuck c
 
-pub record Served (Y : Yard) (goals : Placement) (n : ℕ) (p out : List ℕ) (r : ℕ) (p′ standing′ empty′ out′ : List ℕ) (m : ℕ) : Type 0 where
-  pub xs : List Crossing
-  pub played : Played xs n p p′ standing′ empty′ out 0 out′ m
+pub record Served (Y : Yard) (goals : Placement) (n : ℕ) (p out : List ℕ) (r : ℕ) (p′ standing′ empty′ out′ : List ℕ) (m : Tally) : Type 0 where
+  pub xs : Made
+  pub played : Tallied xs n p p′ standing′ empty′ out nothing out′ m
   pub answer : procedure Y goals p ≡ beforeAll xs (carryFrom Y goals r (length goals - r) p′)
 
-pub served-none : (Y : Yard) (goals : Placement) (n : ℕ) (p standing empty out : List ℕ) → Placed n p standing empty → Served Y goals n p out 0 p standing empty out 0
+pub served-none : (Y : Yard) (goals : Placement) (n : ℕ) (p standing empty out : List ℕ) → Placed n p standing empty → Served Y goals n p out 0 p standing empty out nothing
 unfolding procedure
 served-none Y goals n p standing empty out k = record {
-  xs = [];
-  played = played-none n p standing empty out 0 k;
+  xs = only [];
+  played = tallied-none n p standing empty out nothing k;
   answer = let e : length goals - 0 ≡ length goals = omega arith in rw e (plain (carryFrom Y goals 0 (length goals) p));
 }
   where
-    plain : (o : Outcome) → o ≡ beforeAll [] o
-    plain (planned ys) = refl
+    plain : (o : Outcome) → o ≡ beforeAll (only []) o
+    plain (planned ys) = ap planned (sym (none-together ys))
     plain (stuck c) = refl
 
-before-twice : (xs a : List Crossing) (o : Outcome) → beforeAll xs (onward o (λ b. planned (a ++ b))) ≡ beforeAll (xs ++ a) o
+before-twice : (xs a : Made) (o : Outcome) → beforeAll xs (onward o (λ b. planned (together a b))) ≡ beforeAll (together xs a) o
 unfolding onward
-before-twice xs a (planned b) = ap planned (sym (append-assoc xs a b))
+before-twice xs a (planned b) = ap planned (sym (together-assoc xs a b))
 before-twice xs a (stuck c) = refl
 
 module _ (Y : Yard) (goals : Placement) (r j : ℕ) (p : Placement) where
-  from-planned : (a : List Crossing) → carry Y goals r p ≡ planned a → carryFrom Y goals r (suc j) p ≡ onward (carryFrom Y goals (suc r) j (after p a)) (λ b. planned (a ++ b))
+  from-planned : (a : Made) → carry Y goals r p ≡ planned a → carryFrom Y goals r (suc j) p ≡ onward (carryFrom Y goals (suc r) j (after p (a .moves))) (λ b. planned (together a b))
   unfolding carryFrom _next_ onward
   from-planned a e = rw e
 
@@ -252,17 +267,17 @@ module _ (Y : Yard) (goals : Placement) (r j : ℕ) (p : Placement) where
   unfolding carryFrom _next_ onward
   from-stuck c e = rw e
 
-module _ {Y : Yard} {goals : Placement} {n : ℕ} {p out : List ℕ} {r : ℕ} {p′ standing′ empty′ out′ : List ℕ} {m : ℕ} (g : Served Y goals n p out r p′ standing′ empty′ out′ m) (here : r < length goals) where
-  pub served-more : {q standing″ empty″ out″ : List ℕ} {b : ℕ} → Stages (carry Y goals r p′) n p′ out′ m q standing″ empty″ out″ (Planned b) → Served Y goals n p out (r + 1) q standing″ empty″ out″ b
+module _ {Y : Yard} {goals : Placement} {n : ℕ} {p out : List ℕ} {r : ℕ} {p′ standing′ empty′ out′ : List ℕ} {m : Tally} (g : Served Y goals n p out r p′ standing′ empty′ out′ m) (here : r < length goals) where
+  pub served-more : {q standing″ empty″ out″ : List ℕ} {b : Tally} → Stages (carry Y goals r p′) n p′ out′ m q standing″ empty″ out″ (Planned b) → Served Y goals n p out (r + 1) q standing″ empty″ out″ b
   served-more {b = b} s =
       let w = s .plans b refl in
       let e : length goals - r ≡ suc (length goals - (r + 1)) = omega arith in
       record {
-        xs = g .xs ++ w .0;
-        played = played-then (g .played) (w .2);
+        xs = together (g .xs) (w .0);
+        played = tallied-then (g .played) (w .2);
         answer =
             g .answer
-            ∙ rw (e, from-planned Y goals r (length goals - (r + 1)) p′ (w .0) (w .1), before-twice (g .xs) (w .0) (carryFrom Y goals (suc r) (length goals - (r + 1)) (after p′ (w .0))), ← (w .2 .moved))
+            ∙ rw (e, from-planned Y goals r (length goals - (r + 1)) p′ (w .0) (w .1), before-twice (g .xs) (w .0) (carryFrom Y goals (suc r) (length goals - (r + 1)) (after p′ (w .0 .moves))), ← (w .2 .moved))
             (let f : suc r ≡ r + 1 = omega arith in rw f);
       }
 
@@ -271,14 +286,14 @@ module _ {Y : Yard} {goals : Placement} {n : ℕ} {p out : List ℕ} {r : ℕ} {
       let e : length goals - r ≡ suc (length goals - (r + 1)) = omega arith in
       g .answer ∙ rw (e, from-stuck Y goals r (length goals - (r + 1)) p′ (c .0) (s .stops c refl))
 
-pub served-all : {Y : Yard} {goals : Placement} {n : ℕ} {p out : List ℕ} {r : ℕ} {p′ standing′ empty′ out′ : List ℕ} {m : ℕ} → Served Y goals n p out r p′ standing′ empty′ out′ m → length goals ≤ r
-    → Stages (procedure Y goals p) n p out 0 p′ standing′ empty′ out′ (Planned m)
+pub served-all : {Y : Yard} {goals : Placement} {n : ℕ} {p out : List ℕ} {r : ℕ} {p′ standing′ empty′ out′ : List ℕ} {m : Tally} → Served Y goals n p out r p′ standing′ empty′ out′ m → length goals ≤ r
+    → Stages (procedure Y goals p) n p out nothing p′ standing′ empty′ out′ (Planned m)
 unfolding carryFrom
 served-all {goals = goals} {r = r} g h =
     let e : length goals - r ≡ 0 = omega arith in
-    stages-done (g .answer ∙ rw (e, append-nil (g .xs))) (g .played)
+    stages-done (g .answer ∙ rw e (ap planned (together-none (g .xs)))) (g .played)
 
-pub home-more : {n : ℕ} {table : List ℕ} (t : Tabled n table) → n ≤ span → Loopless n table → (goals : List ℕ) (r : ℕ) (p : Placement) {standing empty out : List ℕ} {at b : ℕ} {q standing′ empty′ out′ : List ℕ}
+pub home-more : {n : ℕ} {table : List ℕ} (t : Tabled n table) → n ≤ span → Loopless n table → (goals : List ℕ) (r : ℕ) (p : Placement) {standing empty out : List ℕ} {at b : Tally} {q standing′ empty′ out′ : List ℕ}
     → Placed n p standing empty → Goals n goals p → r < length p → HomeBelow r goals p → Stages (carry (t .yard) goals r p) n p out at q standing′ empty′ out′ (Planned b) → HomeBelow (r + 1) goals q
 home-more {n} t most loopless goals r p {b = b} k g hr hm s =
     let x = s .plans b refl in

@@ -14,6 +14,7 @@ use Rattle.rings.specs.Search.{Shown}
 use Rattle.rings.specs.Ways.{pathOf, pathLength}
 use Rattle.rings.specs.declared.Path.{Path}
 use Rattle.bring.specs.Acting.{Tabled}
+use Rattle.bring.specs.declared.Tally.{Tally}
 use Rattle.step.specs.Asking.{BaysBelow}
 use Rattle.go.specs.Going.{Linked}
 use Rattle.home.specs.declared.Staged.the-variants.{Planned}
@@ -53,7 +54,7 @@ pub record PathPast {n : ℕ} {table held : List ℕ} (s : Shown n table held) (
 
 -- where it is planned the set has the bays of the carriers below `finished`
 pub record Settles (finished : ℕ) (p settled : List ℕ) (z : Staged) : Type 0 where
-  pub below : (m : ℕ) → z ≡ Planned m → BaysBelow finished p settled
+  pub below : (m : Tally) → z ≡ Planned m → BaysBelow finished p settled
 
 -- (the code's functions have the same names)
 abbrev pub paths : Yard → Placement → Carrier → Placement → Option (List Bay)

@@ -1,4 +1,5 @@
 // Carriers by rising number: each goes its shortest path, in a carousel past the finished ones, and then those that it displaced go home.
+use bring::Tally;
 use bring::Tried;
 use docket::Bay;
 use docket::Carrier;
@@ -10,7 +11,7 @@ ghost use Prim.Native.Nat.{_+_, _*_, _^_, _≤_, _<_};
 ghost use lib.ListN.{length, getD};
 ghost use Rattle.words.specs.Sets.{words, span};
 ghost use Rattle.rings.specs.Search.{Shown};
-ghost use Rattle.bring.specs.Acting.{Tabled, Ready};
+ghost use Rattle.bring.specs.Acting.{Tabled, Ready, nothing};
 ghost use Rattle.step.specs.Asking.{Loopless, BaysBelow};
 ghost use Rattle.home.specs.Homing.{Owners, AtMost, Stages};
 ghost use Rattle.carry.specs.Carrying.{Goals, OnPath, Reaching, HomeBelow, Settles, PathPast, paths, carries, procedures};
@@ -27,10 +28,10 @@ fn carry_along(
     empty: &mut [u64],
     settled: &mut [u64],
     out: &mut [u64],
-    at: usize,
+    at: Tally,
 ) -> Staged
     requires { ⌜ Ready (now table) (now placement) (now standing) (now empty) ⌝ }
-    requires { ⌜ (r .0 < length (now placement)) × Goals (length (now standing)) (now goals) (now placement) × Loopless (length (now standing)) (now table) × HomeBelow (r .0) (now goals) (now placement) × (length (now path) ≤ 256) × OnPath (length (now standing)) (now table) (getD (now placement) (r .0) 0) (getD (now goals) (r .0) 0) (now path) × (at < 2 ^ 59) × Owners (length (now standing)) (now goals) (now owner) × BaysBelow (r .0) (now placement) (now settled) ⌝ }
+    requires { ⌜ (r .0 < length (now placement)) × Goals (length (now standing)) (now goals) (now placement) × Loopless (length (now standing)) (now table) × HomeBelow (r .0) (now goals) (now placement) × (length (now path) ≤ 256) × OnPath (length (now standing)) (now table) (getD (now placement) (r .0) 0) (getD (now goals) (r .0) 0) (now path) × (at .crossings < 2 ^ 59) × Owners (length (now standing)) (now goals) (now owner) × BaysBelow (r .0) (now placement) (now settled) ⌝ }
     ensures { λ z. ⌜ (AtMost at 80000000 z) × ((t : Tabled (length (now (standing .entry))) (now (table .entry))) → some (now (path .entry)) ≡ paths (t .yard) (now (goals .entry)) (r .0) (now (placement .entry)) → Stages (carries (t .yard) (now (goals .entry)) (r .0) (now (placement .entry))) (length (now (standing .entry))) (now (placement .entry)) (now (out .entry)) at (now (placement .exit)) (now (standing .exit)) (now (empty .exit)) (now (out .exit)) z) × Settles (r .0 + 1) (now (placement .exit)) (now (settled .exit)) z ⌝ }
 {
     if path.len() < 1 {
@@ -78,10 +79,10 @@ fn path_past(table: &[u64], n: usize, settled: &[u64], u: Bay, v: Bay, path: &mu
     requires { ⌜ (n ≤ span) × (u .0 < n) × (v .0 < n) × (n * words ≤ length (now table)) × (length (now settled) ≡ words) × (n ≤ length (now path)) × Shown n (now table) (now settled) ⌝ }
     ensures { λ r. ⌜ ((s : Shown n (now (table .entry)) (now (settled .entry))) → PathPast s (u .0) (v .0) (now (path .exit)) r) ⌝ }
 {
+    let none = [0u64; words::WORDS];
     if kinds::is_carousel(table, n) {
         return ways::path_between(table, n, settled, u, v, path);
     }
-    let none = [0u64; words::WORDS];
     ways::path_between(table, n, &none, u, v, path)
 }
 
@@ -96,10 +97,10 @@ fn carry(
     empty: &mut [u64],
     settled: &mut [u64],
     out: &mut [u64],
-    at: usize,
+    at: Tally,
 ) -> Staged
     requires { ⌜ Ready (now table) (now placement) (now standing) (now empty) ⌝ }
-    requires { ⌜ (r .0 < length (now placement)) × Goals (length (now standing)) (now goals) (now placement) × Loopless (length (now standing)) (now table) × HomeBelow (r .0) (now goals) (now placement) × Reaching (length (now standing)) (now table) × (at < 2 ^ 59) × Owners (length (now standing)) (now goals) (now owner) × BaysBelow (r .0) (now placement) (now settled) ⌝ }
+    requires { ⌜ (r .0 < length (now placement)) × Goals (length (now standing)) (now goals) (now placement) × Loopless (length (now standing)) (now table) × HomeBelow (r .0) (now goals) (now placement) × Reaching (length (now standing)) (now table) × (at .crossings < 2 ^ 59) × Owners (length (now standing)) (now goals) (now owner) × BaysBelow (r .0) (now placement) (now settled) ⌝ }
     ensures { λ z. ⌜ (AtMost at 80000000 z) × ((t : Tabled (length (now (standing .entry))) (now (table .entry))) → Stages (carries (t .yard) (now (goals .entry)) (r .0) (now (placement .entry))) (length (now (standing .entry))) (now (placement .entry)) (now (out .entry)) at (now (placement .exit)) (now (standing .exit)) (now (empty .exit)) (now (out .exit)) z) × Settles (r .0 + 1) (now (placement .exit)) (now (settled .exit)) z ⌝ }
 {
     let own = r.0 as usize;
@@ -138,9 +139,12 @@ pub fn carry_all(
 ) -> Staged
     requires { ⌜ Ready (now table) (now placement) (now standing) (now empty) ⌝ }
     requires { ⌜ Goals (length (now standing)) (now goals) (now placement) × Loopless (length (now standing)) (now table) × Reaching (length (now standing)) (now table) × Owners (length (now standing)) (now goals) (now owner) × BaysBelow 0 (now placement) (now settled) ⌝ }
-    ensures { λ z. ⌜ ((t : Tabled (length (now (standing .entry))) (now (table .entry))) → Stages (procedures (t .yard) (now (goals .entry)) (now (placement .entry))) (length (now (standing .entry))) (now (placement .entry)) (now (out .entry)) 0 (now (placement .exit)) (now (standing .exit)) (now (empty .exit)) (now (out .exit)) z) × Settles (length (now (goals .entry))) (now (placement .exit)) (now (settled .exit)) z ⌝ }
+    ensures { λ z. ⌜ ((t : Tabled (length (now (standing .entry))) (now (table .entry))) → Stages (procedures (t .yard) (now (goals .entry)) (now (placement .entry))) (length (now (standing .entry))) (now (placement .entry)) (now (out .entry)) nothing (now (placement .exit)) (now (standing .exit)) (now (empty .exit)) (now (out .exit)) z) × Settles (length (now (goals .entry))) (now (placement .exit)) (now (settled .exit)) z ⌝ }
 {
-    let mut count = 0;
+    let mut count = Tally {
+        crossings: 0,
+        parked: 0,
+    };
     let mut r = 0;
     while r < goals.len() {
         let carrier = Carrier(r as u32);

@@ -12,18 +12,19 @@ use lib.Dec.{leb, eqb}
 use native.Mathlib.Decide.{ℕ-discrete, decLt}
 use borrow.Author.Tests.{eq-eqb, ne-eqb, lt-leb, not-true}
 use Rattle.paper.specs.Basics.{if_then_else_, _and_, _or_, filter, elem, without, countFrom, upTo, Out}
-use Rattle.paper.specs.Procedure.{_then_, vacate, clearingHeld, Cleared, following, clearing, clearOnce}
+use Rattle.paper.specs.Procedure.{Made, only, together, _then_, vacate, clearingHeld, Cleared, following, clearing, clearOnce}
 use Rattle.paper.specs.Yard.{Bay, Yard, Placement, isEmpty, Crossing, after, joined, neighbours}
-use Rattle.bring.specs.Acting.{Ready, Tabled, Acts}
+use Rattle.bring.specs.Acting.{Ready, Tabled, Tallied, Acts}
+use Rattle.bring.specs.declared.Tally.{Tally}
+use Rattle.paper.proofs.Making.{together-none}
 use Rattle.paper.proofs.Members.{in-count}
 use Rattle.paper.proofs.Vacating.{vacate-vacates}
 use Rattle.paper.proofs.Tests.{by-cases, not-both, never, and-left, and-right, and-both}
 use Rattle.words.specs.Sets.{mem, words, span, memRow, Lowest}
 use Rattle.words.proofs.Sets.{zeros, mem-zeros, row-zero}
-use Rattle.vacate.specs.Placed.{Played, Placed, Unchanged}
+use Rattle.vacate.specs.Placed.{Placed, Unchanged}
 use Rattle.rings.specs.Search.{Shown}
-use Rattle.vacate.proofs.Playing.{played-none, played-then}
-use Rattle.bring.proofs.Acting.{acted-done, acted-failed}
+use Rattle.bring.proofs.Acting.{tallied-none, tallied-then, acted-done, acted-failed}
 use Rattle.bring.proofs.Bringing.{pair-view}
 use Rattle.clear.specs.Keeping.{Among, Stuck, KeepsOne, KeepsNone, TwoBy, KeptAlone, Clears, from, HoldsTwo}
 use Rattle.clear.specs.declared.Two.the-variants.{Both, Single}
@@ -33,15 +34,15 @@ use Rattle.clear.specs.declared.Two.the-variants.{Short}
 use Rattle.clear.specs.declared.Two.{Two}
 use Rattle.docket.specs.declared.Bay.{Bay as Numbered}
 
-pub same-again : {p standing empty out p′ standing′ empty′ out′ p″ standing″ empty″ out″ : List ℕ} {o : Option (List Crossing)} {n at : ℕ}
+pub same-again : {p standing empty out p′ standing′ empty′ out′ p″ standing″ empty″ out″ : List ℕ} {o : Option Made} {n : ℕ} {at : Tally}
     → Unchanged p standing empty out p′ standing′ empty′ out′ → Acts o n p′ standing′ empty′ out′ at p″ standing″ empty″ out″ Failed → Unchanged p standing empty out p″ standing″ empty″ out″
 same-again s a =
     let u = a .fails (acted-failed a) .1 in
     record { same-placement = u .same-placement ∙ s .same-placement; same-standing = u .same-standing ∙ s .same-standing; same-empty = u .same-empty ∙ s .same-empty; same-list = u .same-list ∙ s .same-list }
 
-pub unchanged-played : {n : ℕ} {p standing empty out p′ standing′ empty′ out′ : List ℕ} {at : ℕ} → Placed n p standing empty → Unchanged p standing empty out p′ standing′ empty′ out′
-    → Played [] n p p′ standing′ empty′ out at out′ at
-unchanged-played {n} {p} {standing} {empty} {out} {at = at} k s = rw (s .same-placement, s .same-standing, s .same-empty, s .same-list) (played-none n p standing empty out at k)
+pub unchanged-played : {n : ℕ} {p standing empty out p′ standing′ empty′ out′ : List ℕ} {at : Tally} → Placed n p standing empty → Unchanged p standing empty out p′ standing′ empty′ out′
+    → Tallied (only []) n p p′ standing′ empty′ out at out′ at
+unchanged-played {n} {p} {standing} {empty} {out} {at = at} k s = rw (s .same-placement, s .same-standing, s .same-empty, s .same-list) (tallied-none n p standing empty out at k)
 
 pub stuck-none : (Y : Yard) (held : List Bay) (others : List ℕ) (a x : ℕ) (p : Placement) → Lowest (mem others) a span x → Stuck Y held others a x p
 stuck-none Y held others a x p l y h k m = not-both m (l .before y h k)
@@ -56,7 +57,7 @@ stuck-more Y held others a x x′ p s e l y h k m = elim (decLt y x) [
   ]
 ]
 
-pub keeps-here : {Y : Yard} {held : List Bay} {others : List ℕ} {a x n : ℕ} {p standing empty out q standing₁ empty₁ out₁ p′ standing′ empty′ out′ : List ℕ} {at m : ℕ}
+pub keeps-here : {Y : Yard} {held : List Bay} {others : List ℕ} {a x n : ℕ} {p standing empty out q standing₁ empty₁ out₁ p′ standing′ empty′ out′ : List ℕ} {at m : Tally}
     → a ≤ x → x < n → mem others x ≡ true → Stuck Y held others a x p → Unchanged p standing empty out q standing₁ empty₁ out₁
     → Acts (vacate Y held x q) n q standing₁ empty₁ out₁ at p′ standing′ empty′ out′ (Done m) → KeepsOne Y held others a n p out at p′ standing′ empty′ out′ x m
 keeps-here h k o s same acts =
@@ -66,47 +67,47 @@ keeps-here h k o s same acts =
       low = k;
       other = o;
       stuck = s;
-      moves = d .0;
-      made = d .1;
+      made = d .0;
+      vacated = d .1;
       played = d .2;
     }
 
-pub two-short : (at k : ℕ) → TwoBy at k Short
+pub two-short : (at : Tally) (k : ℕ) → TwoBy at k Short
 two-short at k = record { few = λ x y m e. never (cc); single = λ x m e. never (cc) }
 
-pub two-both : {at k m : ℕ} {x y : Numbered} → x .0 < span → y .0 < span → m ≤ at + k → at ≤ m → TwoBy at k (Both x y m)
+pub two-both : {at : Tally} {k : ℕ} {m : Tally} {x y : Numbered} → x .0 < span → y .0 < span → m .crossings ≤ at .crossings + k → at .crossings ≤ m .crossings → TwoBy at k (Both x y m)
 two-both {at} {k} {m} {x} {y} hx hy h l = record {
   few = λ u v w e.
       let a : x ≡ u = cc in
       let b : y ≡ v = cc in
       let c : m ≡ w = cc in
-      (rw a at hx, rw b at hy, omega arith, omega arith);
+      (rw a at hx, rw b at hy, rw c at h, rw c at l);
   single = λ u w e. never (cc);
 }
 
-pub two-single : {at k m : ℕ} {x : Numbered} → x .0 < span → m ≤ at + k → at ≤ m → TwoBy at k (Single x m)
+pub two-single : {at : Tally} {k : ℕ} {m : Tally} {x : Numbered} → x .0 < span → m .crossings ≤ at .crossings + k → at .crossings ≤ m .crossings → TwoBy at k (Single x m)
 two-single {at} {k} {m} {x} hx h l = record {
   few = λ u v w e. never (cc);
   single = λ u w e.
       let a : x ≡ u = cc in
       let c : m ≡ w = cc in
-      (rw a at hx, omega arith, omega arith);
+      (rw a at hx, rw c at h, rw c at l);
 }
 
 -- counted from an earlier count
-pub two-from : {at m k : ℕ} {r : Two} (d : ℕ) → at ≤ m → m ≤ at + d → TwoBy m k r → TwoBy at (d + k) r
+pub two-from : {at m : Tally} {k : ℕ} {r : Two} (d : ℕ) → at .crossings ≤ m .crossings → m .crossings ≤ at .crossings + d → TwoBy m k r → TwoBy at (d + k) r
 two-from d l h b = record {
   few = λ x y k e. let f = b .few x y k e in (f .0, f .1, omega (arith, f .2), omega (arith, f .3));
   single = λ x k e. let f = b .single x k e in (f .0, omega (arith, f .1), omega (arith, f .2));
 }
 
-pub two-within : {at k d : ℕ} {r : Two} → k ≤ d → TwoBy at k r → TwoBy at d r
+pub two-within : {at : Tally} {k d : ℕ} {r : Two} → k ≤ d → TwoBy at k r → TwoBy at d r
 two-within h b = record {
   few = λ x y k e. let f = b .few x y k e in (f .0, f .1, omega (arith, f .2), f .3);
   single = λ x k e. let f = b .single x k e in (f .0, omega (arith, f .1), f .2);
 }
 
-pub clears-two : {c : Cleared} {n : ℕ} {p out : List ℕ} {at : ℕ} {p′ standing′ empty′ out′ : List ℕ} {x y : Numbered} {m : ℕ} → c .kept ≡ x .0 ∷ y .0 ∷ [] → Played (c .moves) n p p′ standing′ empty′ out at out′ m
+pub clears-two : {c : Cleared} {n : ℕ} {p out : List ℕ} {at : Tally} {p′ standing′ empty′ out′ : List ℕ} {x y : Numbered} {m : Tally} → c .kept ≡ x .0 ∷ y .0 ∷ [] → Tallied (c .made) n p p′ standing′ empty′ out at out′ m
     → Clears c n p out at p′ standing′ empty′ out′ (Both x y m)
 clears-two {x = x} {y = y} {m = m} e d = record {
   both = λ u v w q.
@@ -118,7 +119,7 @@ clears-two {x = x} {y = y} {m = m} e d = record {
   short = λ q. never (cc);
 }
 
-pub clears-single : {c : Cleared} {n : ℕ} {p out : List ℕ} {at : ℕ} {p′ standing′ empty′ out′ : List ℕ} {x : Numbered} {m : ℕ} → KeptAlone c n p out at p′ standing′ empty′ out′ (x .0) m
+pub clears-single : {c : Cleared} {n : ℕ} {p out : List ℕ} {at : Tally} {p′ standing′ empty′ out′ : List ℕ} {x : Numbered} {m : Tally} → KeptAlone c n p out at p′ standing′ empty′ out′ (x .0) m
     → Clears c n p out at p′ standing′ empty′ out′ (Single x m)
 clears-single {x = x} {m = m} d = record {
   both = λ u v w q. never (cc);
@@ -129,10 +130,10 @@ clears-single {x = x} {m = m} d = record {
   short = λ q. never (cc);
 }
 
-pub clears-short : {c : Cleared} {n : ℕ} {p out : List ℕ} {at : ℕ} {p′ standing′ empty′ out′ : List ℕ} → c .kept ≡ [] → Clears c n p out at p′ standing′ empty′ out′ Short
+pub clears-short : {c : Cleared} {n : ℕ} {p out : List ℕ} {at : Tally} {p′ standing′ empty′ out′ : List ℕ} → c .kept ≡ [] → Clears c n p out at p′ standing′ empty′ out′ Short
 clears-short h = record { both = λ x y m e. never (cc); single = λ x m e. never (cc); short = λ e. h }
 
-pub clears-as : {c c′ : Cleared} {n : ℕ} {p out : List ℕ} {at : ℕ} {p′ standing′ empty′ out′ : List ℕ} {r : Two} → c ≡ c′ → Clears c′ n p out at p′ standing′ empty′ out′ r → Clears c n p out at p′ standing′ empty′ out′ r
+pub clears-as : {c c′ : Cleared} {n : ℕ} {p out : List ℕ} {at : Tally} {p′ standing′ empty′ out′ : List ℕ} {r : Two} → c ≡ c′ → Clears c′ n p out at p′ standing′ empty′ out′ r → Clears c n p out at p′ standing′ empty′ out′ r
 clears-as e h = rw e h
 
 module _ (Y : Yard) (v b : Bay) (kept : List Bay) (few : length kept < 2) (q : ℕ → Bool) (p : Placement) where
@@ -153,15 +154,15 @@ module _ (Y : Yard) (v b : Bay) (kept : List Bay) (few : length kept < 2) (q : �
   ]
 
   pub clearing-none : (a n : ℕ) → a ≤ n → ((y : ℕ) → a ≤ y → y < n → q y ≡ true → vacate Y (v ∷ b ∷ kept) y p ≡ none)
-      → clearing Y v b kept (from q a n) p ≡ record { moves = []; kept = kept }
+      → clearing Y v b kept (from q a n) p ≡ record { made = only []; kept = kept }
   unfolding countFrom filter clearing
   clearing-none a n h f =
       let e : a + (n - a) - n ≡ 0 = omega arith in
       skip (n - a) a n h (λ y k l m w. f y k l w) ∙ rw e
 
-  pub clearing-one : (a n x : ℕ) (ms : List Crossing) → a ≤ x → x < n → q x ≡ true
+  pub clearing-one : (a n x : ℕ) (ms : Made) → a ≤ x → x < n → q x ≡ true
       → ((y : ℕ) → a ≤ y → y < x → q y ≡ true → vacate Y (v ∷ b ∷ kept) y p ≡ none) → vacate Y (v ∷ b ∷ kept) x p ≡ some ms
-      → clearing Y v b kept (from q a n) p ≡ following ms (clearing Y v b (kept ++ (x ∷ [])) (from q (x + 1) n) (after p ms))
+      → clearing Y v b kept (from q a n) p ≡ following ms (clearing Y v b (kept ++ (x ∷ [])) (from q (x + 1) n) (after p (ms .moves)))
   unfolding countFrom filter clearing
   clearing-one a n x ms h k w f e =
       let d : a + (n - a) - x ≡ suc (n - (x + 1)) = omega arith in
@@ -169,7 +170,7 @@ module _ (Y : Yard) (v b : Bay) (kept : List Bay) (few : length kept < 2) (q : �
       let z : suc x ≡ x + 1 = omega arith in
       skip (n - a) a x h (λ y i l m u. f y i l u) ∙ rw (d, w, t, e, z)
 
-pub clearing-full : (Y : Yard) (v b x y : Bay) (xs : List Bay) (p : Placement) → clearing Y v b (x ∷ y ∷ []) xs p ≡ record { moves = []; kept = x ∷ y ∷ [] }
+pub clearing-full : (Y : Yard) (v b x y : Bay) (xs : List Bay) (p : Placement) → clearing Y v b (x ∷ y ∷ []) xs p ≡ record { made = only []; kept = x ∷ y ∷ [] }
 unfolding clearing
 clearing-full Y v b x y [] p = refl
 clearing-full Y v b x y (z ∷ xs) p = refl
@@ -195,53 +196,53 @@ abbrev pub twoShown : {n : ℕ} {table held : List ℕ} (t : Tabled n table) (h 
 twoShown t h = record { yard = t .yard; bays = h .one ∷ h .two ∷ []; joins = t .joins; holds = h .holds }
 
 -- the second bay kept
-pub second-both : {Y : Yard} {v b : Bay} {x y : Numbered} {others : List ℕ} {a n : ℕ} {p out p′ standing′ empty′ out′ : List ℕ} {at m : ℕ}
+pub second-both : {Y : Yard} {v b : Bay} {x y : Numbered} {others : List ℕ} {a n : ℕ} {p out p′ standing′ empty′ out′ : List ℕ} {at m : Tally}
     → KeepsOne Y (clearingHeld v b (x .0 ∷ [])) others a n p out at p′ standing′ empty′ out′ (y .0) m
     → Clears (clearing Y v b (x .0 ∷ []) (from (mem others) a n) p) n p out at p′ standing′ empty′ out′ (Both x y m)
 second-both {Y} {v} {b} {x} {y} {others} {a} {n} {p} k =
-    let e : clearing Y v b (x .0 ∷ []) (from (mem others) a n) p ≡ record { moves = k .moves ++ []; kept = x .0 ∷ y .0 ∷ [] } =
-    clearing-one Y v b (x .0 ∷ []) (omega arith) (mem others) p a n (y .0) (k .moves) (k .above) (k .low) (k .other) (k .stuck) (k .made)
-    ∙ ap (following (k .moves)) (clearing-full Y v b (x .0) (y .0) (from (mem others) (y .0 + 1) n) (after p (k .moves))) in
-    clears-two (ap (λ (c : Cleared). c .kept) e) (rw (ap (λ (c : Cleared). c .moves) e, append-nil) (k .played))
+    let e : clearing Y v b (x .0 ∷ []) (from (mem others) a n) p ≡ record { made = together (k .made) (only []); kept = x .0 ∷ y .0 ∷ [] } =
+    clearing-one Y v b (x .0 ∷ []) (omega arith) (mem others) p a n (y .0) (k .made) (k .above) (k .low) (k .other) (k .stuck) (k .vacated)
+    ∙ ap (following (k .made)) (clearing-full Y v b (x .0) (y .0) (from (mem others) (y .0 + 1) n) (after p (k .made .moves))) in
+    clears-two (ap (λ (c : Cleared). c .kept) e) (rw (ap (λ (c : Cleared). c .made) e ∙ together-none (k .made)) (k .played))
 
-pub second-single : {Y : Yard} {v b : Bay} {x : Numbered} {others : List ℕ} {a n : ℕ} {p out p′ standing′ empty′ out′ : List ℕ} {at : ℕ} → a ≤ n → n ≤ span → x .0 < n → Out (x .0) p
+pub second-single : {Y : Yard} {v b : Bay} {x : Numbered} {others : List ℕ} {a n : ℕ} {p out p′ standing′ empty′ out′ : List ℕ} {at : Tally} → a ≤ n → n ≤ span → x .0 < n → Out (x .0) p
     → KeepsNone Y (v ∷ b ∷ x .0 ∷ []) others a n p out at p′ standing′ empty′ out′
     → Clears (clearing Y v b (x .0 ∷ []) (from (mem others) a n) p) n p out at p′ standing′ empty′ out′ (Single x at)
 unfolding after
 second-single {Y} {v} {b} {x} {others} {a} {n} {p} h most low o k =
-    let e : clearing Y v b (x .0 ∷ []) (from (mem others) a n) p ≡ record { moves = []; kept = x .0 ∷ [] } =
+    let e : clearing Y v b (x .0 ∷ []) (from (mem others) a n) p ≡ record { made = only []; kept = x .0 ∷ [] } =
     clearing-none Y v b (x .0 ∷ []) (omega arith) (mem others) p a n h (λ y i l m. k .stuck y i (omega arith) m) in
-    clears-single (record { kept = ap (λ (c : Cleared). c .kept) e; low = low; free = rw (k .played .moved) o; played = rw (ap (λ (c : Cleared). c .moves) e) (k .played) })
+    clears-single (record { kept = ap (λ (c : Cleared). c .kept) e; low = low; free = rw (k .played .moved) o; played = rw (ap (λ (c : Cleared). c .made) e) (k .played) })
 
 -- the first bay kept, and what follows
 pub first-none : (Y : Yard) (v b : Bay) (others : List ℕ) (n : ℕ) (p : List ℕ) → n ≤ span → Stuck Y (v ∷ b ∷ []) others 0 span p
     → clearing Y v b [] (from (mem others) 0 n) p .kept ≡ []
 first-none Y v b others n p most s =
-    let e : clearing Y v b [] (from (mem others) 0 n) p ≡ record { moves = []; kept = [] } =
+    let e : clearing Y v b [] (from (mem others) 0 n) p ≡ record { made = only []; kept = [] } =
     clearing-none Y v b [] (omega arith) (mem others) p 0 n (omega arith) (λ y k l m. s y k (omega arith) m) in
     ap (λ (c : Cleared). c .kept) e
 
-pub first-then : {Y : Yard} {v b : Bay} {others : List ℕ} {n : ℕ} {p out q standing₁ empty₁ out₁ p′ standing′ empty′ out′ : List ℕ} {at x m : ℕ} {r : Two}
+pub first-then : {Y : Yard} {v b : Bay} {others : List ℕ} {n : ℕ} {p out q standing₁ empty₁ out₁ p′ standing′ empty′ out′ : List ℕ} {at : Tally} {x : ℕ} {m : Tally} {r : Two}
     → KeepsOne Y (v ∷ b ∷ []) others 0 n p out at q standing₁ empty₁ out₁ x m
     → Clears (clearing Y v b (x ∷ []) (from (mem others) (x + 1) n) q) n q out₁ m p′ standing′ empty′ out′ r
     → Clears (clearing Y v b [] (from (mem others) 0 n) p) n p out at p′ standing′ empty′ out′ r
 first-then {Y} {v} {b} {others} {n} {p} {q = q} {x = x} f s =
-    let e : clearing Y v b [] (from (mem others) 0 n) p ≡ following (f .moves) (clearing Y v b (x ∷ []) (from (mem others) (x + 1) n) q) =
-    clearing-one Y v b [] (omega arith) (mem others) p 0 n x (f .moves) (f .above) (f .low) (f .other) (f .stuck) (f .made) ∙ rw (f .played .moved) in
+    let e : clearing Y v b [] (from (mem others) 0 n) p ≡ following (f .made) (clearing Y v b (x ∷ []) (from (mem others) (x + 1) n) q) =
+    clearing-one Y v b [] (omega arith) (mem others) p 0 n x (f .made) (f .above) (f .low) (f .other) (f .stuck) (f .vacated) ∙ rw (f .played .moved) in
     clears-as e (record {
-      both = λ y z k d. let t = s .both y z k d in (t .0, played-then (f .played) (t .1));
-      single = λ y k d. let t = s .single y k d in record { kept = t .kept; low = t .low; free = t .free; played = played-then (f .played) (t .played) };
+      both = λ y z k d. let t = s .both y z k d in (t .0, tallied-then (f .played) (t .1));
+      single = λ y k d. let t = s .single y k d in record { kept = t .kept; low = t .low; free = t .free; played = tallied-then (f .played) (t .played) };
       short = λ d. s .short d;
     })
 
 -- ## Filters
 
-filter-both : (f g : ℕ → Bool) (l : List ℕ) → filter g (filter f l) ≡ filter (λ y. f y and g y) l
+pub filter-both : (f g : ℕ → Bool) (l : List ℕ) → filter g (filter f l) ≡ filter (λ y. f y and g y) l
 unfolding filter _and_
 filter-both f g [] = refl
 filter-both f g (x ∷ l) = by-cases (f x) (λ e. by-cases (g x) (λ d. rw (e, d) (ap (λ (t : List ℕ). x ∷ t) (filter-both f g l))) (λ d. rw (e, d) (filter-both f g l))) (λ e. rw e (filter-both f g l))
 
-filter-same : (f g : ℕ → Bool) (a k : ℕ) → ((y : ℕ) → a ≤ y → y < a + k → f y ≡ g y) → filter f (countFrom a k) ≡ filter g (countFrom a k)
+pub filter-same : (f g : ℕ → Bool) (a k : ℕ) → ((y : ℕ) → a ≤ y → y < a + k → f y ≡ g y) → filter f (countFrom a k) ≡ filter g (countFrom a k)
 unfolding filter countFrom
 filter-same f g a zero h = refl
 filter-same f g a (suc k) h =
@@ -340,7 +341,7 @@ module _ {Y : Yard} {v b : Bay} {n : ℕ} {others : List ℕ} (w : Around Y v b 
         let e : filter (emptyOf others′) (countFrom (suc x) (n - suc x)) ≡ [] = filter-none (emptyOf others′) (suc x) (n - suc x) (λ y i m. l′ .before y (omega arith) (omega arith)) in
         rw (around-is, empties-is, firsts, e, left, whole others′)
 
-    pub clear-two : {y : ℕ} → Lowest (λ y. memRow others′ 0 y and memRow empty 0 y) 0 span y → y < n → clearOnce Y v b p ≡ record { moves = []; kept = x ∷ y ∷ [] }
+    pub clear-two : {y : ℕ} → Lowest (λ y. memRow others′ 0 y and memRow empty 0 y) 0 span y → y < n → clearOnce Y v b p ≡ record { made = only []; kept = x ∷ y ∷ [] }
     unfolding clearOnce
     clear-two {y} l′ hy =
         let hit = l′ .hit (omega arith) in
@@ -386,10 +387,10 @@ pub lowest-free : {n : ℕ} {empty p standing : List ℕ} {x : ℕ} (others : Li
 lowest-free {empty = empty} {p = p} {x = x} others k l h most =
     not-true (elem x p) (sym (k .empties x h) ∙ sym (row-zero empty x) ∙ and-right _ _ (l .hit (omega arith)))
 
-pub kept-free : {n : ℕ} {table : List ℕ} (t : Tabled n table) {held : List Bay} {others : List ℕ} {a : ℕ} {p standing empty out p′ standing′ empty′ out′ : List ℕ} {at x m : ℕ} → Placed n p standing empty
+pub kept-free : {n : ℕ} {table : List ℕ} (t : Tabled n table) {held : List Bay} {others : List ℕ} {a : ℕ} {p standing empty out p′ standing′ empty′ out′ : List ℕ} {at : Tally} {x : ℕ} {m : Tally} → Placed n p standing empty
     → KeepsOne (t .yard) held others a n p out at p′ standing′ empty′ out′ x m → Out x p′
 kept-free t {held = held} {p = p} {x = x} k o =
-    rw (o .played .moved) (vacate-vacates (t .yard) held x p (o .moves) (k .apart) (in-count 0 (t .yard .bays) x (omega arith) (omega (arith, t .joins .bays, o .low))) (o .made) .empties)
+    rw (o .played .moved) (vacate-vacates (t .yard) held x p (o .made) (k .apart) (in-count 0 (t .yard .bays) x (omega arith) (omega (arith, t .joins .bays, o .low))) (o .vacated) .empties)
 
 pub ready-again : {table p standing empty : List ℕ} → Ready table p standing empty → (p′ standing′ empty′ : List ℕ) → length standing′ ≡ length standing → length empty′ ≡ length empty → Placed (length standing) p′ standing′ empty′ → Ready table p′ standing′ empty′
 ready-again f p′ standing′ empty′ kw kf k = record {
@@ -401,6 +402,6 @@ ready-again f p′ standing′ empty′ kw kf k = record {
   levelled = rw kw (f .levelled);
 }
 
-pub clears-both : {c : Cleared} {x y : Numbered} → c ≡ record { moves = []; kept = x .0 ∷ y .0 ∷ [] } → {n : ℕ} {p standing empty : List ℕ} (out : List ℕ) (at : ℕ) → Placed n p standing empty
+pub clears-both : {c : Cleared} {x y : Numbered} → c ≡ record { made = only []; kept = x .0 ∷ y .0 ∷ [] } → {n : ℕ} {p standing empty : List ℕ} (out : List ℕ) (at : Tally) → Placed n p standing empty
     → Clears c n p out at p standing empty out (Both x y at)
-clears-both e {n} {p} {standing} {empty} out at k = clears-two (ap (λ (c : Cleared). c .kept) e) (rw (ap (λ (c : Cleared). c .moves) e) (played-none n p standing empty out at k))
+clears-both e {n} {p} {standing} {empty} out at k = clears-two (ap (λ (c : Cleared). c .kept) e) (rw (ap (λ (c : Cleared). c .made) e) (tallied-none n p standing empty out at k))

@@ -7,10 +7,11 @@ use mathlib.Core.Option.{none, some}
 use Prim.Native.Nat.{ℕ, _≤_, _<_, _-_, _+_}
 use lib.ListN.{length}
 use Rattle.paper.specs.Basics.{filter, elem, countFrom, Out}
-use Rattle.paper.specs.Procedure.{vacate, Cleared, clearing, clearOnce}
-use Rattle.paper.specs.Yard.{Bay, Yard, Placement, Crossing}
+use Rattle.paper.specs.Procedure.{Made, only, vacate, Cleared, clearing, clearOnce}
+use Rattle.paper.specs.Yard.{Bay, Yard, Placement}
 use Rattle.words.specs.Sets.{mem, span}
-use Rattle.vacate.specs.Placed.{Played}
+use Rattle.bring.specs.Acting.{Tallied}
+use Rattle.bring.specs.declared.Tally.{Tally}
 use Rattle.clear.specs.declared.Two.the-variants.{Both, Single}
 use Rattle.clear.specs.declared.Kept.{Kept}
 use Rattle.clear.specs.declared.Kept.the-variants.{Nothing}
@@ -25,8 +26,8 @@ pub record Among (n : ℕ) (ws : List ℕ) : Type 0 where
 
 -- ## One bay
 
-abbrev pub KeptBy : ℕ → Kept → Type 0
-KeptBy at (One x m) = (x .0 < span) × (m ≤ at + span) × (at ≤ m)
+abbrev pub KeptBy : Tally → Kept → Type 0
+KeptBy at (One x m) = (x .0 < span) × (m .crossings ≤ at .crossings + span) × (at .crossings ≤ m .crossings)
 KeptBy at Nothing = Unit {0}
 
 -- none of the others from a on and below x can be vacated
@@ -34,42 +35,42 @@ abbrev pub Stuck : Yard → List Bay → List ℕ → ℕ → ℕ → Placement 
 Stuck Y held others a x p = (y : ℕ) → a ≤ y → y < x → mem others y ≡ true → vacate Y held y p ≡ none
 
 -- x is the first of the others from a on that can be vacated, and it was
-pub record KeepsOne (Y : Yard) (held : List Bay) (others : List ℕ) (a n : ℕ) (p out : List ℕ) (at : ℕ) (p′ standing′ empty′ out′ : List ℕ) (x m : ℕ) : Type 0 where
+pub record KeepsOne (Y : Yard) (held : List Bay) (others : List ℕ) (a n : ℕ) (p out : List ℕ) (at : Tally) (p′ standing′ empty′ out′ : List ℕ) (x : ℕ) (m : Tally) : Type 0 where
   pub above : a ≤ x
   pub low : x < n
   pub other : mem others x ≡ true
   pub stuck : Stuck Y held others a x p
-  pub moves : List Crossing
-  pub made : vacate Y held x p ≡ some moves
-  pub played : Played moves n p p′ standing′ empty′ out at out′ m
+  pub made : Made
+  pub vacated : vacate Y held x p ≡ some made
+  pub played : Tallied made n p p′ standing′ empty′ out at out′ m
 
 -- none of the others from a on can be vacated, and nobody has moved
-pub record KeepsNone (Y : Yard) (held : List Bay) (others : List ℕ) (a n : ℕ) (p out : List ℕ) (at : ℕ) (p′ standing′ empty′ out′ : List ℕ) : Type 0 where
+pub record KeepsNone (Y : Yard) (held : List Bay) (others : List ℕ) (a n : ℕ) (p out : List ℕ) (at : Tally) (p′ standing′ empty′ out′ : List ℕ) : Type 0 where
   pub stuck : Stuck Y held others a span p
-  pub played : Played [] n p p′ standing′ empty′ out at out′ at
+  pub played : Tallied (only []) n p p′ standing′ empty′ out at out′ at
 
-abbrev pub Keeps : Yard → List Bay → List ℕ → ℕ → ℕ → List ℕ → List ℕ → ℕ → List ℕ → List ℕ → List ℕ → List ℕ → Kept → Type 0
+abbrev pub Keeps : Yard → List Bay → List ℕ → ℕ → ℕ → List ℕ → List ℕ → Tally → List ℕ → List ℕ → List ℕ → List ℕ → Kept → Type 0
 Keeps Y held others a n p out at p′ standing′ empty′ out′ (One x m) = KeepsOne Y held others a n p out at p′ standing′ empty′ out′ (x .0) m
 Keeps Y held others a n p out at p′ standing′ empty′ out′ Nothing = KeepsNone Y held others a n p out at p′ standing′ empty′ out′
 
 -- ## Two bays
 
 -- the bays are small, and at most k crossings were counted
-pub record TwoBy (at k : ℕ) (r : Two) : Type 0 where
-  pub few : (x y : Numbered) (m : ℕ) → r ≡ Both x y m → (x .0 < span) × (y .0 < span) × (m ≤ at + k) × (at ≤ m)
-  pub single : (x : Numbered) (m : ℕ) → r ≡ Single x m → (x .0 < span) × (m ≤ at + k) × (at ≤ m)
+pub record TwoBy (at : Tally) (k : ℕ) (r : Two) : Type 0 where
+  pub few : (x y : Numbered) (m : Tally) → r ≡ Both x y m → (x .0 < span) × (y .0 < span) × (m .crossings ≤ at .crossings + k) × (at .crossings ≤ m .crossings)
+  pub single : (x : Numbered) (m : Tally) → r ≡ Single x m → (x .0 < span) × (m .crossings ≤ at .crossings + k) × (at .crossings ≤ m .crossings)
 
 -- one bay is kept, which is empty, and the crossings were played
-pub record KeptAlone (c : Cleared) (n : ℕ) (p out : List ℕ) (at : ℕ) (p′ standing′ empty′ out′ : List ℕ) (x m : ℕ) : Type 0 where
+pub record KeptAlone (c : Cleared) (n : ℕ) (p out : List ℕ) (at : Tally) (p′ standing′ empty′ out′ : List ℕ) (x : ℕ) (m : Tally) : Type 0 where
   pub kept : c .kept ≡ x ∷ []
   pub low : x < n
   pub free : Out x p′
-  pub played : Played (c .moves) n p p′ standing′ empty′ out at out′ m
+  pub played : Tallied (c .made) n p p′ standing′ empty′ out at out′ m
 
 -- as the paper's clearing: two bays are kept, or one, and its crossings were played; or none is kept
-pub record Clears (c : Cleared) (n : ℕ) (p out : List ℕ) (at : ℕ) (p′ standing′ empty′ out′ : List ℕ) (r : Two) : Type 0 where
-  pub both : (x y : Numbered) (m : ℕ) → r ≡ Both x y m → (c .kept ≡ x .0 ∷ y .0 ∷ []) × Played (c .moves) n p p′ standing′ empty′ out at out′ m
-  pub single : (x : Numbered) (m : ℕ) → r ≡ Single x m → KeptAlone c n p out at p′ standing′ empty′ out′ (x .0) m
+pub record Clears (c : Cleared) (n : ℕ) (p out : List ℕ) (at : Tally) (p′ standing′ empty′ out′ : List ℕ) (r : Two) : Type 0 where
+  pub both : (x y : Numbered) (m : Tally) → r ≡ Both x y m → (c .kept ≡ x .0 ∷ y .0 ∷ []) × Tallied (c .made) n p p′ standing′ empty′ out at out′ m
+  pub single : (x : Numbered) (m : Tally) → r ≡ Single x m → KeptAlone c n p out at p′ standing′ empty′ out′ (x .0) m
   pub short : r ≡ Short → c .kept ≡ []
 
 abbrev pub clears : Yard → Bay → Bay → Placement → Cleared

@@ -1,5 +1,6 @@
 // Clear, once through the neighbours of the junction other than the follower's bay: two of them are kept empty, the empty ones first,
 // then those that can be vacated, in rising order.
+use bring::Tally;
 use bring::Tried;
 use docket::Bay;
 ghost use mathlib.Core.Path.{_≡_};
@@ -12,16 +13,16 @@ ghost use Rattle.rings.specs.Search.{Shown};
 ghost use Rattle.bring.specs.Acting.{Tabled, Ready};
 ghost use Rattle.clear.specs.Keeping.{Among, KeptBy, Keeps, TwoBy, Clears, clears, clearingFrom, from, HoldsTwo};
 
-// One more bay that is kept, with the count of crossings afterwards.
+// One more bay that is kept, with the tally afterwards.
 pub enum Kept {
-    One(Bay, usize),
+    One(Bay, Tally),
     Nothing,
 }
 
-// The two bays that are kept, or the only one, with the count of crossings afterwards; or none is.
+// The two bays that are kept, or the only one, with the tally afterwards; or none is.
 pub enum Two {
-    Both(Bay, Bay, usize),
-    Single(Bay, usize),
+    Both(Bay, Bay, Tally),
+    Single(Bay, Tally),
     Short,
 }
 
@@ -35,10 +36,10 @@ fn keep_one(
     standing: &mut [u16],
     empty: &mut [u64],
     out: &mut [u64],
-    at: usize,
+    at: Tally,
 ) -> Kept
     requires { ⌜ Ready (now table) (now placement) (now standing) (now empty) ⌝ }
-    requires { ⌜ (length (now others) ≡ words) × (length (now held) ≡ words) × (a ≤ span) × Among (length (now standing)) (now others) × (at < 2 ^ 62) × Shown (length (now standing)) (now table) (now held) ⌝ }
+    requires { ⌜ (length (now others) ≡ words) × (length (now held) ≡ words) × (a ≤ span) × Among (length (now standing)) (now others) × (at .crossings < 2 ^ 62) × Shown (length (now standing)) (now table) (now held) ⌝ }
     ensures { λ r. ⌜ (KeptBy at r) × ((s : Shown (length (now (standing .entry))) (now (table .entry)) (now (held .entry))) → Keeps (s .yard) (s .bays) (now (others .entry)) a (length (now (standing .entry))) (now (placement .entry)) (now (out .entry)) at (now (placement .exit)) (now (standing .exit)) (now (empty .exit)) (now (out .exit)) r) ⌝ }
 {
     let mut x = words::next_from(others, a);
@@ -64,10 +65,10 @@ fn keep_second(
     standing: &mut [u16],
     empty: &mut [u64],
     out: &mut [u64],
-    at: usize,
+    at: Tally,
 ) -> Two
     requires { ⌜ Ready (now table) (now placement) (now standing) (now empty) ⌝ }
-    requires { ⌜ (length (now others) ≡ words) × (length (now held) ≡ words) × (a ≤ length (now standing)) × (x .0 < length (now standing)) × Among (length (now standing)) (now others) × (at < 2 ^ 62) × HoldsTwo (now held) × Out (x .0) (now placement) ⌝ }
+    requires { ⌜ (length (now others) ≡ words) × (length (now held) ≡ words) × (a ≤ length (now standing)) × (x .0 < length (now standing)) × Among (length (now standing)) (now others) × (at .crossings < 2 ^ 62) × HoldsTwo (now held) × Out (x .0) (now placement) ⌝ }
     ensures { λ r. ⌜ (TwoBy at span r) × ((t : Tabled (length (now (standing .entry))) (now (table .entry))) (h : HoldsTwo (now (held .entry))) → Clears (clearingFrom (t .yard) (h .one) (h .two) (x .0 ∷ []) (from (mem (now (others .entry))) a (length (now (standing .entry)))) (now (placement .entry))) (length (now (standing .entry))) (now (placement .entry)) (now (out .entry)) at (now (placement .exit)) (now (standing .exit)) (now (empty .exit)) (now (out .exit)) r) ⌝ }
 {
     words::join(held, x.0 as usize);
@@ -87,10 +88,10 @@ pub fn clear(
     standing: &mut [u16],
     empty: &mut [u64],
     out: &mut [u64],
-    at: usize,
+    at: Tally,
 ) -> Two
     requires { ⌜ Ready (now table) (now placement) (now standing) (now empty) ⌝ }
-    requires { ⌜ (v .0 < length (now standing)) × (b .0 < length (now standing)) × (at < 2 ^ 61) ⌝ }
+    requires { ⌜ (v .0 < length (now standing)) × (b .0 < length (now standing)) × (at .crossings < 2 ^ 61) ⌝ }
     ensures { λ r. ⌜ (TwoBy at 512 r) × ((t : Tabled (length (now (standing .entry))) (now (table .entry))) → Clears (clears (t .yard) (v .0) (b .0) (now (placement .entry))) (length (now (standing .entry))) (now (placement .entry)) (now (out .entry)) at (now (placement .exit)) (now (standing .exit)) (now (empty .exit)) (now (out .exit)) r) ⌝ }
 {
     let mut others = [0u64; words::WORDS];

@@ -3,82 +3,83 @@
 -- Assumes nothing.
 use mathlib.Core.Path.{_≡_, sym, _∙_, ap, refl}
 use mathlib.Core.Bool.{true}
-use mathlib.Core.List.{List, [], _∷_, _++_, append-nil, append-assoc}
+use mathlib.Core.List.{List, [], _∷_, _++_}
 use mathlib.Core.Option.{Option, none, some}
 use Prim.Native.Nat.{ℕ, suc, _≤_, _<_, _+_}
 use native.Mathlib.Numerals.{add-one}
 use lib.ListN.{length, getD, drop, drop-of-length-le}
 use lib.Seq.{drop-cons}
-use Rattle.paper.specs.Procedure.{step, Outcome, planned, stuck, orStuck, onward, _next_, go}
-use Rattle.paper.specs.Yard.{Bay, Carrier, Yard, Placement, bayOf, Crossing, after}
+use Rattle.paper.specs.Procedure.{Made, only, together, step, Outcome, planned, stuck, orStuck, onward, _next_, go}
+use Rattle.paper.specs.Yard.{Bay, Carrier, Yard, Placement, bayOf, after}
 use Rattle.step.proofs.Settling.{stepped-of}
 use Rattle.go.specs.Going.{planOf, Linked}
 use Rattle.words.specs.Sets.{span, memRow}
-use Rattle.vacate.specs.Placed.{Placed, Played}
-use Rattle.vacate.proofs.Playing.{played-none, played-then}
-use Rattle.bring.specs.Acting.{Tabled, Proceeds, Tries}
-use Rattle.bring.proofs.Acting.{tries-some, tried-done, tried-failed}
+use Rattle.paper.proofs.Making.{together-assoc, together-none, none-together}
+use Rattle.vacate.specs.Placed.{Placed}
+use Rattle.bring.specs.Acting.{Tabled, Tallied, Proceeds, Tries}
+use Rattle.bring.specs.declared.Tally.{Tally}
+use Rattle.bring.proofs.Acting.{tallied-none, tallied-then, tries-some, tried-done, tried-failed}
 use Rattle.step.specs.Asking.{Loopless}
 use Rattle.bring.specs.declared.Tried.the-variants.{Done}
 use Rattle.bring.specs.declared.Tried.the-variants.{Failed}
 
--- the crossings, and then what the rest answers
-abbrev followedBy : List Crossing → Option (List Crossing) → Option (List Crossing)
-followedBy xs none = none
-followedBy xs (some ys) = some (xs ++ ys)
+-- what is made, and then what the rest answers
+abbrev followedBy : Made → Option Made → Option Made
+followedBy a none = none
+followedBy a (some b) = some (together a b)
 
-followed-twice : (xs ys : List Crossing) (o : Option (List Crossing)) → followedBy xs (followedBy ys o) ≡ followedBy (xs ++ ys) o
+followed-twice : (xs ys : Made) (o : Option Made) → followedBy xs (followedBy ys o) ≡ followedBy (together xs ys) o
 followed-twice xs ys none = refl
-followed-twice xs ys (some zs) = ap some (sym (append-assoc xs ys zs))
+followed-twice xs ys (some zs) = ap some (sym (together-assoc xs ys zs))
 
-plan-then : (a : List Crossing) (o : Outcome) → planOf (onward o (λ b. planned (a ++ b))) ≡ followedBy a (planOf o)
+plan-then : (a : Made) (o : Outcome) → planOf (onward o (λ b. planned (together a b))) ≡ followedBy a (planOf o)
 unfolding onward
 plan-then a (planned b) = refl
 plan-then a (stuck c) = refl
 
 module _ (Y : Yard) (goals : Placement) (r : Carrier) (w : Bay) (ws : List Bay) (p : Placement) where
-  go-more : (a : List Crossing) → step Y r r w p ≡ some a → planOf (go Y goals r (w ∷ ws) p) ≡ followedBy a (planOf (go Y goals r ws (after p a)))
+  go-more : (a : Made) → step Y r r w p ≡ some a → planOf (go Y goals r (w ∷ ws) p) ≡ followedBy a (planOf (go Y goals r ws (after p (a .moves))))
   unfolding go _next_ onward orStuck
-  go-more a e = rw e (plan-then a (go Y goals r ws (after p a)))
+  go-more a e = rw e (plan-then a (go Y goals r ws (after p (a .moves))))
 
   go-stops : step Y r r w p ≡ none → planOf (go Y goals r (w ∷ ws) p) ≡ none
   unfolding go _next_ onward orStuck
   go-stops e = rw e
 
 -- what is played so far, and what is still to be done
-pub record Going (Y : Yard) (goals : Placement) (r : Carrier) (ahead : List Bay) (n : ℕ) (p : Placement) (out : List ℕ) (at i : ℕ) (p′ standing′ empty′ out′ : List ℕ) (m : ℕ) : Type 0 where
-  pub xs : List Crossing
-  pub played : Played xs n p p′ standing′ empty′ out at out′ m
+pub record Going (Y : Yard) (goals : Placement) (r : Carrier) (ahead : List Bay) (n : ℕ) (p : Placement) (out : List ℕ) (at : Tally) (i : ℕ) (p′ standing′ empty′ out′ : List ℕ) (m : Tally) : Type 0 where
+  pub xs : Made
+  pub played : Tallied xs n p p′ standing′ empty′ out at out′ m
   pub answer : planOf (go Y goals r ahead p) ≡ followedBy xs (planOf (go Y goals r (drop i ahead) p′))
 
-pub going-none : (Y : Yard) (goals : Placement) (r : Carrier) (ahead : List Bay) (n : ℕ) (p standing empty out : List ℕ) (at : ℕ) → Placed n p standing empty
+pub going-none : (Y : Yard) (goals : Placement) (r : Carrier) (ahead : List Bay) (n : ℕ) (p standing empty out : List ℕ) (at : Tally) → Placed n p standing empty
     → Going Y goals r ahead n p out at 0 p standing empty out at
 going-none Y goals r ahead n p standing empty out at k = record {
-  xs = [];
-  played = played-none n p standing empty out at k;
+  xs = only [];
+  played = tallied-none n p standing empty out at k;
   answer = plain (planOf (go Y goals r ahead p));
 }
   where
-    plain : (o : Option (List Crossing)) → o ≡ followedBy [] o
+    plain : (o : Option Made) → o ≡ followedBy (only []) o
     plain none = refl
-    plain (some ys) = refl
+    plain (some m) = ap some (sym (none-together m))
 
-pub going-all : (Y : Yard) (goals : Placement) (r : Carrier) (ahead : List Bay) (n : ℕ) (p out : List ℕ) (at i : ℕ) (p′ standing′ empty′ out′ : List ℕ) (m : ℕ)
+pub going-all : (Y : Yard) (goals : Placement) (r : Carrier) (ahead : List Bay) (n : ℕ) (p out : List ℕ) (at : Tally) (i : ℕ) (p′ standing′ empty′ out′ : List ℕ) (m : Tally)
     → Going Y goals r ahead n p out at i p′ standing′ empty′ out′ m → length ahead ≤ i → Tries (planOf (go Y goals r ahead p)) n p out at p′ standing′ empty′ out′ (Done m)
 going-all Y goals r ahead n p out at i p′ standing′ empty′ out′ m g h =
-    let nil : planOf (go Y goals r [] p′) ≡ some [] = unfold go in refl in
-    let e : planOf (go Y goals r ahead p) ≡ some (g .xs) = g .answer ∙ rw (drop-of-length-le ahead h, nil, append-nil (g .xs)) in
+    let nil : planOf (go Y goals r [] p′) ≡ some (only []) = unfold go in refl in
+    let e : planOf (go Y goals r ahead p) ≡ some (g .xs) = g .answer ∙ rw (drop-of-length-le ahead h, nil) (ap some (together-none (g .xs))) in
     tries-some e (g .played)
 
-module _ {Y : Yard} {goals : Placement} {r : Carrier} {ahead : List Bay} {n : ℕ} {p out : List ℕ} {at i : ℕ} {p′ standing′ empty′ out′ : List ℕ} {m : ℕ} (g : Going Y goals r ahead n p out at i p′ standing′ empty′ out′ m)
+module _ {Y : Yard} {goals : Placement} {r : Carrier} {ahead : List Bay} {n : ℕ} {p out : List ℕ} {at : Tally} {i : ℕ} {p′ standing′ empty′ out′ : List ℕ} {m : Tally} (g : Going Y goals r ahead n p out at i p′ standing′ empty′ out′ m)
     (here : i < length ahead) where
-  pub going-more : {q standing″ empty″ out″ : List ℕ} {b : ℕ} → Proceeds (step Y r r (getD ahead i 0) p′) n p′ out′ m q standing″ empty″ out″ (Done b)
+  pub going-more : {q standing″ empty″ out″ : List ℕ} {b : Tally} → Proceeds (step Y r r (getD ahead i 0) p′) n p′ out′ m q standing″ empty″ out″ (Done b)
       → Going Y goals r ahead n p out at (i + 1) q standing″ empty″ out″ b
   going-more a =
       let s = tried-done (a .tries) in
       record {
-        xs = g .xs ++ s .0;
-        played = played-then (g .played) (s .2);
+        xs = together (g .xs) (s .0);
+        played = tallied-then (g .played) (s .2);
         answer = g .answer ∙ rw (drop-cons ahead i 0, go-more Y goals r (getD ahead i 0) (drop (suc i) ahead) p′ (s .0) (s .1), followed-twice, ← add-one, ← (s .2 .moved));
       }
 
@@ -93,5 +94,5 @@ linked-here n table u ahead i h l = rw add-one (rw (drop-cons ahead i 0) at l)
 
 module _ {n : ℕ} {table : List ℕ} (t : Tabled n table) (most : n ≤ span) (loopless : Loopless n table) (finished : ℕ) (r : Carrier) (w : Bay) (p : Placement)
     {standing empty : List ℕ} (k : Placed n p standing empty) (hr : r < length p) (hf : finished ≤ length p) (hw : w < n) (rail : memRow table (bayOf p r) w ≡ true) where
-  pub arrived : {out : List ℕ} {at b : ℕ} {p′ standing′ empty′ out′ : List ℕ} → Proceeds (step (t .yard) finished r w p) n p out at p′ standing′ empty′ out′ (Done b) → bayOf p′ r ≡ w
+  pub arrived : {out : List ℕ} {at b : Tally} {p′ standing′ empty′ out′ : List ℕ} → Proceeds (step (t .yard) finished r w p) n p out at p′ standing′ empty′ out′ (Done b) → bayOf p′ r ≡ w
   arrived a = let s = tried-done (a .tries) in rw (s .2 .moved) (stepped-of t most loopless finished r w p k hr hf hw rail (s .0) (s .1) .arrives)

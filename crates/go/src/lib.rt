@@ -1,4 +1,5 @@
 // A carrier goes its path: it steps through the bays ahead, one after the other.
+use bring::Tally;
 use bring::Tried;
 use docket::Bay;
 use docket::Carrier;
@@ -23,10 +24,10 @@ fn advance(
     empty: &mut [u64],
     settled: &mut [u64],
     out: &mut [u64],
-    at: usize,
+    at: Tally,
 ) -> Tried
     requires { ⌜ Ready (now table) (now placement) (now standing) (now empty) ⌝ }
-    requires { ⌜ (r .0 < length (now placement)) × (finished ≤ length (now placement)) × (w .0 < length (now standing)) × (memRow (now table) (getD (now placement) (r .0) 0) (w .0) ≡ true) × Loopless (length (now standing)) (now table) × (at < 2 ^ 60) × BaysBelow finished (now placement) (now settled) ⌝ }
+    requires { ⌜ (r .0 < length (now placement)) × (finished ≤ length (now placement)) × (w .0 < length (now standing)) × (memRow (now table) (getD (now placement) (r .0) 0) (w .0) ≡ true) × Loopless (length (now standing)) (now table) × (at .crossings < 2 ^ 60) × BaysBelow finished (now placement) (now settled) ⌝ }
     ensures { λ z. ⌜ (Within at 150000 z) × ((t : Tabled (length (now (standing .entry))) (now (table .entry))) → Proceeds (steps (t .yard) finished (r .0) (w .0) (now (placement .entry))) (length (now (standing .entry))) (now (placement .entry)) (now (out .entry)) at (now (placement .exit)) (now (standing .exit)) (now (empty .exit)) (now (out .exit)) z) × BaysBelow finished (now (placement .exit)) (now (settled .exit)) ⌝ }
 {
     let bay = w.0 as usize;
@@ -57,10 +58,10 @@ pub fn go(
     empty: &mut [u64],
     settled: &mut [u64],
     out: &mut [u64],
-    at: usize,
+    at: Tally,
 ) -> Tried
     requires { ⌜ Ready (now table) (now placement) (now standing) (now empty) ⌝ }
-    requires { ⌜ (r .0 < length (now placement)) × Linked (length (now standing)) (now table) (getD (now placement) (r .0) 0) (now ahead) × Loopless (length (now standing)) (now table) × (at + 150000 * length (now ahead) < 2 ^ 60) × BaysBelow (r .0) (now placement) (now settled) ⌝ }
+    requires { ⌜ (r .0 < length (now placement)) × Linked (length (now standing)) (now table) (getD (now placement) (r .0) 0) (now ahead) × Loopless (length (now standing)) (now table) × (at .crossings + 150000 * length (now ahead) < 2 ^ 60) × BaysBelow (r .0) (now placement) (now settled) ⌝ }
     ensures { λ z. ⌜ (Within at (150000 * length (now (ahead .entry))) z) × ((t : Tabled (length (now (standing .entry))) (now (table .entry))) (goals : List ℕ) → Tries (goes (t .yard) goals (r .0) (now (ahead .entry)) (now (placement .entry))) (length (now (standing .entry))) (now (placement .entry)) (now (out .entry)) at (now (placement .exit)) (now (standing .exit)) (now (empty .exit)) (now (out .exit)) z) × BaysBelow (r .0) (now (placement .exit)) (now (settled .exit)) ⌝ }
 {
     let finished = r.0 as usize;

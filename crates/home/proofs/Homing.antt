@@ -11,15 +11,15 @@ use lib.Dec.{eqb}
 use borrow.Author.Tests.{eq-eqb, ne-eqb, lt-ltb, le-ltb}
 use Rattle.paper.specs.Basics.{_and_, placeOf}
 use Rattle.home.specs.Homing.{Due, Settled, AtMost, Stages, Homeward}
-use Rattle.paper.specs.Procedure.{step, Outcome, planned, stuck, orStuck, onward, _next_, homeAt, wayHome}
-use Rattle.paper.specs.Yard.{Bay, Carrier, Yard, Placement, bayOf, carrierAt, Crossing, after}
+use Rattle.paper.specs.Procedure.{Made, only, together, step, Outcome, planned, stuck, orStuck, onward, _next_, homeAt, wayHome}
+use Rattle.paper.specs.Yard.{Bay, Carrier, Yard, Placement, bayOf, carrierAt, after}
 use Rattle.paper.proofs.Playing.{Apart}
 use Rattle.paper.proofs.Tests.{never, by-cases}
 use Rattle.words.specs.Sets.{span}
-use Rattle.vacate.specs.Placed.{Placed, Played}
-use Rattle.vacate.proofs.Playing.{played-none, played-then}
-use Rattle.bring.specs.Acting.{Tabled, Proceeds}
-use Rattle.bring.proofs.Acting.{tried-done, tried-failed}
+use Rattle.vacate.specs.Placed.{Placed}
+use Rattle.bring.specs.Acting.{Tabled, Tallied, Proceeds}
+use Rattle.bring.specs.declared.Tally.{Tally}
+use Rattle.bring.proofs.Acting.{tallied-none, tallied-then, tried-done, tried-failed}
 use Rattle.step.specs.Asking.{Loopless}
 use Rattle.go.specs.Going.{Linked}
 use Rattle.home.proofs.Settling.{due, homed}
@@ -49,14 +49,14 @@ place-high (suc f) (x ∷ l) v m h =
 
 -- ## One bay
 
-module _ {o : Outcome} {n : ℕ} {p out : List ℕ} {at : ℕ} where
-  pub stages-none : {standing empty : List ℕ} → o ≡ planned [] → Placed n p standing empty → Stages o n p out at p standing empty out (Planned at)
+module _ {o : Outcome} {n : ℕ} {p out : List ℕ} {at : Tally} where
+  pub stages-none : {standing empty : List ℕ} → o ≡ planned (only []) → Placed n p standing empty → Stages o n p out at p standing empty out (Planned at)
   stages-none {standing} {empty} e k = record {
-    plans = λ m d. let same : at ≡ m = cc in ([], e, rw (← same) (played-none n p standing empty out at k));
+    plans = λ m d. let same : at ≡ m = cc in (only [], e, rw (← same) (tallied-none n p standing empty out at k));
     stops = λ c d. never (cc);
   }
 
-  pub stages-done : {p′ standing′ empty′ out′ : List ℕ} {m : ℕ} {xs : List Crossing} → o ≡ planned xs → Played xs n p p′ standing′ empty′ out at out′ m → Stages o n p out at p′ standing′ empty′ out′ (Planned m)
+  pub stages-done : {p′ standing′ empty′ out′ : List ℕ} {m : Tally} {xs : Made} → o ≡ planned xs → Tallied xs n p p′ standing′ empty′ out at out′ m → Stages o n p out at p′ standing′ empty′ out′ (Planned m)
   stages-done {m = m} {xs = xs} e w = record {
     plans = λ b d. let same : m ≡ b = cc in (xs, e, rw same at w);
     stops = λ c d. never (cc);
@@ -69,12 +69,12 @@ module _ {o : Outcome} {n : ℕ} {p out : List ℕ} {at : ℕ} where
   }
 
 module _ (Y : Yard) (goals : Placement) (finished : ℕ) (v : Bay) (p : Placement) where
-  pub home-absent : (c : ℕ) → c ≡ carrierAt (take finished goals) v → finished ≤ c → homeAt Y goals finished v p ≡ planned []
+  pub home-absent : (c : ℕ) → c ≡ carrierAt (take finished goals) v → finished ≤ c → homeAt Y goals finished v p ≡ planned (only [])
   unfolding homeAt _and_
   home-absent c e h = rw (← e, le-ltb c finished h)
 
   module _ (c : ℕ) (e : c ≡ carrierAt (take finished goals) v) (h : c < finished) where
-    pub home-there : bayOf p c ≡ v → homeAt Y goals finished v p ≡ planned []
+    pub home-there : bayOf p c ≡ v → homeAt Y goals finished v p ≡ planned (only [])
     unfolding homeAt _and_
     home-there d = rw (← e, lt-ltb c finished h, eq-eqb (bayOf p c) v d)
 
@@ -82,12 +82,12 @@ module _ (Y : Yard) (goals : Placement) (finished : ℕ) (v : Bay) (p : Placemen
     unfolding homeAt _and_
     home-away d = rw (← e, lt-ltb c finished h, ne-eqb (bayOf p c) v d)
 
-    pub home-steps : {n : ℕ} {out : List ℕ} {at : ℕ} {p′ standing′ empty′ out′ : List ℕ} {m : ℕ} → (bayOf p c ≡ v → ⊥)
+    pub home-steps : {n : ℕ} {out : List ℕ} {at : Tally} {p′ standing′ empty′ out′ : List ℕ} {m : Tally} → (bayOf p c ≡ v → ⊥)
         → Proceeds (step Y finished c v p) n p out at p′ standing′ empty′ out′ (Done m) → Stages (homeAt Y goals finished v p) n p out at p′ standing′ empty′ out′ (Planned m)
     unfolding orStuck
     home-steps d a = let s = tried-done (a .tries) in stages-done (home-away d ∙ ap (orStuck c) (s .1)) (s .2)
 
-    pub home-stuck : {n : ℕ} {out : List ℕ} {at : ℕ} {p′ standing′ empty′ out′ : List ℕ} {f : Named} → f .0 ≡ c → (bayOf p c ≡ v → ⊥)
+    pub home-stuck : {n : ℕ} {out : List ℕ} {at : Tally} {p′ standing′ empty′ out′ : List ℕ} {f : Named} → f .0 ≡ c → (bayOf p c ≡ v → ⊥)
         → Proceeds (step Y finished c v p) n p out at p′ standing′ empty′ out′ Failed → Stages (homeAt Y goals finished v p) n p out at p′ standing′ empty′ out′ (Stuck f)
     unfolding orStuck
     home-stuck q d a = stages-stuck (home-away d ∙ ap (orStuck c) (tried-failed (a .tries)) ∙ ap stuck (sym q))
@@ -95,25 +95,25 @@ module _ (Y : Yard) (goals : Placement) (finished : ℕ) (v : Bay) (p : Placemen
 -- ## All bays
 
 -- the bays from i on are looked after
-pub record Homed (Y : Yard) (goals : Placement) (finished : ℕ) (bays : List Bay) (n : ℕ) (p out : List ℕ) (at i : ℕ) (p′ standing′ empty′ out′ : List ℕ) (m : ℕ) : Type 0 where
-  pub xs : List Crossing
+pub record Homed (Y : Yard) (goals : Placement) (finished : ℕ) (bays : List Bay) (n : ℕ) (p out : List ℕ) (at : Tally) (i : ℕ) (p′ standing′ empty′ out′ : List ℕ) (m : Tally) : Type 0 where
+  pub xs : Made
   pub answer : wayHome Y goals finished (drop i bays) p ≡ planned xs
-  pub played : Played xs n p p′ standing′ empty′ out at out′ m
+  pub played : Tallied xs n p p′ standing′ empty′ out at out′ m
 
-pub homed-none : (Y : Yard) (goals : Placement) (finished : ℕ) (bays : List Bay) (n : ℕ) (p standing empty out : List ℕ) (at : ℕ) → Placed n p standing empty
+pub homed-none : (Y : Yard) (goals : Placement) (finished : ℕ) (bays : List Bay) (n : ℕ) (p standing empty out : List ℕ) (at : Tally) → Placed n p standing empty
     → Homed Y goals finished bays n p out at (length bays) p standing empty out at
 homed-none Y goals finished bays n p standing empty out at k = record {
-  xs = [];
+  xs = only [];
   answer = rw (drop-of-length-le bays {i = length bays} (omega arith)) (unfold wayHome in refl);
-  played = played-none n p standing empty out at k;
+  played = tallied-none n p standing empty out at k;
 }
 
 module _ (Y : Yard) (goals : Placement) (finished : ℕ) (p : Placement) where
-  home-cons : (v : Bay) (vs : List Bay) (a b : List Crossing) → wayHome Y goals finished vs p ≡ planned a → homeAt Y goals finished v (after p a) ≡ planned b → wayHome Y goals finished (v ∷ vs) p ≡ planned (a ++ b)
+  home-cons : (v : Bay) (vs : List Bay) (a b : Made) → wayHome Y goals finished vs p ≡ planned a → homeAt Y goals finished v (after p (a .moves)) ≡ planned b → wayHome Y goals finished (v ∷ vs) p ≡ planned (together a b)
   unfolding wayHome _next_ onward
   home-cons v vs a b e d = rw (e, d)
 
-  stuck-cons : (v : Bay) (vs : List Bay) (a : List Crossing) (c : Carrier) → wayHome Y goals finished vs p ≡ planned a → homeAt Y goals finished v (after p a) ≡ stuck c → wayHome Y goals finished (v ∷ vs) p ≡ stuck c
+  stuck-cons : (v : Bay) (vs : List Bay) (a : Made) (c : Carrier) → wayHome Y goals finished vs p ≡ planned a → homeAt Y goals finished v (after p (a .moves)) ≡ stuck c → wayHome Y goals finished (v ∷ vs) p ≡ stuck c
   unfolding wayHome _next_ onward
   stuck-cons v vs a c e d = rw (e, d)
 
@@ -124,16 +124,16 @@ module _ (Y : Yard) (goals : Placement) (finished : ℕ) (p : Placement) where
   stuck-whole [] (suc i) c e = e
   stuck-whole (v ∷ vs) (suc i) c e = rw (stuck-whole vs i c e)
 
-module _ {Y : Yard} {goals : Placement} {finished : ℕ} {bays : List Bay} {n : ℕ} {p out : List ℕ} {at i : ℕ} {p′ standing′ empty′ out′ : List ℕ} {m : ℕ}
+module _ {Y : Yard} {goals : Placement} {finished : ℕ} {bays : List Bay} {n : ℕ} {p out : List ℕ} {at : Tally} {i : ℕ} {p′ standing′ empty′ out′ : List ℕ} {m : Tally}
     (g : Homed Y goals finished bays n p out at (i + 1) p′ standing′ empty′ out′ m) (here : i < length bays) where
-  pub homed-more : {q standing″ empty″ out″ : List ℕ} {b : ℕ} → Stages (homeAt Y goals finished (getD bays i 0) p′) n p′ out′ m q standing″ empty″ out″ (Planned b)
+  pub homed-more : {q standing″ empty″ out″ : List ℕ} {b : Tally} → Stages (homeAt Y goals finished (getD bays i 0) p′) n p′ out′ m q standing″ empty″ out″ (Planned b)
       → Homed Y goals finished bays n p out at i q standing″ empty″ out″ b
   homed-more {b = b} s =
       let w = s .plans b refl in
       record {
-        xs = g .xs ++ w .0;
+        xs = together (g .xs) (w .0);
         answer = rw (drop-cons bays i 0) (home-cons Y goals finished p (getD bays i 0) (drop (suc i) bays) (g .xs) (w .0) (rw add-one at (g .answer)) (rw (g .played .moved) at (w .1)));
-        played = played-then (g .played) (w .2);
+        played = tallied-then (g .played) (w .2);
       }
 
   pub homed-stops : {q standing″ empty″ out″ : List ℕ} {c : Named} → Stages (homeAt Y goals finished (getD bays i 0) p′) n p′ out′ m q standing″ empty″ out″ (Stuck c)
@@ -142,7 +142,7 @@ module _ {Y : Yard} {goals : Placement} {finished : ℕ} {bays : List Bay} {n : 
       stuck-whole Y goals finished p bays i (c .0)
       (rw (drop-cons bays i 0) (stuck-cons Y goals finished p (getD bays i 0) (drop (suc i) bays) (g .xs) (c .0) (rw add-one at (g .answer)) (rw (g .played .moved) at (s .stops c refl))))
 
-pub homed-all : {Y : Yard} {goals : Placement} {finished : ℕ} {bays : List Bay} {n : ℕ} {p out : List ℕ} {at : ℕ} {p′ standing′ empty′ out′ : List ℕ} {m : ℕ}
+pub homed-all : {Y : Yard} {goals : Placement} {finished : ℕ} {bays : List Bay} {n : ℕ} {p out : List ℕ} {at : Tally} {p′ standing′ empty′ out′ : List ℕ} {m : Tally}
     → Homed Y goals finished bays n p out at 0 p′ standing′ empty′ out′ m → Stages (wayHome Y goals finished bays p) n p out at p′ standing′ empty′ out′ (Planned m)
 homed-all g = stages-done (g .answer) (g .played)
 
@@ -160,10 +160,10 @@ linked-all n table u (x ∷ xs) l (suc i) h k = linked-all n table x xs l i (ome
 
 -- ## The turns
 
-pub at-most : {at k m : ℕ} → m ≤ at + k → AtMost at k (Planned m)
-at-most {m = m} h = record { few = λ b e. let same : m ≡ b = cc in omega arith }
+pub at-most : {at : Tally} {k : ℕ} {m : Tally} → m .crossings ≤ at .crossings + k → AtMost at k (Planned m)
+at-most {m = m} h = record { few = λ b e. let same : m ≡ b = cc in rw same at h }
 
-pub at-most-stuck : {at k : ℕ} {c : Named} → AtMost at k (Stuck c)
+pub at-most-stuck : {at : Tally} {k : ℕ} {c : Named} → AtMost at k (Stuck c)
 at-most-stuck = record { few = λ b e. never (cc) }
 
 module _ {n : ℕ} {table goals : List ℕ} {finished : ℕ} {bays p₀ : List ℕ} (h : Homeward n table goals finished bays p₀) (goals-apart : Apart goals) (hf : finished ≤ length goals)
@@ -180,7 +180,7 @@ module _ {n : ℕ} {table goals : List ℕ} {finished : ℕ} {bays p₀ : List �
   pub turn-low : getD bays i 0 < n
   turn-low = linked-all n table (h .first) bays (h .last ∷ []) i here (h .linked)
 
-  pub turn-homed : (t : Tabled n table) → n ≤ span → Loopless n table → {standing empty out : List ℕ} {at b : ℕ} {q standing′ empty′ out′ : List ℕ} → Placed n p standing empty
+  pub turn-homed : (t : Tabled n table) → n ≤ span → Loopless n table → {standing empty out : List ℕ} {at b : Tally} {q standing′ empty′ out′ : List ℕ} → Placed n p standing empty
       → Stages (homeAt (t .yard) goals finished (getD bays i 0) p) n p out at q standing′ empty′ out′ (Planned b)
       → Settled goals finished (h .first) (bays ++ (h .last ∷ [])) (drop i bays ++ (h .last ∷ [])) q
   turn-homed t most loopless {b = b} k s =

@@ -13,7 +13,7 @@ use mathlib.Core.Logic.{inl, inr, ⊎-elim}
 use lib.Seq.{getD-take}
 use Rattle.paper.specs.Basics.{_and_, In, NoDup}
 use Rattle.home.specs.Homing.{Due, Settled}
-use Rattle.paper.specs.Procedure.{step, planned, homeAt}
+use Rattle.paper.specs.Procedure.{Made, only, step, planned, homeAt}
 use Rattle.paper.specs.Text.{same}
 use Rattle.paper.specs.Yard.{Bay, Carrier, Placement, bayOf, carrierAt, Crossing, after}
 use Rattle.paper.proofs.Carrying.{or-stop, Pair, follows-in, placeOf-in}
@@ -84,20 +84,20 @@ module _ (goals : Placement) (goals-apart : Apart goals) (finished : ℕ) (hf : 
   -- after homeAt, in a yard that the table shows
   module _ {n : ℕ} {table : List ℕ} (t : Tabled n table) (most : n ≤ span) (loopless : Loopless n table) {standing empty : List ℕ} (k : Placed n p standing empty) (hv : v < n)
       (linked : Linked n table u₀ path₀) where
-    pub homed : (xs : List Crossing) → homeAt (t .yard) goals finished v p ≡ planned xs → Settled goals finished u₀ path₀ (v ∷ vs) (after p xs)
+    pub homed : (m : Made) → homeAt (t .yard) goals finished v p ≡ planned m → Settled goals finished u₀ path₀ (v ∷ vs) (after p (m .moves))
     unfolding homeAt after
-    homed xs h =
+    homed m h =
         by-cases (ltb whose finished and not (eqb (bayOf p whose) v))
         (λ e.
         let low : whose < finished = ltb-true whose finished (and-left _ _ e) in
         let away : eqb (bayOf p whose) v ≡ false = not-true (eqb (bayOf p whose) v) (and-right _ _ e) in
         let rail = due n table linked .beside low (eqb-false (bayOf p whose) v away) in
-        let s = stepped-of t most loopless finished whose v p k (omega arith) (omega arith) hv rail xs (or-stop whose (step (t .yard) finished whose v p) xs (rw e at h)) in
-        still (after p xs)
+        let s = stepped-of t most loopless finished whose v p k (omega arith) (omega arith) hv rail m (or-stop whose (step (t .yard) finished whose v p) m (rw e at h)) in
+        still (after p (m .moves))
         (λ c j ne. ⊎-elim (λ i. i) (λ i. absurd (nobody-else c j ne (i .0))) (s .others c j ne))
         (λ j. s .arrives))
         (λ e.
-        let z : [] ≡ xs = let y = rw e at h in cc in
+        let z : only [] ≡ m = let y = rw e at h in cc in
         rw (← z) (still p (λ c j ne. refl)
         (λ j. by-cases (eqb (bayOf p whose) v)
         (λ i. eqb-true (bayOf p whose) v i)

@@ -7,11 +7,12 @@ use Prim.Native.Nat.{ℕ, _≤_, _<_, _+_}
 use lib.ListN.{length, getD, take}
 use mathlib.Core.Logic.{_⊎_}
 use Rattle.paper.specs.Basics.{Out, NoDup}
-use Rattle.paper.specs.Procedure.{Outcome, planned, stuck, homeAt, wayHome}
-use Rattle.paper.specs.Yard.{Bay, Carrier, Yard, Placement, bayOf, carrierAt, Crossing}
+use Rattle.paper.specs.Procedure.{Made, Outcome, planned, stuck, homeAt, wayHome}
+use Rattle.paper.specs.Yard.{Bay, Carrier, Yard, Placement, bayOf, carrierAt}
 use Rattle.paper.proofs.Carrying.{Pair}
 use Rattle.words.specs.Sets.{memRow}
-use Rattle.vacate.specs.Placed.{Played}
+use Rattle.bring.specs.Acting.{Tallied}
+use Rattle.bring.specs.declared.Tally.{Tally}
 use Rattle.go.specs.Going.{Linked}
 use Rattle.home.specs.declared.Staged.the-variants.{Planned}
 use Rattle.home.specs.declared.Staged.{Staged}
@@ -31,12 +32,12 @@ pub record Owners (n : ℕ) (goals owner : List ℕ) : Type 0 where
   pub whose : (b : ℕ) → b < n → getD owner b 0 ≡ carrierAt goals b
 
 -- at most k crossings were counted
-pub record AtMost (at k : ℕ) (z : Staged) : Type 0 where
-  pub few : (m : ℕ) → z ≡ Planned m → m ≤ at + k
+pub record AtMost (at : Tally) (k : ℕ) (z : Staged) : Type 0 where
+  pub few : (m : Tally) → z ≡ Planned m → m .crossings ≤ at .crossings + k
 
--- as the paper's stage: its crossings were played, or the carrier that it names could not step
-pub record Stages (o : Outcome) (n : ℕ) (p out : List ℕ) (at : ℕ) (p′ standing′ empty′ out′ : List ℕ) (z : Staged) : Type 0 where
-  pub plans : (m : ℕ) → z ≡ Planned m → (xs : List Crossing) × (o ≡ planned xs) × Played xs n p p′ standing′ empty′ out at out′ m
+-- as the paper's stage: what it makes was played, or the carrier that it names could not step
+pub record Stages (o : Outcome) (n : ℕ) (p out : List ℕ) (at : Tally) (p′ standing′ empty′ out′ : List ℕ) (z : Staged) : Type 0 where
+  pub plans : (m : Tally) → z ≡ Planned m → (made : Made) × (o ≡ planned made) × Tallied made n p p′ standing′ empty′ out at out′ m
   pub stops : (c : Named) → z ≡ Stuck c → o ≡ stuck (c .0)
 
 -- the finished carrier whose goal is v is there, or beside it

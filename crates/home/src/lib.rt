@@ -1,4 +1,5 @@
 // The way home: the finished carriers that were displaced step back to their goals, the last bay of the path first.
+use bring::Tally;
 use bring::Tried;
 use docket::Bay;
 use docket::Carrier;
@@ -11,9 +12,9 @@ ghost use Rattle.bring.specs.Acting.{Tabled, Ready};
 ghost use Rattle.step.specs.Asking.{Loopless, BaysBelow};
 ghost use Rattle.home.specs.Homing.{Owners, AtMost, Stages, Due, Homeward, homes, waysHome};
 
-// The count of crossings afterwards, or the carrier that could not step.
+// The tally afterwards, or the carrier that could not step.
 pub enum Staged {
-    Planned(usize),
+    Planned(Tally),
     Stuck(Carrier),
 }
 
@@ -41,10 +42,10 @@ fn home_at(
     empty: &mut [u64],
     settled: &mut [u64],
     out: &mut [u64],
-    at: usize,
+    at: Tally,
 ) -> Staged
     requires { ⌜ Ready (now table) (now placement) (now standing) (now empty) ⌝ }
-    requires { ⌜ (finished ≤ length (now goals)) × (length (now goals) ≡ length (now placement)) × (v .0 < length (now standing)) × Loopless (length (now standing)) (now table) × (at < 2 ^ 60) × Due (now table) (now goals) finished (v .0) (now placement) × Owners (length (now standing)) (now goals) (now owner) × BaysBelow finished (now placement) (now settled) ⌝ }
+    requires { ⌜ (finished ≤ length (now goals)) × (length (now goals) ≡ length (now placement)) × (v .0 < length (now standing)) × Loopless (length (now standing)) (now table) × (at .crossings < 2 ^ 60) × Due (now table) (now goals) finished (v .0) (now placement) × Owners (length (now standing)) (now goals) (now owner) × BaysBelow finished (now placement) (now settled) ⌝ }
     ensures { λ z. ⌜ (AtMost at 150000 z) × ((t : Tabled (length (now (standing .entry))) (now (table .entry))) → Stages (homes (t .yard) (now (goals .entry)) finished (v .0) (now (placement .entry))) (length (now (standing .entry))) (now (placement .entry)) (now (out .entry)) at (now (placement .exit)) (now (standing .exit)) (now (empty .exit)) (now (out .exit)) z) × BaysBelow finished (now (placement .exit)) (now (settled .exit)) ⌝ }
 {
     let c = bound_for(goals, owner, finished, v);
@@ -85,10 +86,10 @@ pub fn way_home(
     empty: &mut [u64],
     settled: &mut [u64],
     out: &mut [u64],
-    at: usize,
+    at: Tally,
 ) -> Staged
     requires { ⌜ Ready (now table) (now placement) (now standing) (now empty) ⌝ }
-    requires { ⌜ (finished ≤ length (now goals)) × (length (now goals) ≡ length (now placement)) × Apart (now goals) × Loopless (length (now standing)) (now table) × (at + 150000 * length (now bays) < 2 ^ 60) × Homeward (length (now standing)) (now table) (now goals) finished (now bays) (now placement) × Owners (length (now standing)) (now goals) (now owner) × BaysBelow finished (now placement) (now settled) ⌝ }
+    requires { ⌜ (finished ≤ length (now goals)) × (length (now goals) ≡ length (now placement)) × Apart (now goals) × Loopless (length (now standing)) (now table) × (at .crossings + 150000 * length (now bays) < 2 ^ 60) × Homeward (length (now standing)) (now table) (now goals) finished (now bays) (now placement) × Owners (length (now standing)) (now goals) (now owner) × BaysBelow finished (now placement) (now settled) ⌝ }
     ensures { λ z. ⌜ (AtMost at (150000 * length (now (bays .entry))) z) × ((t : Tabled (length (now (standing .entry))) (now (table .entry))) → Stages (waysHome (t .yard) (now (goals .entry)) finished (now (bays .entry)) (now (placement .entry))) (length (now (standing .entry))) (now (placement .entry)) (now (out .entry)) at (now (placement .exit)) (now (standing .exit)) (now (empty .exit)) (now (out .exit)) z) × BaysBelow finished (now (placement .exit)) (now (settled .exit)) ⌝ }
 {
     let mut count = at;

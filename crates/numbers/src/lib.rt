@@ -4,7 +4,7 @@ ghost use Rattle.docket.specs.Reading.{refusalOf, verdictOf};
 ghost use Rattle.checker.specs.Reading.{checkedOf};
 ghost use Rattle.marks.specs.Reading.{reportOf};
 ghost use Rattle.reports.specs.Statements.{slottedOf};
-ghost use Rattle.planner.specs.Statement.{plannedOf};
+ghost use Rattle.planner.specs.Statement.{plannedOf, uncounted, parkedBy};
 ghost use Rattle.shorten.specs.Statements.{toldOf};
 ghost use Rattle.ledger.specs.Statements.{agreementOf, billedOf};
 ghost use Rattle.numbers.specs.Numbers.{numberOf, valueOf, verdictNumber, verdictValue, planNumber, planValue, reportNumber, reportValue, shortenNumber, shortenValue, agreementNumber, agreementValue, billedNumber, billedValue};
@@ -15,7 +15,7 @@ use docket::Verdict;
 use ledger::Agreement;
 use ledger::Billed;
 use marks::Reported;
-use planner::Planned;
+use planner::Counted;
 use reports::Slotted;
 use shorten::Shortened;
 
@@ -54,12 +54,24 @@ pub fn told(answer: Verdict, value: &mut u64) -> u64
     }
 }
 
-pub fn told_planned(answer: Planned, value: &mut u64) -> u64
-    ensures { λ r. ⌜ Tells (planNumber (plannedOf answer)) (planValue (plannedOf answer)) r (now (value .exit)) ⌝ }
+// How many vacates of the plan filled a bay of three rails or more; 0 where there is none.
+fn parked_in(answer: Counted) -> u64
+    ensures { λ r. ⌜ r ≡ parkedBy answer ⌝ }
 {
     match answer {
-        Planned::Accepted(written) => accepted(written, value),
-        Planned::Refused(r) => refused(r, value),
+        Counted::Accepted(_, count) => count,
+        Counted::Refused(_) => 0,
+    }
+}
+
+// Beside the two numbers of planning stands that count.
+pub fn told_planned(answer: Counted, parked: &mut u64, value: &mut u64) -> u64
+    ensures { λ r. ⌜ Tells (planNumber (plannedOf (uncounted answer))) (planValue (plannedOf (uncounted answer))) r (now (value .exit)) × (now (parked .exit) ≡ parkedBy answer) ⌝ }
+{
+    *parked = parked_in(answer);
+    match answer {
+        Counted::Accepted(written, _) => accepted(written, value),
+        Counted::Refused(r) => refused(r, value),
     }
 }
 

@@ -1,14 +1,16 @@
 -- Any two answers that the statement allows are equal, and so are what they leave.
 -- Assumes nothing.
-use mathlib.Core.Path.{_≡_, refl, ap}
+use mathlib.Core.Path.{_≡_, refl, sym, ap, ap₂, _∙_}
 use mathlib.Core.List.{List}
 use Prim.Native.Nat.{ℕ}
 use lib.ListN.{length}
 use Rattle.paper.specs.Yard.{Bay, Placement}
-use Rattle.paper.specs.Answers.{plan, planEnd}
+use Rattle.paper.specs.Answers.{plan, planParked, planEnd}
 use Rattle.paper.proofs.Determined.{Determined, telling-by, determined-by}
 use Rattle.docket.proofs.Telling.{refusalFor, refusal-back}
-use Rattle.planner.specs.Statement.{Told, long, denied, told, plannedOf, PlanSays}
+use Rattle.planner.specs.Statement.{Told, long, denied, told, plannedOf, uncounted, parkedBy, PlanSays, CountSays}
+use Rattle.planner.specs.declared.Counted.the-variants.{Accepted as Counts, Refused as Denies}
+use Rattle.planner.specs.declared.Counted.{Counted}
 use Rattle.planner.specs.declared.Planned.the-variants.{Accepted, Refused}
 use Rattle.planner.specs.declared.Planned.{Planned}
 
@@ -25,3 +27,18 @@ pub plan-determined : (n : ℕ) (ends : List Bay) (starts goals : Placement) (le
 plan-determined n ends starts goals lent a a′ l l′ s t =
     determined-by plannedOf (telling-by plannedOf plannedFor planned-back) (told (plan n ends starts goals (length lent))) (planEnd n ends starts goals lent)
     a a′ l l′ (s .answers, s .leaves) (t .answers, t .leaves)
+
+-- and with the count
+countedFor : Planned → ℕ → Counted
+countedFor (Accepted m) k = Counts m k
+countedFor (Refused r) k = Denies r
+
+counted-back : (a : Counted) → countedFor (uncounted a) (parkedBy a) ≡ a
+unfolding countedFor
+counted-back (Counts m k) = refl
+counted-back (Denies r) = refl
+
+pub count-determined : (n : ℕ) (ends : List Bay) (starts goals : Placement) (lent : List ℕ) → Determined (CountSays n ends starts goals lent)
+count-determined n ends starts goals lent a a′ l l′ s t =
+    let d = plan-determined n ends starts goals lent (uncounted a) (uncounted a′) l l′ (s .says) (t .says) in
+    (sym (counted-back a) ∙ ap₂ countedFor (d .0) (s .parks ∙ sym (t .parks)) ∙ counted-back a′, d .1)

@@ -8,10 +8,10 @@ use Prim.Native.Nat.{ℕ, _+_, _≤_}
 use native.Mathlib.Omega.{arith}
 use lib.ListN.{length, take, drop, length-map}
 use lib.Seq.{take-at}
-use Rattle.paper.specs.Procedure.{Outcome, planned, stuck, procedure}
+use Rattle.paper.specs.Procedure.{Made, Outcome, planned, stuck, procedure}
 use Rattle.paper.specs.Yard.{Bay, Placement, Crossing, pack, crossings, after, legalPlan, most-crossings}
 use Rattle.paper.specs.Docket.{yardOf}
-use Rattle.paper.specs.Answers.{Answer, accepted, refused, firstSix, written, plan, planEnd, check}
+use Rattle.paper.specs.Answers.{Answer, accepted, refused, parkedOf, firstSix, within, beside, written, plan, planParked, planEnd, check}
 use Rattle.paper.proofs.Planning.{accepted-right, TooLong, within-stuck, within-fits, within-long, plan-clean, plan-unclean}
 use Rattle.paper.proofs.Tests.{never}
 use Rattle.paper.proofs.Handing.{handed-passes}
@@ -22,52 +22,61 @@ use Rattle.docket.specs.declared.Refusal.{Refusal as Docketed}
 use Rattle.home.specs.declared.Staged.the-variants.{Planned}
 use Rattle.home.specs.declared.Staged.{Staged}
 use Rattle.play.specs.Playing.{Plays}
-use Rattle.planner.specs.Statement.{long, told, plannedOf, Kept, Hands, HandsIfKept, PlanSays}
+use Rattle.bring.specs.declared.Tally.{Tally}
+use Rattle.planner.specs.Statement.{long, told, plannedOf, uncounted, parkedBy, Kept, Hands, HandsIfKept, PlanSays, CountSays}
 use Rattle.planner.specs.declared.Handed.the-variants.{Done, Longer}
+use Rattle.planner.specs.declared.Counted.the-variants.{Accepted as Counts, Refused as Denies}
+use Rattle.planner.specs.declared.Counted.{Counted}
 use Rattle.planner.specs.declared.Planned.the-variants.{Accepted, Refused}
 use Rattle.planner.specs.declared.Planned.{Planned as Answered}
 
 -- ## The crossings kept
 
-pub kept-of : {o : Outcome} {kept kept′ : List ℕ} {m : ℕ} {z : Staged} → Plays o kept kept′ z → z ≡ Planned m → Kept o kept′ m
+pub kept-of : {o : Outcome} {kept kept′ : List ℕ} {m : Tally} {z : Staged} → Plays o kept kept′ z → z ≡ Planned m → Kept o kept′ m
 kept-of {kept′ = kept′} {m} p e =
     let w = p .plans m e in
-    let size : 0 + length (map pack (w .0)) ≡ m = omega (arith, length-map (w .0) pack, w .3) in
+    let size : 0 + length (map pack (w .0 .moves)) ≡ m .crossings = omega (arith, length-map (w .0 .moves) pack, w .3) in
     record {
-      crossed = w .0;
+      made = w .0;
       outcome = w .1;
       counted = w .3;
+      parks = λ h. omega (arith, h, w .4, w .5);
       stored = λ h. ap (λ (k : ℕ). take k kept′) (sym size) ∙ w .2 .front (omega (arith, h, size, w .2 .long));
     }
 
 -- copied from where it was kept
-pub copied-out : {o : Outcome} {kept out′ : List ℕ} {m : ℕ} (out : List ℕ) → Kept o kept m → m ≤ length kept → out′ ≡ take m kept ++ drop (length (take m kept)) out
-    → (xs : List Crossing) → o ≡ planned xs → out′ ≡ map pack xs ++ drop (length xs) out
-copied-out out k h e xs i =
-    let kept : k .crossed ≡ xs = let a = k .outcome in cc in
-    let front = k .stored h ∙ ap (map pack) kept in
+pub copied-out : {o : Outcome} {kept out′ : List ℕ} {m : Tally} (out : List ℕ) → Kept o kept m → m .crossings ≤ length kept
+    → out′ ≡ take (m .crossings) kept ++ drop (length (take (m .crossings) kept)) out
+    → (made : Made) → o ≡ planned made → out′ ≡ map pack (made .moves) ++ drop (length (made .moves)) out
+copied-out out k h e made i =
+    let kept : k .made ≡ made = let a = k .outcome in cc in
+    let front = k .stored h ∙ ap (λ (m : Made). map pack (m .moves)) kept in
     rw (front, length-map) at e
 
 -- ## 7, 8, or the plan
 
-pub hands-stopped : {o : Outcome} {lent : List ℕ} (c : Named) → o ≡ stuck (c .0) → Hands o lent (Refused (Stopped c)) lent
-unfolding written
-hands-stopped {lent = lent} c e = rw e (record { answers = sym (ap told (within-stuck (length lent) (c .0))); leaves = rw (within-stuck (length lent) (c .0)) refl })
+pub hands-stopped : {o : Outcome} {lent : List ℕ} (c : Named) → o ≡ stuck (c .0) → Hands o lent (Denies (Stopped c)) lent
+unfolding written beside
+hands-stopped {lent = lent} c e =
+    let w = within-stuck (length lent) (c .0) in
+    rw e (record { answers = sym (ap told w); parks = rw w refl; leaves = rw w refl })
 
-pub hands-long : {o : Outcome} {kept lent : List ℕ} {m : ℕ} → Kept o kept m → TooLong (length lent) m → Hands o lent (Refused (Room m)) lent
-unfolding written
+pub hands-long : {o : Outcome} {kept lent : List ℕ} {m : Tally} → Kept o kept m → TooLong (length lent) (m .crossings) → Hands o lent (Denies (Room (m .crossings))) lent
+unfolding written beside
 hands-long {lent = lent} k h =
-    let w = within-long (length lent) (k .crossed) (rw (k .counted) at h) in
-    rw (k .outcome, k .counted) (record { answers = sym (ap told w); leaves = rw w refl })
+    let w = within-long (length lent) (k .made) (rw (k .counted) at h) in
+    rw (k .outcome, k .counted) (record { answers = sym (ap told w); parks = rw w refl; leaves = rw w refl })
 
-pub hands-plan : {o : Outcome} {kept lent lent′ : List ℕ} {m : ℕ} → Kept o kept m → m ≤ length lent → m ≤ most-crossings → ((xs : List Crossing) → o ≡ planned xs → lent′ ≡ map pack xs ++ drop (length xs) lent) → Hands o lent (Accepted m) lent′
-unfolding written
+pub hands-plan : {o : Outcome} {kept lent lent′ : List ℕ} {m : Tally} → Kept o kept m → m .crossings ≤ length lent → m .crossings ≤ most-crossings
+    → ((made : Made) → o ≡ planned made → lent′ ≡ map pack (made .moves) ++ drop (length (made .moves)) lent) → Hands o lent (Counts (m .crossings) (m .parked)) lent′
+unfolding written beside parkedOf
 hands-plan {lent = lent} k a b f =
-    let w = within-fits (length lent) (k .crossed) (rw (k .counted) at a) (rw (k .counted) at b) in
-    let e = f (k .crossed) (k .outcome) in
-    rw (k .outcome, k .counted) (record { answers = sym (ap told w); leaves = rw w e })
+    let w = within-fits (length lent) (k .made) (rw (k .counted) at a) (rw (k .counted) at b) in
+    let e = f (k .made) (k .outcome) in
+    let counts = k .parks b in
+    rw (k .outcome, k .counted, counts) (record { answers = sym (ap told w); parks = rw w refl; leaves = rw w e })
 
-pub done-if-kept : {o : Outcome} {lent lent′ : List ℕ} {answer : Answered} → Hands o lent answer lent′ → HandsIfKept o lent (Done answer) lent′
+pub done-if-kept : {o : Outcome} {lent lent′ : List ℕ} {answer : Counted} → Hands o lent answer lent′ → HandsIfKept o lent (Done answer) lent′
 done-if-kept {answer = answer} k = record {
   done = λ a e. let same : answer ≡ a = cc in rw same at k;
   longer = λ e. never (cc);
@@ -104,10 +113,15 @@ module _ (n : ℕ) (ends : List Bay) (s g : Placement) where
     passes = λ m z. stands lent lent′ m (sym (ap plannedOf z) ∙ h) e .2;
   }
 
-  pub says-refused : (lent : List ℕ) (r : Docketed) → some (refusalOf r) ≡ firstSix n ends s g 0 → PlanSays n ends s g lent (Refused r) lent
-  unfolding written
-  says-refused lent r h = let e = plan-unclean n ends s g (length lent) (refusalOf r) (sym h) in says-of lent lent (Refused r) (rw e refl) (rw e refl)
+  pub says-refused : (lent : List ℕ) (r : Docketed) → some (refusalOf r) ≡ firstSix n ends s g 0 → CountSays n ends s g lent (Denies r) lent
+  unfolding written planParked beside
+  says-refused lent r h =
+      let e = plan-unclean n ends s g (length lent) (refusalOf r) (sym h) in
+      record { says = says-of lent lent (Refused r) (rw e refl) (rw e refl); parks = rw e refl }
 
-  pub says-handed : (lent lent′ : List ℕ) (answer : Answered) → none ≡ firstSix n ends s g 0 → Hands (procedure (yardOf n ends) g s) lent answer lent′
-      → PlanSays n ends s g lent answer lent′
-  says-handed lent lent′ answer h k = let e = plan-clean n ends s g (length lent) (sym h) in says-of lent lent′ answer (rw e (k .answers)) (rw e (k .leaves))
+  pub says-handed : (lent lent′ : List ℕ) (answer : Counted) → none ≡ firstSix n ends s g 0 → Hands (procedure (yardOf n ends) g s) lent answer lent′
+      → CountSays n ends s g lent answer lent′
+  unfolding planParked
+  says-handed lent lent′ answer h k =
+      let e = plan-clean n ends s g (length lent) (sym h) in
+      record { says = says-of lent lent′ (uncounted answer) (rw e (k .answers)) (rw e (k .leaves)); parks = rw e (k .parks) }

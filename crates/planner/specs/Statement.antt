@@ -7,13 +7,16 @@ use mathlib.Core.List.{List, map}
 use mathlib.Core.Option.{none}
 use Prim.Native.Nat.{ℕ, _≤_}
 use lib.ListN.{length, take}
-use Rattle.paper.specs.Procedure.{Outcome, planned}
-use Rattle.paper.specs.Yard.{Bay, Placement, Crossing, pack, crossings, after, legalPlan}
+use Rattle.paper.specs.Procedure.{Made, Outcome, planned}
+use Rattle.paper.specs.Yard.{Bay, Placement, pack, crossings, after, legalPlan, most-crossings}
 use Rattle.paper.specs.Docket.{Refusal, yardOf}
-use Rattle.paper.specs.Answers.{Answer, accepted, refused, within, written, plan, planEnd, check}
+use Rattle.paper.specs.Answers.{Answer, accepted, refused, parkedOf, within, beside, written, plan, planParked, planEnd, check}
 use Rattle.docket.specs.Reading.{refusalOf}
 use Rattle.planner.specs.declared.Handed.{Handed}
 use Rattle.planner.specs.declared.Handed.the-variants.{Done, Longer}
+use Rattle.bring.specs.declared.Tally.{Tally}
+use Rattle.planner.specs.declared.Counted.{Counted}
+use Rattle.planner.specs.declared.Counted.the-variants.{Accepted as Counts, Refused as Denies}
 use Rattle.planner.specs.declared.Planned.{Planned}
 use Rattle.planner.specs.declared.Planned.the-variants.{Accepted, Refused}
 
@@ -30,21 +33,32 @@ abbrev pub plannedOf : Planned → Told
 plannedOf (Accepted m) = long m
 plannedOf (Refused r) = denied (refusalOf r)
 
--- the outcome is a plan of m crossings, and these are the first of them
-pub record Kept (o : Outcome) (kept : List ℕ) (m : ℕ) : Type 0 where
-  pub crossed : List Crossing
-  pub outcome : o ≡ planned crossed
-  pub counted : m ≡ length crossed
-  pub stored : m ≤ length kept → take m kept ≡ map pack crossed
+-- the answer without the count, and the count: 0 beside a refusal
+abbrev pub uncounted : Counted → Planned
+uncounted (Counts m k) = Accepted m
+uncounted (Denies r) = Refused r
+
+abbrev pub parkedBy : Counted → ℕ
+parkedBy (Counts m k) = k
+parkedBy (Denies r) = 0
+
+-- the outcome is a plan of so many crossings, and these are the first of them; its count is exact unless the plan is too long
+pub record Kept (o : Outcome) (kept : List ℕ) (m : Tally) : Type 0 where
+  pub made : Made
+  pub outcome : o ≡ planned made
+  pub counted : m .crossings ≡ length (made .moves)
+  pub parks : m .crossings ≤ most-crossings → m .parked ≡ made .parked
+  pub stored : m .crossings ≤ length kept → take (m .crossings) kept ≡ map pack (made .moves)
 
 -- 7, 8 or the plan, for a list of so many places
-pub record Hands (o : Outcome) (lent : List ℕ) (answer : Planned) (lent′ : List ℕ) : Type 0 where
-  pub answers : plannedOf answer ≡ told (within (length lent) o)
+pub record Hands (o : Outcome) (lent : List ℕ) (answer : Counted) (lent′ : List ℕ) : Type 0 where
+  pub answers : plannedOf (uncounted answer) ≡ told (within (length lent) o)
+  pub parks : parkedBy answer ≡ beside (within (length lent) o) (parkedOf o)
   pub leaves : lent′ ≡ written (within (length lent) o) lent
 
 -- the same where the plan was kept whole; else the list is as it was
 pub record HandsIfKept (o : Outcome) (lent : List ℕ) (answer : Handed) (lent′ : List ℕ) : Type 0 where
-  pub done : (a : Planned) → answer ≡ Done a → Hands o lent a lent′
+  pub done : (a : Counted) → answer ≡ Done a → Hands o lent a lent′
   pub longer : answer ≡ Longer → lent′ ≡ lent
 
 pub record PlanSays (n : ℕ) (ends : List Bay) (starts goals : Placement) (lent : List ℕ) (answer : Planned) (lent′ : List ℕ) : Type 0 where
@@ -53,3 +67,8 @@ pub record PlanSays (n : ℕ) (ends : List Bay) (starts goals : Placement) (lent
   pub legal : (m : ℕ) → answer ≡ Accepted m → legalPlan (yardOf n ends) starts (crossings (take m lent′)) ≡ true
   pub home : (m : ℕ) → answer ≡ Accepted m → after starts (crossings (take m lent′)) ≡ goals
   pub passes : (m : ℕ) → answer ≡ Accepted m → check n ends starts goals (take m lent′) ≡ none
+
+-- The same with the count: it is what the paper's planner carries.
+pub record CountSays (n : ℕ) (ends : List Bay) (starts goals : Placement) (lent : List ℕ) (answer : Counted) (lent′ : List ℕ) : Type 0 where
+  pub says : PlanSays n ends starts goals lent (uncounted answer) lent′
+  pub parks : parkedBy answer ≡ planParked n ends starts goals (length lent)

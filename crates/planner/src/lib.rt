@@ -12,11 +12,17 @@ ghost use Rattle.paper.specs.Yard.{most-crossings};
 ghost use Rattle.bring.specs.Acting.{Tabled};
 ghost use Rattle.carry.specs.Carrying.{procedures};
 ghost use Rattle.play.specs.Playing.{Admitted};
-ghost use Rattle.planner.specs.Statement.{Hands, HandsIfKept, PlanSays};
+ghost use Rattle.planner.specs.Statement.{Hands, HandsIfKept, CountSays, PlanSays};
 
 // What the planner answers: the plan's length, or why there is none.
 pub enum Planned {
     Accepted(u64),
+    Refused(Refusal),
+}
+
+// The same, with how many vacates of the plan, undoing left aside, filled a bay of three rails or more, beside its length.
+pub enum Counted {
+    Accepted(u64, u64),
     Refused(Refusal),
 }
 
@@ -64,7 +70,7 @@ const NARROW_MORE: usize = 64;
 
 // What comes of a plan in the room that it was kept in.
 enum Handed {
-    Done(Planned),
+    Done(Counted),
     // neither 7 nor 8 refuses it, and it is longer than that room
     Longer,
 }
@@ -84,19 +90,21 @@ fn hand_out_in(
 {
     let played = play::play(table, n, ends, start, goal, kept);
     match played {
-        Staged::Stuck(c) => Handed::Done(Planned::Refused(Refusal::Stopped(c))),
-        Staged::Planned(m) => {
+        Staged::Stuck(c) => Handed::Done(Counted::Refused(Refusal::Stopped(c))),
+        Staged::Planned(tally) => {
+            let m = tally.crossings;
+            let parked = tally.parked;
             if out.len() < m {
-                return Handed::Done(Planned::Refused(Refusal::Room(m as u64)));
+                return Handed::Done(Counted::Refused(Refusal::Room(m as u64)));
             }
             if Yard::CROSSINGS < m {
-                return Handed::Done(Planned::Refused(Refusal::Room(m as u64)));
+                return Handed::Done(Counted::Refused(Refusal::Room(m as u64)));
             }
             if kept.len() < m {
                 return Handed::Longer;
             }
             copies::longs(out, &kept[..m]);
-            Handed::Done(Planned::Accepted(m as u64))
+            Handed::Done(Counted::Accepted(m as u64, parked as u64))
         }
     }
 }
@@ -173,7 +181,7 @@ fn hand_out_most(
     start: &[u16],
     goal: &[u16],
     out: &mut [u64],
-) -> Planned
+) -> Counted
     requires { ⌜ Admitted n (now table) (now start) (now goal) ⌝ }
     ensures { λ r. ⌜ ((t : Tabled n (now (table .entry))) → Hands (procedures (t .yard) (now (goal .entry)) (now (start .entry))) (now (out .entry)) r (now (out .exit))) ⌝ }
 {
@@ -182,7 +190,7 @@ fn hand_out_most(
     match handed {
         Handed::Done(answer) => answer,
         // never, since 8 refuses such a plan
-        Handed::Longer => Planned::Accepted(0),
+        Handed::Longer => Counted::Accepted(0, 0),
     }
 }
 
@@ -265,7 +273,7 @@ fn hand_out(
     start: &[u16],
     goal: &[u16],
     out: &mut [u64],
-) -> Planned
+) -> Counted
     requires { ⌜ Admitted n (now table) (now start) (now goal) ⌝ }
     ensures { λ r. ⌜ ((t : Tabled n (now (table .entry))) → Hands (procedures (t .yard) (now (goal .entry)) (now (start .entry))) (now (out .entry)) r (now (out .exit))) ⌝ }
 {
@@ -277,13 +285,30 @@ fn hand_out(
 }
 
 // Planning tests 1 to 8 by number. Acceptance writes the plan and nothing beyond its length; a refusal changes nothing.
-pub fn plan(bays: u64, rails: &[u16], start: &[u16], goal: &[u16], out: &mut [u64]) -> Planned
-    ensures { λ r. ⌜ PlanSays bays (now (rails .entry)) (now (start .entry)) (now (goal .entry)) (now (out .entry)) r (now (out .exit)) ⌝ }
+pub fn plan_counted(
+    bays: u64,
+    rails: &[u16],
+    start: &[u16],
+    goal: &[u16],
+    out: &mut [u64],
+) -> Counted
+    ensures { λ r. ⌜ CountSays bays (now (rails .entry)) (now (start .entry)) (now (goal .entry)) (now (out .entry)) r (now (out .exit)) ⌝ }
 {
     let mut table = [0u64; Yard::TABLE];
     let opened = Yard::open(bays, rails, start, goal, 0, &mut table);
     match opened {
-        Opened::Refused(r) => Planned::Refused(r),
+        Opened::Refused(r) => Counted::Refused(r),
         Opened::Open(yard) => { hand_out(&table, yard.bays, rails.len(), start, goal, out) }
+    }
+}
+
+// The same for those who do not ask for the count.
+pub fn plan(bays: u64, rails: &[u16], start: &[u16], goal: &[u16], out: &mut [u64]) -> Planned
+    ensures { λ r. ⌜ PlanSays bays (now (rails .entry)) (now (start .entry)) (now (goal .entry)) (now (out .entry)) r (now (out .exit)) ⌝ }
+{
+    let counted = plan_counted(bays, rails, start, goal, out);
+    match counted {
+        Counted::Accepted(m, _) => Planned::Accepted(m),
+        Counted::Refused(r) => Planned::Refused(r),
     }
 }

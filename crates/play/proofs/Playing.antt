@@ -12,7 +12,7 @@ use Rattle.words.specs.Sets.{words, span}
 use Rattle.words.proofs.Sets.{mem-zeros}
 use Rattle.levels.specs.Levels.{Levelled}
 use Rattle.vacate.specs.Placed.{Placed}
-use Rattle.bring.specs.Acting.{Ready}
+use Rattle.bring.specs.Acting.{Ready, nothing}
 use Rattle.step.specs.Asking.{BaysBelow}
 use Rattle.home.specs.Homing.{Owners, Stages}
 use Rattle.home.specs.declared.Staged.{Staged}
@@ -45,8 +45,8 @@ none-settled s = record { size = length-replicate {A = ℕ} words 0; bays = λ b
 pub owners-of : {n m : ℕ} {goals owner spare : List ℕ} → m ≡ n → length owner ≡ m → Placed m goals owner spare → Owners n goals owner
 owners-of e k placed = record { many = omega arith; whose = λ b h. placed .stands b (omega arith) }
 
-pub plays-of : {o : Outcome} {n : ℕ} {p out p′ standing′ empty′ out′ : List ℕ} {z : Staged} → Stages o n p out 0 p′ standing′ empty′ out′ z → Plays o out out′ z
+pub plays-of : {o : Outcome} {n : ℕ} {p out p′ standing′ empty′ out′ : List ℕ} {z : Staged} → Stages o n p out nothing p′ standing′ empty′ out′ z → Plays o out out′ z
 plays-of st = record {
-  plans = λ m e. let w = st .plans m e in (w .0, w .1, w .2 .stored, w .2 .counted ∙ omega arith);
+  plans = λ m e. let w = st .plans m e in (w .0, w .1, w .2 .stored, w .2 .counted ∙ omega arith, omega (arith, w .2 .parks), w .2 .few (omega arith));
   stops = st .stops;
 }

@@ -4,11 +4,13 @@ use mathlib.Core.Path.{_≡_}
 use mathlib.Core.List.{List, map}
 use Prim.Native.Nat.{ℕ, _≤_, _<_}
 use lib.ListN.{length}
-use Rattle.paper.specs.Procedure.{Outcome, planned, stuck}
-use Rattle.paper.specs.Yard.{Placement, Crossing, pack, bayOf}
+use Rattle.paper.specs.Procedure.{Made, Outcome, planned, stuck}
+use Rattle.paper.specs.Yard.{Placement, pack, bayOf}
 use Rattle.paper.proofs.Playing.{Apart}
 use Rattle.words.specs.Sets.{span}
 use Rattle.vacate.specs.Placed.{Stored}
+use Rattle.bring.specs.Acting.{AsFar}
+use Rattle.bring.specs.declared.Tally.{Tally}
 use Rattle.step.specs.Asking.{Loopless}
 use Rattle.carry.specs.Carrying.{Goals, Reaching}
 use Rattle.docket.specs.declared.Carrier.{Carrier as Named}
@@ -27,5 +29,5 @@ pub record Admitted (n : ℕ) (table : List ℕ) (s g : Placement) : Type 0 wher
 
 -- the crossings of the procedure were counted, and stored where there was room; or the carrier that it names could not step
 pub record Plays (o : Outcome) (out out′ : List ℕ) (z : Staged) : Type 0 where
-  pub plans : (m : ℕ) → z ≡ Planned m → (xs : List Crossing) × (o ≡ planned xs) × Stored (map pack xs) out 0 out′ × (m ≡ length xs)
+  pub plans : (m : Tally) → z ≡ Planned m → (made : Made) × (o ≡ planned made) × Stored (map pack (made .moves)) out 0 out′ × (m .crossings ≡ length (made .moves)) × AsFar (m .parked) (made .parked) × (m .parked ≤ m .crossings)
   pub stops : (c : Named) → z ≡ Stuck c → o ≡ stuck (c .0)

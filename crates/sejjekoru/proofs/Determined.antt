@@ -26,8 +26,12 @@ left-determined a a′ l l′ s t =
     (λ i. (same .0 i, same .1 i), s .leaves ∙ sym (t .leaves))
 
 module _ (n : ℕ) (ends : List Bay) (starts goals : Placement) where
-  pub plan-determined : (lent : List ℕ) → Determined (Paired (PlanTells n ends starts goals lent))
-  plan-determined lent = left-determined
+  -- the count stands between the two numbers
+  pub plan-determined : (lent : List ℕ) → Determined (λ (a : ℕ × ℕ × ℕ) (l : List ℕ). PlanTells n ends starts goals lent (a .0) (a .1) (a .2) l)
+  plan-determined lent a a′ l l′ s t =
+      let same = tells-determined (a .0) (a′ .0) (a .2) (a′ .2) (s .tells) (t .tells) in
+      let counts = s .parks ∙ sym (t .parks) in
+      (λ i. (same .0 i, counts i, same .1 i), s .leaves ∙ sym (t .leaves))
 
   pub check-determined : (crossed : List ℕ) → Determined (CheckTells n ends starts goals crossed)
   check-determined crossed = tells-determined

@@ -5,7 +5,7 @@ use mathlib.Core.List.{List}
 use Prim.Native.Nat.{ℕ}
 use lib.ListN.{length}
 use Rattle.paper.specs.Yard.{Bay, Placement}
-use Rattle.paper.specs.Answers.{plan, planEnd, check, slotsRefusal, slotsEnd, report, marksEnd}
+use Rattle.paper.specs.Answers.{plan, planParked, planEnd, check, slotsRefusal, slotsEnd, report, marksEnd}
 use Rattle.planner.specs.Statement.{told}
 use Rattle.trips.specs.Shortening.{shortening, shorteningEnd}
 use Rattle.shorten.specs.Statements.{tells as toldShort}
@@ -18,10 +18,11 @@ pub record TellsAndLeaves (due due-value : ℕ) (due-list : List ℕ) (number va
   pub leaves : list ≡ due-list
 
 module _ (n : ℕ) (ends : List Bay) (starts goals : Placement) where
-  abbrev pub PlanTells : List ℕ → ℕ → ℕ → List ℕ → Type 0
-  PlanTells lent =
-      let answer = told (plan n ends starts goals (length lent)) in
-      TellsAndLeaves (planNumber answer) (planValue answer) (planEnd n ends starts goals lent)
+  -- the two numbers of planning, the list, and how many vacates of the plan, undoing left aside, filled a bay of three rails or more
+  pub record PlanTells (lent : List ℕ) (number parked value : ℕ) (list : List ℕ) : Type 0 where
+    pub tells : Tells (planNumber (told (plan n ends starts goals (length lent)))) (planValue (told (plan n ends starts goals (length lent)))) number value
+    pub parks : parked ≡ planParked n ends starts goals (length lent)
+    pub leaves : list ≡ planEnd n ends starts goals lent
 
   abbrev pub CheckTells : List ℕ → ℕ → ℕ → Type 0
   CheckTells crossed =

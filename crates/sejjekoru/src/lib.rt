@@ -22,12 +22,13 @@ pub extern "C" fn sejjekoru_plan(
     start: &[u16],
     goal: &[u16],
     plan: &mut [u64],
+    parked: &mut u64,
     value: &mut u64,
 ) -> u64
-    ensures { λ r. ⌜ PlanTells bays (now (rails .entry)) (now (start .entry)) (now (goal .entry)) (now (plan .entry)) r (now (value .exit)) (now (plan .exit)) ⌝ }
+    ensures { λ r. ⌜ PlanTells bays (now (rails .entry)) (now (start .entry)) (now (goal .entry)) (now (plan .entry)) r (now (parked .exit)) (now (value .exit)) (now (plan .exit)) ⌝ }
 {
-    let answer = planner::plan(bays, rails, start, goal, plan);
-    numbers::told_planned(answer, value)
+    let answer = planner::plan_counted(bays, rails, start, goal, plan);
+    numbers::told_planned(answer, parked, value)
 }
 
 #[no_mangle]

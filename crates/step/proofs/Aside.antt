@@ -11,7 +11,7 @@ use lib.Seq.{getD-take}
 use borrow.Author.Tests.{not-true, not-false}
 use Rattle.paper.specs.Basics.{_and_, elem, In, Out}
 use Rattle.paper.specs.Path.{Free, Rather}
-use Rattle.paper.specs.Procedure.{vacate, holding, shift}
+use Rattle.paper.specs.Procedure.{vacate, parking, holding, shift}
 use Rattle.paper.specs.Yard.{Bay, Carrier, Placement, bayOf, carrierAt, crossing, isEmpty, joined, railsAt}
 use Rattle.paper.proofs.Members.{In-cases, take-in, in-count}
 use Rattle.paper.proofs.Playing.{placeOf-bay, placeOf-there, bay-in}
@@ -79,7 +79,7 @@ module _ {n : ℕ} {table : List ℕ} (t : Tabled n table) (most : n ≤ span) (
       let passes = and-both (memRow table w b) (memRow empty 0 b) (t .joins .same w b hw (omega arith) ∙ j) (row-zero empty b ∙ k .empties b h ∙ ap not o) in
       rather-paper (t .joins) most e b inside-e h (low .before there b (omega arith) passes)
 
-  pub made-aside : vacate (t .yard) (holding finished r p) w p ≡ some (crossing (carrierAt p w) w e ∷ [])
+  pub made-aside : vacate (t .yard) (holding finished r p) w p ≡ some (record { moves = crossing (carrierAt p w) w e ∷ []; parked = parking (t .yard) e })
   unfolding vacate shift
   made-aside =
       let free-w = free-of w hw w-unheld in

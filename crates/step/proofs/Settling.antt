@@ -13,18 +13,19 @@ use lib.ListN.{length, take, set, length-take, length-set}
 use lib.Seq.{getD-take, getD-set-same, getD-set-other}
 use borrow.Author.Tests.{eqb-true, eqb-false, eq-eqb, ne-eqb}
 use Rattle.paper.specs.Basics.{_and_, _or_, elem, In}
-use Rattle.paper.specs.Procedure.{trade, step}
-use Rattle.paper.specs.Yard.{Bay, Carrier, Placement, bayOf, carrierAt, Crossing, crossing, after}
+use Rattle.paper.specs.Procedure.{Made, only, trade, step}
+use Rattle.paper.specs.Yard.{Bay, Carrier, Placement, bayOf, carrierAt, crossing, after}
 use Rattle.paper.proofs.Carrying.{Stepped, step-steps}
 use Rattle.paper.proofs.Playing.{Apart, Good, after-length, placeOf-bay, placeOf-there, bay-in}
 use Rattle.paper.proofs.Tests.{by-cases, not-both}
 use Rattle.paper.proofs.Trading.{trade-first, trade-second, trade-other, trade-twice, which}
 use Rattle.words.specs.Sets.{mem, memRow, span}
 use Rattle.words.proofs.Besides.{equal-tests}
-use Rattle.vacate.specs.Placed.{Placed, Played}
+use Rattle.vacate.specs.Placed.{Placed}
 use Rattle.vacate.proofs.Playing.{carrier-is}
-use Rattle.trial.proofs.Copying.{in-bays}
-use Rattle.bring.specs.Acting.{Tabled, Proceeds}
+use Rattle.clear_on.proofs.Attempting.{in-bays}
+use Rattle.bring.specs.Acting.{Tabled, Tallied, Proceeds}
+use Rattle.bring.specs.declared.Tally.{Tally}
 use Rattle.bring.specs.declared.Tried.the-variants.{Done}
 use Rattle.bring.proofs.Acting.{tried-done}
 use Rattle.step.specs.Asking.{Loopless, BaysBelow}
@@ -113,8 +114,8 @@ module _ (finished : ℕ) (r : Carrier) (w : Bay) (p p′ : Placement) (apart : 
   below-traded s kept traded = record { size = kept ∙ s .size; bays = λ b. traded b ∙ s .bays (trade (bayOf p r) w b) ∙ sym (bays-traded b) }
 
 -- by crossing alone nobody but r moves
-pub settled-free : {n : ℕ} (r : Carrier) (w : Bay) (p : Placement) {standing empty out : List ℕ} {at m : ℕ} {p′ standing′ empty′ out′ settled settled′ : List ℕ} → Placed n p standing empty
-    → r < length p → Played (crossing (carrierAt p (bayOf p r)) (bayOf p r) w ∷ []) n p p′ standing′ empty′ out at out′ m
+pub settled-free : {n : ℕ} (r : Carrier) (w : Bay) (p : Placement) {standing empty out : List ℕ} {at m : Tally} {p′ standing′ empty′ out′ settled settled′ : List ℕ} → Placed n p standing empty
+    → r < length p → Tallied (only (crossing (carrierAt p (bayOf p r)) (bayOf p r) w ∷ [])) n p p′ standing′ empty′ out at out′ m
     → length settled′ ≡ length settled → ((b : Bay) → mem settled′ b ≡ mem settled (trade (bayOf p r) w b)) → (finished : ℕ) → BaysBelow finished p settled → BaysBelow finished p′ settled′
 unfolding after
 settled-free r w p {p′ = p′} k hr y kept traded finished s =
@@ -130,12 +131,12 @@ module _ {n : ℕ} {table : List ℕ} (t : Tabled n table) (most : n ≤ span) (
   good-of = record { apart = k .apart; inside = λ c h. in-bays t (k .inside c h) }
 
   -- what the paper says of the step
-  pub stepped-of : (xs : List Crossing) → step (t .yard) finished r w p ≡ some xs → Stepped (t .yard) (sound-of t most loopless) finished r w p xs
-  stepped-of xs e = step-steps (t .yard) (sound-of t most loopless) finished r w p good-of hr hf (railed t most loopless finished r w p k hr hw rail) xs e
+  pub stepped-of : (m : Made) → step (t .yard) finished r w p ≡ some m → Stepped (t .yard) (sound-of t most loopless) finished r w p (m .moves)
+  stepped-of m e = step-steps (t .yard) (sound-of t most loopless) finished r w p good-of hr hf (railed t most loopless finished r w p k hr hw rail) m e
 
-  pub settled-after : {out : List ℕ} {at b : ℕ} {p′ standing′ empty′ out′ settled settled′ : List ℕ} → Proceeds (step (t .yard) finished r w p) n p out at p′ standing′ empty′ out′ (Done b)
+  pub settled-after : {out : List ℕ} {at b : Tally} {p′ standing′ empty′ out′ settled settled′ : List ℕ} → Proceeds (step (t .yard) finished r w p) n p out at p′ standing′ empty′ out′ (Done b)
       → BaysBelow finished p settled → length settled′ ≡ length settled → ((b : Bay) → mem settled′ b ≡ mem settled (trade (bayOf p r) w b)) → BaysBelow finished p′ settled′
   settled-after {p′ = p′} a s kept traded =
       let d = tried-done (a .tries) in
       let o = stepped-of (d .0) (d .1) in
-      below-traded finished r w p p′ (k .apart) (d .2 .placed .apart) (rw (d .2 .moved) (after-length p (d .0))) hr (rw (d .2 .moved) (o .arrives)) (rw (d .2 .moved) (o .others)) s kept traded
+      below-traded finished r w p p′ (k .apart) (d .2 .placed .apart) (rw (d .2 .moved) (after-length p (d .0 .moves))) hr (rw (d .2 .moved) (o .arrives)) (rw (d .2 .moved) (o .others)) s kept traded

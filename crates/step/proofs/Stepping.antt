@@ -12,8 +12,8 @@ use lib.Dec.{eqb}
 use lib.Seq.{getD-take}
 use borrow.Author.Tests.{not-true}
 use Rattle.paper.specs.Basics.{_or_, elem, In, Out}
-use Rattle.paper.specs.Procedure.{_then_, cross, vacate, holding, swap, step}
-use Rattle.paper.specs.Yard.{Bay, Carrier, Placement, bayOf, carrierAt, Crossing, crossing, after, joined}
+use Rattle.paper.specs.Procedure.{Made, only, _then_, cross, vacate, holding, swap, step}
+use Rattle.paper.specs.Yard.{Bay, Carrier, Placement, bayOf, carrierAt, crossing, after, joined}
 use Rattle.paper.proofs.Members.{In-head, In-tail, in-count}
 use Rattle.paper.proofs.Playing.{Sound, after-length, placeOf-bay, placeOf-there, bay-in}
 use Rattle.paper.proofs.Tests.{by-cases, not-both, never-some, or-right}
@@ -22,10 +22,11 @@ use Rattle.words.specs.Sets.{mem, span, memRow, Kept}
 use Rattle.words.proofs.Sets.{row-zero, or-false}
 use Rattle.swap.specs.Seeking.{Beside}
 use Rattle.rings.specs.Search.{Shown}
-use Rattle.vacate.specs.Placed.{Placed, Played}
-use Rattle.vacate.proofs.Playing.{played-none, played-then, carrier-is, carrier-none}
-use Rattle.bring.specs.Acting.{Tabled, Proceeds}
-use Rattle.bring.proofs.Acting.{proceeds-some}
+use Rattle.vacate.specs.Placed.{Placed}
+use Rattle.vacate.proofs.Playing.{carrier-is, carrier-none}
+use Rattle.bring.specs.Acting.{Tabled, Tallied, Proceeds}
+use Rattle.bring.specs.declared.Tally.{Tally}
+use Rattle.bring.proofs.Acting.{tallied-none, tallied-then, proceeds-some}
 use Rattle.step.specs.Asking.{Loopless, BaysBelow}
 use Rattle.bring.specs.declared.Tried.the-variants.{Done}
 use Rattle.bring.specs.declared.Tried.{Tried}
@@ -59,7 +60,7 @@ module _ {n : ℕ} {table : List ℕ} (t : Tabled n table) (most : n ≤ span) (
 
   -- where vacating fails a carrier stands at w
   pub met : vacate (t .yard) (holding finished r p) w p ≡ none → In w p
-  met e = by-cases (elem w p) (λ i. i) (λ o. never-some [] (sym e ∙ vacate-empty (t .yard) (holding finished r p) w p o))
+  met e = by-cases (elem w p) (λ i. i) (λ o. never-some (only []) (sym e ∙ vacate-empty (t .yard) (holding finished r p) w p o))
 
   pub met-carrier : vacate (t .yard) (holding finished r p) w p ≡ none → (getD standing w 0 < length p) × (bayOf p (getD standing w 0) ≡ w)
   met-carrier e = rw (k .stands w hw) (placeOf-there p w (met e), placeOf-bay p w (met e))
@@ -82,40 +83,40 @@ module _ {n : ℕ} {table : List ℕ} (t : Tabled n table) (most : n ≤ span) (
       rw (i, In-tail w (bayOf p r) (take finished p) h)
 
   -- by a swap
-  pub stepped-swap : {out : List ℕ} {at : ℕ} {p′ standing′ empty′ out′ : List ℕ} {z : Tried} → vacate (t .yard) (holding finished r p) w p ≡ none
+  pub stepped-swap : {out : List ℕ} {at : Tally} {p′ standing′ empty′ out′ : List ℕ} {z : Tried} → vacate (t .yard) (holding finished r p) w p ≡ none
       → Proceeds (swap (t .yard) r (getD standing w 0) p) n p out at p′ standing′ empty′ out′ z → Proceeds (step (t .yard) finished r w p) n p out at p′ standing′ empty′ out′ z
   unfolding step _then_
   stepped-swap e a = rw (e, ← (k .stands w hw)) a
 
   -- by vacating and crossing
-  module _ (vs : List Crossing) (made : vacate (t .yard) (holding finished r p) w p ≡ some vs) where
-    vac : Vacated (t .yard) (holding finished r p) w p vs
+  module _ (vs : Made) (made : vacate (t .yard) (holding finished r p) w p ≡ some vs) where
+    vac : Vacated (t .yard) (holding finished r p) w p (vs .moves)
     vac = vacate-vacates (t .yard) (holding finished r p) w p vs (k .apart) (in-count 0 (t .yard .bays) w (omega arith) (omega (arith, t .joins .bays))) made
 
-    pub stays : bayOf (after p vs) r ≡ bayOf p r
+    pub stays : bayOf (after p (vs .moves)) r ≡ bayOf p r
     stays = vac .keeps r hr (In-head (bayOf p r) (take finished p))
 
-    pub r-there : (q : Placement) → q ≡ after p vs → In (bayOf q r) q
+    pub r-there : (q : Placement) → q ≡ after p (vs .moves) → In (bayOf q r) q
     r-there q e = bay-in q r (rw (e, after-length) hr)
 
-    pub r-inside : (q : Placement) → q ≡ after p vs → r < length q
+    pub r-inside : (q : Placement) → q ≡ after p (vs .moves) → r < length q
     r-inside q e = rw (e, after-length) hr
 
-    pub w-empty : (q : Placement) → q ≡ after p vs → Out w q
+    pub w-empty : (q : Placement) → q ≡ after p (vs .moves) → Out w q
     w-empty q e = rw e (vac .empties)
 
-    pub stepped-cross : {out out₁ : List ℕ} {at a b : ℕ} {q standing₁ empty₁ p′ standing′ empty′ out′ : List ℕ} → Played vs n p q standing₁ empty₁ out at out₁ a
-        → Played (crossing (carrierAt q (bayOf q r)) (bayOf q r) w ∷ []) n q p′ standing′ empty′ out₁ a out′ b → Proceeds (step (t .yard) finished r w p) n p out at p′ standing′ empty′ out′ (Done b)
+    pub stepped-cross : {out out₁ : List ℕ} {at a b : Tally} {q standing₁ empty₁ p′ standing′ empty′ out′ : List ℕ} → Tallied vs n p q standing₁ empty₁ out at out₁ a
+        → Tallied (only (crossing (carrierAt q (bayOf q r)) (bayOf q r) w ∷ [])) n q p′ standing′ empty′ out₁ a out′ b → Proceeds (step (t .yard) finished r w p) n p out at p′ standing′ empty′ out′ (Done b)
     unfolding step _then_ cross
     stepped-cross {q = q} x y =
         let same : carrierAt q (bayOf q r) ≡ r = carrier-is q (bayOf q r) r (x .placed .apart) (rw (x .moved, after-length) hr) refl in
         let y′ = rw same at y in
-        proceeds-some (rw (made, ← (x .moved))) (played-then x y′)
+        proceeds-some (rw (made, ← (x .moved))) (tallied-then x y′)
 
   -- by crossing alone, where w is empty
   pub free : true ≡ mem empty w → Out w p
   free h = not-true (elem w p) (sym (k .empties w hw) ∙ sym h)
 
-  pub stepped-free : {out : List ℕ} {at b : ℕ} {p′ standing′ empty′ out′ : List ℕ} → true ≡ mem empty w → Played (crossing (carrierAt p (bayOf p r)) (bayOf p r) w ∷ []) n p p′ standing′ empty′ out at out′ b
+  pub stepped-free : {out : List ℕ} {at b : Tally} {p′ standing′ empty′ out′ : List ℕ} → true ≡ mem empty w → Tallied (only (crossing (carrierAt p (bayOf p r)) (bayOf p r) w ∷ [])) n p p′ standing′ empty′ out at out′ b
       → Proceeds (step (t .yard) finished r w p) n p out at p′ standing′ empty′ out′ (Done b)
-  stepped-free {out = out} {at = at} h y = stepped-cross [] (vacate-empty (t .yard) (holding finished r p) w p (free h)) (played-none n p standing empty out at k) y
+  stepped-free {out = out} {at = at} h y = stepped-cross (only []) (vacate-empty (t .yard) (holding finished r p) w p (free h)) (tallied-none n p standing empty out at k) y

@@ -7,8 +7,8 @@ use mathlib.Core.Option.{Option}
 use Prim.Native.Nat.{ℕ, _<_}
 use lib.ListN.{length, take}
 use Rattle.paper.specs.Basics.{elem}
-use Rattle.paper.specs.Procedure.{step}
-use Rattle.paper.specs.Yard.{Bay, Carrier, Yard, Placement, Crossing}
+use Rattle.paper.specs.Procedure.{Made, step}
+use Rattle.paper.specs.Yard.{Bay, Carrier, Yard, Placement}
 use Rattle.words.specs.Sets.{mem, memRow, words}
 
 -- no rail joins a bay to itself
@@ -21,5 +21,5 @@ pub record BaysBelow (finished : ℕ) (p settled : List ℕ) : Type 0 where
   pub bays : (b : ℕ) → mem settled b ≡ elem b (take finished p)
 
 -- (the code's step has the same name)
-abbrev pub steps : Yard → ℕ → Carrier → Bay → Placement → Option (List Crossing)
+abbrev pub steps : Yard → ℕ → Carrier → Bay → Placement → Option Made
 steps Y finished r w p = step Y finished r w p

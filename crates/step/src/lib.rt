@@ -1,4 +1,5 @@
 // One step of a carrier: the next bay is vacated and the carrier crosses, or else it is swapped with the carrier there.
+use bring::Tally;
 use bring::Tried;
 use docket::Bay;
 use docket::Carrier;
@@ -8,12 +9,12 @@ ghost use mathlib.Core.List.{[], _∷_};
 ghost use Prim.Native.Nat.{ℕ, _^_, _≤_, _<_};
 ghost use lib.ListN.{length, getD};
 ghost use Rattle.paper.specs.Basics.{_and_};
-ghost use Rattle.paper.specs.Procedure.{trade};
+ghost use Rattle.paper.specs.Procedure.{only, trade};
 ghost use Rattle.paper.specs.Yard.{carrierAt, crossing};
 ghost use Rattle.words.specs.Sets.{mem, memRow, words, span};
 ghost use Rattle.choice.specs.Taking.{Taken};
-ghost use Rattle.vacate.specs.Placed.{Placed, Played};
-ghost use Rattle.bring.specs.Acting.{Tabled, Ready, Within, Proceeds};
+ghost use Rattle.vacate.specs.Placed.{Placed};
+ghost use Rattle.bring.specs.Acting.{Tabled, Ready, Tallied, Within, Proceeds};
 ghost use Rattle.step.specs.Asking.{Loopless, BaysBelow, steps};
 
 // The step where a carrier may stand at w: it is vacated, then r crosses; or else r is swapped with the carrier there. Held are r's own bay and
@@ -28,10 +29,10 @@ fn make_way(
     standing: &mut [u16],
     empty: &mut [u64],
     out: &mut [u64],
-    at: usize,
+    at: Tally,
 ) -> Tried
     requires { ⌜ Ready (now table) (now placement) (now standing) (now empty) ⌝ }
-    requires { ⌜ (r .0 < length (now placement)) × (finished ≤ length (now placement)) × (w .0 < length (now standing)) × (memRow (now table) (getD (now placement) (r .0) 0) (w .0) ≡ true) × Loopless (length (now standing)) (now table) × (at < 2 ^ 60) × BaysBelow finished (now placement) (now settled) ⌝ }
+    requires { ⌜ (r .0 < length (now placement)) × (finished ≤ length (now placement)) × (w .0 < length (now standing)) × (memRow (now table) (getD (now placement) (r .0) 0) (w .0) ≡ true) × Loopless (length (now standing)) (now table) × (at .crossings < 2 ^ 60) × BaysBelow finished (now placement) (now settled) ⌝ }
     ensures { λ z. ⌜ (Within at 150000 z) × ((t : Tabled (length (now (standing .entry))) (now (table .entry))) → Proceeds (steps (t .yard) finished (r .0) (w .0) (now (placement .entry))) (length (now (standing .entry))) (now (placement .entry)) (now (out .entry)) at (now (placement .exit)) (now (standing .exit)) (now (empty .exit)) (now (out .exit)) z) ⌝ }
 {
     let own = r.0 as usize;
@@ -45,7 +46,7 @@ fn make_way(
         return swap::swap(table, r, s, placement, standing, empty, out, at);
     };
     let u = Bay(placement[own]);
-    Tried::Done(vacate::cross(placement, standing, empty, u, w, out, a))
+    Tried::Done(bring::cross(placement, standing, empty, u, w, out, a))
 }
 
 // The step where the bay e beside w is empty and the choice: the carrier at w crosses to it, then r crosses. An empty bay is not held, so nobody asks
@@ -60,16 +61,16 @@ fn step_aside(
     standing: &mut [u16],
     empty: &mut [u64],
     out: &mut [u64],
-    at: usize,
+    at: Tally,
 ) -> Tried
     requires { ⌜ Ready (now table) (now placement) (now standing) (now empty) ⌝ }
-    requires { ⌜ (r .0 < length (now placement)) × (finished ≤ length (now placement)) × (w .0 < length (now standing)) × (memRow (now table) (getD (now placement) (r .0) 0) (w .0) ≡ true) × Loopless (length (now standing)) (now table) × (at < 2 ^ 60) × (finished ≤ getD (now standing) (w .0) 0) × (mem (now empty) (w .0) ≡ false) × Taken (now table) (λ b. memRow (now table) (w .0) b and memRow (now empty) 0 b) (e .0) × (e .0 < span) ⌝ }
+    requires { ⌜ (r .0 < length (now placement)) × (finished ≤ length (now placement)) × (w .0 < length (now standing)) × (memRow (now table) (getD (now placement) (r .0) 0) (w .0) ≡ true) × Loopless (length (now standing)) (now table) × (at .crossings < 2 ^ 60) × (finished ≤ getD (now standing) (w .0) 0) × (mem (now empty) (w .0) ≡ false) × Taken (now table) (λ b. memRow (now table) (w .0) b and memRow (now empty) 0 b) (e .0) × (e .0 < span) ⌝ }
     ensures { λ z. ⌜ (Within at 150000 z) × ((t : Tabled (length (now (standing .entry))) (now (table .entry))) → Proceeds (steps (t .yard) finished (r .0) (w .0) (now (placement .entry))) (length (now (standing .entry))) (now (placement .entry)) (now (out .entry)) at (now (placement .exit)) (now (standing .exit)) (now (empty .exit)) (now (out .exit)) z) ⌝ }
 {
-    let a = vacate::cross(placement, standing, empty, w, e, out, at);
+    let a = bring::fill(table, placement, standing, empty, w, e, out, at);
     let own = r.0 as usize;
     let u = Bay(placement[own]);
-    Tried::Done(vacate::cross(placement, standing, empty, u, w, out, a))
+    Tried::Done(bring::cross(placement, standing, empty, u, w, out, a))
 }
 
 // One step of r to w: it is vacated, then r crosses; or else r is swapped with the carrier there. Vacating an empty bay moves
@@ -84,17 +85,17 @@ fn step_to(
     standing: &mut [u16],
     empty: &mut [u64],
     out: &mut [u64],
-    at: usize,
+    at: Tally,
 ) -> Tried
     requires { ⌜ Ready (now table) (now placement) (now standing) (now empty) ⌝ }
-    requires { ⌜ (r .0 < length (now placement)) × (finished ≤ length (now placement)) × (w .0 < length (now standing)) × (memRow (now table) (getD (now placement) (r .0) 0) (w .0) ≡ true) × Loopless (length (now standing)) (now table) × (at < 2 ^ 60) × BaysBelow finished (now placement) (now settled) ⌝ }
+    requires { ⌜ (r .0 < length (now placement)) × (finished ≤ length (now placement)) × (w .0 < length (now standing)) × (memRow (now table) (getD (now placement) (r .0) 0) (w .0) ≡ true) × Loopless (length (now standing)) (now table) × (at .crossings < 2 ^ 60) × BaysBelow finished (now placement) (now settled) ⌝ }
     ensures { λ z. ⌜ (Within at 150000 z) × ((t : Tabled (length (now (standing .entry))) (now (table .entry))) → Proceeds (steps (t .yard) finished (r .0) (w .0) (now (placement .entry))) (length (now (standing .entry))) (now (placement .entry)) (now (out .entry)) at (now (placement .exit)) (now (standing .exit)) (now (empty .exit)) (now (out .exit)) z) ⌝ }
 {
     let bay = w.0 as usize;
     if words::is_in(empty, bay) {
         let own = r.0 as usize;
         let u = Bay(placement[own]);
-        return Tried::Done(vacate::cross(placement, standing, empty, u, w, out, at));
+        return Tried::Done(bring::cross(placement, standing, empty, u, w, out, at));
     }
     let s = standing[bay];
     if (s as usize) < finished {
@@ -168,15 +169,15 @@ pub fn step_in(
     empty: &mut [u64],
     settled: &mut [u64],
     out: &mut [u64],
-    at: usize,
-) -> usize
+    at: Tally,
+) -> Tally
     requires { ⌜ (r .0 < length (now placement)) × (w .0 < length (now standing)) × (mem (now empty) (w .0) ≡ true) × Placed (length (now standing)) (now placement) (now standing) (now empty) ⌝ }
-    requires { ⌜ (length (now standing) ≤ span) × (length (now empty) ≡ words) × (length (now settled) ≡ words) × (at < 2 ^ 60) ⌝ }
-    ensures { λ m. ⌜ Played (crossing (carrierAt (now (placement .entry)) (getD (now (placement .entry)) (r .0) 0)) (getD (now (placement .entry)) (r .0) 0) (w .0) ∷ []) (length (now (standing .entry))) (now (placement .entry)) (now (placement .exit)) (now (standing .exit)) (now (empty .exit)) (now (out .entry)) at (now (out .exit)) m × ((f : ℕ) → BaysBelow f (now (placement .entry)) (now (settled .entry)) → BaysBelow f (now (placement .exit)) (now (settled .exit))) ⌝ }
+    requires { ⌜ (length (now standing) ≤ span) × (length (now empty) ≡ words) × (length (now settled) ≡ words) × (at .crossings < 2 ^ 60) ⌝ }
+    ensures { λ m. ⌜ Tallied (only (crossing (carrierAt (now (placement .entry)) (getD (now (placement .entry)) (r .0) 0)) (getD (now (placement .entry)) (r .0) 0) (w .0) ∷ [])) (length (now (standing .entry))) (now (placement .entry)) (now (placement .exit)) (now (standing .exit)) (now (empty .exit)) (now (out .entry)) at (now (out .exit)) m × ((f : ℕ) → BaysBelow f (now (placement .entry)) (now (settled .entry)) → BaysBelow f (now (placement .exit)) (now (settled .exit))) ⌝ }
 {
     let own = r.0 as usize;
     let u = Bay(placement[own]);
-    let m = vacate::cross(placement, standing, empty, u, w, out, at);
+    let m = bring::cross(placement, standing, empty, u, w, out, at);
     settle(settled, u, w);
     m
 }
@@ -192,10 +193,10 @@ pub fn step(
     empty: &mut [u64],
     settled: &mut [u64],
     out: &mut [u64],
-    at: usize,
+    at: Tally,
 ) -> Tried
     requires { ⌜ Ready (now table) (now placement) (now standing) (now empty) ⌝ }
-    requires { ⌜ (r .0 < length (now placement)) × (finished ≤ length (now placement)) × (w .0 < length (now standing)) × (memRow (now table) (getD (now placement) (r .0) 0) (w .0) ≡ true) × Loopless (length (now standing)) (now table) × (at < 2 ^ 60) × BaysBelow finished (now placement) (now settled) ⌝ }
+    requires { ⌜ (r .0 < length (now placement)) × (finished ≤ length (now placement)) × (w .0 < length (now standing)) × (memRow (now table) (getD (now placement) (r .0) 0) (w .0) ≡ true) × Loopless (length (now standing)) (now table) × (at .crossings < 2 ^ 60) × BaysBelow finished (now placement) (now settled) ⌝ }
     ensures { λ z. ⌜ (Within at 150000 z) × ((t : Tabled (length (now (standing .entry))) (now (table .entry))) → Proceeds (steps (t .yard) finished (r .0) (w .0) (now (placement .entry))) (length (now (standing .entry))) (now (placement .entry)) (now (out .entry)) at (now (placement .exit)) (now (standing .exit)) (now (empty .exit)) (now (out .exit)) z) × BaysBelow finished (now (placement .exit)) (now (settled .exit)) ⌝ }
 {
     let own = r.0 as usize;

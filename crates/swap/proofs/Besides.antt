@@ -12,12 +12,12 @@ use lib.Dec.{eqb}
 use lib.ListN.{length}
 use borrow.Author.Tests.{eqb-false, le-leb, not-true}
 use Rattle.paper.specs.Basics.{_and_, _or_, placeOf, upTo, In, Out}
-use Rattle.paper.specs.Procedure.{exchange, undo, bring, clear, finish, trialLed, trial, swap}
+use Rattle.paper.specs.Procedure.{Made, only, exchange, undo, bring, clearOnce, goneOn, clear, finish, trialLed, trial, swap}
 use Rattle.paper.specs.Yard.{Bay, Carrier, bayOf, reverseOf, after, joined, neighbours, junction}
 use Rattle.paper.proofs.Members.{In-head, In-tail, in-filter}
 use Rattle.paper.proofs.Playing.{placeOf-bay, placeOf-there, bay-in}
 use Rattle.paper.proofs.Rings.{ring-zero, in-concat}
-use Rattle.paper.proofs.Swapping.{clear-clears}
+use Rattle.paper.proofs.Swapping.{once-clears}
 use Rattle.paper.proofs.Tests.{not-both, and-left, and-right, and-both}
 use Rattle.words.specs.Sets.{mem, words, span, memRow, Lowest}
 use Rattle.words.proofs.Sets.{zeros, row-zero}
@@ -27,7 +27,8 @@ use Rattle.vacate.specs.Placed.{Placed}
 use Rattle.bring.specs.Acting.{Tabled}
 use Rattle.clear.proofs.Clearing.{lowest-in, clear-two, around-of, inside-of, inside-less}
 use Rattle.trial.specs.Trying.{Near}
-use Rattle.trial.proofs.Copying.{in-bays, path-own, trial-first}
+use Rattle.clear_on.proofs.Attempting.{in-bays}
+use Rattle.trial.proofs.Copying.{path-own, trial-first}
 use Rattle.swap.specs.Seeking.{Beside, fitting, TwoSpare}
 use Rattle.swap.proofs.Seeking.{Sought, swap-found, sought-found, near-of}
 
@@ -76,13 +77,13 @@ module _ {n : ℕ} {table : List ℕ} (t : Tabled n table) {p standing empty : L
   home : In u (upTo (t .yard .bays))
   home = in-bays t (k .inside r hr)
 
-  cleared : clear (t .yard) u w p ≡ record { moves = []; kept = x ∷ y ∷ [] }
+  cleared : clearOnce (t .yard) u w p ≡ record { made = only []; kept = x ∷ y ∷ [] }
   cleared = two .kept t most (k .inside r hr) k
 
   empty-beside : (z : Bay) → In z (x ∷ y ∷ []) → (joined (t .yard) u z ≡ true) × Out z p
   unfolding after
   empty-beside z i =
-      let c = clear-clears (t .yard) (b .sound) u w p (k .apart) in
+      let c = once-clears (t .yard) (b .sound) u w p (k .apart) in
       (rw cleared at c) .kept-empty z i
 
   fx : (joined (t .yard) u x ≡ true) × Out x p
@@ -106,14 +107,14 @@ module _ {n : ℕ} {table : List ℕ} (t : Tabled n table) {p standing empty : L
   near : Near (t .yard) r s u p
   near = near-of b (in-concat (t .yard) u _ 0 in-ring)
 
-  own-led : trialLed (t .yard) r s u [] p ≡ some (exchange r s u w x y)
-  unfolding trialLed bring after finish exchange undo reverseOf
+  own-led : trialLed (t .yard) r s u [] p ≡ some (only (exchange r s u w x y))
+  unfolding trialLed bring clear goneOn after finish exchange undo reverseOf
   own-led =
       let lo : min x y ≡ x = omega (arith, two .rising) in
       let hi : max x y ≡ y = omega (arith, two .rising) in
       rw (cleared, lo, hi)
 
-  own-trial : trial (t .yard) r s u p ≡ some (exchange r s u w x y)
+  own-trial : trial (t .yard) r s u p ≡ some (only (exchange r s u w x y))
   own-trial = trial-first near home home (path-own near home refl) (unfold _and_ in refl) ∙ own-led
 
   own-fits : fitting (t .yard) r s p u ≡ true
@@ -126,5 +127,5 @@ module _ {n : ℕ} {table : List ℕ} (t : Tabled n table) {p standing empty : L
     below = λ c i h. let e : c ≡ u = ring-zero (t .yard) [] (t .yard .bays) [] u c i in absurd (omega arith);
   }
 
-  pub swap-own : swap (t .yard) r s p ≡ some (exchange r s u w x y)
+  pub swap-own : swap (t .yard) r s p ≡ some (only (exchange r s u w x y))
   swap-own = swap-found (t .yard) r s p ∙ rw (← sought-found t r s p 0 u first-sought in-ring own-fits) own-trial

@@ -13,7 +13,7 @@ use lib.Seq.{getD-set-same, getD-set-other, length-take-le, take-append-le, take
 use borrow.Author.Tests.{ne-eqb}
 use Rattle.paper.specs.Basics.{find, elem, placeOf, upTo, In}
 use Rattle.paper.specs.Path.{nearestFirst}
-use Rattle.paper.specs.Procedure.{trade, traded, trial, swap}
+use Rattle.paper.specs.Procedure.{Made, trade, traded, trial, swap}
 use Rattle.paper.specs.Yard.{Bay, Carrier, Crossing, bayOf, pack}
 use Rattle.paper.proofs.Members.{find-passes, in-count}
 use Rattle.paper.proofs.Playing.{Apart, placeOf-bay, placeOf-there, bay-in}
@@ -22,13 +22,15 @@ use Rattle.paper.proofs.Tests.{by-cases, by-option, not-both, and-right}
 use Rattle.paper.proofs.Trading.{traded-length, trade-first, trade-second, trade-other, trade-twice, trade-there, traded-bay}
 use Rattle.paper.proofs.Vacating.{plan-apart}
 use Rattle.docket.specs.Reading.{isSome}
-use Rattle.swap.specs.Seeking.{Beside, standingTraded, fitting, Logged}
+use Rattle.swap.specs.Seeking.{Beside, standingTraded, fitting}
 use Rattle.words.proofs.Besides.{equal-tests}
 use Rattle.vacate.specs.Placed.{Placed, Stored}
 use Rattle.vacate.proofs.Playing.{carrier-is, carrier-none}
-use Rattle.bring.specs.Acting.{Tabled, Proceeds}
+use Rattle.bring.specs.Acting.{Tabled, Added, Proceeds}
+use Rattle.bring.specs.declared.Tally.{Tally}
 use Rattle.bring.proofs.Acting.{proceeds-none, proceeds-some}
-use Rattle.trial.specs.Trying.{Listed}
+use Rattle.clear_on.specs.Going.{Logged, Listed}
+use Rattle.clear_on.proofs.Attempting.{log-stored}
 use Rattle.swap.proofs.Seeking.{swap-found}
 use Rattle.bring.specs.declared.Tried.the-variants.{Done}
 use Rattle.bring.specs.declared.Tried.the-variants.{Failed}
@@ -83,12 +85,12 @@ module _ {n : ℕ} {table : List ℕ} (t : Tabled n table) {p standing empty : L
   home = in-count 0 (t .yard .bays) (bayOf p r) (omega arith) (omega (arith, t .joins .bays, k .inside r hr))
 
   -- the crossings of the swap were noted, and the two have traded places
-  pub traded-proceeds : {xs : List Crossing} {out : List ℕ} {at : ℕ} {out′ : List ℕ} {m : ℕ} (p′ standing′ : List ℕ) → swap (t .yard) r s p ≡ some xs
+  pub traded-proceeds : {xs : Made} {out : List ℕ} {at : Tally} {out′ : List ℕ} {m : Tally} (p′ standing′ : List ℕ) → swap (t .yard) r s p ≡ some xs
       → p′ ≡ traded r s p → standing′ ≡ standingTraded r s p standing → Listed xs out at out′ m → Proceeds (swap (t .yard) r s p) n p out at p′ standing′ empty out′ (Done m)
   traded-proceeds {xs = xs} p′ standing′ made e d w =
       let tr = swap-trades (t .yard) (b .sound) r s (ne-eqb r s (λ y. differ (sym y))) p (k .apart) hr hs (b .beside) xs home made in
-      let apart : Apart (traded r s p) = rw (tr .1) at (plan-apart (t .yard) p xs (k .apart) (tr .0)) in
-      proceeds-some made (record { moved = e ∙ sym (tr .1); placed = rw (e, d) (placed-traded k r s hr hs differ apart (omega arith)); stored = w .stored; counted = w .counted })
+      let apart : Apart (traded r s p) = rw (tr .1) at (plan-apart (t .yard) p (xs .moves) (k .apart) (tr .0)) in
+      proceeds-some made (record { moved = e ∙ sym (tr .1); placed = rw (e, d) (placed-traded k r s hr hs differ apart (omega arith)); stored = w .stored; counted = w .counted; parks = w .parks; few = w .few })
 
   module _ (v : Bay) (found : some v ≡ find (fitting (t .yard) r s p) (nearestFirst (t .yard) [] (bayOf p r))) where
     is-trial : swap (t .yard) r s p ≡ trial (t .yard) r s v p
@@ -98,32 +100,20 @@ module _ {n : ℕ} {table : List ℕ} (t : Tabled n table) {p standing empty : L
     unfolding fitting
     some-trial = and-right _ _ (find-passes (fitting (t .yard) r s p) (nearestFirst (t .yard) [] (bayOf p r)) (sym found))
 
-    -- what was lent of the list, from where it goes on or its end, holds the trial afterwards
-    log-stored : {out log : List ℕ} {at from m : ℕ} (rest : List ℕ) (xs : List Crossing) → from ≡ min at (length out) → length log ≡ length (take (length out - from) (drop from out))
-        → length (take from out ++ (log ++ rest)) ≡ length out → Logged xs log m → Stored (map pack xs) out at (take from out ++ (log ++ rest))
-    log-stored {out} {log} {at} {from} {m} rest xs e lent long l = record {
-      long = long;
-      front = λ h.
-          let same : from ≡ at = omega arith in
-          let size : length (take at out) ≡ at = length-take-le at out (omega arith) in
-          let many : length (map pack xs) ≡ m = length-map xs pack ∙ sym (l .counted) in
-          let fits : m ≤ length log = omega (arith, lent, length-take (length out - from) (drop from out), length-drop from out) in
-          let whole = take-append-add (take at out) (log ++ rest) (length (map pack xs)) in
-          rw same ((rw size at whole) ∙ ap (λ (v : List ℕ). take at out ++ v) (rw many (take-append-le m log rest fits ∙ l .stored fits)));
-    }
-
-    pub committed : {out log : List ℕ} {at from m : ℕ} (rest p′ standing′ : List ℕ) → p′ ≡ traded r s p → standing′ ≡ standingTraded r s p standing
-        → from ≡ min at (length out) → (length log ≡ length (take (length out - from) (drop from out))) × (length (take from out ++ (log ++ rest)) ≡ length out)
-        → ((xs : List Crossing) → trial (t .yard) r s v p ≡ some xs → Logged xs log m)
-        → Proceeds (swap (t .yard) r s p) n p out at p′ standing′ empty (take from out ++ (log ++ rest)) (Done (at + m))
-    committed {at = at} {m = m} rest p′ standing′ e d at-end size l =
+    pub committed : {out log : List ℕ} {at : Tally} {from : ℕ} {m sum : Tally} (rest p′ standing′ : List ℕ) → p′ ≡ traded r s p → standing′ ≡ standingTraded r s p standing
+        → from ≡ min (at .crossings) (length out) → (length log ≡ length (take (length out - from) (drop from out))) × (length (take from out ++ (log ++ rest)) ≡ length out)
+        → ((xs : Made) → trial (t .yard) r s v p ≡ some xs → Logged xs log m) → Added at m sum
+        → Proceeds (swap (t .yard) r s p) n p out at p′ standing′ empty (take from out ++ (log ++ rest)) (Done sum)
+    committed {at = at} {m = m} {sum = sum} rest p′ standing′ e d at-end size l add =
         by-option (trial (t .yard) r s v p)
         (λ f. not-both some-trial (rw f))
         (λ xs f. traded-proceeds p′ standing′ (is-trial ∙ f) e d (record {
           stored = log-stored rest xs at-end (size .0) (size .1) (l xs f);
-          counted = ap (λ (j : ℕ). at + j) (l xs f .counted);
+          counted = omega (arith, add .crossings, l xs f .counted);
+          parks = omega (arith, add .parks, l xs f .parks);
+          few = λ h. omega (arith, h, add .few, add .crossings, l xs f .few);
         }))
 
-  pub not-found : {out out′ : List ℕ} {at : ℕ} → none ≡ find (fitting (t .yard) r s p) (nearestFirst (t .yard) [] (bayOf p r))
+  pub not-found : {out out′ : List ℕ} {at : Tally} → none ≡ find (fitting (t .yard) r s p) (nearestFirst (t .yard) [] (bayOf p r))
       → Proceeds (swap (t .yard) r s p) n p out at p standing empty out′ Failed
   not-found f = proceeds-none (swap-found (t .yard) r s p ∙ rw (← f)) refl

@@ -12,7 +12,7 @@ use lib.Dec.{leb, ltb}
 use native.Mathlib.Decide.{ℕ-discrete, decLt}
 use Rattle.paper.specs.Basics.{_and_, _>>=_, filter, find, concat, firstOf, elem, In}
 use Rattle.paper.specs.Path.{rings, nearestFirst, ringOf}
-use Rattle.paper.specs.Procedure.{trial, swap}
+use Rattle.paper.specs.Procedure.{Made, trial, swap}
 use Rattle.paper.specs.Yard.{Bay, Carrier, Yard, Placement, bayOf, Crossing, pack, joined, junction}
 use Rattle.paper.proofs.Members.{find-passes, In-nil, find-in, find-some, nothing-in-nil, in-count, none-find}
 use Rattle.paper.proofs.Nearest.{find-here, find-later}
@@ -22,10 +22,9 @@ use Rattle.paper.proofs.Tests.{by-cases, by-option, not-both, and-right, and-bo
 use Rattle.docket.specs.Reading.{isSome}
 use Rattle.words.specs.Sets.{mem, span, memRow, Lowest}
 use Rattle.swap.specs.Seeking.{Beside, fitting, TriedAt}
-use Rattle.choice.specs.Taking.{rails}
-use Rattle.choice.proofs.Counting.{table-rails}
 use Rattle.rings.proofs.Searching.{in-yard, ring-none}
-use Rattle.bring.specs.Acting.{Tabled}
+use Rattle.bring.specs.Acting.{Tabled, nothing}
+use Rattle.bring.specs.declared.Tally.{Tally}
 use Rattle.bring.specs.declared.Tried.{Tried}
 use Rattle.trial.specs.Trying.{Wrote, Near}
 use Rattle.trial.proofs.Copying.{freeShown}
@@ -52,48 +51,45 @@ fitting-not : (Y : Yard) (r s : Carrier) (p : Placement) (v : Bay) → junction 
 unfolding fitting _and_
 fitting-not Y r s p v e = rw e
 
-is-some : {o : Option (List Crossing)} {out : List ℕ} {at : ℕ} {out′ : List ℕ} {m : ℕ} → Wrote o out at out′ (Done m) → isSome o ≡ true
+is-some : {o : Option Made} {out : List ℕ} {at : Tally} {out′ : List ℕ} {m : Tally} → Wrote o out at out′ (Done m) → isSome o ≡ true
 is-some {o} w = by-option o (λ e. let z = w .fails e in never (cc)) (λ xs e. rw e)
 
-is-none : {o : Option (List Crossing)} {out : List ℕ} {at : ℕ} {out′ : List ℕ} → Wrote o out at out′ Failed → isSome o ≡ false
+is-none : {o : Option Made} {out : List ℕ} {at : Tally} {out′ : List ℕ} → Wrote o out at out′ Failed → isSome o ≡ false
 is-none {o} w = by-option o (λ e. rw e) (λ xs e. let z = w .succeeds xs e .1 in never (cc))
 
-fitting-tried : (Y : Yard) (r s : Carrier) (v : Bay) (p : List ℕ) {out : List ℕ} {at : ℕ} {out′ : List ℕ} {m : ℕ} → junction Y v ≡ true → Wrote (trial Y r s v p) out at out′ (Done m) → fitting Y r s p v ≡ true
+fitting-tried : (Y : Yard) (r s : Carrier) (v : Bay) (p : List ℕ) {out : List ℕ} {at : Tally} {out′ : List ℕ} {m : Tally} → junction Y v ≡ true → Wrote (trial Y r s v p) out at out′ (Done m) → fitting Y r s p v ≡ true
 unfolding fitting
 fitting-tried Y r s v p j w = and-both _ _ j (is-some w)
 
-fitting-failed : (Y : Yard) (r s : Carrier) (v : Bay) (p : List ℕ) {out : List ℕ} {at : ℕ} {out′ : List ℕ} → Wrote (trial Y r s v p) out at out′ Failed → fitting Y r s p v ≡ false
+fitting-failed : (Y : Yard) (r s : Carrier) (v : Bay) (p : List ℕ) {out : List ℕ} {at : Tally} {out′ : List ℕ} → Wrote (trial Y r s v p) out at out′ Failed → fitting Y r s p v ≡ false
 unfolding fitting
 fitting-failed Y r s v p w = by-cases (junction Y v and isSome (trial Y r s v p)) (λ e. not-both (and-right _ _ e) (is-none w)) (λ e. e)
 
 -- ## The log
 
 -- what the trial leaves in the log that it was lent
-pub tried-at : (Y : Yard) (r s : Carrier) (v : Bay) (p : List ℕ) {log log′ : List ℕ} {z : Tried} → junction Y v ≡ true → Wrote (trial Y r s v p) log 0 log′ z → TriedAt Y r s v p log′ z
+pub tried-at : (Y : Yard) (r s : Carrier) (v : Bay) (p : List ℕ) {log log′ : List ℕ} {z : Tried} → junction Y v ≡ true → Wrote (trial Y r s v p) log nothing log′ z → TriedAt Y r s v p log′ z
 tried-at Y r s v p {log} {log′} j w = record {
   fails = λ e. fitting-failed Y r s v p (rw e at w);
   fits = λ m e. fitting-tried Y r s v p j (rw e at w);
   logged = λ m e xs h.
       let q = w .succeeds xs h in
-      let same : m ≡ q .0 = let y = q .1 in cc in
-      let long : m ≡ length (map pack xs) = omega (arith, q .2 .counted, length-map xs pack) in
+      let same : q .0 ≡ m = let y = q .1 in cc in
+      let k = rw same at (q .2) in
+      let long : m .crossings ≡ length (map pack (xs .moves)) = omega (arith, k .counted, length-map (xs .moves) pack) in
       record {
-        counted = omega (arith, q .2 .counted);
+        counted = omega (arith, k .counted);
         stored = λ l.
-            let room : 0 + length (map pack xs) ≤ length log = omega (arith, q .2 .stored .long) in
-            let all : 0 + length (map pack xs) ≡ m = omega arith in
-            rw all at (q .2 .stored .front room);
+            let room : 0 + length (map pack (xs .moves)) ≤ length log = omega (arith, k .stored .long) in
+            let all : 0 + length (map pack (xs .moves)) ≡ m .crossings = omega arith in
+            rw all at (k .stored .front room);
+        parks = omega (arith, k .parks);
+        few = k .few (omega arith);
       };
 }
 
 pub tried-not : (Y : Yard) (r s : Carrier) (v : Bay) (p log : List ℕ) → junction Y v ≡ false → TriedAt Y r s v p log Failed
 tried-not Y r s v p log j = record { fails = λ e. fitting-not Y r s p v j; fits = λ m e. never (cc); logged = λ m e. never (cc) }
-
--- ## Junctions
-
-pub junction-rails : {n : ℕ} {table : List ℕ} (t : Tabled n table) → n ≤ span → (v : Bay) → v < n → ltb 2 (rails table v) ≡ junction (t .yard) v
-unfolding junction
-junction-rails t most v hv = ap (leb 3) (table-rails (t .joins) most v hv)
 
 -- ## Ring by ring
 

@@ -1,22 +1,23 @@
 // Swap: the first junction, nearest first, whose trial succeeds is used; its crossings are written, and the two carriers trade places.
+use bring::Tally;
 use bring::Tried;
 use docket::Bay;
 use docket::Carrier;
 ghost use mathlib.Core.Path.{_≡_};
 ghost use mathlib.Core.List.{[]};
-ghost use Prim.Native.Nat.{min, _+_, _*_, _^_, _≤_, _<_};
+ghost use Prim.Native.Nat.{_+_, _*_, _^_, _≤_, _<_};
 ghost use lib.ListN.{length, getD};
 ghost use Rattle.paper.specs.Basics.{find};
 ghost use Rattle.paper.specs.Yard.{bayOf};
 ghost use Rattle.paper.specs.Path.{nearestFirst};
 ghost use Rattle.words.specs.Sets.{words, span};
-ghost use Rattle.bring.specs.Acting.{Tabled, Ready, Within, Proceeds};
+ghost use Rattle.bring.specs.Acting.{Tabled, Ready, nothing, Within, Proceeds};
 ghost use Rattle.trial.specs.Trying.{Near, Noted, exchanges};
-ghost use Rattle.swap.specs.Seeking.{junctions, junctionAt, fitting, TriedAt, Counted, LoggedAt, Beside, placementTraded, standingTraded, SideBySide, swaps, Spares};
+ghost use Rattle.swap.specs.Seeking.{junctionAt, fitting, TriedAt, Counted, LoggedAt, Beside, placementTraded, standingTraded, SideBySide, swaps, Spares};
 
-// The junction of a swap and how many crossings its trial has, or that there is none.
+// The junction of a swap and the tally of its trial, or that there is none.
 pub enum Junction {
-    At(Bay, usize),
+    At(Bay, Tally),
     Missing,
 }
 
@@ -24,15 +25,6 @@ pub enum Junction {
 pub enum Spare {
     Both(Bay, Bay),
     Fewer,
-}
-
-// Whether three rails or more lead to v.
-fn is_junction(table: &[u64], n: usize, v: Bay) -> bool
-    requires { ⌜ (n ≤ span) × (v .0 < n) × (n * words ≤ length (now table)) ⌝ }
-    ensures { λ r. ⌜ ((t : Tabled n (now (table .entry))) → r ≡ junctions (t .yard) (v .0)) ⌝ }
-{
-    let from = v.0 as usize * words::WORDS;
-    2 < words::count(&table[from..from + words::WORDS])
 }
 
 // The trial at v, if v is a junction; its crossings go to the log as far as that is so long.
@@ -48,11 +40,15 @@ fn try_junction(
 ) -> Tried
     requires { ⌜ Ready (now table) (now placement) (now standing) (now empty) ⌝ }
     requires { ⌜ (r .0 < length (now placement)) × (s .0 < length (now placement)) × (s .0 ≡ r .0 → ⊥) × (v .0 < length (now standing)) ⌝ }
-    ensures { λ z. ⌜ (Within 0 150000 z) × ((t : Tabled (length (now (standing .entry))) (now (table .entry))) → Near (t .yard) (r .0) (s .0) (v .0) (now (placement .entry)) → TriedAt (t .yard) (r .0) (s .0) (v .0) (now (placement .entry)) (now (log .exit)) z) ⌝ }
+    ensures { λ z. ⌜ (Within nothing 150000 z) × ((t : Tabled (length (now (standing .entry))) (now (table .entry))) → Near (t .yard) (r .0) (s .0) (v .0) (now (placement .entry)) → TriedAt (t .yard) (r .0) (s .0) (v .0) (now (placement .entry)) (now (log .exit)) z) ⌝ }
 {
     let n = standing.len();
-    if is_junction(table, n, v) {
-        return trial::try_at(table, v, r, s, placement, standing, empty, log, 0);
+    if bring::is_junction(table, n, v) {
+        let from = Tally {
+            crossings: 0,
+            parked: 0,
+        };
+        return trial::try_at(table, v, r, s, placement, standing, empty, log, from);
     }
     Tried::Failed
 }
@@ -114,16 +110,6 @@ fn trade(placement: &mut [u16], standing: &mut [u16], r: Carrier, s: Carrier)
     standing[b] = r.0 as u16;
 }
 
-// The place where the list goes on, or its end.
-fn place_in(out: &[u64], at: usize) -> usize
-    ensures { λ r. ⌜ r ≡ min at (length (now (out .entry))) ⌝ }
-{
-    if at < out.len() {
-        return at;
-    }
-    out.len()
-}
-
 // Swap of r with its neighbour s, by trials at the junctions. They go to the list itself, from where it goes on; the one that succeeds stays there.
 fn swap_far(
     table: &[u64],
@@ -133,19 +119,19 @@ fn swap_far(
     standing: &mut [u16],
     empty: &[u64],
     out: &mut [u64],
-    at: usize,
+    at: Tally,
 ) -> Tried
     requires { ⌜ Ready (now table) (now placement) (now standing) (now empty) ⌝ }
-    requires { ⌜ (r .0 < length (now placement)) × (s .0 < length (now placement)) × (s .0 ≡ r .0 → ⊥) × (at < 2 ^ 60) × SideBySide (length (now standing)) (now table) (r .0) (s .0) (now placement) ⌝ }
+    requires { ⌜ (r .0 < length (now placement)) × (s .0 < length (now placement)) × (s .0 ≡ r .0 → ⊥) × (at .crossings < 2 ^ 60) × SideBySide (length (now standing)) (now table) (r .0) (s .0) (now placement) ⌝ }
     ensures { λ z. ⌜ (Within at 150000 z) × ((t : Tabled (length (now (standing .entry))) (now (table .entry))) → Beside (t .yard) (r .0) (s .0) (now (placement .entry)) → Proceeds (swaps (t .yard) (r .0) (s .0) (now (placement .entry))) (length (now (standing .entry))) (now (placement .entry)) (now (out .entry)) at (now (placement .exit)) (now (standing .exit)) (now (empty .entry)) (now (out .exit)) z) ⌝ }
 {
-    let from = place_in(out, at);
+    let from = clear_on::place_in(out, at.crossings);
     let found = seek(table, r, s, placement, standing, empty, &mut out[from..]);
     let Junction::At(_, m) = found else {
         return Tried::Failed;
     };
     trade(placement, standing, r, s);
-    Tried::Done(at + m)
+    Tried::Done(bring::add(at, m))
 }
 
 // The two lowest empty neighbours of bay u other than w, if there are two.
@@ -179,14 +165,16 @@ fn swap_beside(
     placement: &mut [u16],
     standing: &mut [u16],
     out: &mut [u64],
-    at: usize,
-) -> usize
-    requires { ⌜ (r .0 < length (now placement)) × (s .0 < length (now placement)) × (length (now placement) ≤ span) × (getD (now placement) (r .0) 0 < length (now standing)) × (getD (now placement) (s .0) 0 < length (now standing)) × (at < 2 ^ 60) ⌝ }
-    ensures { λ m. ⌜ (now (placement .exit) ≡ placementTraded (r .0) (s .0) (now (placement .entry))) × (now (standing .exit) ≡ standingTraded (r .0) (s .0) (now (placement .entry)) (now (standing .entry))) × Noted (exchanges (r .0) (s .0) (u .0) (w .0) (x .0) (y .0)) (now (out .entry)) at (now (out .exit)) m ⌝ }
+    at: Tally,
+) -> Tally
+    requires { ⌜ (r .0 < length (now placement)) × (s .0 < length (now placement)) × (length (now placement) ≤ span) × (getD (now placement) (r .0) 0 < length (now standing)) × (getD (now placement) (s .0) 0 < length (now standing)) × (at .crossings < 2 ^ 60) ⌝ }
+    ensures { λ m. ⌜ (now (placement .exit) ≡ placementTraded (r .0) (s .0) (now (placement .entry))) × (now (standing .exit) ≡ standingTraded (r .0) (s .0) (now (placement .entry)) (now (standing .entry))) × Noted (exchanges (r .0) (s .0) (u .0) (w .0) (x .0) (y .0)) (now (out .entry)) (at .crossings) (now (out .exit)) (m .crossings) × (m .parked ≡ at .parked) ⌝ }
 {
-    let m = trial::exchange(out, at, r, s, u, w, x, y);
+    let before = at.crossings;
+    let parked = at.parked;
+    let crossings = trial::exchange(out, before, r, s, u, w, x, y);
     trade(placement, standing, r, s);
-    m
+    Tally { crossings, parked }
 }
 
 // Swap of r with its neighbour s. Where two neighbours of r's bay other than s's are empty, that bay is the nearest junction, its trial
@@ -199,10 +187,10 @@ pub fn swap(
     standing: &mut [u16],
     empty: &[u64],
     out: &mut [u64],
-    at: usize,
+    at: Tally,
 ) -> Tried
     requires { ⌜ Ready (now table) (now placement) (now standing) (now empty) ⌝ }
-    requires { ⌜ (r .0 < length (now placement)) × (s .0 < length (now placement)) × (s .0 ≡ r .0 → ⊥) × (at < 2 ^ 60) × SideBySide (length (now standing)) (now table) (r .0) (s .0) (now placement) ⌝ }
+    requires { ⌜ (r .0 < length (now placement)) × (s .0 < length (now placement)) × (s .0 ≡ r .0 → ⊥) × (at .crossings < 2 ^ 60) × SideBySide (length (now standing)) (now table) (r .0) (s .0) (now placement) ⌝ }
     ensures { λ z. ⌜ (Within at 150000 z) × ((t : Tabled (length (now (standing .entry))) (now (table .entry))) → Beside (t .yard) (r .0) (s .0) (now (placement .entry)) → Proceeds (swaps (t .yard) (r .0) (s .0) (now (placement .entry))) (length (now (standing .entry))) (now (placement .entry)) (now (out .entry)) at (now (placement .exit)) (now (standing .exit)) (now (empty .entry)) (now (out .exit)) z) ⌝ }
 {
     let first = r.0 as usize;

@@ -10,26 +10,28 @@ use native.Mathlib.Omega.{arith}
 use lib.ListN.{length, getD, take, length-map, set, length-append, List·getD-map, length-reverse}
 use lib.Seq.{getD-set-other, sets, getD-take, getD-append-add, length-take-le}
 use borrow.Author.Tests.{ne-eqb}
-use Rattle.paper.specs.Procedure.{exchange, undo, Cleared, bring, clear, finish, trialLed}
+use Rattle.paper.specs.Procedure.{Made, together, exchange, undo, Cleared, bring, clear, finish, trialLed}
 use Rattle.paper.specs.Yard.{Bay, Carrier, Yard, Placement, bayOf, Crossing, crossing, reverseOf, pack, move, after, joined, legalPlan}
 use Rattle.paper.proofs.Members.{In-head, In-tail}
-use Rattle.paper.proofs.Playing.{legal-facts, after-append, after-length, plan-head, plan-tail, plan-append}
-use Rattle.paper.proofs.Swapping.{Brought, bring-brings, ClearedIs, clear-clears}
-use Rattle.paper.proofs.Tests.{never-some}
+use Rattle.paper.proofs.Playing.{Apart, legal-facts, after-append, after-length, plan-head, plan-tail, plan-append}
+use Rattle.paper.proofs.Rings.{joined-sym}
+use Rattle.paper.proofs.Swapping.{Brought, bring-brings, ClearedIs, once-clears, clear-clears}
+use Rattle.paper.proofs.Tests.{never-some, never}
 use Rattle.paper.proofs.Vacating.{plan-apart}
 use Rattle.words.specs.Sets.{span}
 use Rattle.yard.specs.Table.{Table}
-use Rattle.vacate.specs.Placed.{Placed, Stored, Played}
-use Rattle.vacate.proofs.Playing.{sets-append, played-then, stored-exact, stored-then}
-use Rattle.bring.specs.Acting.{Tries}
+use Rattle.vacate.specs.Placed.{Placed, Stored}
+use Rattle.vacate.proofs.Playing.{sets-append, stored-exact, stored-then}
+use Rattle.bring.specs.Acting.{Tallied, Tries}
+use Rattle.bring.specs.declared.Tally.{Tally}
 use Rattle.bring.specs.Turning.{Small, Holds, numbers}
-use Rattle.bring.proofs.Acting.{tried-done}
-use Rattle.clear.specs.Keeping.{Clears}
-use Rattle.trial.specs.Trying.{Noted, Listed, Prepared, SetsUp, Wrote, Led}
+use Rattle.bring.proofs.Acting.{as-far-then, tried-done}
+use Rattle.clear_on.specs.Going.{Listed, AtJunction, ClearsTwo}
+use Rattle.trial.specs.Trying.{Noted, Prepared, SetsUp, Wrote, Led}
 use Rattle.bring.specs.declared.Tried.the-variants.{Done}
 use Rattle.bring.specs.declared.Tried.the-variants.{Failed}
-use Rattle.clear.specs.declared.Two.the-variants.{Short}
-use Rattle.clear.specs.declared.Two.{Two}
+use Rattle.clear_on.specs.declared.Pair.the-variants.{Missing}
+use Rattle.clear_on.specs.declared.Pair.{Pair}
 
 pub noted-then : {xs ys : List Crossing} {out out₁ out′ : List ℕ} {at m r : ℕ} → Noted xs out at out₁ m → Noted ys out₁ m out′ r → Noted (xs ++ ys) out at out′ r
 noted-then {xs} {ys} {out} {at = at} a b = record {
@@ -43,38 +45,50 @@ pub exchanged : {L M v b x y : ℕ} {out out₁ out′ : List ℕ} {at m r : ℕ
 unfolding exchange
 exchanged a b = noted-then a b
 
-too-few : (Y : Yard) (L M : Carrier) (v b : Bay) (done : List Crossing) (kept : List Bay) → length kept < 2 → finish Y L M v b done kept ≡ none
+too-few : (Y : Yard) (L M : Carrier) (v b : Bay) (done : Made) (kept : List Bay) → length kept < 2 → finish Y L M v b done kept ≡ none
 unfolding finish
 too-few Y L M v b done [] h = refl
 too-few Y L M v b done (x ∷ []) h = refl
 too-few Y L M v b done (x ∷ y ∷ l) h = absurd (omega arith)
 
-pub not-brought : {Y : Yard} {L M : Carrier} {v : Bay} {path : List Bay} {n : ℕ} {p out : List ℕ} {at : ℕ} {p′ standing′ empty′ out′ : List ℕ}
-    → bring Y L M path p ≡ none → SetsUp Y L M v path n p out at p′ standing′ empty′ out′ Short
+pub not-brought : {Y : Yard} {L M : Carrier} {v : Bay} {path : List Bay} {p out : List ℕ} {at : Tally} {p′ out′ : List ℕ} → bring Y L M path p ≡ none → SetsUp Y L M v path p out at p′ out′ Missing
 unfolding trialLed
-not-brought e = record { both = λ x y m d. let z : _≡_ {A = ℕ} 0 1 = cc in absurd (omega arith); short = λ d. rw e }
+not-brought e = record { both = λ x y m d. never (cc); missing = λ d. rw e }
 
-pub set-up-with : {Y : Yard} {L M : Carrier} {v : Bay} {path : List Bay} {n : ℕ} {p out : List ℕ} {at : ℕ} {q standing₁ empty₁ out₁ p′ standing′ empty′ out′ : List ℕ} {a : ℕ} {r : Two}
-    (xs : List Crossing) → bring Y L M path p ≡ some xs → q ≡ after p xs → Played xs n p q standing₁ empty₁ out at out₁ a → Clears (clear Y v (bayOf q M) q) n q out₁ a p′ standing′ empty′ out′ r
-    → SetsUp Y L M v path n p out at p′ standing′ empty′ out′ r
+-- where bring ends, the leader is at v and the follower beside it
+pub at-junction : {Y : Yard} {L M : Carrier} {v : Bay} {path : List Bay} {p : Placement} (xs : Made) → Led Y L M v path p → Apart p → L < length p → M < length p → (M ≡ L → ⊥) → bring Y L M path p ≡ some xs
+    → (q : Placement) → q ≡ after p (xs .moves) → AtJunction L M v (bayOf q M) q
+at-junction {Y} {L} {M} {v} {path} {p} xs led apart hL hM differ made q moved =
+    record { at-v = rw moved (bring-brings Y (led .sound) L M (ne-eqb L M (λ e. differ (sym e))) path v p xs apart hL hM (led .chain) (led .beside) made .leads); at-b = refl }
+
+pub set-up-all : {Y : Yard} {L M : Carrier} {v : Bay} {path : List Bay} {n : ℕ} {p out : List ℕ} {at : Tally} {q standing₁ empty₁ out₁ p′ out′ : List ℕ} {a : Tally} {r : Pair}
+    → (xs : Made) → bring Y L M path p ≡ some xs → Tallied xs n p q standing₁ empty₁ out at out₁ a → ClearsTwo Y L M v (bayOf q M) q out₁ a p′ out′ r
+    → SetsUp Y L M v path p out at p′ out′ r
 unfolding trialLed
-set-up-with {Y} {L} {M} {v} {path} {p = p} {q = q} xs made moved w c =
-    let u = rw moved at w in
-    let k = rw moved at c in
+set-up-all {Y} {L} {M} {v} {p = p} {at = at} {a = a} xs made w c =
+    let k = rw (w .moved) at c in
     record {
-      both = λ x y m e. let b = k .both x y m e in record { brought = xs; made = made; kept = b .0; played = played-then u (b .1) };
-      short = λ e. rw made (too-few Y L M v _ _ _ (k .short e));
+      both = λ x y m e.
+          let b = k .both x y m e in
+          record {
+            brought = xs;
+            made = made;
+            kept = b .kept;
+            listed = record {
+              stored = rw map-append (stored-then (w .counted ∙ rw length-map) (w .stored) (b .listed .stored));
+              counted = omega (arith, w .counted, b .listed .counted, length-append (xs .moves) (clear Y L M v (bayOf (after p (xs .moves)) M) (after p (xs .moves)) .made .moves));
+              parks = as-far-then (at .parked) (a .parked) (m .parked) (xs .parked) (clear Y L M v (bayOf (after p (xs .moves)) M) (after p (xs .moves)) .made .parked) (w .parks) (b .listed .parks);
+              few = λ h. b .listed .few (w .few h);
+            };
+            moved = b .moved;
+          };
+      missing = λ e. rw made (too-few Y L M v _ _ _ (k .missing e));
     }
 
-pub set-up-all : {Y : Yard} {L M : Carrier} {v : Bay} {path : List Bay} {n : ℕ} {p out : List ℕ} {at : ℕ} {q standing₁ empty₁ out₁ p′ standing′ empty′ out′ : List ℕ} {a : ℕ} {r : Two}
-    → Tries (bring Y L M path p) n p out at q standing₁ empty₁ out₁ (Done a) → Clears (clear Y v (bayOf q M) q) n q out₁ a p′ standing′ empty′ out′ r
-    → SetsUp Y L M v path n p out at p′ standing′ empty′ out′ r
-set-up-all t c = let d = tried-done t in set-up-with (d .0) (d .1) (d .2 .moved) (d .2) c
-
-pub wrote-none : {o : Option (List Crossing)} {out : List ℕ} {at : ℕ} {out′ : List ℕ} → o ≡ none → Wrote o out at out′ Failed
+pub wrote-none : {o : Option Made} {out : List ℕ} {at : Tally} {out′ : List ℕ} → o ≡ none → Wrote o out at out′ Failed
 wrote-none e = record { fails = λ d. refl; succeeds = λ xs d. never-some xs (sym e ∙ d) }
 
-pub wrote-some : {o : Option (List Crossing)} {out : List ℕ} {at : ℕ} {out′ : List ℕ} {m : ℕ} {xs : List Crossing} → o ≡ some xs → Listed xs out at out′ m → Wrote o out at out′ (Done m)
+pub wrote-some : {o : Option Made} {out : List ℕ} {at : Tally} {out′ : List ℕ} {m : Tally} {xs : Made} → o ≡ some xs → Listed xs out at out′ m → Wrote o out at out′ (Done m)
 wrote-some {out = out} {at = at} {out′ = out′} {m = m} {xs = xs} e w = record {
   fails = λ d. never-some xs (sym d ∙ e);
   succeeds = λ ys d. let same : xs ≡ ys = let z = sym e ∙ d in cc in (m, refl, rw same at w);
@@ -109,44 +123,54 @@ length-undo : (L M : Carrier) (xs : List Crossing) → length (undo L M xs) ≡ 
 unfolding undo reverseOf
 length-undo L M xs = rw (length-map, length-map, length-reverse)
 
-module _ {Y : Yard} {L M : Carrier} {v : Bay} {path : List Bay} {n : ℕ} {p standing empty out : List ℕ} {at : ℕ} {p′ standing′ empty′ out₁ : List ℕ} {x y c : ℕ}
-    (w : Prepared Y L M v path n p out at p′ standing′ empty′ out₁ x y c) (k : Placed n p standing empty) (hL : L < length p) (hM : M < length p) (differ : M ≡ L → ⊥) where
+module _ {Y : Yard} {L M : Carrier} {v : Bay} {path : List Bay} {n : ℕ} {p standing empty out : List ℕ} {at : Tally} {p′ out₁ : List ℕ} {x y : ℕ} {c : Tally}
+    (w : Prepared Y L M v path p out at p′ out₁ x y c) (k : Placed n p standing empty) (hL : L < length p) (hM : M < length p) (differ : M ≡ L → ⊥) where
   abbrev p₁ : Placement
-  p₁ = after p (w .brought)
+  p₁ = after p (w .brought .moves)
 
   abbrev cleared : Cleared
-  cleared = clear Y v (bayOf p₁ M) p₁
+  cleared = clear Y L M v (bayOf p₁ M) p₁
 
   abbrev done : List Crossing
-  done = w .brought ++ cleared .moves
+  done = w .brought .moves ++ cleared .made .moves
 
-  pub counted-from : c ≡ at + length done
-  counted-from = w .played .counted
+  pub counted-from : c .crossings ≡ at .crossings + length done
+  counted-from = w .listed .counted
 
   module _ (rows : List ℕ) (shown : Table Y n rows) (most : n ≤ span) (led : Led Y L M v path p) where
-    brings : Brought Y (led .sound) L M (ne-eqb L M (λ e. differ (sym e))) v p (w .brought)
+    brings : Brought Y (led .sound) L M (ne-eqb L M (λ e. differ (sym e))) v p (w .brought .moves)
     brings = bring-brings Y (led .sound) L M (ne-eqb L M (λ e. differ (sym e))) path v p (w .brought) (k .apart) hL hM (led .chain) (led .beside) (w .made)
 
+    apart₁ : Apart p₁
+    apart₁ = plan-apart Y p (w .brought .moves) (k .apart) (brings .legal)
+
     clears : ClearedIs Y (led .sound) v (bayOf p₁ M) p₁ cleared
-    clears = clear-clears Y (led .sound) v (bayOf p₁ M) p₁ (plan-apart Y p (w .brought) (k .apart) (brings .legal))
+    clears = clear-clears Y (led .sound) L M (ne-eqb L M (λ e. differ (sym e))) v (bayOf p₁ M) p₁ (record {
+      apart = apart₁;
+      there = rw after-length hL;
+      follows = rw after-length hM;
+      at-v = brings .leads;
+      at-b = refl;
+      beside = joined-sym Y (bayOf p₁ M) v (brings .follows);
+    })
 
     legal : legalPlan Y p done ≡ true
-    legal = plan-append Y p (w .brought) (cleared .moves) (brings .legal) (clears .legal)
+    legal = plan-append Y p (w .brought .moves) (cleared .made .moves) (brings .legal) (clears .legal)
 
     same-bay : bayOf p′ M ≡ bayOf p₁ M
-    same-bay = rw (w .played .moved, after-append) (clears .stays M (rw after-length hM) (In-tail (bayOf p₁ M) v (bayOf p₁ M ∷ []) (In-head (bayOf p₁ M) [])))
+    same-bay = rw (w .moved) (once-clears Y (led .sound) v (bayOf p₁ M) p₁ apart₁ .stays M (rw after-length hM) (In-tail (bayOf p₁ M) v (bayOf p₁ M ∷ []) (In-head (bayOf p₁ M) [])))
 
-    module _ {out₂ out₃ : List ℕ} {d : ℕ} (ex : Noted (exchange L M v (bayOf p′ M) (min x y) (max x y)) out₁ c out₂ d)
-        (un : (xs : List Crossing) → Small xs → Holds out₂ at xs → length xs ≡ c - at → out₃ ≡ sets out₂ d (numbers L M xs)) where
+    module _ {out₂ out₃ : List ℕ} {d : ℕ} (ex : Noted (exchange L M v (bayOf p′ M) (min x y) (max x y)) out₁ (c .crossings) out₂ d)
+        (un : (xs : List Crossing) → Small xs → Holds out₂ (at .crossings) xs → length xs ≡ c .crossings - at .crossings → out₃ ≡ sets out₂ d (numbers L M xs)) where
       abbrev traded : List Crossing
       traded = exchange L M v (bayOf p′ M) (min x y) (max x y)
 
-      holds : at + length (map pack done) ≤ length out → Holds out₂ at done
+      holds : at .crossings + length (map pack done) ≤ length out → Holds out₂ (at .crossings) done
       unfolding pack
       holds fits = record {
         at = λ j h l.
-            ap (λ (o : List ℕ). getD o (at + j) 0) (ex .stored) ∙ sets-before out₁ c (map pack traded) (at + j) (omega (arith, counted-from))
-            ∙ stored-at (w .played .stored) fits j (rw length-map h) ∙ List·getD-map pack done j (crossing 0 0 0);
+            ap (λ (o : List ℕ). getD o (at .crossings + j) 0) (ex .stored) ∙ sets-before out₁ (c .crossings) (map pack traded) (at .crossings + j) (omega (arith, counted-from))
+            ∙ stored-at (w .listed .stored) fits j (rw length-map h) ∙ List·getD-map pack done j (crossing 0 0 0);
       }
 
       small : Small done
@@ -155,13 +179,13 @@ module _ {Y : Yard} {L M : Carrier} {v : Bay} {path : List Bay} {n : ℕ} {p sta
         to-low = λ j. legal-small Y n (shown .inside) most p done legal j .1;
       }
 
-      set-up-and-traded : Stored (map pack done ++ map pack traded) out at out₂
-      set-up-and-traded = stored-then (counted-from ∙ rw length-map) (w .played .stored) (stored-exact (ex .stored))
+      set-up-and-traded : Stored (map pack done ++ map pack traded) out (at .crossings) out₂
+      set-up-and-traded = stored-then (counted-from ∙ rw length-map) (w .listed .stored) (stored-exact (ex .stored))
 
       -- undo reads what bring and clear stored, where there was room for all of it
-      undone : at + length (map pack done) ≤ length out → Stored (map pack done ++ map pack traded ++ numbers L M done) out at out₃
+      undone : at .crossings + length (map pack done) ≤ length out → Stored (map pack done ++ map pack traded ++ numbers L M done) out (at .crossings) out₃
       undone fits =
-          let ends : d ≡ at + length (map pack done ++ map pack traded) =
+          let ends : d ≡ at .crossings + length (map pack done ++ map pack traded) =
           omega (arith, ex .counted, counted-from, length-append (map pack done) (map pack traded), length-map done pack, length-map traded pack) in
           stored-then ends set-up-and-traded (stored-exact (un done small (holds fits) (omega (arith, counted-from))))
 
@@ -171,13 +195,15 @@ module _ {Y : Yard} {L M : Carrier} {v : Bay} {path : List Bay} {n : ℕ} {p sta
       numbered : map pack whole ≡ map pack done ++ map pack traded ++ numbers L M done
       numbered = map-append pack (done ++ traded) (undo L M done) ∙ ap (λ (l : List ℕ). l ++ numbers L M done) (map-append pack done traded)
 
-      answer : trialLed Y L M v path p ≡ some whole
+      answer : trialLed Y L M v path p ≡ some (record { moves = whole; parked = w .brought .parked + cleared .made .parked })
       unfolding trialLed finish
       answer = rw (w .made, w .kept, same-bay)
 
-      pub attempted : length out₃ ≡ length out₂ → Wrote (trialLed Y L M v path p) out at out₃ (Done (d + (c - at)))
+      pub attempted : length out₃ ≡ length out₂ → Wrote (trialLed Y L M v path p) out at out₃ (Done (record { crossings = d + (c .crossings - at .crossings); parked = c .parked }))
       attempted long =
           wrote-some answer (record {
             stored = rw numbered (record { long = long ∙ set-up-and-traded .long; front = λ h. undone (omega (arith, h, length-append (map pack done ++ map pack traded) (numbers L M done), length-append (map pack done) (map pack traded))) .front h });
             counted = omega (arith, ex .counted, counted-from, length-append (done ++ traded) (undo L M done), length-append done traded, length-undo L M done);
+            parks = w .listed .parks;
+            few = λ h. omega (arith, w .listed .few h, ex .counted);
           })

@@ -25,39 +25,16 @@ use Rattle.words.specs.Sets.{mem, words, span, memRow}
 use Rattle.words.proofs.Sets.{zeros, mem-zeros}
 use Rattle.rings.specs.Search.{Shown}
 use Rattle.vacate.proofs.Beside.{beside-path}
+use Rattle.clear_on.proofs.Attempting.{in-bays}
 use Rattle.trial.specs.Trying.{Wrote, Led, Near}
+use Rattle.bring.specs.declared.Tally.{Tally}
 use Rattle.bring.specs.declared.Tried.{Tried}
-
-pub copy-more : (to from : List ℕ) (i : ℕ) → i < length from → i < length to → take i to ≡ take i from → take (i + 1) (set to i (getD from i 0)) ≡ take (i + 1) from
-copy-more to from i h k e = rw (add-one, take-suc-set to i (getD from i 0) k, take-suc from i 0 h, e)
-
-pub copied : (to from : List ℕ) (i : ℕ) → i ≤ length from → length from ≤ i → take i to ≡ take i from → take (length from) to ≡ from
-copied to from i h k e = let z : length from ≡ i = omega arith in rw z (e ∙ take-all i from k)
-
-pub ready-copy : {table placement standing empty : List ℕ} → Ready table placement standing empty → (p w f : List ℕ) → p ≡ placement → w ≡ standing → length f ≡ words → ((b : ℕ) → b < span → memRow f 0 b ≡ mem empty b) → Ready table p w f
-ready-copy {table} {placement} {standing} {empty} x p w f e d l g = rw (e, d) (record {
-  most = x .most;
-  table-size = x .table-size;
-  empty-size = l;
-  placed = record {
-    apart = x .placed .apart;
-    inside = x .placed .inside;
-    few = x .placed .few;
-    stands = x .placed .stands;
-    empties = λ b h. (let z : 0 * span + b ≡ b = omega arith in rw z at (g b (omega (arith, x .most)))) ∙ x .placed .empties b h;
-  };
-  tabled = x .tabled;
-  levelled = x .levelled;
-})
 
 -- the code's part of a list from i on
 pub part : (l : List ℕ) (i : ℕ) → take (length l - i) (drop i l) ≡ drop i l
 part l i = take-all (length l - i) (drop i l) (rw length-drop (omega arith))
 
 -- ## The path
-
-pub in-bays : {n : ℕ} {table : List ℕ} (t : Tabled n table) {x : ℕ} → x < n → In x (upTo (t .yard .bays))
-in-bays t {x} h = in-count 0 (t .yard .bays) x (omega arith) (omega (arith, t .joins .bays))
 
 way-inside : (Y : Yard) (u : Bay) (l : List Bay) (v : Bay) → Route Y [] u l v → u < Y .bays → (k : ℕ) → k < suc (length l) → getD (u ∷ l) k 0 < Y .bays
 way-inside Y u l v r h zero m = h
@@ -141,10 +118,10 @@ module _ {Y : Yard} {r s : Carrier} {v : Bay} {p path : List ℕ} (near : Near Y
   unfolding trial
   trial-first h = rw (← short, ← h)
 
-  pub tried-second : {out out′ : List ℕ} {at : ℕ} {z : Tried} (q : List ℕ) → q ≡ drop 2 path → true ≡ ltb 1 (length path) and eqb (getD path 1 0) (bayOf p s) → Wrote (trialLed Y s r v q p) out at out′ z → Wrote (trial Y r s v p) out at out′ z
+  pub tried-second : {out out′ : List ℕ} {at : Tally} {z : Tried} (q : List ℕ) → q ≡ drop 2 path → true ≡ ltb 1 (length path) and eqb (getD path 1 0) (bayOf p s) → Wrote (trialLed Y s r v q p) out at out′ z → Wrote (trial Y r s v p) out at out′ z
   tried-second q e h w = rw (trial-second h, ← e) w
 
-  pub tried-first : {out out′ : List ℕ} {at : ℕ} {z : Tried} (q : List ℕ) → q ≡ drop 1 path → false ≡ ltb 1 (length path) and eqb (getD path 1 0) (bayOf p s) → Wrote (trialLed Y r s v q p) out at out′ z → Wrote (trial Y r s v p) out at out′ z
+  pub tried-first : {out out′ : List ℕ} {at : Tally} {z : Tried} (q : List ℕ) → q ≡ drop 1 path → false ≡ ltb 1 (length path) and eqb (getD path 1 0) (bayOf p s) → Wrote (trialLed Y r s v q p) out at out′ z → Wrote (trial Y r s v p) out at out′ z
   tried-first q e h w = rw (trial-first h, ← e) w
 
 -- the code's link, with nothing held

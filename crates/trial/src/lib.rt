@@ -1,7 +1,8 @@
 // A trial at a junction: bring, clear, exchange, undo. It is played on copies, so a trial that fails is forgotten, and one that
 // succeeds has only to be written: lent an empty list it only counts.
+use bring::Tally;
 use bring::Tried;
-use clear::Two;
+use clear_on::Pair;
 use docket::Bay;
 use docket::Carrier;
 use docket::Crossing;
@@ -10,13 +11,13 @@ ghost use mathlib.Core.Path.{_≡_};
 ghost use mathlib.Core.List.{[], _∷_};
 ghost use Prim.Native.Nat.{ℕ, min, max, _+_, _*_, _^_, _≤_, _<_};
 ghost use lib.Dec.{eqb, ltb};
-ghost use lib.ListN.{length, getD, take};
+ghost use lib.ListN.{length, getD};
 ghost use Rattle.paper.specs.Basics.{_and_};
 ghost use Rattle.paper.specs.Yard.{bayOf};
 ghost use Rattle.paper.specs.Path.{shortestPath};
 ghost use Rattle.docket.specs.Reading.{crossingOf};
 ghost use Rattle.bring.specs.Acting.{Tabled, Ready, Within};
-ghost use Rattle.clear.specs.Keeping.{TwoBy};
+ghost use Rattle.clear_on.specs.Going.{PairBy};
 ghost use Rattle.trial.specs.Trying.{Noted, exchanges, SetsUp, Led, Wrote, trialLeds, Near, trials};
 
 // The crossing goes to its place in the list where the list is so long; answers the next place.
@@ -103,19 +104,19 @@ fn set_up(
     standing: &mut [u16],
     empty: &mut [u64],
     out: &mut [u64],
-    at: usize,
-) -> Two
+    at: Tally,
+) -> Pair
     requires { ⌜ Ready (now table) (now placement) (now standing) (now empty) ⌝ }
-    requires { ⌜ (l .0 < length (now placement)) × (m .0 < length (now placement)) × (m .0 ≡ l .0 → ⊥) × (v .0 < length (now standing)) × ((k : ℕ) → k < length (now path) → getD (now path) k 0 < length (now standing)) × (length (now path) ≤ 256) × (at < 2 ^ 60) ⌝ }
-    ensures { λ r. ⌜ (TwoBy at 70000 r) × ((t : Tabled (length (now (standing .entry))) (now (table .entry))) → SetsUp (t .yard) (l .0) (m .0) (v .0) (now (path .entry)) (length (now (standing .entry))) (now (placement .entry)) (now (out .entry)) at (now (placement .exit)) (now (standing .exit)) (now (empty .exit)) (now (out .exit)) r) ⌝ }
+    requires { ⌜ (l .0 < length (now placement)) × (m .0 < length (now placement)) × (m .0 ≡ l .0 → ⊥) × (v .0 < length (now standing)) × ((k : ℕ) → k < length (now path) → getD (now path) k 0 < length (now standing)) × (length (now path) ≤ 256) × (at .crossings < 2 ^ 60) ⌝ }
+    ensures { λ r. ⌜ (PairBy at 70000 r) × ((t : Tabled (length (now (standing .entry))) (now (table .entry))) → Led (t .yard) (l .0) (m .0) (v .0) (now (path .entry)) (now (placement .entry)) → SetsUp (t .yard) (l .0) (m .0) (v .0) (now (path .entry)) (now (placement .entry)) (now (out .entry)) at (now (placement .exit)) (now (out .exit)) r) ⌝ }
 {
     let brought = bring::bring(table, path, l, m, placement, standing, empty, out, at);
     let Tried::Done(a) = brought else {
-        return Two::Short;
+        return Pair::Missing;
     };
     let follower = m.0 as usize;
     let b = Bay(placement[follower]);
-    clear::clear(table, v, b, placement, standing, empty, out, a)
+    clear_on::clear_two(table, l, m, v, b, placement, standing, empty, out, a)
 }
 
 fn lower(x: Bay, y: Bay) -> Bay
@@ -147,33 +148,27 @@ fn attempt_on(
     standing: &mut [u16],
     empty: &mut [u64],
     out: &mut [u64],
-    at: usize,
+    at: Tally,
 ) -> Tried
     requires { ⌜ Ready (now table) (now placement) (now standing) (now empty) ⌝ }
-    requires { ⌜ (l .0 < length (now placement)) × (m .0 < length (now placement)) × (m .0 ≡ l .0 → ⊥) × (v .0 < length (now standing)) × ((k : ℕ) → k < length (now path) → getD (now path) k 0 < length (now standing)) × (length (now path) ≤ 256) × (at < 2 ^ 60) ⌝ }
+    requires { ⌜ (l .0 < length (now placement)) × (m .0 < length (now placement)) × (m .0 ≡ l .0 → ⊥) × (v .0 < length (now standing)) × ((k : ℕ) → k < length (now path) → getD (now path) k 0 < length (now standing)) × (length (now path) ≤ 256) × (at .crossings < 2 ^ 60) ⌝ }
     ensures { λ r. ⌜ (Within at 150000 r) × ((t : Tabled (length (now (standing .entry))) (now (table .entry))) → Led (t .yard) (l .0) (m .0) (v .0) (now (path .entry)) (now (placement .entry)) → Wrote (trialLeds (t .yard) (l .0) (m .0) (v .0) (now (path .entry)) (now (placement .entry))) (now (out .entry)) at (now (out .exit)) r) ⌝ }
 {
     let ready = set_up(table, path, v, l, m, placement, standing, empty, out, at);
-    let Two::Both(x, y, c) = ready else {
+    let Pair::Both(x, y, c) = ready else {
         return Tried::Failed;
     };
     let follower = m.0 as usize;
-    let b = Bay(placement[follower]);
-    let d = exchange(out, c, l, m, v, b, lower(x, y), higher(x, y));
-    bring::undo(out, at, c - at, d, l, m);
-    Tried::Done(d + (c - at))
-}
-
-// The list begins with the other one.
-fn copy(to: &mut [u16], from: &[u16])
-    requires { ⌜ length (now from) ≤ length (now to) ⌝ }
-    ensures { λ _. ⌜ take (length (now (from .entry))) (now (to .exit)) ≡ now (from .entry) ⌝ }
-{
-    let mut i = 0;
-    while i < from.len() {
-        to[i] = from[i];
-        i += 1;
-    }
+    let behind = placement[follower];
+    let b = Bay(behind);
+    let from = at.crossings;
+    let made = c.crossings;
+    let parked = c.parked;
+    let d = exchange(out, made, l, m, v, b, lower(x, y), higher(x, y));
+    bring::undo(out, from, made - from, d, l, m);
+    let many = made - from;
+    let crossings = d + many;
+    Tried::Done(Tally { crossings, parked })
 }
 
 // A trial with leader l and follower m, on copies.
@@ -187,17 +182,17 @@ fn attempt(
     standing: &[u16],
     empty: &[u64],
     out: &mut [u64],
-    at: usize,
+    at: Tally,
 ) -> Tried
     requires { ⌜ Ready (now table) (now placement) (now standing) (now empty) ⌝ }
-    requires { ⌜ (l .0 < length (now placement)) × (m .0 < length (now placement)) × (m .0 ≡ l .0 → ⊥) × (v .0 < length (now standing)) × ((k : ℕ) → k < length (now path) → getD (now path) k 0 < length (now standing)) × (length (now path) ≤ 256) × (at < 2 ^ 60) ⌝ }
+    requires { ⌜ (l .0 < length (now placement)) × (m .0 < length (now placement)) × (m .0 ≡ l .0 → ⊥) × (v .0 < length (now standing)) × ((k : ℕ) → k < length (now path) → getD (now path) k 0 < length (now standing)) × (length (now path) ≤ 256) × (at .crossings < 2 ^ 60) ⌝ }
     ensures { λ r. ⌜ (Within at 150000 r) × ((t : Tabled (length (now (standing .entry))) (now (table .entry))) → Led (t .yard) (l .0) (m .0) (v .0) (now (path .entry)) (now (placement .entry)) → Wrote (trialLeds (t .yard) (l .0) (m .0) (v .0) (now (path .entry)) (now (placement .entry))) (now (out .entry)) at (now (out .exit)) r) ⌝ }
 {
     let mut bays = [0u16; words::SPAN];
     let mut carriers = [0u16; words::SPAN];
     let mut unused = [0u64; words::WORDS];
-    copy(&mut bays, placement);
-    copy(&mut carriers, standing);
+    clear_on::copy(&mut bays, placement);
+    clear_on::copy(&mut carriers, standing);
     words::keep(&mut unused, 0, empty);
     let k = placement.len();
     let n = standing.len();
@@ -236,10 +231,10 @@ fn try_on(
     standing: &[u16],
     empty: &[u64],
     out: &mut [u64],
-    at: usize,
+    at: Tally,
 ) -> Tried
     requires { ⌜ Ready (now table) (now placement) (now standing) (now empty) ⌝ }
-    requires { ⌜ (r .0 < length (now placement)) × (s .0 < length (now placement)) × (s .0 ≡ r .0 → ⊥) × (v .0 < length (now standing)) × ((k : ℕ) → k < length (now path) → getD (now path) k 0 < length (now standing)) × (length (now path) ≤ 256) × (at < 2 ^ 60) × (1 ≤ length (now path)) ⌝ }
+    requires { ⌜ (r .0 < length (now placement)) × (s .0 < length (now placement)) × (s .0 ≡ r .0 → ⊥) × (v .0 < length (now standing)) × ((k : ℕ) → k < length (now path) → getD (now path) k 0 < length (now standing)) × (length (now path) ≤ 256) × (at .crossings < 2 ^ 60) × (1 ≤ length (now path)) ⌝ }
     ensures { λ z. ⌜ (Within at 150000 z) × ((t : Tabled (length (now (standing .entry))) (now (table .entry))) → Near (t .yard) (r .0) (s .0) (v .0) (now (placement .entry)) → now (path .entry) ≡ shortestPath (t .yard) [] (bayOf (now (placement .entry)) (r .0)) (v .0) → Wrote (trials (t .yard) (r .0) (s .0) (v .0) (now (placement .entry))) (now (out .entry)) at (now (out .exit)) z) ⌝ }
 {
     let neighbour = s.0 as usize;
@@ -285,10 +280,10 @@ fn try_along(
     standing: &[u16],
     empty: &[u64],
     out: &mut [u64],
-    at: usize,
+    at: Tally,
 ) -> Tried
     requires { ⌜ Ready (now table) (now placement) (now standing) (now empty) ⌝ }
-    requires { ⌜ (r .0 < length (now placement)) × (s .0 < length (now placement)) × (s .0 ≡ r .0 → ⊥) × (v .0 < length (now standing)) × (at < 2 ^ 60) ⌝ }
+    requires { ⌜ (r .0 < length (now placement)) × (s .0 < length (now placement)) × (s .0 ≡ r .0 → ⊥) × (v .0 < length (now standing)) × (at .crossings < 2 ^ 60) ⌝ }
     ensures { λ z. ⌜ (Within at 150000 z) × ((t : Tabled (length (now (standing .entry))) (now (table .entry))) → Near (t .yard) (r .0) (s .0) (v .0) (now (placement .entry)) → Wrote (trials (t .yard) (r .0) (s .0) (v .0) (now (placement .entry))) (now (out .entry)) at (now (out .exit)) z) ⌝ }
 {
     let carrier = r.0 as usize;
@@ -324,10 +319,10 @@ pub fn try_at(
     standing: &[u16],
     empty: &[u64],
     out: &mut [u64],
-    at: usize,
+    at: Tally,
 ) -> Tried
     requires { ⌜ Ready (now table) (now placement) (now standing) (now empty) ⌝ }
-    requires { ⌜ (r .0 < length (now placement)) × (s .0 < length (now placement)) × (s .0 ≡ r .0 → ⊥) × (v .0 < length (now standing)) × (at < 2 ^ 60) ⌝ }
+    requires { ⌜ (r .0 < length (now placement)) × (s .0 < length (now placement)) × (s .0 ≡ r .0 → ⊥) × (v .0 < length (now standing)) × (at .crossings < 2 ^ 60) ⌝ }
     ensures { λ z. ⌜ (Within at 150000 z) × ((t : Tabled (length (now (standing .entry))) (now (table .entry))) → Near (t .yard) (r .0) (s .0) (v .0) (now (placement .entry)) → Wrote (trials (t .yard) (r .0) (s .0) (v .0) (now (placement .entry))) (now (out .entry)) at (now (out .exit)) z) ⌝ }
 {
     let carrier = r.0 as usize;

@@ -17,14 +17,14 @@ use Rattle.home.proofs.way_home.Statement.{statement}
 use Rattle.home.proofs.way_home.Tie as tie
 
 abbrev Inv-loop : tie.InvT-loop
-Inv-loop table goals owner finished bays placement₀ standing₀ empty₀ settled₀ out₀ at count₀ i₀ placement standing empty settled out count i =
-    (i ≤ length bays) × (count + 150000 * i ≤ at + 150000 * length bays) × (length placement ≡ length placement₀) × (length standing ≡ length standing₀) × (length empty ≡ length empty₀) × (length out ≡ length out₀)
+Inv-loop table goals owner finished bays placement₀ standing₀ empty₀ settled₀ out₀ at i₀ placement standing empty settled out count i =
+    (i ≤ length bays) × (count .crossings + 150000 * i ≤ at .crossings + 150000 * length bays) × (length placement ≡ length placement₀) × (length standing ≡ length standing₀) × (length empty ≡ length empty₀) × (length out ≡ length out₀)
     × ((h : Homeward (length standing₀) table goals finished bays placement₀) → Settled goals finished (h .first) (bays ++ (h .last ∷ [])) (drop i bays ++ (h .last ∷ [])) placement)
     × ((t : Tabled (length standing₀) table) → Homed (t .yard) goals finished bays (length standing₀) placement₀ out₀ at i placement standing empty out count)
     × (length settled ≡ length settled₀) × BaysBelow finished placement settled
 
 abbrev μ-loop : tie.MeasureT-loop
-μ-loop table goals owner finished bays placement₀ standing₀ empty₀ settled₀ out₀ at count₀ i₀ placement standing empty settled out count i =
+μ-loop table goals owner finished bays placement₀ standing₀ empty₀ settled₀ out₀ at i₀ placement standing empty settled out count i =
     i
 
 loop-holds : tie.Need-loop-holds Inv-loop μ-loop

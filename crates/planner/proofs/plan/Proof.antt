@@ -1,43 +1,38 @@
--- `planner::plan` meets its contract. 1 to 6 are the yard's answer; where it opens, the procedure decides.
+-- `planner::plan` meets its contract: the answer is the one with the count, without the count.
 -- Assumes nothing.
-use mathlib.Core.Path.{sym, _∙_, ap}
-use denote.Ref.{now}
-use Rattle.yard.specs.Opening.{openedOf}
-use Rattle.planner.proofs.Letting.{let-in, tabled-of}
-use Rattle.planner.proofs.Saying.{says-refused, says-handed}
 use borrow.Author.Needs.{needs}
 use Rattle.planner.proofs.plan.Statement.{statement}
 use Rattle.planner.proofs.plan.Tie as tie
 
-open-requires : tie.Need-open-requires
-open-requires c κs = search needs
+plan-counted-requires : tie.Need-plan-counted-requires
+plan-counted-requires c κs = search needs
 
-enum-known-opened : tie.Need-enum-known-opened
-enum-known-opened c = search needs
+enum-known-counted : tie.Need-enum-known-counted
+enum-known-counted c = search needs
 
-enum-known-opened-2 : tie.Need-enum-known-opened-2
-enum-known-opened-2 c = search needs
-
-hand-out-requires : tie.Need-hand-out-requires
-hand-out-requires c κs = let-in (c .before .before .before .before .before .before .before .before .before .before .before .args .bays) (now (c .before .before .before .before .before .before .before .before .before .before .before .args .rails)) (now (c .before .before .before .before .before .before .before .before .before .before .before .args .start)) (now (c .before .before .before .before .before .before .before .before .before .before .before .args .goal)) (ap openedOf (sym (c .before .before .before .opened2 .given .1)) ∙ c .before .before .before .before .before .«open» .ensures .answer) (c .before .before .before .before .before .«open» .ensures .admitted _ (c .before .before .before .opened2 .given .1))
-
-returns : tie.Need-returns
-returns c = says-refused (c .before .before .before .before .before .before .before .before .before .args .bays) (now (c .before .before .before .before .before .before .before .before .before .args .rails)) (now (c .before .before .before .before .before .before .before .before .before .args .start)) (now (c .before .before .before .before .before .before .before .before .before .args .goal)) _ _ (ap openedOf (sym (c .before .opened .given .1)) ∙ c .before .before .before .«open» .ensures .answer)
+enum-known-counted-2 : tie.Need-enum-known-counted-2
+enum-known-counted-2 c = search needs
 
 same-length : tie.Need-same-length
 same-length c = search needs
 
+returns : tie.Need-returns
+returns c = rw (c .before .counted .given .1) at (c .before .before .before .before .plan-counted .ensures .says)
+
+same-length-2 : tie.Need-same-length-2
+same-length-2 c = search needs
+
 returns-2 : tie.Need-returns-2
-returns-2 c = says-handed (c .before .before .before .before .before .before .before .before .before .before .before .before .before .before .args .bays) (now (c .before .before .before .before .before .before .before .before .before .before .before .before .before .before .args .rails)) (now (c .before .before .before .before .before .before .before .before .before .before .before .before .before .before .args .start)) (now (c .before .before .before .before .before .before .before .before .before .before .before .before .before .before .args .goal)) _ _ _ (ap openedOf (sym (c .before .before .before .before .before .before .opened2 .given .1)) ∙ c .before .before .before .before .before .before .before .before .«open» .ensures .answer) (c .before .before .hand-out .ensures (tabled-of (c .before .before .before .before .before .before .before .before .before .before .before .before .before .before .args .bays) (now (c .before .before .before .before .before .before .before .before .before .before .before .before .before .before .args .rails)) (now (c .before .before .before .before .before .before .before .before .before .before .before .before .before .before .args .start)) (now (c .before .before .before .before .before .before .before .before .before .before .before .before .before .before .args .goal)) (c .before .before .before .before .before .before .before .before .«open» .ensures .admitted _ (c .before .before .before .before .before .before .opened2 .given .1))))
+returns-2 c = rw (c .before .counted2 .given .1) at (c .before .before .before .before .plan-counted .ensures .says)
 
 pub plan-spec : {M : Type 1} → statement M
 plan-spec =
     tie.close
     (tie.spec
-    open-requires
-    enum-known-opened
-    enum-known-opened-2
-    hand-out-requires
-    returns
+    plan-counted-requires
+    enum-known-counted
+    enum-known-counted-2
     same-length
+    returns
+    same-length-2
     returns-2)

@@ -65,7 +65,7 @@ returns c =
     let w = c .before .before .before .before .before .before .swap-beside .ensures in
     let few = rw length-exchange at (w .2 .counted) in (
       omega (arith, few),
-      λ t b. traded-proceeds t (p .placed) refl _ _ (z .0) (z .1) (z .2) b _ _ (swap-own t (p .placed) (p .most) (z .0) (z .1) b two) (w .0) (w .1) (record { stored = stored-exact (w .2 .stored); counted = w .2 .counted }),
+      λ t b. traded-proceeds t (p .placed) refl _ _ (z .0) (z .1) (z .2) b _ _ (swap-own t (p .placed) (p .most) (z .0) (z .1) b two) (w .0) (w .1) (record { stored = stored-exact (w .2 .stored); counted = w .2 .counted; parks = omega (arith, w .3); few = λ h. omega (arith, h, w .3, few) }),
     )
 
 enum-told : tie.Need-enum-told

@@ -55,8 +55,8 @@ trade-requires c κs =
     let z = c .before .before .before .before .before .before .before .before .before .before .before .before .before .before .before .before .before .before .pre .1 in
     (z .0, z .1, omega (arith, p .placed .few, p .most), p .placed .inside _ (z .0), p .placed .inside _ (z .1))
 
-add-t18 : tie.Need-add-t18
-add-t18 c =
+add-requires : tie.Need-add-requires
+add-requires c κs =
     let z = c .before .before .before .before .before .before .before .before .before .before .before .before .before .before .before .before .before .before .before .before .before .before .before .pre .1 in
     let g = c .before .before .before .before .before .before .before .before .found .given in
     let e : c .before .before .before .before .before .before .before .before .before .before .before .before .seek .result ≡ At (g .0 .0) (g .0 .1 .0) = g .1 in
@@ -74,16 +74,17 @@ same-length-6 c = search needs
 
 returns-2 : tie.Need-returns-2
 returns-2 c =
-    let p = c .before .before .before .before .before .before .before .before .before .before .before .before .before .before .before .before .before .before .before .before .before .before .before .pre .0 in
-    let z = c .before .before .before .before .before .before .before .before .before .before .before .before .before .before .before .before .before .before .before .before .before .before .before .pre .1 in
-    let g = c .before .before .before .before .before .before .before .before .found .given in
-    let e : c .before .before .before .before .before .before .before .before .before .before .before .before .seek .result ≡ At (g .0 .0) (g .0 .1 .0) = g .1 in
-    let m = rw e at (c .before .before .before .before .before .before .before .before .before .before .before .before .seek .ensures .0) in (
-      omega (arith, m),
+    let sum = c .add .ensures in
+    let p = c .before .before .before .before .before .before .before .before .before .before .before .before .before .before .before .before .before .before .before .before .before .before .before .before .pre .0 in
+    let z = c .before .before .before .before .before .before .before .before .before .before .before .before .before .before .before .before .before .before .before .before .before .before .before .before .pre .1 in
+    let g = c .before .before .before .before .before .before .before .before .before .found .given in
+    let e : c .before .before .before .before .before .before .before .before .before .before .before .before .before .seek .result ≡ At (g .0 .0) (g .0 .1 .0) = g .1 in
+    let m = rw e at (c .before .before .before .before .before .before .before .before .before .before .before .before .before .seek .ensures .0) in (
+      omega (arith, m, sum .crossings),
       λ t b.
-          let q = c .before .before .before .before .before .before .before .before .before .before .before .before .seek .ensures .1 t b in
+          let q = c .before .before .before .before .before .before .before .before .before .before .before .before .before .seek .ensures .1 t b in
           let f = sym (ap junctionAt e) ∙ q .0 in
-          committed t (p .placed) refl _ _ (z .0) (z .1) (z .2) b _ f _ _ _ (c .before .before .before .before .trade .ensures .0) (c .before .before .before .before .trade .ensures .1) (c .before .before .before .before .before .before .before .before .before .before .before .before .before .before .before .before .place-in .ensures) (c .before .before .before .before .before .before .before .before .before .before .before .out .given) (rw e at (q .1)),
+          committed t (p .placed) refl _ _ (z .0) (z .1) (z .2) b _ f _ _ _ (c .before .before .before .before .before .trade .ensures .0) (c .before .before .before .before .before .trade .ensures .1) (c .before .before .before .before .before .before .before .before .before .before .before .before .before .before .before .before .before .place-in .ensures) (c .before .before .before .before .before .before .before .before .before .before .before .before .out .given) (rw e at (q .1)) sum,
     )
 
 pub swap-far-spec : {M : Type 1} → statement M
@@ -103,7 +104,7 @@ swap-far-spec =
     same-length-3
     returns
     trade-requires
-    add-t18
+    add-requires
     same-length-4
     same-length-5
     same-length-6

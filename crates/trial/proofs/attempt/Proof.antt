@@ -3,7 +3,7 @@
 use mathlib.Core.Path.{sym, ap}
 use lib.ListN.{length}
 use borrow.Author.Needs.{needs}
-use Rattle.trial.proofs.Copying.{ready-copy}
+use Rattle.clear_on.proofs.Attempting.{ready-copy}
 use Rattle.trial.proofs.attempt.Statement.{statement}
 use Rattle.trial.proofs.attempt.Tie as tie
 

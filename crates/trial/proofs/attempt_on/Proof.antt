@@ -28,16 +28,16 @@ same-length-4 : tie.Need-same-length-4
 same-length-4 c = search needs
 
 returns : tie.Need-returns
-returns c = (tt, λ t led. wrote-none (c .before .before .before .before .before .before .before .before .before .before .set-up .ensures .1 t .short (c .enum-told .given .1)))
+returns c = (tt, λ t led. wrote-none (c .before .before .before .before .before .before .before .before .before .before .set-up .ensures .1 t led .missing (c .enum-told .given .1)))
 
 cast-follower : tie.Need-cast-follower
 cast-follower c = search needs
 
-mul-t26 : tie.Need-mul-t26
-mul-t26 c = search needs
+mul-behind : tie.Need-mul-behind
+mul-behind c = search needs
 
-slice-read-t28 : tie.Need-slice-read-t28
-slice-read-t28 c = search needs
+slice-read-behind : tie.Need-slice-read-behind
+slice-read-behind c = search needs
 
 lower-requires : tie.Need-lower-requires
 lower-requires c κs = search needs
@@ -48,32 +48,26 @@ higher-requires c κs = search needs
 exchange-requires : tie.Need-exchange-requires
 exchange-requires c κs =
     let f = c .before .before .before .before .before .before .before .before .before .before .before .before .before .before .before .before .set-up .ensures .0 .few _ _ _ (c .before .before .before .before .before .before .ready .given .1) in
-    omega (arith, f .2, c .before .before .before .before .before .before .before .before .before .before .before .before .before .before .before .before .before .before .before .before .before .before .before .before .before .before .before .pre .1 .6)
+    omega (arith, f .0, c .before .before .before .before .before .before .before .before .before .before .before .before .before .before .before .before .before .before .before .before .before .before .before .before .before .before .before .pre .1 .6)
 
 sub-undo : tie.Need-sub-undo
-sub-undo c =
-    let q = c .before .before .before .before .before .before .before .before .before .before .before .before .before .before .before .before .before .before .before .before .set-up .ensures .1 (c .before .before .before .before .before .before .before .before .before .before .before .before .before .before .before .before .before .before .before .before .before .before .before .before .before .before .before .before .before .before .before .pre .0 .tabled) .both _ _ _ (c .before .before .before .before .before .before .before .before .before .before .ready .given .1) in
-    omega (arith, q .played .counted)
+sub-undo c = omega (arith, c .before .before .before .before .before .before .before .before .before .before .before .before .before .before .before .before .before .before .before .before .set-up .ensures .0 .few _ _ _ (c .before .before .before .before .before .before .before .before .before .before .ready .given .1) .1)
 
 undo-requires : tie.Need-undo-requires
 undo-requires c κs =
-    let p = c .before .before .before .before .before .before .before .before .before .before .before .before .before .before .before .before .before .before .before .before .before .before .before .before .before .before .before .before .before .before .before .pre .0 in
     let z = c .before .before .before .before .before .before .before .before .before .before .before .before .before .before .before .before .before .before .before .before .before .before .before .before .before .before .before .before .before .before .before .pre .1 in
-    let q = c .before .before .before .before .before .before .before .before .before .before .before .before .before .before .before .before .before .before .before .before .set-up .ensures .1 (p .tabled) .both _ _ _ (c .before .before .before .before .before .before .before .before .before .before .ready .given .1) in
     let f = c .before .before .before .before .before .before .before .before .before .before .before .before .before .before .before .before .before .before .before .before .set-up .ensures .0 .few _ _ _ (c .before .before .before .before .before .before .before .before .before .before .ready .given .1) in
     let e = rw length-exchange at (c .before .before .before .exchange .ensures .counted) in
-    (omega (arith, q .played .counted, e), omega (arith, e, f .2, z .6))
+    (omega (arith, f .1, e), omega (arith, e, f .0, z .6))
 
-sub-t26 : tie.Need-sub-t26
-sub-t26 c =
-    let q = c .before .before .before .before .before .before .before .before .before .before .before .before .before .before .before .before .before .before .before .before .before .before .before .set-up .ensures .1 (c .before .before .before .before .before .before .before .before .before .before .before .before .before .before .before .before .before .before .before .before .before .before .before .before .before .before .before .before .before .before .before .before .before .before .pre .0 .tabled) .both _ _ _ (c .before .before .before .before .before .before .before .before .before .before .before .before .before .ready .given .1) in
-    omega (arith, q .played .counted)
+sub-many : tie.Need-sub-many
+sub-many c = omega (arith, c .before .before .before .before .before .before .before .before .before .before .before .before .before .before .before .before .before .before .before .before .before .before .before .set-up .ensures .0 .few _ _ _ (c .before .before .before .before .before .before .before .before .before .before .before .before .before .ready .given .1) .1)
 
-add-t36 : tie.Need-add-t36
-add-t36 c =
+add-crossings : tie.Need-add-crossings
+add-crossings c =
     let f = c .before .before .before .before .before .before .before .before .before .before .before .before .before .before .before .before .before .before .before .before .before .before .before .set-up .ensures .0 .few _ _ _ (c .before .before .before .before .before .before .before .before .before .before .before .before .before .ready .given .1) in
     let e = rw length-exchange at (c .before .before .before .before .before .before .exchange .ensures .counted) in
-    omega (arith, e, f .2, c .before .before .before .before .before .before .before .before .before .before .before .before .before .before .before .before .before .before .before .before .before .before .before .before .before .before .before .before .before .before .before .before .before .before .pre .1 .6)
+    omega (arith, e, f .0, c .before .before .before .before .before .before .before .before .before .before .before .before .before .before .before .before .before .before .before .before .before .before .before .before .before .before .before .before .before .before .before .before .before .before .pre .1 .6)
 
 same-length-5 : tie.Need-same-length-5
 same-length-5 c = search needs
@@ -93,9 +87,9 @@ returns-2 c =
     let z = c .before .before .before .before .before .before .before .before .before .before .before .before .before .before .before .before .before .before .before .before .before .before .before .before .before .before .before .before .before .before .before .before .before .before .pre .1 in
     let f = c .before .before .before .before .before .before .before .before .before .before .before .before .before .before .before .before .before .before .before .before .before .before .before .set-up .ensures .0 .few _ _ _ (c .before .before .before .before .before .before .before .before .before .before .before .before .before .ready .given .1) in
     let e = rw length-exchange at (c .before .before .before .before .before .before .exchange .ensures .counted) in (
-      omega (arith, e, f .2, z .6),
+      omega (arith, e, f .0, z .6),
       λ t led.
-          let q = c .before .before .before .before .before .before .before .before .before .before .before .before .before .before .before .before .before .before .before .before .before .before .before .set-up .ensures .1 t .both _ _ _ (c .before .before .before .before .before .before .before .before .before .before .before .before .before .ready .given .1) in
+          let q = c .before .before .before .before .before .before .before .before .before .before .before .before .before .before .before .before .before .before .before .before .before .before .before .set-up .ensures .1 t led .both _ _ _ (c .before .before .before .before .before .before .before .before .before .before .before .before .before .ready .given .1) in
           let ex = rw (c .before .before .before .before .before .before .before .before .lower .ensures, c .before .before .before .before .before .before .before .higher .ensures) at (c .before .before .before .before .before .before .exchange .ensures) in
           attempted q (p .placed) (z .0) (z .1) (z .2) _ (t .joins) (p .most) led ex (c .before .before .undo .ensures) (c .before .before .undo .kept .0),
     )
@@ -113,15 +107,15 @@ attempt-on-spec =
     same-length-4
     returns
     cast-follower
-    mul-t26
-    slice-read-t28
+    mul-behind
+    slice-read-behind
     lower-requires
     higher-requires
     exchange-requires
     sub-undo
     undo-requires
-    sub-t26
-    add-t36
+    sub-many
+    add-crossings
     same-length-5
     same-length-6
     same-length-7

@@ -5,8 +5,9 @@ use native.Mathlib.Omega.{arith}
 use lib.ListN.{length}
 use borrow.Author.Needs.{needs}
 use Rattle.bring.proofs.Acting.{tried-done, tried-failed}
-use Rattle.clear.proofs.Clearing.{two-short, two-far, ready-again}
-use Rattle.trial.proofs.Attempting.{not-brought, set-up-all}
+use Rattle.clear.proofs.Clearing.{ready-again}
+use Rattle.clear_on.proofs.Attempting.{pair-none, pair-from, pair-within}
+use Rattle.trial.proofs.Attempting.{not-brought, at-junction, set-up-all}
 use Rattle.bring.specs.declared.Tried.the-variants.{Done}
 use Rattle.bring.specs.declared.Tried.the-variants.{Failed}
 use Rattle.trial.proofs.set_up.Statement.{statement}
@@ -39,7 +40,7 @@ same-length-4 c = search needs
 returns : tie.Need-returns
 returns c =
     let e : c .before .before .before .before .before .before .before .before .before .before .bring .result ≡ Failed = c .enum-told .given .1 in
-    (two-short _ _, λ t. not-brought (tried-failed (rw e at (c .before .before .before .before .before .before .before .before .before .before .bring .ensures .1 t))))
+    (pair-none _ _, λ t led. not-brought (tried-failed (rw e at (c .before .before .before .before .before .before .before .before .before .before .bring .ensures .1 t))))
 
 cast-follower : tie.Need-cast-follower
 cast-follower c = search needs
@@ -50,8 +51,8 @@ mul-t23 c = search needs
 slice-read-t25 : tie.Need-slice-read-t25
 slice-read-t25 c = search needs
 
-clear-requires : tie.Need-clear-requires
-clear-requires c κs =
+clear-two-requires : tie.Need-clear-two-requires
+clear-two-requires c κs =
     let p = c .before .before .before .before .before .before .before .before .before .before .before .before .before .before .before .before .before .before .before .before .before .before .before .before .before .before .before .before .pre .0 in
     let z = c .before .before .before .before .before .before .before .before .before .before .before .before .before .before .before .before .before .before .before .before .before .before .before .before .before .before .before .before .pre .1 in
     let e : c .before .before .before .before .before .before .before .before .before .before .before .before .before .before .before .before .before .bring .result ≡ Done (c .before .before .before .before .before .before .before .brought .given .0 .0) = c .before .before .before .before .before .before .before .brought .given .1 in
@@ -60,7 +61,7 @@ clear-requires c κs =
     let kp : length (c .before .before .before .before .before .before .before .before .before .before .before .before .before .before .before .before .before .bring .last .1 .1 .1 .1 .0) ≡ length (c .before .before .before .before .before .before .before .before .before .before .before .before .before .before .before .before .before .before .before .before .before .before .before .before .before .before .before .before .args .placement .now) = c .before .before .before .before .before .before .before .before .before .before .before .before .before .before .before .before .before .bring .kept .1 .1 .1 .1 .0 in
     let kw : length (c .before .before .before .before .before .before .before .before .before .before .before .before .before .before .before .before .before .bring .last .1 .1 .1 .1 .1 .0) ≡ length (c .before .before .before .before .before .before .before .before .before .before .before .before .before .before .before .before .before .before .before .before .before .before .before .before .before .before .before .before .args .standing .now) = c .before .before .before .before .before .before .before .before .before .before .before .before .before .before .before .before .before .bring .kept .1 .1 .1 .1 .1 .0 in
     let kf = c .before .before .before .before .before .before .before .before .before .before .before .before .before .before .before .before .before .bring .kept .1 .1 .1 .1 .1 .1 .0 in
-    (ready-again p _ _ _ kw kf (d .2 .placed), (omega (arith, z .3, kw), rw kw (d .2 .placed .inside (c .before .before .before .before .before .before .before .before .before .before .before .before .before .before .before .before .before .before .before .before .before .before .before .before .before .before .before .before .args .m .0) (rw kp (z .1))), omega (arith, few, z .5, z .6)))
+    (ready-again p _ _ _ kw kf (d .2 .placed), (rw kp (z .0), rw kp (z .1), z .2, omega (arith, z .3, kw), rw kw (d .2 .placed .inside (c .before .before .before .before .before .before .before .before .before .before .before .before .before .before .before .before .before .before .before .before .before .before .before .before .before .before .before .before .args .m .0) (rw kp (z .1))), omega (arith, few, z .5, z .6)))
 
 same-length-5 : tie.Need-same-length-5
 same-length-5 c = search needs
@@ -81,7 +82,12 @@ returns-2 c =
     let e : c .before .before .before .before .before .before .before .before .before .before .before .before .before .before .before .before .before .before .before .before .before .before .before .before .before .before .bring .result ≡ Done (c .before .before .before .before .before .before .before .before .before .before .before .before .before .before .before .before .brought .given .0 .0) = c .before .before .before .before .before .before .before .before .before .before .before .before .before .before .before .before .brought .given .1 in
     let few = rw e at (c .before .before .before .before .before .before .before .before .before .before .before .before .before .before .before .before .before .before .before .before .before .before .before .before .before .before .bring .ensures .0) in
     let kw : length (c .before .before .before .before .before .before .before .before .before .before .before .before .before .before .before .before .before .before .before .before .before .before .before .before .before .before .bring .last .1 .1 .1 .1 .1 .0) ≡ length (c .before .before .before .before .before .before .before .before .before .before .before .before .before .before .before .before .before .before .before .before .before .before .before .before .before .before .before .before .before .before .before .before .before .before .before .before .before .args .standing .now) = c .before .before .before .before .before .before .before .before .before .before .before .before .before .before .before .before .before .before .before .before .before .before .before .before .before .before .bring .kept .1 .1 .1 .1 .1 .0 in
-    (two-far (omega (arith, few, z .5)) (c .before .before .before .before .before .before .before .before .clear .ensures .0), λ t. set-up-all (rw e at (c .before .before .before .before .before .before .before .before .before .before .before .before .before .before .before .before .before .before .before .before .before .before .before .before .before .before .bring .ensures .1 t)) (rw kw at (c .before .before .before .before .before .before .before .before .clear .ensures .1) t))
+    let d = tried-done (rw e at (c .before .before .before .before .before .before .before .before .before .before .before .before .before .before .before .before .before .before .before .before .before .before .before .before .before .before .bring .ensures .1 (p .tabled))) in (
+      pair-within (omega arith) (pair-from 66048 (omega (arith, d .2 .counted)) (omega (arith, few, z .5)) (c .before .before .before .before .before .before .before .before .clear-two .ensures .0)),
+      λ t led.
+          let x = tried-done (rw e at (c .before .before .before .before .before .before .before .before .before .before .before .before .before .before .before .before .before .before .before .before .before .before .before .before .before .before .bring .ensures .1 t)) in
+          set-up-all (x .0) (x .1) (x .2) ((rw kw at (c .before .before .before .before .before .before .before .before .clear-two .ensures .1)) t (led .sound) (at-junction (x .0) led (p .placed .apart) (z .0) (z .1) (z .2) (x .1) _ (x .2 .moved))),
+    )
 
 pub set-up-spec : {M : Type 1} → statement M
 set-up-spec =
@@ -98,7 +104,7 @@ set-up-spec =
     cast-follower
     mul-t23
     slice-read-t25
-    clear-requires
+    clear-two-requires
     same-length-5
     same-length-6
     same-length-7

@@ -3,7 +3,8 @@
 use mathlib.Core.Path.{_≡_, sym, _∙_}
 use native.Mathlib.Omega.{arith}
 use Rattle.paper.specs.Yard.{bayOf}
-use Rattle.trial.proofs.Copying.{in-bays, path-own, alone-inside, path-beside, two-inside}
+use Rattle.clear_on.proofs.Attempting.{in-bays}
+use Rattle.trial.proofs.Copying.{path-own, alone-inside, path-beside, two-inside}
 use borrow.Author.Needs.{needs}
 use Rattle.trial.proofs.try_at.Statement.{statement}
 use Rattle.trial.proofs.try_at.Tie as tie

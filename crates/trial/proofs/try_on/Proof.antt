@@ -3,7 +3,8 @@
 use mathlib.Core.Path.{sym, _∙_}
 use native.Mathlib.Omega.{arith}
 use borrow.Author.Needs.{needs}
-use Rattle.trial.proofs.Copying.{part, in-bays, second-leads, first-leads, tried-second, tried-first, part-long, part-inside, never-short}
+use Rattle.clear_on.proofs.Attempting.{in-bays}
+use Rattle.trial.proofs.Copying.{part, second-leads, first-leads, tried-second, tried-first, part-long, part-inside, never-short}
 use Rattle.trial.proofs.try_on.Statement.{statement}
 use Rattle.trial.proofs.try_on.Tie as tie
 

@@ -33,8 +33,8 @@ returns-2 c = let p = c .before .before .before .before .before .before .before 
 
 free-requires : tie.Need-free-requires
 free-requires c κs =
-    let p = c .before .before .before .before .before .before .before .before .before .before .before .before .before .before .pre in
-    (search needs, p .3, p .4, table-rowed (p .7 .joins) (p .0) _ (p .1) (p .2))
+    let p = c .before .before .before .before .before .before .before .before .before .before .before .before .before .pre in
+    (search needs, search needs, search needs, table-rowed (p .7 .joins) (p .0) _ (p .1) (p .2))
 
 cast-t19 : tie.Need-cast-t19
 cast-t19 c = search needs

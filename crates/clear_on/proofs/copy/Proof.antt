@@ -1,14 +1,13 @@
--- `trial::copy` meets its contract. As many as were copied are the same.
+-- `clear_on::copy` meets its contract. As many as were copied are the same.
 -- Assumes nothing.
 use mathlib.Core.Path.{_≡_, refl}
 use Prim.Native.Nat.{_≤_, _-_}
 use native.Mathlib.Omega.{arith}
 use lib.ListN.{length, take}
 use borrow.Author.Needs.{needs}
-use Rattle.clear.specs.Keeping.{from}
-use Rattle.trial.proofs.Copying.{copy-more, copied}
-use Rattle.trial.proofs.copy.Statement.{statement}
-use Rattle.trial.proofs.copy.Tie as tie
+use Rattle.clear_on.proofs.Attempting.{copy-more, copied}
+use Rattle.clear_on.proofs.copy.Statement.{statement}
+use Rattle.clear_on.proofs.copy.Tie as tie
 
 abbrev Inv-loop : tie.InvT-loop
 Inv-loop to₀ from i₀ to i =

@@ -1,0 +1,50 @@
+-- `clear_on::either_way` meets its contract. The second way is tried where the first never works.
+-- Assumes nothing.
+use mathlib.Core.Path.{_≡_}
+use lib.ListN.{length}
+use Rattle.clear_on.proofs.Attempting.{first-way, second-way}
+use Rattle.clear.specs.declared.Kept.the-variants.{One, Nothing}
+use borrow.Author.Needs.{needs}
+use Rattle.clear_on.proofs.either_way.Statement.{statement}
+use Rattle.clear_on.proofs.either_way.Tie as tie
+
+first-kept-requires : tie.Need-first-kept-requires
+first-kept-requires c κs = (c .before .before .before .before .before .before .before .pre .0, c .before .before .before .before .before .before .before .pre .1)
+
+enum-known-first : tie.Need-enum-known-first
+enum-known-first c = search needs
+
+same-length : tie.Need-same-length
+same-length c = search needs
+
+returns : tie.Need-returns
+returns c =
+    let e : c .before .before .before .before .before .first-kept .result ≡ One (c .before .first .given .0 .0) (c .before .first .given .0 .1 .0) = c .before .first .given .1 in
+    (rw e at (c .before .before .before .before .before .first-kept .ensures .0), λ t j o. first-way (t .yard) (c .before .before .before .before .before .before .before .before .before .before .before .before .before .args .l .0) (c .before .before .before .before .before .before .before .before .before .before .before .before .before .args .m .0) (c .before .before .before .before .before .before .before .before .before .before .before .before .before .args .v .0) (c .before .before .before .before .before .before .before .before .before .before .before .before .before .args .b .0) (c .before .before .before .before .before .before .before .before .before .before .before .before .before .args .e .0) (c .before .before .before .before .before .before .before .before .before .before .before .before .before .args .placement .now) (length (c .before .before .before .before .before .before .before .before .before .before .before .before .before .args .standing .now)) (c .before .before .before .before .before .before .before .before .before .before .before .before .before .args .others .now) o (rw e at (c .before .before .before .before .before .first-kept .ensures .1 t j)))
+
+enum-told : tie.Need-enum-told
+enum-told c = search needs
+
+first-kept-requires-2 : tie.Need-first-kept-requires-2
+first-kept-requires-2 c κs = (c .before .before .before .before .before .before .before .before .before .before .before .before .before .pre .0, c .before .before .before .before .before .before .before .before .before .before .before .before .before .pre .1)
+
+same-length-2 : tie.Need-same-length-2
+same-length-2 c = search needs
+
+returns-2 : tie.Need-returns-2
+returns-2 c =
+    let e : c .before .before .before .before .before .before .before .before .first-kept .result ≡ Nothing = c .before .before .before .before .enum-told .given .1 in
+    (c .before .before .first-kept2 .ensures .0, λ t j o. second-way (t .yard) (c .before .before .before .before .before .before .before .before .before .before .before .before .before .before .before .before .args .l .0) (c .before .before .before .before .before .before .before .before .before .before .before .before .before .before .before .before .args .m .0) (c .before .before .before .before .before .before .before .before .before .before .before .before .before .before .before .before .args .v .0) (c .before .before .before .before .before .before .before .before .before .before .before .before .before .before .before .before .args .b .0) (c .before .before .before .before .before .before .before .before .before .before .before .before .before .before .before .before .args .e .0) (c .before .before .before .before .before .before .before .before .before .before .before .before .before .before .before .before .args .placement .now) (length (c .before .before .before .before .before .before .before .before .before .before .before .before .before .before .before .before .args .standing .now)) (c .before .before .before .before .before .before .before .before .before .before .before .before .before .before .before .before .args .others .now) o (c .before .before .before .before .before .before .before .before .first-kept .ensures .1 t j .nothing e) (c .before .before .first-kept2 .ensures .1 t j))
+
+pub either-way-spec : {M : Type 1} → statement M
+either-way-spec =
+    tie.close
+    (tie.spec
+    first-kept-requires
+    enum-known-first
+    same-length
+    returns
+    enum-told
+    first-kept-requires-2
+    same-length-2
+    returns-2)
