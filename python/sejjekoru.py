@@ -33,7 +33,7 @@ __all__ = [
     "Books",
     "Link",
     "plan",
-    "plan_parked",
+    "plan_counted",
     "check",
     "slots",
     "slots_of",
@@ -308,10 +308,10 @@ def _written(call: Callable[..., int]) -> bytes:
 
 def plan(order: Order, room: int = MOST_CROSSINGS) -> List[Crossing]:
     """The plan of an order, of at most `room` crossings. Raises Refused, 1 to 8."""
-    return plan_parked(order, room)[0]
+    return plan_counted(order, room)[0]
 
 
-def plan_parked(order: Order, room: int = MOST_CROSSINGS) -> Tuple[List[Crossing], int]:
+def plan_counted(order: Order, room: int = MOST_CROSSINGS) -> Tuple[List[Crossing], int]:
     """The plan, and how often a carrier was moved out of the way into a bay of three rails or more, undoing left aside. Raises Refused, 1 to 8."""
     out, parked, value = (ctypes.c_uint64 * room)(), ctypes.c_uint64(), ctypes.c_uint64()
     words = (out, room, ctypes.byref(parked), ctypes.byref(value))

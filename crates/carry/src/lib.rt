@@ -147,7 +147,8 @@ pub fn carry_all(
     };
     let mut r = 0;
     while r < goals.len() {
-        let carrier = Carrier(r as u32);
+        let number = r as u32;
+        let carrier = Carrier(number);
         let carried = carry(
             table,
             goals,

@@ -11,7 +11,7 @@ ghost use Rattle.checker.specs.Reading.{checkedOf, nineTen, NineTen};
 use docket::Refusal;
 use replay::Away;
 use replay::Legality;
-use words::WORDS;
+use words::SPAN;
 use yard::Opened;
 use yard::Yard;
 
@@ -60,7 +60,7 @@ fn check_crossings(
     ensures { λ r. ⌜ NineTen (now (table .entry)) (now (start .entry)) (now (goal .entry)) (crossings (now (plan .entry))) (checkedOf r) ⌝ }
 {
     place(start, at);
-    let mut occupied = [0u64; WORDS];
+    let mut occupied = [0u8; SPAN];
     replay::occupy(start, &mut occupied);
     let legality = replay::play(table, at, &mut occupied, plan);
     judge(legality, at, goal)

@@ -1,19 +1,22 @@
 -- What a report answers, test by test in the document's order: each law is one way out.
-use mathlib.Core.Path.{_≡_, ap}
-use mathlib.Core.Bool.{Bool, true, false, not}
+use mathlib.Core.Path.{_≡_, refl, sym, _∙_, ap}
+use mathlib.Core.Bool.{Bool, true, false, not, _||_}
 use mathlib.Core.List.{List}
 use mathlib.Core.Option.{none, some}
-use Prim.Native.Nat.{ℕ, _≤_, _<_}
+use Prim.Native.Nat.{ℕ, _≤_, _<_, _+_}
 use native.Mathlib.Omega.{arith}
-use borrow.Author.Tests.{eq-eqb, ne-eqb, le-leb, lt-leb, eqb-false}
-use lib.Dec.{eqb}
-use lib.ListN.{length, getD}
-use Rattle.paper.specs.Basics.{_and_, _or_}
+use borrow.Author.Tests.{eq-eqb, ne-eqb, le-leb, lt-leb, eqb-false, ltb-true, ltb-false}
+use lib.Dec.{eqb, ltb}
+use lib.ListN.{length, getD, drop, drop-of-length-le}
+use lib.Seq.{drop-cons}
+use native.Mathlib.Numerals.{add-one}
+use Rattle.paper.specs.Basics.{_and_, _or_, any}
 use Rattle.paper.specs.Yard.{Crossing, named}
 use Rattle.paper.specs.Dependence.{depend, isDone, undoneBefore}
 use Rattle.paper.specs.Docket.{unknown, early, mismarked, badMarks}
 use Rattle.paper.specs.Answers.{accept, already, refuse, tell}
 use Rattle.paper.proofs.Tests.{by-cases, or-left, or-right, or-neither}
+use Rattle.paper.proofs.Fields.{and-false}
 use Rattle.marks.specs.Reading.{toldInOrder}
 
 -- a byte above 1 is neither 0 nor 1, and no other
@@ -29,18 +32,43 @@ odd-low m h =
     (λ e. ap not (or-left _ _ e))
     (λ e. ap not (or-right _ _ (eq-eqb m 1 (let n = eqb-false m 0 e in omega arith))))
 
+-- a mark was odd among those seen, or is one from place i on
+abbrev pub OddFrom : List ℕ → Bool → ℕ → Type 0
+OddFrom marks seen i = any odd marks ≡ seen or any odd (drop i marks)
+
+pub odd-start : (marks : List ℕ) → OddFrom marks false 0
+unfolding _or_
+odd-start marks = refl
+
+pub odd-on : (marks : List ℕ) (seen : Bool) (i : ℕ) → OddFrom marks seen i → i < length marks → OddFrom marks (seen || ltb 1 (getD marks i 0)) (i + 1)
+unfolding any _or_
+odd-on marks true i v h = v
+odd-on marks false i v h =
+    v ∙ rw (drop-cons marks i 0 h, add-one i)
+    (by-cases (ltb 1 (getD marks i 0))
+    (λ e. rw (e, odd-high (getD marks i 0) (ltb-true 1 (getD marks i 0) e)))
+    (λ e. rw (e, odd-low (getD marks i 0) (ltb-false 1 (getD marks i 0) e))))
+
+pub odd-end : (marks : List ℕ) (seen : Bool) (i : ℕ) → OddFrom marks seen i → length marks ≤ i → seen ≡ any odd marks
+unfolding any _or_
+odd-end marks true i v h = sym v
+odd-end marks false i v h = sym (v ∙ rw (drop-of-length-le marks h))
+
+and-true : (p : Bool) → p and true ≡ p
+unfolding _and_
+and-true true = refl
+and-true false = refl
+
 -- the earlier crossing e keeps the crossing x waiting
 abbrev pub waitsFor : List Crossing → List ℕ → Crossing → ℕ → Bool
 waitsFor xs marks x e = depend x (named xs e) and not (isDone marks e)
 
 module _ (xs : List Crossing) (marks : List ℕ) (x : Crossing) (e : ℕ) where
-  pub waits-undone : depend x (named xs e) ≡ true → not (isDone marks e) ≡ waitsFor xs marks x e
-  unfolding _and_
-  waits-undone d = rw d
+  pub waits-done : getD marks e 0 ≡ 1 → false ≡ waitsFor xs marks x e
+  waits-done d = sym (ap (λ v. depend x (named xs e) and not v) (eq-eqb _ _ d) ∙ and-false (depend x (named xs e)))
 
-  pub waits-free : depend x (named xs e) ≡ false → false ≡ waitsFor xs marks x e
-  unfolding _and_
-  waits-free d = rw d
+  pub waits-undone : (getD marks e 0 ≡ 1 → ⊥) → depend x (named xs e) ≡ waitsFor xs marks x e
+  waits-undone d = sym (ap (λ v. depend x (named xs e) and not v) (ne-eqb _ _ d) ∙ and-true (depend x (named xs e)))
 
 module _ (xs : List Crossing) (marks : List ℕ) (name : ℕ) where
   pub told-mismarked : badMarks xs marks ≡ true → refuse mismarked ≡ tell xs marks name

@@ -59,18 +59,17 @@ fn order_pass(plan: &[u64], marks: &[u8]) -> bool
     false
 }
 
-// Whether a mark is neither 0 nor 1.
+// Whether a mark is neither 0 nor 1. All marks are read, which is sooner done than asking at each of them.
 fn odd_mark(marks: &[u8]) -> bool
     ensures { λ r. ⌜ r ≡ any (λ m. not (eqb m 0 or eqb m 1)) (now (marks .entry)) ⌝ }
 {
+    let mut odd = false;
     let mut i = 0;
     while i < marks.len() {
-        if marks[i] > 1 {
-            return true;
-        }
+        odd = odd | (marks[i] > 1);
         i += 1;
     }
-    false
+    odd
 }
 
 // Whether the report is refused with 11.
@@ -112,15 +111,15 @@ enum Earlier {
     AllDone,
 }
 
-// Whether x depends on the crossing e and that is undone.
+// Whether x depends on the crossing e and that is undone. Most are done, so the mark is asked first.
 fn waits_for(plan: &[u64], marks: &[u8], x: Crossing, e: usize) -> bool
     requires { ⌜ (e < length (now plan)) × (length (now marks) ≡ length (now plan)) ⌝ }
     ensures { λ r. ⌜ r ≡ depend (crossingOf x) (named (crossings (now (plan .entry))) e) and not (isDone (now (marks .entry)) e) ⌝ }
 {
-    if depends(x, plans::crossing_at(plan, e)) {
-        return marks[e] != 1;
+    if marks[e] == 1 {
+        return false;
     }
-    false
+    depends(x, plans::crossing_at(plan, e))
 }
 
 // Of the crossings before `name`, the lowest that x depends on and that is undone: going up, the first that is found ends the search.

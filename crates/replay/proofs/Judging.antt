@@ -10,7 +10,8 @@ use Rattle.paper.specs.Basics.{elem}
 use Rattle.paper.specs.Yard.{Yard, Placement, Crossing, bayOf, legal}
 use Rattle.paper.proofs.Tests.{by-cases, not-both}
 use Rattle.paper.proofs.Playing.{Legal, legal-facts, legal-of}
-use Rattle.words.specs.Sets.{mem, memRow, span}
+use Rattle.paper.proofs.Marking.{flag}
+use Rattle.words.specs.Sets.{memRow, span}
 use Rattle.replay.specs.Playing.{Standing, Judged}
 
 pub not-legal : (Y : Yard) (at : Placement) (x : Crossing) → (Legal Y at x → ⊥) → false ≡ legal Y at x
@@ -37,13 +38,13 @@ module _ (table : List ℕ) (at : Placement) (occupied : List ℕ) (x : Crossing
     no-rail h =
         refused (λ Y s l. not-both (s .rails .same (x .from) (x .to) (s .rails .inside (x .from) (x .to) (l .rail) .0) ht ∙ l .rail) h)
 
-    pub by-the-set : memRow table (x .from) (x .to) ≡ true → (r : Bool) → r ≡ not (mem occupied (x .to)) → Judged table at occupied x r
-    by-the-set joins r e = record {
+    pub by-the-mark : memRow table (x .from) (x .to) ≡ true → (r : Bool) → r ≡ not (flag occupied (x .to)) → Judged table at occupied x r
+    by-the-mark joins r e = record {
       fits = λ t. (hc, hf, ht);
       right = λ Y s.
           let inside : x .from < Y .bays = rw stands at (s .inside (x .carrier) hc) in
           let row = s .rails .same (x .from) (x .to) inside ht in
-          let same : r ≡ not (elem (x .to) at) = e ∙ ap not (s .held (x .to) ht) in
+          let same : r ≡ not (elem (x .to) at) = e ∙ ap not (s .held .marks (x .to) ht) in
           by-cases (elem (x .to) at)
           (λ i. same ∙ ap not i ∙ not-legal Y at x (λ l. not-both i (l .free)))
           (λ o. same ∙ ap not o ∙ sym (legal-of Y at x (record { there = hc; stands = stands; rail = sym row ∙ joins; free = o })));

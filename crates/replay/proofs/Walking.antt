@@ -1,4 +1,4 @@
--- Why a plan can be played with a set of occupied bays beside the placement: a legal crossing takes one bay out of the set and puts one in,
+-- Why a plan can be played with a mark for each occupied bay beside the placement: a legal crossing takes one mark away and sets one,
 -- and what is left of the plan, played from where the carriers are now, decides.
 use mathlib.Core.Path.{_≡_, refl, sym, _∙_, ap}
 use mathlib.Core.Bool.{Bool, true, false, not}
@@ -9,18 +9,44 @@ use native.Mathlib.Omega.{arith}
 use native.Mathlib.Numerals.{add-one}
 use borrow.Author.Tests.{eqb-true, eqb-false, eq-eqb}
 use lib.Dec.{eqb}
-use lib.ListN.{length, getD, take, drop, length-set}
-use lib.Seq.{take-suc, take-length}
+use lib.ListN.{length, getD, take, drop, set, replicate, length-set, length-replicate, getD-replicate}
+use lib.Seq.{take-suc, take-length, getD-set-same, getD-set-other}
 use Rattle.paper.specs.Basics.{_and_, _or_, elem, In}
 use Rattle.paper.specs.Yard.{Yard, Bay, Carrier, Placement, Crossing, bayOf, carrierAt, move, after, legal, crossings, named}
 use Rattle.paper.specs.Docket.{firstIllegal}
 use Rattle.paper.proofs.Tests.{by-cases, never-some, or-right}
 use Rattle.paper.proofs.Playing.{Legal, legal-facts, bay-in, placeOf-there, placeOf-bay, move-self, move-other, move-apart, move-empties, move-out}
 use Rattle.plans.proofs.Rest.{rest-next, rest-none}
-use Rattle.words.specs.Sets.{mem}
+use Rattle.paper.proofs.Fields.{and-false}
+use Rattle.paper.proofs.Marking.{flag}
+use Rattle.words.specs.Sets.{span}
 use Rattle.replay.specs.Playing.{Standing, Occupied, Played}
 
--- The set: empty at first, one bay more with each carrier.
+or-false : (p : Bool) → p or false ≡ p
+unfolding _or_
+or-false true = refl
+or-false false = refl
+
+and-true : (p : Bool) → p and true ≡ p
+unfolding _and_
+and-true true = refl
+and-true false = refl
+
+-- A mark set, and a mark taken away.
+module _ (occupied : List ℕ) (x : Bay) (h : x < length occupied) (b : Bay) where
+  pub marked : flag (set occupied x 1) b ≡ flag occupied b or eqb b x
+  marked =
+      by-cases (eqb b x)
+      (λ e. rw (e, eqb-true b x e, getD-set-same occupied x 1 0 h) (sym (or-right (flag occupied x) true refl)))
+      (λ e. rw (e, getD-set-other occupied x b 1 0 (eqb-false b x e)) (sym (or-false (flag occupied b))))
+
+  pub unmarked : flag (set occupied x 0) b ≡ flag occupied b and not (eqb b x)
+  unmarked =
+      by-cases (eqb b x)
+      (λ e. rw (e, eqb-true b x e, getD-set-same occupied x 0 0 h) (sym (and-false (flag occupied x))))
+      (λ e. rw (e, getD-set-other occupied x b 0 0 (eqb-false b x e)) (sym (and-true (flag occupied b))))
+
+-- No bay is marked at first, one more with each carrier.
 elem-snoc : (b y : ℕ) (l : List ℕ) → elem b (l ++ (y ∷ [])) ≡ elem b l or eqb b y
 unfolding elem _or_
 elem-snoc b y [] = by-cases (eqb b y) (λ e. rw e) (λ e. rw e)
@@ -29,15 +55,18 @@ elem-snoc b y (z ∷ l) = by-cases (eqb b z) (λ e. rw e) (λ e. rw e (elem-snoc
 abbrev pub OccupiedTo : Placement → List ℕ → ℕ → Type 0
 OccupiedTo at occupied c = Occupied (take c at) occupied
 
-pub occupied-none : (at : Placement) (occupied : List ℕ) → ((b : ℕ) → mem occupied b ≡ false) → OccupiedTo at occupied 0
+pub none-occupied : Occupied [] (replicate span 0)
 unfolding elem
-occupied-none at occupied h b l = h b
+none-occupied = record { long = length-replicate {A = ℕ} span 0; marks = λ b h. ap (λ v. eqb v 1) (getD-replicate span b 0 0 h) }
 
-pub occupied-more : (at : Placement) (occupied occupied′ : List ℕ) (c : ℕ) → c < length at
-    → ((b : ℕ) → mem occupied′ b ≡ mem occupied b or eqb b (getD at c 0))
-    → OccupiedTo at occupied c → OccupiedTo at occupied′ (c + 1)
-occupied-more at occupied occupied′ c h more o b l =
-    rw (add-one c, take-suc at c 0 h, elem-snoc b (getD at c 0) (take c at)) (more b ∙ ap (λ v. v or eqb b (getD at c 0)) (o b l))
+pub occupied-more : (at : Placement) (occupied : List ℕ) (c : ℕ) → c < length at → getD at c 0 < span
+    → OccupiedTo at occupied c → OccupiedTo at (set occupied (getD at c 0) 1) (c + 1)
+occupied-more at occupied c h k o = record {
+  long = length-set occupied (getD at c 0) 1 ∙ o .long;
+  marks = λ b l.
+      rw (add-one c, take-suc at c 0 h, elem-snoc b (getD at c 0) (take c at))
+      (marked occupied (getD at c 0) (rw (o .long) k) b ∙ ap (λ v. v or eqb b (getD at c 0)) (o .marks b l));
+}
 
 pub occupied-all : (at : Placement) (occupied : List ℕ) (c : ℕ) → c ≤ length at → length at ≤ c → OccupiedTo at occupied c → Occupied at occupied
 occupied-all at occupied c l h o =
@@ -45,7 +74,7 @@ occupied-all at occupied c l h o =
     let whole : take c at ≡ at = ap (λ k. take k at) e ∙ take-length at in
     rw whole at o
 
--- A legal crossing: its bay to comes into the set, its bay from goes out, every other stays.
+-- A legal crossing: its bay to is occupied, its bay from no more, every other as it was.
 module _ (Y : Yard) (at : Placement) (x : Crossing) (l : Legal Y at x) where
   into : In (x .to) (move at x)
   into = rw (move-self Y at x l) at (bay-in (move at x) (x .carrier) (rw length-set (l .there)))
@@ -89,12 +118,10 @@ module _ (Y : Yard) (table : List ℕ) (at₀ : Placement) (plan : List ℕ) (at
     next : drop i (crossings plan) ≡ x ∷ drop (suc i) (crossings plan)
     next = rw is (rest-next plan i more)
 
-    pub walked-on : legal Y at x ≡ true → (occupied′ occupied″ : List ℕ)
-        → ((b : ℕ) → mem occupied′ b ≡ mem occupied b and not (eqb b (x .from)))
-        → ((b : ℕ) → mem occupied″ b ≡ mem occupied′ b or eqb b (x .to))
-        → Walked Y table at₀ plan (move at x) occupied″ (i + 1)
+    pub walked-on : legal Y at x ≡ true → x .from < span → x .to < span
+        → Walked Y table at₀ plan (move at x) (set (set occupied (x .from) 0) (x .to) 1) (i + 1)
     unfolding firstIllegal after
-    walked-on t occupied′ occupied″ out back =
+    walked-on t hf ht =
         let l = legal-facts Y at x t in
         let s = w .stands in
         record {
@@ -105,9 +132,13 @@ module _ (Y : Yard) (table : List ℕ) (at₀ : Placement) (plan : List ℕ) (at
             inside = λ c k. by-cases (eqb c (x .carrier))
                 (λ e. rw (eqb-true c (x .carrier) e, move-self Y at x l) (s .rails .inside (x .from) (x .to) (l .rail) .1))
                 (λ e. rw (move-other Y at x l c e) (s .inside c (rw length-set at k)));
-            held = λ b k.
-                back b ∙ ap (λ v. v or eqb b (x .to)) (out b ∙ ap (λ v. v and not (eqb b (x .from))) (s .held b k))
-                ∙ moved-set Y at x l (s .apart) b;
+            held = record {
+              long = length-set (set occupied (x .from) 0) (x .to) 1 ∙ length-set occupied (x .from) 0 ∙ s .held .long;
+              marks = λ b k.
+                  marked (set occupied (x .from) 0) (x .to) (rw (length-set, s .held .long) ht) b
+                  ∙ ap (λ v. v or eqb b (x .to)) (unmarked occupied (x .from) (rw (s .held .long) hf) b ∙ ap (λ v. v and not (eqb b (x .from))) (s .held .marks b k))
+                  ∙ moved-set Y at x l (s .apart) b;
+            };
           };
           decides = w .decides ∙ ap (firstIllegal Y at i) next ∙ rw (t, add-one i);
           moved = w .moved ∙ ap (after at) next ∙ rw (add-one i);

@@ -10,18 +10,20 @@ use Rattle.paper.specs.Basics.{elem}
 use Rattle.paper.specs.Yard.{Yard, Bay, Carrier, Placement, Crossing, bayOf, after, legal}
 use Rattle.paper.specs.Docket.{firstIllegal}
 use Rattle.paper.proofs.Playing.{Apart}
-use Rattle.words.specs.Sets.{mem, span}
+use Rattle.paper.proofs.Marking.{flag}
+use Rattle.words.specs.Sets.{span}
 use Rattle.yard.specs.Table.{Table}
 use Rattle.replay.specs.declared.Legality.{Legality}
 use Rattle.replay.specs.declared.Legality.the-variants.{Legal, Illegal}
 use Rattle.replay.specs.declared.Away.{Away}
 use Rattle.replay.specs.declared.Away.the-variants.{Nobody, Lowest}
 
--- the set holds the bays of the placement, and no other
-abbrev pub Occupied : Placement → List ℕ → Type 0
-Occupied at occupied = (b : Bay) → b < span → mem occupied b ≡ elem b at
+-- a place for each bay; the bays of the placement are marked by 1, and no other
+pub record Occupied (at : Placement) (occupied : List ℕ) : Type 0 where
+  pub long : length occupied ≡ span
+  pub marks : (b : Bay) → b < span → flag occupied b ≡ elem b at
 
--- The table is the yard's, the placement has its carriers at bays of the yard, one to a bay, and the set is the placement's.
+-- The table is the yard's, the placement has its carriers at bays of the yard, one to a bay, and the marks are the placement's.
 pub record Standing (Y : Yard) (table : List ℕ) (at : Placement) (occupied : List ℕ) : Type 0 where
   pub rails : Table Y (Y .bays) table
   pub few : Y .bays ≤ span
@@ -29,7 +31,7 @@ pub record Standing (Y : Yard) (table : List ℕ) (at : Placement) (occupied : L
   pub inside : (c : Carrier) → c < length at → bayOf at c < Y .bays
   pub held : Occupied at occupied
 
--- whether a crossing is legal; what passes has its places in the table, the set and the placement
+-- whether a crossing is legal; what passes has its places in the table, the marks and the placement
 pub record Judged (table : List ℕ) (at : Placement) (occupied : List ℕ) (x : Crossing) (r : Bool) : Type 0 where
   pub fits : r ≡ true → (x .carrier < length at) × (x .from < span) × (x .to < span)
   pub right : (Y : Yard) → Standing Y table at occupied → r ≡ legal Y at x
@@ -39,7 +41,7 @@ pub record Played (Y : Yard) (at : Placement) (xs : List Crossing) (found : Opti
   pub first : found ≡ firstIllegal Y at 0 xs
   pub moved : found ≡ none → at′ ≡ after at xs
 
--- the same for every yard whose table, placement and set these are
+-- the same for every yard whose table, placement and marks these are
 abbrev pub PlayedFrom : List ℕ → Placement → List ℕ → List Crossing → Option ℕ → Placement → Type 0
 PlayedFrom table at occupied xs found at′ = (Y : Yard) → Standing Y table at occupied → Played Y at xs found at′
 

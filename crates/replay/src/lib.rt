@@ -1,6 +1,8 @@
 // A lent plan played from a placement, crossing by crossing, each tested in constant time: the table of joined bays for the rail,
-// the set of occupied bays for the bay that it enters, the placement for the rest.
+// a mark for each occupied bay for the bay that it enters, the placement for the rest. Each bay has a byte of its own, so that no crossing
+// waits for the one before it, as it would where many bays share a word.
 ghost use mathlib.Core.Path.{_≡_};
+ghost use mathlib.Core.List.{[]};
 ghost use Prim.Native.Nat.{ℕ, _≤_, _<_};
 ghost use lib.ListN.{length, getD};
 ghost use Rattle.paper.specs.Yard.{crossings};
@@ -11,11 +13,10 @@ ghost use Rattle.replay.specs.Playing.{Occupied, Judged, PlayedFrom, leg
 use docket::Carrier;
 use docket::Crossing;
 use words::SPAN;
-use words::WORDS;
 use yard::Yard;
 
 // Whether a crossing is legal at the placement.
-fn is_legal(table: &[u64; Yard::TABLE], at: &[u16], occupied: &[u64; WORDS], x: Crossing) -> bool
+fn is_legal(table: &[u64; Yard::TABLE], at: &[u16], occupied: &[u8; SPAN], x: Crossing) -> bool
     ensures { λ r. ⌜ Judged (now (table .entry)) (now (at .entry)) (now (occupied .entry)) (crossingOf x) r ⌝ }
 {
     let carrier = x.carrier.0 as usize;
@@ -36,7 +37,7 @@ fn is_legal(table: &[u64; Yard::TABLE], at: &[u16], occupied: &[u64; WORDS], x: 
     if !words::is_in(table, from * SPAN + to) {
         return false;
     }
-    !words::is_in(occupied, to)
+    occupied[to] != 1
 }
 
 // Whether all crossings of a plan are legal in their turn, or the name of the first that is not.
@@ -49,7 +50,7 @@ pub enum Legality {
 pub fn play(
     table: &[u64; Yard::TABLE],
     at: &mut [u16],
-    occupied: &mut [u64; WORDS],
+    occupied: &mut [u8; SPAN],
     plan: &[u64],
 ) -> Legality
     ensures { λ r. ⌜ PlayedFrom (now (table .entry)) (now (at .entry)) (now (occupied .entry)) (crossings (now (plan .entry))) (legalityOf r) (now (at .exit)) ⌝ }
@@ -64,22 +65,22 @@ pub fn play(
         let from = x.from.0 as usize;
         let to = x.to.0 as usize;
         at[carrier] = x.to.0;
-        words::remove(occupied, from);
-        words::add(occupied, to);
+        occupied[from] = 0;
+        occupied[to] = 1;
         i += 1;
     }
     Legality::Legal
 }
 
-// The set of the bays of a placement.
-pub fn occupy(at: &[u16], occupied: &mut [u64; WORDS])
-    requires { ⌜ ((c : ℕ) → c < length (now at) → getD (now at) c 0 < span) ⌝ }
+// The marks of the bays of a placement, where none is marked yet.
+pub fn occupy(at: &[u16], occupied: &mut [u8; SPAN])
+    requires { ⌜ ((c : ℕ) → c < length (now at) → getD (now at) c 0 < span) × Occupied [] (now occupied) ⌝ }
     ensures { λ _. ⌜ Occupied (now (at .entry)) (now (occupied .exit)) ⌝ }
 {
-    words::clear(occupied);
     let mut c = 0;
     while c < at.len() {
-        words::add(occupied, at[c] as usize);
+        let b = at[c] as usize;
+        occupied[b] = 1;
         c += 1;
     }
 }

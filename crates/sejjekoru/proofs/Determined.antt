@@ -1,15 +1,19 @@
 -- Any two pairs of numbers that a statement allows are equal, and so is what is left in the lent list.
 -- Assumes nothing.
 use mathlib.Core.Path.{sym, _∙_}
+use mathlib.Core.Bool.{Bool}
 use mathlib.Core.List.{List}
+use mathlib.Core.Option.{Option}
 use Prim.Native.Nat.{ℕ}
 use Rattle.paper.specs.Yard.{Bay, Placement}
+use Rattle.paper.specs.Text.{Text}
 use Rattle.paper.proofs.Determined.{Determined}
 use Rattle.bills.specs.declared.Line.{Line}
 use Rattle.bills.specs.declared.Record.{Record}
 use Rattle.sejjekoru.specs.Bills.{OpenTells, AgreesTells, ReportBilledTells}
 use Rattle.sejjekoru.specs.Reverse.{ReverseTells}
-use Rattle.sejjekoru.specs.ByEdition.{SlotsOfTell}
+use Rattle.sejjekoru.specs.ByEdition.{SlotsOfTell, TimedTells}
+use Rattle.sejjekoru.specs.Surveys.{ReadSurveyTells, WriteSurveyTells}
 use Rattle.numbers.specs.Tells.{Tells}
 use Rattle.sejjekoru.specs.Statements.{TellsAndLeaves, PlanTells, CheckTells, SlotsTell, ReportTells, ShortenTells}
 
@@ -71,3 +75,18 @@ module _ (n : ℕ) (ends : List Bay) (starts goals : Placement) where
 
 pub reverse-determined : (list out : List ℕ) → Determined (Paired (ReverseTells list out))
 reverse-determined list out = left-determined
+
+pub timed-determined : (edition : ℕ) (mapFile scenarioFile : Option Text) (short : Bool) (out : List ℕ)
+    → Determined (Paired (TimedTells edition mapFile scenarioFile short out))
+timed-determined edition mapFile scenarioFile short out = left-determined
+
+-- the bays are told too
+pub read-survey-determined : (file : Text) (before : List ℕ)
+    → Determined (λ (a : ℕ × ℕ × ℕ) (l : List ℕ). ReadSurveyTells file before (a .0) (a .1) (a .2) l)
+read-survey-determined file before a a′ l l′ s t =
+    let same = tells-determined (a .0) (a′ .0) (a .1) (a′ .1) (s .tells) (t .tells) in
+    let bays = s .counted ∙ sym (t .counted) in
+    (λ i. (same .0 i, same .1 i, bays i), s .leaves ∙ sym (t .leaves))
+
+pub write-survey-determined : (n : ℕ) (ends : List Bay) (before : List ℕ) → Determined (Paired (WriteSurveyTells n ends before))
+write-survey-determined n ends before = left-determined

@@ -94,15 +94,18 @@ fn step_to(
     let bay = w.0 as usize;
     if words::is_in(empty, bay) {
         let own = r.0 as usize;
-        let u = Bay(placement[own]);
+        let here = placement[own];
+        let u = Bay(here);
         return Tried::Done(bring::cross(placement, standing, empty, u, w, out, at));
     }
     let s = standing[bay];
-    if (s as usize) < finished {
+    let there = s as usize;
+    if there < finished {
+        let carrier = s as u32;
         return swap::swap(
             table,
             r,
-            Carrier(s as u32),
+            Carrier(carrier),
             placement,
             standing,
             empty,
@@ -112,7 +115,8 @@ fn step_to(
     }
     let beside = choice::common(table, table, bay, empty, 0);
     if beside < words::SPAN {
-        let e = Bay(beside as u16);
+        let number = beside as u16;
+        let e = Bay(number);
         return step_aside(
             table,
             finished,

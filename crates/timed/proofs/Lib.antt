@@ -1,2 +1,4 @@
 pub mod Printing
 pub mod Readying
+pub mod Back
+pub mod Determined

@@ -3,3 +3,4 @@ pub mod Lowest
 pub mod Rolling
 pub mod Trains
 pub mod OnePass
+pub mod Printing

@@ -11,6 +11,12 @@ use Rattle.paper.specs.Yard.{Bay, Carrier, Crossing}
 abbrev pub Timed : Type 0
 Timed = Crossing × ℕ
 
+-- the crossings, each with its slot
+unfoldable pub withSlots : List ℕ → List Crossing → List Timed
+withSlots [] xs = []
+withSlots (s ∷ ss) [] = []
+withSlots (s ∷ ss) (x ∷ xs) = (x, s) ∷ withSlots ss xs
+
 -- Earlier crossings are held with the latest first. The slot of the latest one that passes the test, or 0.
 unfoldable pub latest : (Crossing → Bool) → List Timed → ℕ
 latest test [] = zero

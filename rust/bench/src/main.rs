@@ -21,6 +21,7 @@ fn main() {
         Some("compare") => return compare::tables(),
         Some("reversing") => return reversing::table(),
         Some("trains") => return trains::tables(),
+        Some("reports") => return reports::tables(),
         _ => {}
     }
     plans::tables();

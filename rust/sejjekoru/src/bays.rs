@@ -78,6 +78,21 @@ impl Bay {
     }
 }
 
+impl Carrier {
+    /// Its place in placements and in the account lines, which are in the order of the carriers.
+    ///
+    /// ```
+    /// use sejjekoru::{Bay, Carrier, Yard};
+    ///
+    /// let yard = Yard::new(4, &[0, 1, 1, 2, 1, 3], &[1, 0], &[0, 1]);
+    /// assert_eq!(yard.start[Carrier(1).place()], Bay(0));
+    /// ```
+    #[must_use]
+    pub const fn place(self) -> usize {
+        self.0 as usize
+    }
+}
+
 impl From<u16> for Bay {
     fn from(number: u16) -> Self {
         Bay(number)

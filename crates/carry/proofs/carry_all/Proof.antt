@@ -29,8 +29,8 @@ abbrev μ-loop : tie.MeasureT-loop
 loop-holds : tie.Need-loop-holds Inv-loop μ-loop
 loop-holds c = (omega arith, omega arith, refl, refl, refl, refl, record { home = λ i h. absurd (omega arith) }, λ t. served-none _ _ _ _ _ _ _ (c .before .before .before .before .before .before .before .before .pre .0 .placed), refl, c .before .before .before .before .before .before .before .before .pre .1 .4)
 
-cast-t16 : tie.Need-cast-t16 Inv-loop μ-loop
-cast-t16 c =
+cast-number : tie.Need-cast-number Inv-loop μ-loop
+cast-number c =
     let p = c .before .before .before .before .before .before .before .before .before .before .pre .0 in
     let z = c .before .before .before .before .before .before .before .before .before .before .pre .1 in
     omega (arith, c .loop-test .taken, z .0 .many, p .placed .few, p .most)
@@ -144,7 +144,7 @@ carry-all-spec =
     Inv-loop
     μ-loop
     loop-holds
-    cast-t16
+    cast-number
     carry-requires
     enum-known-carried
     enum-told

@@ -1,9 +1,10 @@
--- `checker::check_crossings` meets its contract. The plan is played from the start with the start's own set of bays; proofs/NineTen has what that decides.
+-- `checker::check_crossings` meets its contract. The plan is played from the start with the marks of the start's own bays; proofs/NineTen has what that decides.
 -- Assumes nothing.
 use borrow.Author.Needs.{needs}
 use denote.Ref.{now}
 use Rattle.paper.specs.Yard.{crossings}
 use Rattle.replay.specs.Playing.{legalityOf}
+use Rattle.replay.proofs.Walking.{none-occupied}
 use Rattle.checker.specs.Reading.{checkedOf}
 use Rattle.checker.proofs.NineTen.{nine-ten}
 use Rattle.checker.proofs.check_crossings.Statement.{statement}
@@ -13,7 +14,7 @@ place-requires : tie.Need-place-requires
 place-requires c κs = search needs
 
 occupy-requires : tie.Need-occupy-requires
-occupy-requires c κs = search needs
+occupy-requires c κs = (search needs, none-occupied)
 
 play-requires : tie.Need-play-requires
 play-requires c κs = search needs

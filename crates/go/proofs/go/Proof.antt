@@ -18,14 +18,14 @@ use Rattle.go.proofs.go.Statement.{statement}
 use Rattle.go.proofs.go.Tie as tie
 
 abbrev Inv-loop : tie.InvT-loop
-Inv-loop table ahead r placement₀ standing₀ empty₀ settled₀ out₀ at finished i₀ placement standing empty settled out count i =
+Inv-loop table ahead r placement₀ standing₀ empty₀ settled₀ out₀ finished at i₀ placement standing empty settled out count i =
     (i ≤ length ahead) × (count .crossings ≤ at .crossings + 150000 * i) × (length placement ≡ length placement₀) × (length standing ≡ length standing₀) × (length empty ≡ length empty₀) × (length out ≡ length out₀)
     × Linked (length standing₀) table (getD placement (r .0) 0) (drop i ahead)
     × ((t : Tabled (length standing₀) table) (goals : List ℕ) → Going (t .yard) goals (r .0) ahead (length standing₀) placement₀ out₀ at i placement standing empty out count)
     × (length settled ≡ length settled₀) × BaysBelow (r .0) placement settled
 
 abbrev μ-loop : tie.MeasureT-loop
-μ-loop table ahead r placement₀ standing₀ empty₀ settled₀ out₀ at finished i₀ placement standing empty settled out count i =
+μ-loop table ahead r placement₀ standing₀ empty₀ settled₀ out₀ finished at i₀ placement standing empty settled out count i =
     length ahead - i
 
 cast-finished : tie.Need-cast-finished Inv-loop μ-loop

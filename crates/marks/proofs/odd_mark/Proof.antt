@@ -1,32 +1,25 @@
--- `marks::odd_mark` meets its contract. What is left to look at decides.
+-- `marks::odd_mark` meets its contract. What was seen and what is left to look at decide.
 -- Assumes nothing.
-use mathlib.Core.Path.{refl}
 use Prim.Native.Nat.{_≤_, _-_}
 use native.Mathlib.Omega.{arith}
 use borrow.Author.Needs.{needs}
 use denote.Ref.{now}
 use lib.ListN.{length}
-use Rattle.plans.proofs.Searching.{AnyFrom, any-hit, any-miss, any-end}
-use Rattle.marks.proofs.Telling.{odd, odd-high, odd-low}
+use Rattle.marks.proofs.Telling.{OddFrom, odd-start, odd-on, odd-end}
 use Rattle.marks.proofs.odd_mark.Statement.{statement}
 use Rattle.marks.proofs.odd_mark.Tie as tie
 
 abbrev Inv-loop : tie.InvT-loop
-Inv-loop marks i₀ i = (i ≤ length marks) × AnyFrom odd marks i
+Inv-loop marks odd₀ i₀ odd i = (i ≤ length marks) × OddFrom marks odd i
 
 abbrev μ-loop : tie.MeasureT-loop
-μ-loop marks i₀ i = length marks - i
+μ-loop marks odd₀ i₀ odd i = length marks - i
 
 loop-holds : tie.Need-loop-holds Inv-loop μ-loop
-loop-holds c = (omega arith, refl)
+loop-holds c = (omega arith, odd-start (now (c .args .marks)))
 
-shared-slice-read-if1 : tie.Need-shared-slice-read-if1 Inv-loop μ-loop
-shared-slice-read-if1 c = search needs
-
-returns : tie.Need-returns Inv-loop μ-loop
-returns c =
-    let t = c .before .before .before .loop in
-    any-hit odd (now (c .before .before .before .before .args .marks)) (t .i) (t .inv .1) (c .before .before .loop-test .taken) (odd-high _ (c .if1 .taken))
+shared-slice-read-odd : tie.Need-shared-slice-read-odd Inv-loop μ-loop
+shared-slice-read-odd c = search needs
 
 add-i : tie.Need-add-i Inv-loop μ-loop
 add-i c = search needs
@@ -36,11 +29,11 @@ loop-less c = search needs
 
 loop-again : tie.Need-loop-again Inv-loop μ-loop
 loop-again c =
-    let t = c .before .before .before .loop in
-    (search needs, any-miss odd (now (c .before .before .before .before .args .marks)) (t .i) (t .inv .1) (c .before .before .loop-test .taken) (odd-low _ (c .if1 .left)))
+    let t = c .before .before .loop in
+    (search needs, odd-on (now (c .before .before .before .args .marks)) (t .odd) (t .i) (t .inv .1) (c .before .loop-test .taken))
 
-returns-2 : tie.Need-returns-2 Inv-loop μ-loop
-returns-2 c = any-end odd (now (c .before .before .args .marks)) (c .before .loop .i) (c .before .loop .inv .1) (c .loop-test .left)
+returns : tie.Need-returns Inv-loop μ-loop
+returns c = let t = c .before .loop in odd-end (now (c .before .before .args .marks)) (t .odd) (t .i) (t .inv .1) (c .loop-test .left)
 
 pub odd-mark-spec : {M : Type 1} → statement M
 odd-mark-spec =
@@ -49,9 +42,8 @@ odd-mark-spec =
     Inv-loop
     μ-loop
     loop-holds
-    shared-slice-read-if1
-    returns
+    shared-slice-read-odd
     add-i
     loop-less
     loop-again
-    returns-2)
+    returns)

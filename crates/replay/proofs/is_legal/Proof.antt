@@ -1,12 +1,11 @@
 -- `replay::is_legal` meets its contract. Each way out is one law of proofs/Judging.
 -- Assumes nothing.
-use mathlib.Core.Path.{sym, _∙_, ap}
-use mathlib.Core.Bool.{not}
+use mathlib.Core.Path.{refl, sym, _∙_}
 use borrow.Author.Needs.{needs}
 use borrow.Author.Tests.{not-true, not-false}
 use denote.Ref.{now}
 use Rattle.docket.specs.Reading.{crossingOf}
-use Rattle.replay.proofs.Judging.{nobody-there, stands-elsewhere, from-outside, to-outside, no-rail, by-the-set}
+use Rattle.replay.proofs.Judging.{nobody-there, stands-elsewhere, from-outside, to-outside, no-rail, by-the-mark}
 use Rattle.replay.proofs.is_legal.Statement.{statement}
 use Rattle.replay.proofs.is_legal.Tie as tie
 
@@ -51,14 +50,14 @@ returns-5 c =
     let s = c .before .before .before .before .before .before .before .before .before .before .before .before .before in
     no-rail (now (s .args .table)) (now (s .args .at)) (now (s .args .occupied)) (crossingOf (s .args .x)) (c .before .before .before .before .before .before .before .before .before .before .if1 .left) (c .before .before .before .before .before .before .before .if2 .left) (c .before .before .before .before .if3 .left) (c .before .before .before .if4 .left) (sym (c .before .is-in .ensures) ∙ not-true _ (c .if5 .taken))
 
-is-in-requires-2 : tie.Need-is-in-requires-2
-is-in-requires-2 c κs = search needs
+element-copy-out-result : tie.Need-element-copy-out-result
+element-copy-out-result c = search needs
 
 returns-6 : tie.Need-returns-6
 returns-6 c =
-    let s = c .before .before .before .before .before .before .before .before .before .before .before .before .before .before .before in
-    by-the-set (now (s .args .table)) (now (s .args .at)) (now (s .args .occupied)) (crossingOf (s .args .x)) (c .before .before .before .before .before .before .before .before .before .before .before .before .if1 .left) (c .before .before .before .before .before .before .before .before .before .if2 .left) (c .before .before .before .before .before .before .if3 .left) (c .before .before .before .before .before .if4 .left) (sym (c .before .before .before .is-in .ensures) ∙ not-false _ (c .before .before .if5 .left))
-    (not (c .is-in2 .result)) (ap not (c .is-in2 .ensures))
+    let s = c .before .before .before .before .before .before .before .before .before .before .before .before .before .before in
+    by-the-mark (now (s .args .table)) (now (s .args .at)) (now (s .args .occupied)) (crossingOf (s .args .x)) (c .before .before .before .before .before .before .before .before .before .before .before .if1 .left) (c .before .before .before .before .before .before .before .before .if2 .left) (c .before .before .before .before .before .if3 .left) (c .before .before .before .before .if4 .left) (sym (c .before .before .is-in .ensures) ∙ not-false _ (c .before .if5 .left))
+    _ refl
 
 pub is-legal-spec : {M : Type 1} → statement M
 is-legal-spec =
@@ -77,5 +76,5 @@ is-legal-spec =
     add-is-in
     is-in-requires
     returns-5
-    is-in-requires-2
+    element-copy-out-result
     returns-6)

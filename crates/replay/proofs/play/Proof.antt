@@ -1,13 +1,14 @@
--- `replay::play` meets its contract. The walk of proofs/Walking; what the test of a crossing passes has its places in the placement and in the set.
+-- `replay::play` meets its contract. The walk of proofs/Walking; what the test of a crossing passes has its places in the placement and in the marks.
 -- Assumes nothing.
 use mathlib.Core.Path.{_≡_, refl, sym, _∙_}
-use Prim.Native.Nat.{_≤_, _-_}
+use Prim.Native.Nat.{_≤_, _<_, _-_}
 use native.Mathlib.Omega.{arith}
 use borrow.Author.Needs.{needs}
 use borrow.Author.Tests.{not-true, not-false}
 use denote.Ref.{now}
 use lib.ListN.{length, length-set}
 use Rattle.paper.specs.Yard.{Yard}
+use Rattle.words.specs.Sets.{span}
 use Rattle.docket.specs.Reading.{crossingOf}
 use Rattle.replay.specs.Playing.{Standing}
 use Rattle.replay.proofs.Walking.{Walked, walked-start, walked-on, walked-illegal, walked-end}
@@ -15,7 +16,8 @@ use Rattle.replay.proofs.play.Statement.{statement}
 use Rattle.replay.proofs.play.Tie as tie
 
 abbrev Inv-loop : tie.InvT-loop
-Inv-loop table at₀ occupied₀ plan i₀ at occupied i = (i ≤ length plan) × (length at ≡ length at₀) × ((Y : Yard) → Standing Y table at₀ occupied₀ → Walked Y table at₀ plan at occupied i)
+Inv-loop table at₀ occupied₀ plan i₀ at occupied i =
+    (i ≤ length plan) × (length at ≡ length at₀) × ((Y : Yard) → Standing Y table at₀ occupied₀ → Walked Y table at₀ plan at occupied i)
 
 abbrev μ-loop : tie.MeasureT-loop
 μ-loop table at₀ occupied₀ plan i₀ at occupied i = length plan - i
@@ -48,32 +50,40 @@ cast-from c = search needs
 cast-to : tie.Need-cast-to Inv-loop μ-loop
 cast-to c = search needs
 
+-- what the test of the crossing at hand passes
+passes : (c : tie.After-struct-known3 Inv-loop μ-loop) → let x = crossingOf (c .before .before .before .before .before .before .before .crossing-at .result) in
+    (x .carrier < length (c .before .before .before .before .before .before .before .before .before .loop .at)) × (x .from < span) × (x .to < span)
+passes c = c .before .before .before .before .is-legal .ensures .fits (not-false _ (c .before .before .before .if1 .left))
+
 mul-at : tie.Need-mul-at Inv-loop μ-loop
-mul-at c = omega (arith, c .before .before .before .before .is-legal .ensures .fits (not-false _ (c .before .before .before .if1 .left)))
+mul-at c = omega (arith, passes c)
 
 slice-write-at : tie.Need-slice-write-at Inv-loop μ-loop
-slice-write-at c = c .before .before .before .before .is-legal .ensures .fits (not-false _ (c .before .before .before .if1 .left)) .0
+slice-write-at c = passes c .0
 
-remove-requires : tie.Need-remove-requires Inv-loop μ-loop
-remove-requires c κs = omega (arith, c .before .before .before .before .before .is-legal .ensures .fits (not-false _ (c .before .before .before .before .if1 .left)))
+element-write-occupied : tie.Need-element-write-occupied Inv-loop μ-loop
+element-write-occupied c = passes c .1
 
-add-requires : tie.Need-add-requires Inv-loop μ-loop
-add-requires c κs = omega (arith, c .before .before .before .before .before .before .before .is-legal .ensures .fits (not-false _ (c .before .before .before .before .before .before .if1 .left)))
+element-write-occupied-2 : tie.Need-element-write-occupied-2 Inv-loop μ-loop
+element-write-occupied-2 c = passes c .2
 
 add-i : tie.Need-add-i Inv-loop μ-loop
-add-i c = omega (arith, c .before .before .before .before .before .before .before .before .before .before .before .before .loop-test .taken, c .before .before .before .before .before .before .before .before .before .before .before .before .before .before .before .before .good)
+add-i c = search needs
 
 loop-less : tie.Need-loop-less Inv-loop μ-loop
 loop-less c = search needs
 
 loop-again : tie.Need-loop-again Inv-loop μ-loop
 loop-again c =
-    let s = c .before .before .before .before .before .before .before .before .before .before .before .before .before .before .before .before in
-    let t = c .before .before .before .before .before .before .before .before .before .before .before .before .before .loop in (
-      omega (arith, c .before .before .before .before .before .before .before .before .before .before .before .before .loop-test .taken),
-      length-set (t .at) (crossingOf (c .before .before .before .before .before .before .before .before .before .before .before .crossing-at .result) .carrier) (crossingOf (c .before .before .before .before .before .before .before .before .before .before .before .crossing-at .result) .to) ∙ t .inv .1,
-      λ Y p. walked-on Y (now (s .args .table)) (now (s .args .at)) (now (s .args .plan)) (t .at) (t .occupied) (t .i) (t .inv .2 Y p) (c .before .before .before .before .before .before .before .before .before .before .before .before .loop-test .taken) (crossingOf (c .before .before .before .before .before .before .before .before .before .before .before .crossing-at .result)) (c .before .before .before .before .before .before .before .before .before .before .before .crossing-at .ensures)
-          (sym (c .before .before .before .before .before .before .before .before .is-legal .ensures .right Y (t .inv .2 Y p .stands)) ∙ not-false _ (c .before .before .before .before .before .before .before .if1 .left)) _ _ (c .before .before .remove .ensures) (c .add .ensures),
+    let s = c .before .before .before .before .before .before .before .before .before .before .before .before in
+    let t = c .before .before .before .before .before .before .before .before .before .loop in
+    let more = c .before .before .before .before .before .before .before .before .loop-test .taken in
+    let k = c .before .before .before .before .before .before .before .crossing-at in
+    let x = crossingOf (k .result) in (
+      omega (arith, more),
+      length-set (t .at) (x .carrier) (x .to) ∙ t .inv .1,
+      λ Y p. walked-on Y (now (s .args .table)) (now (s .args .at)) (now (s .args .plan)) (t .at) (t .occupied) (t .i) (t .inv .2 Y p) more x (k .ensures)
+          (sym (c .before .before .before .before .is-legal .ensures .right Y (t .inv .2 Y p .stands)) ∙ not-false _ (c .before .before .before .if1 .left)) (passes c .1) (passes c .2),
     )
 
 same-length-2 : tie.Need-same-length-2 Inv-loop μ-loop
@@ -101,8 +111,8 @@ play-spec =
     cast-to
     mul-at
     slice-write-at
-    remove-requires
-    add-requires
+    element-write-occupied
+    element-write-occupied-2
     add-i
     loop-less
     loop-again

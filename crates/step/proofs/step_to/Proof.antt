@@ -20,11 +20,11 @@ is-in-requires c κs = search needs
 cast-own : tie.Need-cast-own
 cast-own c = search needs
 
-mul-t20 : tie.Need-mul-t20
-mul-t20 c = search needs
+mul-here : tie.Need-mul-here
+mul-here c = search needs
 
-slice-read-t22 : tie.Need-slice-read-t22
-slice-read-t22 c = search needs
+slice-read-here : tie.Need-slice-read-here
+slice-read-here c = search needs
 
 cross-requires : tie.Need-cross-requires
 cross-requires c κs =
@@ -69,11 +69,11 @@ mul-s c = search needs
 slice-read-s : tie.Need-slice-read-s
 slice-read-s c = search needs
 
-cast-if2 : tie.Need-cast-if2
-cast-if2 c = omega (arith, c .slice-known10 .given (c .before .before .before .before .before .before .before .before .before .before .before .args .w .0))
+cast-there : tie.Need-cast-there
+cast-there c = omega (arith, c .slice-known10 .given (c .before .before .before .before .before .before .before .before .before .before .before .args .w .0))
 
-cast-t35 : tie.Need-cast-t35
-cast-t35 c = search needs
+cast-carrier : tie.Need-cast-carrier
+cast-carrier c = search needs
 
 swap-requires : tie.Need-swap-requires
 swap-requires c κs =
@@ -118,8 +118,8 @@ common-requires c κs =
     let z = c .before .before .before .before .before .before .before .before .before .before .before .before .before .pre .1 in
     (omega (arith, p .table-size, z .2), omega (arith, p .empty-size), λ b h i. table-rowed (p .tabled .joins) (p .most) _ (z .2) (p .table-size) b h (and-left _ _ i))
 
-cast-t47 : tie.Need-cast-t47
-cast-t47 c = search needs
+cast-number : tie.Need-cast-number
+cast-number c = search needs
 
 step-aside-requires : tie.Need-step-aside-requires
 step-aside-requires c κs =
@@ -167,8 +167,8 @@ step-to-spec =
     cast-bay
     is-in-requires
     cast-own
-    mul-t20
-    slice-read-t22
+    mul-here
+    slice-read-here
     cross-requires
     same-length
     same-length-2
@@ -177,8 +177,8 @@ step-to-spec =
     returns
     mul-s
     slice-read-s
-    cast-if2
-    cast-t35
+    cast-there
+    cast-carrier
     swap-requires
     same-length-5
     same-length-6
@@ -186,7 +186,7 @@ step-to-spec =
     same-length-8
     returns-2
     common-requires
-    cast-t47
+    cast-number
     step-aside-requires
     same-length-9
     same-length-10
