@@ -1,5 +1,5 @@
 #!/usr/bin/env python3
-"""The planning rules as plain Python, from documents 01 and 02 (E2 and E9), with nothing taken from the crates or from rust/reference.
+"""The planning rules as plain Python, from documents 01 and 02 (E2, E9 and E3), with nothing taken from the crates or from rust/reference.
 
 tests/model.py plan FILE      compares the model with plan vectors (`ok LENGTH PARKED : plan`)
 tests/model.py answers FILE   prints plan vectors (`ok LENGTH : plan`) with the model's answers; refusals 1 to 6 stay as they are
@@ -27,6 +27,9 @@ class Yard:
 
     def junction(self, bay):
         return len(self.beside[bay]) >= 3
+
+    def carousel(self):
+        return all(len(beside) == 2 for beside in self.beside)
 
     def distances(self, x, held):
         """Rails from x to each bay that is reached through bays not held."""
@@ -177,7 +180,10 @@ class Vault:
 def plan(yard, room, starts, goals):
     vault = Vault(yard, starts)
     for r in range(len(starts)):
-        path = yard.path(vault.at[r], goals[r])
+        avoid = frozenset(vault.at[:r] if yard.carousel() else [])
+        if goals[r] not in yard.distances(vault.at[r], avoid):
+            raise Stop(7, r)
+        path = yard.path(vault.at[r], goals[r], avoid)
         for to in path[1:]:
             vault.step(r, to, r)
         for v in reversed(path[1:-1]):

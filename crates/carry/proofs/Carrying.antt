@@ -2,6 +2,7 @@
 -- other, are the paper's carry.
 -- Assumes nothing.
 use mathlib.Core.Path.{_≡_, sym, _∙_, ap, refl}
+use mathlib.Core.Bool.{true, false}
 use mathlib.Core.List.{List, [], _∷_, _++_, append-nil, append-assoc, dropLast}
 use mathlib.Core.Option.{none, some}
 use Prim.Native.Nat.{ℕ, suc, _≤_, _<_, _-_, _+_}
@@ -13,17 +14,20 @@ use lib.Seq.{take-suc}
 use borrow.Author.Tests.{eqb-false, eqb-true}
 use mathlib.Core.Logic.{inl, inr, ⊎-elim}
 use Rattle.paper.specs.Basics.{_or_, elem}
-use Rattle.paper.specs.Path.{Route, nearestFirst, shortestPath, pathBetween}
-use Rattle.paper.specs.Procedure.{Made, only, together, step, Outcome, planned, stuck, orStuck, onward, _next_, go, wayHome, carry, carryFrom, procedure}
-use Rattle.paper.specs.Yard.{Bay, Carrier, Yard, Placement, bayOf, Crossing, after}
+use Rattle.paper.specs.Path.{Route}
+use Rattle.paper.specs.Procedure.{Made, only, together, step, Outcome, planned, stuck, orStuck, onward, _next_, pathOf, go, wayHome, along, carry, carryFrom, procedure}
+use Rattle.paper.specs.Yard.{Bay, Carrier, Yard, Placement, bayOf, Crossing, after, carousel}
 use Rattle.step.proofs.Stepping.{sound-of}
-use Rattle.paper.proofs.Carrying.{Gone, go-goes, carry-carries}
+use Rattle.paper.proofs.Carrying.{Gone, go-goes, path-short, carry-carries}
 use Rattle.paper.proofs.Members.{nothing-in-nil, out-cons}
-use Rattle.paper.proofs.Shortest.{Shortest, shortest-path}
 use Rattle.paper.proofs.Swapping.{Chain}
-use Rattle.paper.proofs.Tests.{by-cases, by-option, never, never-some, some-same, some-when}
+use Rattle.paper.proofs.Tests.{by-cases, by-option, never, never-some, some-same}
 use Rattle.go.specs.Going.{planOf, Linked}
-use Rattle.words.specs.Sets.{mem, span}
+use Rattle.words.specs.Sets.{mem, span, words}
+use Rattle.words.proofs.Sets.{zeros}
+use Rattle.rings.specs.Search.{Shown}
+use Rattle.rings.specs.Ways.{PathFound}
+use Rattle.rings.specs.declared.Path.{Path}
 use Rattle.rings.proofs.Searching.{elem-append, elem-one}
 use Rattle.home.specs.Homing.{Settled, AtMost, Stages, Homeward}
 use Rattle.paper.proofs.Making.{together-assoc, together-none, none-together}
@@ -35,7 +39,7 @@ use Rattle.clear_on.proofs.Attempting.{in-bays}
 use Rattle.trial.proofs.Copying.{part}
 use Rattle.step.specs.Asking.{Loopless, BaysBelow}
 use Rattle.home.proofs.Homing.{stages-done, stages-stuck}
-use Rattle.carry.specs.Carrying.{Goals, HomeBelow, EndsAt, OnPath, Reaching, Settles}
+use Rattle.carry.specs.Carrying.{Goals, HomeBelow, EndsAt, OnPath, Settles, PathPast}
 use Rattle.home.specs.declared.Staged.the-variants.{Planned}
 use Rattle.home.specs.declared.Staged.{Staged}
 use Rattle.home.specs.declared.Staged.the-variants.{Stuck}
@@ -155,12 +159,12 @@ module _ {n : ℕ} {table : List ℕ} (t : Tabled n table) (most : n ≤ span) (
           settled = rw (split, moved) settled-after;
         })
 
-  module _ (short : path ≡ shortestPath (t .yard) [] (bayOf p r) (bayOf goals r)) where
+  module _ (short : some path ≡ pathOf (t .yard) goals r p) where
     ahead-is : drop 1 path ≡ way .ahead
     ahead-is = ap (drop 1) (way .starts)
 
     carry-is : carry (t .yard) goals r p ≡ onward gone (λ a. onward (wayHome (t .yard) goals (suc r) (dropLast (way .ahead)) (after p (a .moves))) (λ b. planned (together a b)))
-    unfolding carry _next_
+    unfolding carry along _next_
     carry-is = rw (← short, ahead-is)
 
     pub carried-stuck : {out : List ℕ} {at : Tally} {p′ standing′ empty′ out′ : List ℕ} {f : Named} → f .0 ≡ r → planOf gone ≡ none → Stages (carry (t .yard) goals r p) n p out at p′ standing′ empty′ out′ (Stuck f)
@@ -183,33 +187,47 @@ module _ {n : ℕ} {table : List ℕ} (t : Tabled n table) (most : n ≤ span) (
 
 -- ## The path
 
-route-linked : {n : ℕ} {table : List ℕ} (t : Tabled n table) → n ≤ span → (u : Bay) (l : List Bay) (v : Bay) → u < n → Route (t .yard) [] u l v → Linked n table u l
-route-linked t most u [] v h r = tt
-route-linked t most u (x ∷ xs) v h r =
+route-linked : {n : ℕ} {table : List ℕ} (t : Tabled n table) → n ≤ span → (held : List Bay) (u : Bay) (l : List Bay) (v : Bay) → u < n → Route (t .yard) held u l v → Linked n table u l
+route-linked t most held u [] v h r = tt
+route-linked t most held u (x ∷ xs) v h r =
     let low = t .joins .inside u x (r .0) .1 in
-    (low, t .joins .same u x h (omega arith) ∙ r .0, route-linked t most x xs v low (r .2))
+    (low, t .joins .same u x h (omega arith) ∙ r .0, route-linked t most held x xs v low (r .2))
 
-route-ends : (Y : Yard) (u : Bay) (l : List Bay) (v : Bay) → Route Y [] u l v → EndsAt u l v
-route-ends Y u [] v r = r
-route-ends Y u (x ∷ xs) v r = route-ends Y x xs v (r .2)
+route-ends : (Y : Yard) (held : List Bay) (u : Bay) (l : List Bay) (v : Bay) → Route Y held u l v → EndsAt u l v
+route-ends Y held u [] v r = r
+route-ends Y held u (x ∷ xs) v r = route-ends Y held x xs v (r .2)
 
-pub on-path : {n : ℕ} {table : List ℕ} (t : Tabled n table) → n ≤ span → (u v : Bay) (path : List ℕ) → u < n → v < n → some path ≡ pathBetween (t .yard) [] u v → OnPath n table u v path
-unfolding pathBetween
-on-path t most u v path hu hv e =
-    let w = some-when (elem u (nearestFirst (t .yard) [] v)) (shortestPath (t .yard) [] u v) (sym e) in
-    let s : Shortest (t .yard) [] u v path = rw (w .1) at (shortest-path (t .yard) [] u v (in-bays t hu, nothing-in-nil u) (in-bays t hv, nothing-in-nil v) (w .0)) in
+-- the settled bays are those of the finished carriers
+abbrev pub settledShown : {n : ℕ} {table settled : List ℕ} (t : Tabled n table) (r : Carrier) (p : Placement) → BaysBelow r p settled → Shown n table settled
+settledShown t r p s = record { yard = t .yard; bays = take r p; joins = t .joins; holds = λ b h. s .bays b }
+
+-- the path past the bays avoided, by whether the yard is a carousel
+pub past-held : {n : ℕ} {table held : List ℕ} (s : Shown n table held) (u v : Bay) (room : List ℕ) (r : Path) → true ≡ carousel (s .yard) → PathFound s u v room r → PathPast s u v room r
+past-held s u v room r e f = record { fits = f .fits; same = rw (← e) (f .same) }
+
+pub past-none : {n : ℕ} {table held : List ℕ} (s : Shown n table held) (f : Shown n table (zeros words)) (u v : Bay) (room : List ℕ) (r : Path) → f .yard ≡ s .yard → f .bays ≡ [] → false ≡ carousel (s .yard)
+    → PathFound f u v room r → PathPast s u v room r
+past-none s f u v room r same bare e found = record { fits = found .fits; same = rw (← e, ← same, ← bare) (found .same) }
+
+pub on-path : {n : ℕ} {table : List ℕ} (t : Tabled n table) → n ≤ span → Loopless n table → (goals : List ℕ) (r : Carrier) (p : Placement) {standing empty : List ℕ} → Placed n p standing empty
+    → Goals n goals p → r < length p → HomeBelow r goals p → (path : List ℕ) → some path ≡ pathOf (t .yard) goals r p → OnPath n table (bayOf p r) (bayOf goals r) path
+on-path t most loopless goals r p k g hr hm path e =
+    let s = path-short (t .yard) (sound-of t most loopless) goals (g .apart) r p path (record { apart = k .apart; inside = λ i h. in-bays t (k .inside i h) }) (sym (g .many)) hr
+    (in-bays t (g .inside r (omega (arith, g .many)))) (hm .home) (sym e) in
     let way = s .way in
     record {
       ahead = way .rest;
       starts = way .starts;
-      linked = route-linked t most u (way .rest) v hu (way .route);
+      linked = route-linked t most _ (bayOf p r) (way .rest) (bayOf goals r) (k .inside r hr) (way .route);
       once = rw (way .starts) at (s .once);
-      ends = route-ends (t .yard) u (way .rest) v (way .route);
+      ends = route-ends (t .yard) _ (bayOf p r) (way .rest) (bayOf goals r) (way .route);
     }
 
-pub never-apart : {P : Type 0} {n : ℕ} {table : List ℕ} (w : Reaching n table) (u v : Bay) → u < n → v < n → none ≡ pathBetween (w .tabled .yard) [] u v → P
-unfolding pathBetween
-never-apart w u v hu hv e = never-some (shortestPath (w .tabled .yard) [] u v) (e ∙ rw (w .reached u v hu hv))
+-- where there is no path r is stuck
+pub carried-nowhere : {n : ℕ} {table : List ℕ} (t : Tabled n table) (goals : List ℕ) (r : Carrier) (p : Placement) {out : List ℕ} {at : Tally} {p′ standing′ empty′ out′ : List ℕ} {f : Named} → f .0 ≡ r
+    → none ≡ pathOf (t .yard) goals r p → Stages (carry (t .yard) goals r p) n p out at p′ standing′ empty′ out′ (Stuck f)
+unfolding carry
+carried-nowhere t goals r p q e = stages-stuck (rw (← e) (ap stuck (sym q)))
 
 -- ## All carriers
 
@@ -275,11 +293,10 @@ served-all {goals = goals} {r = r} g h =
     let e : length goals - r ≡ 0 = omega arith in
     stages-done (g .answer ∙ rw e (ap planned (together-none (g .xs)))) (g .played)
 
-pub home-more : {n : ℕ} {table : List ℕ} (w : Reaching n table) → n ≤ span → Loopless n table → (goals : List ℕ) (r : ℕ) (p : Placement) {standing empty out : List ℕ} {at b : Tally} {q standing′ empty′ out′ : List ℕ}
-    → Placed n p standing empty → Goals n goals p → r < length p → HomeBelow r goals p → Stages (carry (w .tabled .yard) goals r p) n p out at q standing′ empty′ out′ (Planned b) → HomeBelow (r + 1) goals q
-home-more {n} w most loopless goals r p {b = b} k g hr hm s =
+pub home-more : {n : ℕ} {table : List ℕ} (t : Tabled n table) → n ≤ span → Loopless n table → (goals : List ℕ) (r : ℕ) (p : Placement) {standing empty out : List ℕ} {at b : Tally} {q standing′ empty′ out′ : List ℕ}
+    → Placed n p standing empty → Goals n goals p → r < length p → HomeBelow r goals p → Stages (carry (t .yard) goals r p) n p out at q standing′ empty′ out′ (Planned b) → HomeBelow (r + 1) goals q
+home-more {n} t most loopless goals r p {b = b} k g hr hm s =
     let x = s .plans b refl in
-    let t = w .tabled in
     let c = carry-carries (t .yard) (sound-of t most loopless) goals (g .apart) r p (x .0) (record { apart = k .apart; inside = λ i h. in-bays t (k .inside i h) }) (sym (g .many)) hr
-    (in-bays t (g .inside r (omega (arith, g .many)))) (w .reached (bayOf p r) (bayOf goals r) (k .inside r hr) (g .inside r (omega (arith, g .many)))) (hm .home) (x .1) in
+    (in-bays t (g .inside r (omega (arith, g .many)))) (hm .home) (x .1) in
     record { home = λ i h. rw (x .2 .moved) (c .1 i (omega arith)) }

@@ -2,13 +2,17 @@
 -- Assumes nothing.
 use mathlib.Core.Path.{_≡_}
 use mathlib.Core.List.{List, [], _∷_}
-use Prim.Native.Nat.{ℕ, _<_}
+use mathlib.Core.Option.{Option}
+use Prim.Native.Nat.{ℕ, _≤_, _<_}
 use lib.ListN.{length}
-use Rattle.paper.specs.Basics.{In, NoDup}
-use Rattle.paper.specs.Path.{nearestFirst}
-use Rattle.paper.specs.Procedure.{Outcome, carry, procedure}
-use Rattle.paper.specs.Yard.{Bay, Carrier, Yard, Placement, bayOf}
+use Rattle.paper.specs.Basics.{if_then_else_, In, NoDup}
+use Rattle.paper.specs.Path.{nearestFirst, pathBetween}
+use Rattle.paper.specs.Procedure.{Outcome, pathOf as way, carry, procedure}
+use Rattle.paper.specs.Yard.{Bay, Carrier, Yard, Placement, bayOf, carousel}
 use Rattle.paper.proofs.Playing.{Apart}
+use Rattle.rings.specs.Search.{Shown}
+use Rattle.rings.specs.Ways.{pathOf, pathLength}
+use Rattle.rings.specs.declared.Path.{Path}
 use Rattle.bring.specs.Acting.{Tabled}
 use Rattle.bring.specs.declared.Tally.{Tally}
 use Rattle.step.specs.Asking.{BaysBelow}
@@ -43,11 +47,19 @@ pub record Reaching (n : ℕ) (table : List ℕ) : Type 0 where
   pub tabled : Tabled n table
   pub reached : (a b : ℕ) → a < n → b < n → In a (nearestFirst (tabled .yard) [] b)
 
+-- The path past the bays held, if the yard is a carousel; else past none.
+pub record PathPast {n : ℕ} {table held : List ℕ} (s : Shown n table held) (u v : Bay) (room : List ℕ) (r : Path) : Type 0 where
+  pub fits : pathLength r ≤ n
+  pub same : pathOf r room ≡ pathBetween (s .yard) (if carousel (s .yard) then s .bays else []) u v
+
 -- where it is planned the set has the bays of the carriers below `finished`
 pub record Settles (finished : ℕ) (p settled : List ℕ) (z : Staged) : Type 0 where
   pub below : (m : Tally) → z ≡ Planned m → BaysBelow finished p settled
 
--- (the code's carry has the same name)
+-- (the code's functions have the same names)
+abbrev pub paths : Yard → Placement → Carrier → Placement → Option (List Bay)
+paths Y goals r p = way Y goals r p
+
 abbrev pub carries : Yard → Placement → Carrier → Placement → Outcome
 carries Y goals r p = carry Y goals r p
 

@@ -1,4 +1,4 @@
-// Carriers by rising number: each goes its shortest path, and then those that it displaced go home.
+// Carriers by rising number: each goes its shortest path, in a carousel past the finished ones, and then those that it displaced go home.
 use bring::Tally;
 use bring::Tried;
 use docket::Bay;
@@ -6,15 +6,15 @@ use docket::Carrier;
 use home::Staged;
 use rings::Path;
 ghost use mathlib.Core.Path.{_≡_};
-ghost use mathlib.Core.List.{[]};
-ghost use Prim.Native.Nat.{_+_, _^_, _≤_, _<_};
+ghost use mathlib.Core.Option.{some};
+ghost use Prim.Native.Nat.{_+_, _*_, _^_, _≤_, _<_};
 ghost use lib.ListN.{length, getD};
-ghost use Rattle.paper.specs.Yard.{bayOf};
-ghost use Rattle.paper.specs.Path.{shortestPath};
+ghost use Rattle.words.specs.Sets.{words, span};
+ghost use Rattle.rings.specs.Search.{Shown};
 ghost use Rattle.bring.specs.Acting.{Tabled, Ready, nothing};
 ghost use Rattle.step.specs.Asking.{Loopless, BaysBelow};
 ghost use Rattle.home.specs.Homing.{Owners, AtMost, Stages};
-ghost use Rattle.carry.specs.Carrying.{Goals, OnPath, Reaching, HomeBelow, Settles, carries, procedures};
+ghost use Rattle.carry.specs.Carrying.{Goals, OnPath, Reaching, HomeBelow, Settles, PathPast, paths, carries, procedures};
 
 // Carrier r goes the path, whose first bay is its own, then those that it displaced go home. At its goal r is finished, and its bay settled.
 fn carry_along(
@@ -32,7 +32,7 @@ fn carry_along(
 ) -> Staged
     requires { ⌜ Ready (now table) (now placement) (now standing) (now empty) ⌝ }
     requires { ⌜ (r .0 < length (now placement)) × Goals (length (now standing)) (now goals) (now placement) × Loopless (length (now standing)) (now table) × HomeBelow (r .0) (now goals) (now placement) × (length (now path) ≤ 256) × OnPath (length (now standing)) (now table) (getD (now placement) (r .0) 0) (getD (now goals) (r .0) 0) (now path) × (at .crossings < 2 ^ 59) × Owners (length (now standing)) (now goals) (now owner) × BaysBelow (r .0) (now placement) (now settled) ⌝ }
-    ensures { λ z. ⌜ (AtMost at 80000000 z) × ((t : Tabled (length (now (standing .entry))) (now (table .entry))) → now (path .entry) ≡ shortestPath (t .yard) [] (bayOf (now (placement .entry)) (r .0)) (bayOf (now (goals .entry)) (r .0)) → Stages (carries (t .yard) (now (goals .entry)) (r .0) (now (placement .entry))) (length (now (standing .entry))) (now (placement .entry)) (now (out .entry)) at (now (placement .exit)) (now (standing .exit)) (now (empty .exit)) (now (out .exit)) z) × Settles (r .0 + 1) (now (placement .exit)) (now (settled .exit)) z ⌝ }
+    ensures { λ z. ⌜ (AtMost at 80000000 z) × ((t : Tabled (length (now (standing .entry))) (now (table .entry))) → some (now (path .entry)) ≡ paths (t .yard) (now (goals .entry)) (r .0) (now (placement .entry)) → Stages (carries (t .yard) (now (goals .entry)) (r .0) (now (placement .entry))) (length (now (standing .entry))) (now (placement .entry)) (now (out .entry)) at (now (placement .exit)) (now (standing .exit)) (now (empty .exit)) (now (out .exit)) z) × Settles (r .0 + 1) (now (placement .exit)) (now (settled .exit)) z ⌝ }
 {
     if path.len() < 1 {
         return Staged::Stuck(r);
@@ -73,7 +73,20 @@ fn carry_along(
     )
 }
 
-// Carrier r goes the shortest path from its bay to its goal, other carriers disregarded.
+// The shortest path from u to v past the bays avoided: in a carousel the settled ones, elsewhere none. Asking what the yard is takes no longer than
+// the search in a carousel, and elsewhere a few bays tell.
+fn path_past(table: &[u64], n: usize, settled: &[u64], u: Bay, v: Bay, path: &mut [u16]) -> Path
+    requires { ⌜ (n ≤ span) × (u .0 < n) × (v .0 < n) × (n * words ≤ length (now table)) × (length (now settled) ≡ words) × (n ≤ length (now path)) × Shown n (now table) (now settled) ⌝ }
+    ensures { λ r. ⌜ ((s : Shown n (now (table .entry)) (now (settled .entry))) → PathPast s (u .0) (v .0) (now (path .exit)) r) ⌝ }
+{
+    let none = [0u64; words::WORDS];
+    if kinds::is_carousel(table, n) {
+        return ways::path_between(table, n, settled, u, v, path);
+    }
+    ways::path_between(table, n, &none, u, v, path)
+}
+
+// Carrier r goes its path. Where there is none, r is stuck.
 fn carry(
     table: &[u64],
     goals: &[u16],
@@ -92,11 +105,10 @@ fn carry(
 {
     let own = r.0 as usize;
     let n = standing.len();
-    let none = [0u64; words::WORDS];
     let mut path = [0u16; words::SPAN];
     let u = Bay(placement[own]);
     let v = Bay(goals[own]);
-    let Path::First(k) = ways::path_between(table, n, &none, u, v, &mut path) else {
+    let Path::First(k) = path_past(table, n, settled, u, v, &mut path) else {
         return Staged::Stuck(r);
     };
     carry_along(

@@ -12,12 +12,12 @@ use lib.ListN.{length, take, drop, length-set, length-take}
 use lib.Seq.{getD-take, ext-getD}
 use borrow.Author.Tests.{not-true, ltb-true, lt-ltb, eqb-true, eqb-false, ne-eqb}
 use Rattle.paper.specs.Basics.{_and_, elem, placeOf, upTo, In, Out, NoDup}
-use Rattle.paper.specs.Yard.{Bay, Carrier, Yard, Placement, Crossing, crossing, bayOf, carrierAt, move, after, joined, legalPlan}
-use Rattle.paper.specs.Path.{nearestFirst, shortestPath}
-use Rattle.paper.specs.Procedure.{Made, only, together, _then_, cross, trade, vacate, swap, step, Outcome, planned, stuck, onward, orStuck, Stage, _next_, go, homeAt, wayHome, carry, carryFrom, procedure, holding}
-use Rattle.paper.proofs.Tests.{by-cases, by-option, not-both, never-some, and-left, and-right, and-both}
+use Rattle.paper.specs.Yard.{Bay, Carrier, Yard, Placement, Crossing, crossing, bayOf, carrierAt, move, after, joined, carousel, legalPlan}
+use Rattle.paper.specs.Path.{nearestFirst, shortestPath, pathBetween}
+use Rattle.paper.specs.Procedure.{Made, only, together, _then_, cross, trade, vacate, swap, step, Outcome, planned, stuck, onward, orStuck, Stage, _next_, avoided, pathOf, go, homeAt, wayHome, along, carry, carryFrom, procedure, holding}
+use Rattle.paper.proofs.Tests.{by-cases, by-option, not-both, never-some, some-when, and-left, and-right, and-both}
 use Rattle.paper.proofs.Members.{In-head, In-tail, In-append-right, out-cons, nothing-in-nil, Out-head, Out-tail}
-use Rattle.paper.proofs.Shortest.{shortest-path}
+use Rattle.paper.proofs.Shortest.{Shortest, shortest-path}
 use Rattle.paper.proofs.Playing.{Apart, Legal, legal-facts, legal-of, after-append, after-length, plan-head, plan-tail, plan-cons, plan-append, bay-in, placeOf-bay, placeOf-there, move-self, move-other, move-apart, Sound, Good}
 use Rattle.paper.proofs.Vacating.{vacate-vacates, vacate-empty}
 use Rattle.paper.proofs.Trading.{traded-bay, trade-first, trade-second, trade-other}
@@ -334,49 +334,73 @@ module _ (Y : Yard) (sound : Sound Y) (goals : Placement) (goals-apart : Apart g
         ))
         (chain-last Y u ahead (bayOf goals r) chain)
 
+  -- what no finished carrier stands at is not avoided
+  not-avoided : (r : Carrier) (p : Placement) (b : Bay) → ((c : Carrier) → c < r → bayOf p c ≡ b → ⊥) → Out b (avoided Y goals r p)
+  not-avoided r p b f = by-cases (carousel Y) (λ e. rw e not-finished) (λ e. rw e (nothing-in-nil b))
+    where
+      not-finished : Out b (take r p)
+      not-finished =
+          by-cases (elem b (take r p))
+          (λ i.
+          let c = carrierAt (take r p) b in
+          let low : c < r = let k = rw length-take at (placeOf-there (take r p) b i) in omega arith in
+          absurd (f c low (sym (getD-take r p c 0 low) ∙ placeOf-bay (take r p) b i)))
+          (λ o. o)
+
+  -- What r's path is: the shortest past the bays avoided, and none of these is r's bay or its goal.
+  pub path-short : (r : Carrier) (p : Placement) (path : List Bay) → Good Y p → length p ≡ length goals → r < length p → In (bayOf goals r) (upTo (Y .bays))
+      → Home r p → pathOf Y goals r p ≡ some path → Shortest Y (avoided Y goals r p) (bayOf p r) (bayOf goals r) path
+  unfolding pathBetween
+  path-short r p path good len hr goal-in at-home e =
+      let held = avoided Y goals r p in
+      let w = some-when (elem (bayOf p r) (nearestFirst Y held (bayOf goals r))) (shortestPath Y held (bayOf p r) (bayOf goals r)) e in
+      rw (w .1) at (shortest-path Y held (bayOf p r) (bayOf goals r)
+      (good .inside r hr, not-avoided r p (bayOf p r) (λ c k i. absurd (let d = good .apart c r (omega arith) hr i in omega arith)))
+      (goal-in, not-avoided r p (bayOf goals r) (λ c k i. absurd (let d = goals-apart c r (omega arith) (omega arith) (sym (at-home c k) ∙ i) in omega arith)))
+      (w .0))
+
   -- Carrier r goes to its goal and the finished ones that it displaced go home.
   pub carry-carries : (r : Carrier) (p : Placement) (m : Made) → Good Y p → length p ≡ length goals → r < length p
-      → In (bayOf goals r) (upTo (Y .bays)) → In (bayOf p r) (nearestFirst Y [] (bayOf goals r)) → Home r p → carry Y goals r p ≡ planned m
+      → In (bayOf goals r) (upTo (Y .bays)) → Home r p → carry Y goals r p ≡ planned m
       → (legalPlan Y p (m .moves) ≡ true) × Home (suc r) (after p (m .moves))
-  unfolding carry
-  carry-carries r p m good len hr goal-in reach at-home h =
-      let short = shortest-path Y [] (bayOf p r) (bayOf goals r) (good .inside r hr, nothing-in-nil _) (goal-in, nothing-in-nil _) reach in
-      let path = shortestPath Y [] (bayOf p r) (bayOf goals r) in
+  unfolding carry along
+  carry-carries r p m good len hr goal-in at-home h =
+      by-option (pathOf Y goals r p)
+      (λ e. never-planned r m (rw e at h))
+      (λ path e.
+      let short = path-short r p path good len hr goal-in at-home e in
       let way = short .way in
-      let ahead = drop 1 (shortestPath Y [] (bayOf p r) (bayOf goals r)) in
+      let held = avoided Y goals r p in
+      let ahead = drop 1 path in
       let cons : path ≡ bayOf p r ∷ ahead = rw (way .starts) in
       let n : NoDup (bayOf p r ∷ ahead) = rw cons at (short .once) in
-      next-split (go Y goals r ahead) (wayHome Y goals (suc r) (dropLast ahead)) p m h
-      (λ first later e h1 q.
-      rw q (came r p good len hr at-home (bayOf p r) (first .moves) ahead later (way-tail Y [] (bayOf p r) path (bayOf goals r) way) n
-      (go-goes Y sound goals r ahead (bayOf p r) (bayOf goals r) p first good hr refl (way-tail Y [] (bayOf p r) path (bayOf goals r) way) n e) h1))
+      next-split (go Y goals r ahead) (wayHome Y goals (suc r) (dropLast ahead)) p m (rw e at h)
+      (λ first later d h1 q.
+      rw q (came r p good len hr at-home (bayOf p r) (first .moves) ahead later (way-tail Y held (bayOf p r) path (bayOf goals r) way) n
+      (go-goes Y sound goals r ahead (bayOf p r) (bayOf goals r) p first good hr refl (way-tail Y held (bayOf p r) path (bayOf goals r) way) n d) h1)))
 
-  -- every bay is reached from every other
-  abbrev pub Connected : Type 0
-  Connected = (a b : Bay) → In a (upTo (Y .bays)) → In b (upTo (Y .bays)) → In a (nearestFirst Y [] b)
-
-  all-carried : Connected → ((c : Carrier) → c < length goals → In (bayOf goals c) (upTo (Y .bays))) → (k : ℕ) (r : Carrier) (p : Placement) (m : Made)
+  all-carried : ((c : Carrier) → c < length goals → In (bayOf goals c) (upTo (Y .bays))) → (k : ℕ) (r : Carrier) (p : Placement) (m : Made)
       → Good Y p → length p ≡ length goals → r + k ≡ length goals → Home r p → carryFrom Y goals r k p ≡ planned m
       → (legalPlan Y p (m .moves) ≡ true) × Home (length goals) (after p (m .moves))
   unfolding carryFrom after legalPlan
-  all-carried conn inside zero r p m good len e at-home h =
+  all-carried inside zero r p m good len e at-home h =
       let z : only [] ≡ m = cc in
       rw (← z) (refl, λ c k. at-home c (omega arith))
-  all-carried conn inside (suc k) r p m good len e at-home h =
+  all-carried inside (suc k) r p m good len e at-home h =
       next-split (carry Y goals r) (carryFrom Y goals (suc r) k) p m h
       (λ first later d h1 q.
       let a = first .moves in
       let b = later .moves in
       let hr : r < length p = omega arith in
-      let t = carry-carries r p first good len hr (inside r (omega arith)) (conn (bayOf p r) (bayOf goals r) (good .inside r hr) (inside r (omega arith))) at-home d in
-      let s = all-carried conn inside k (suc r) (after p a) later (plan-good Y sound p a good (t .0)) (after-length p a ∙ len) (omega arith) (t .1) h1 in
+      let t = carry-carries r p first good len hr (inside r (omega arith)) at-home d in
+      let s = all-carried inside k (suc r) (after p a) later (plan-good Y sound p a good (t .0)) (after-length p a ∙ len) (omega arith) (t .1) h1 in
       rw q (plan-append Y p a b (t .0) (s .0), λ c i. rw after-append (s .1 c i)))
 
   -- THE THEOREM: a plan of the procedure is legal, and ends at the goals.
-  pub procedure-right : Connected → Good Y goals → (p : Placement) (m : Made) → Good Y p → length p ≡ length goals
+  pub procedure-right : Good Y goals → (p : Placement) (m : Made) → Good Y p → length p ≡ length goals
       → procedure Y goals p ≡ planned m → (legalPlan Y p (m .moves) ≡ true) × (after p (m .moves) ≡ goals)
   unfolding procedure
-  procedure-right conn gg p m good len h =
+  procedure-right gg p m good len h =
       let xs = m .moves in
-      let t = all-carried conn (gg .inside) (length goals) 0 p m good len (omega arith) (λ c k. absurd (omega arith)) h in
+      let t = all-carried (gg .inside) (length goals) 0 p m good len (omega arith) (λ c k. absurd (omega arith)) h in
       (t .0, ext-getD 0 (after p xs) goals (after-length p xs ∙ len) (λ c k. t .1 c (let m = after-length p xs in omega arith)))

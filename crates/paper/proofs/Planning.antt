@@ -17,7 +17,7 @@ use Rattle.paper.specs.Docket.{Refusal, number, apart, stopped, room, ya
 use Rattle.paper.specs.Answers.{accepted, refused, crossingsOf, parkedOf, within, unless, plan, beside, planParked, firstSix}
 use Rattle.paper.proofs.Tests.{by-cases, by-option, or-neither, or-left, or-right, never}
 use Rattle.paper.proofs.Carrying.{procedure-right}
-use Rattle.paper.proofs.Admitted.{clean-of, sound-of, good-of, all-reached, six-number}
+use Rattle.paper.proofs.Admitted.{clean-of, sound-of, good-of, six-number}
 
 by-outcome : {P : Type 0} (o : Outcome) → ((m : Made) → o ≡ planned m → P) → ((c : Carrier) → o ≡ stuck c → P) → P
 by-outcome (planned m) f g = f m refl
@@ -48,7 +48,7 @@ module _ (lent : ℕ) where
       ⊎-elim (λ l. or-left _ _ (lt-ltb _ _ l)) (λ l. or-right _ _ (lt-ltb _ _ l)) h in
       rw t
 
-  by-length : {P : Type 0} (xs : List Crossing) → (length xs ≤ lent → length xs ≤ most-crossings → P) → (TooLong lent (length xs) → P) → P
+  pub by-length : {P : Type 0} (xs : List Crossing) → (length xs ≤ lent → length xs ≤ most-crossings → P) → (TooLong lent (length xs) → P) → P
   by-length xs f g =
       by-cases (ltb lent (length xs))
       (λ e. g (inl (ltb-true _ _ e)))
@@ -132,7 +132,7 @@ module _ (n : ℕ) (ends : List Bay) (s g : Placement) (lent : ℕ) where
       let Y = yardOf n ends in
       let gg = good-of n ends g (c .goals) in
       rw (← (a .1 .2))
-      (procedure-right Y (sound-of n ends (c .rails)) g (gg .apart) (all-reached Y (c .reached)) gg s (a .1 .0)
+      (procedure-right Y (sound-of n ends (c .rails)) g (gg .apart) gg s (a .1 .0)
       (good-of n ends s (c .starts)) (c .sizes .same-length) (a .1 .1))
 
   -- What an accepted plan carries is what its procedure counted; beside a refusal it is 0.

@@ -21,7 +21,7 @@ use Rattle.paper.specs.Log
 
 -- every definition of the rules, opened, so that the checker computes with them
 unfoldable pub computing : Unit {0}
-unfolding Basics._and_ Basics._or_ Basics.filter Basics.any Basics.find Basics.concat Basics.firstOf Basics.firstBad Basics.lowestOf Basics.elem Basics.placeOf Basics.without Basics.countFrom Yard.occupied Yard.pack Yard.unpack Yard.reverseOf Yard.after Yard.joined Yard.neighbours Yard.junction Yard.legal Yard.legalPlan Path.nextRing Path.ringsFrom Path.ringOf Path.inward Path.shortestPath Path.pathBetween Procedure._then_ Procedure.cross Procedure.shift Procedure.nearestEmpty Procedure.vacate Procedure.exchange Procedure.trade Procedure.undo Procedure.bring Procedure.clearing Procedure.clearOnce Procedure.aside Procedure.around Procedure.firstKept Procedure.goOn Procedure.goneOn Procedure.clear Procedure.finish Procedure.trialLed Procedure.trial Procedure.swap Procedure.step Procedure.orStuck Procedure.onward Procedure._next_ Procedure.go Procedure.homeAt Procedure.wayHome Procedure.carry Procedure.carryFrom Procedure.procedure Dependence.depend Dependence.highest Dependence.slotsAfter Dependence.slots Dependence.undoneBefore Dependence.outOfOrder Dependence.doneOf Dependence.undoneOf Dependence.countOf Docket.railsOf Docket.badSize Docket.badRail Docket.apartBay Docket.badPlace Docket.firstIllegal Docket.notHome Docket.badMarks Answers.firstSix Answers.crossingsOf Answers.within Answers.unless Answers.plan Answers.written Answers.accepts Answers.tell Answers.marksAfter Answers.check Answers.slotsRefusal Answers.slotsEnd Answers.report Log.reports Log.marksFrom Log.namesFrom Path.fewer Path.choice Path.nearestOf Answers.parkedOf Answers.beside Answers.planParked
+unfolding Basics._and_ Basics._or_ Basics.filter Basics.any Basics.find Basics.concat Basics.firstOf Basics.firstBad Basics.lowestOf Basics.elem Basics.placeOf Basics.without Basics.countFrom Yard.occupied Yard.pack Yard.unpack Yard.reverseOf Yard.after Yard.joined Yard.neighbours Yard.carousel Yard.junction Yard.legal Yard.legalPlan Path.nextRing Path.ringsFrom Path.ringOf Path.inward Path.shortestPath Path.pathBetween Procedure._then_ Procedure.cross Procedure.shift Procedure.nearestEmpty Procedure.vacate Procedure.exchange Procedure.trade Procedure.undo Procedure.bring Procedure.clearing Procedure.clearOnce Procedure.aside Procedure.around Procedure.firstKept Procedure.goOn Procedure.goneOn Procedure.clear Procedure.finish Procedure.trialLed Procedure.trial Procedure.swap Procedure.step Procedure.orStuck Procedure.onward Procedure._next_ Procedure.go Procedure.homeAt Procedure.wayHome Procedure.along Procedure.carry Procedure.carryFrom Procedure.procedure Dependence.depend Dependence.highest Dependence.slotsAfter Dependence.slots Dependence.undoneBefore Dependence.outOfOrder Dependence.doneOf Dependence.undoneOf Dependence.countOf Docket.railsOf Docket.badSize Docket.badRail Docket.apartBay Docket.badPlace Docket.firstIllegal Docket.notHome Docket.badMarks Answers.firstSix Answers.crossingsOf Answers.within Answers.unless Answers.plan Answers.written Answers.accepts Answers.tell Answers.marksAfter Answers.check Answers.slotsRefusal Answers.slotsEnd Answers.report Log.reports Log.marksFrom Log.namesFrom Path.fewer Path.choice Path.nearestOf Answers.parkedOf Answers.beside Answers.planParked
 computing = tt
 
 -- a yard, and the names then reported one after the other from fresh marks
@@ -93,7 +93,8 @@ abbrev Y3 : Worked
 Y3 = worked 4 line-4 (0 ∷ 1 ∷ []) (1 ∷ 0 ∷ []) [] (refused (stopped 1)) [] []
 
 abbrev Y4 : Worked
-Y4 = worked 4 ring-4 (0 ∷ 1 ∷ []) (1 ∷ 0 ∷ []) [] (refused (stopped 1)) [] []
+Y4 = worked 4 ring-4 (0 ∷ 1 ∷ []) (1 ∷ 0 ∷ []) []
+    (accepted (crossing 1 1 2 ∷ crossing 0 0 1 ∷ crossing 1 2 3 ∷ crossing 1 3 0 ∷ [])) (1 ∷ 2 ∷ 2 ∷ 3 ∷ []) []
 
 abbrev Y5 : Worked
 Y5 = worked 4 ring-4 (0 ∷ 1 ∷ []) (1 ∷ 2 ∷ []) [] (accepted (crossing 1 1 2 ∷ crossing 0 0 1 ∷ [])) (1 ∷ 2 ∷ []) []

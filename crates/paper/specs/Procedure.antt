@@ -7,8 +7,8 @@ use Prim.Native.Nat.{ℕ, zero, suc, min, max, _+_}
 use lib.Dec.{eqb, ltb, leb}
 use lib.ListN.{length, getD, set, take, drop}
 use Rattle.paper.specs.Basics.{if_then_else_, if-some_then_else_, _and_, _>>=_, orElse, filter, firstOf, elem, without}
-use Rattle.paper.specs.Yard.{Bay, Carrier, Yard, Placement, Crossing, crossing, bayOf, carrierAt, isEmpty, after, reverseOf, neighbours, junction}
-use Rattle.paper.specs.Path.{nearestOf, nearestFirst, shortestPath}
+use Rattle.paper.specs.Yard.{Bay, Carrier, Yard, Placement, Crossing, crossing, bayOf, carrierAt, isEmpty, after, reverseOf, neighbours, junction, carousel}
+use Rattle.paper.specs.Path.{nearestFirst, shortestPath, pathBetween, nearestOf}
 
 -- what is made: crossings, in order, and how many vacates among them filled a bay of three rails or more
 pub record Made : Type 0 where
@@ -224,9 +224,13 @@ unfoldable pub _next_ : Stage → Stage → Stage
 _next_ f g p = onward (f p) (λ a. onward (g (after p (a .moves))) (λ b. planned (together a b)))
 
 module _ (Y : Yard) (goals : Placement) where
-  -- "the shortest path v0..vm from its bay to its goal, other carriers disregarded"
-  abbrev pub pathOf : Carrier → Placement → List Bay
-  pathOf r p = shortestPath Y [] (bayOf p r) (bayOf goals r)
+  -- The bays that r's path avoids: none, "other carriers disregarded"; in a carousel "the present bays of finished carriers".
+  abbrev pub avoided : Carrier → Placement → List Bay
+  avoided r p = if carousel Y then take r p else []
+
+  -- "the shortest path v0..vm from its bay to its goal", past the bays avoided, where there is one
+  abbrev pub pathOf : Carrier → Placement → Option (List Bay)
+  pathOf r p = pathBetween Y (avoided r p) (bayOf p r) (bayOf goals r)
 
   -- "For each next bay": r steps through the bays ahead
   unfoldable pub go : Carrier → List Bay → Stage
@@ -244,11 +248,13 @@ module _ (Y : Yard) (goals : Placement) where
   wayHome finished [] p = planned (only [])
   wayHome finished (v ∷ vs) p = (wayHome finished vs next homeAt finished v) p
 
-  -- Carrier r goes its path v0..vm. "Way home: r now counts as finished. For i from m−1 down to 1".
+  -- Carrier r goes its path v0..vm, past v0 the bays ahead. "Way home: r now counts as finished. For i from m−1 down to 1".
+  unfoldable pub along : Carrier → List Bay → Stage
+  along r ahead p = (go r ahead next wayHome (suc r) (dropLast ahead)) p
+
+  -- "no such path is 7 for that carrier"
   unfoldable pub carry : Carrier → Stage
-  carry r p =
-      let ahead = drop 1 (pathOf r p) in
-      (go r ahead next wayHome (suc r) (dropLast ahead)) p
+  carry r p = if-some pathOf r p then (λ path. along r (drop 1 path) p) else stuck r
 
   -- k carriers from r on: "Carriers are planned by rising number."
   unfoldable pub carryFrom : Carrier → ℕ → Stage

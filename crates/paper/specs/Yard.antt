@@ -119,6 +119,10 @@ module _ (Y : Yard) where
   unfoldable pub junction : Bay → Bool
   junction v = leb 3 (railsAt v)
 
+  -- A carousel: "every bay has exactly two rails".
+  unfoldable pub carousel : Bool
+  carousel = not (any (λ v. not (eqb (railsAt v) 2)) (upTo (Y .bays)))
+
   -- "It is legal at a placement if the carrier stands at from, a rail joins from and to, and to is empty."
   unfoldable pub legal : Placement → Crossing → Bool
   legal p x =

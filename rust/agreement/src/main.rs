@@ -4,6 +4,7 @@
 
 mod bills;
 mod books;
+mod carousels;
 mod compare;
 mod files;
 mod lent;
@@ -28,6 +29,7 @@ fn main() {
     let mut tallies = Vec::new();
     readback::run();
     tallies.push(planning());
+    tallies.push(carousels::run());
     tallies.extend(plan_by_plan());
     tallies.push(shortening());
     tallies.push(trains::slots_of());

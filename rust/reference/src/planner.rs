@@ -44,6 +44,8 @@ struct Planner<'a> {
     yard: &'a Yard<'a>,
     distances: Distances<'a>,
     junctions: Bays,
+    /// Every bay has exactly two rails.
+    carousel: bool,
     goal: &'a [u16],
     whose_goal: [u8; 256],
     at: [u8; 256],
@@ -79,6 +81,7 @@ impl<'a> Planner<'a> {
             yard,
             distances: Distances::new(yard),
             junctions,
+            carousel: (0..yard.bays).all(|bay| yard.joined[bay].count() == 2),
             goal,
             whose_goal,
             at,
@@ -114,7 +117,8 @@ impl<'a> Planner<'a> {
         let goal = self.goal[r as usize] as u8;
         let bay = self.at.iter().position(|&carrier| carrier == r).unwrap_or(0) as u8;
         let mut path = [0; 256];
-        let m = self.search.path(bay, goal, &mut path);
+        let avoid = if self.carousel { self.finished_bays } else { Bays::NONE };
+        let Some(m) = self.search.path(bay, goal, avoid, &mut path) else { return Err(Refusal::Stopped(r as u64)) };
         for i in 1..=m {
             self.step(r, path[i - 1], path[i])?;
         }
@@ -277,7 +281,7 @@ impl<'a> Planner<'a> {
     /// Step 1. The leader, now at v, and the bay of the follower.
     fn bring(&mut self, u: u8, w: u8, v: u8) -> Option<(u8, u8)> {
         let mut path = [0; 256];
-        let m = self.search.path(u, v, &mut path);
+        let m = self.search.path(u, v, Bays::NONE, &mut path)?;
         let s_leads = m >= 1 && path[1] == w;
         let (mut front, mut back, first) = if s_leads { (w, u, 2) } else { (u, w, 1) };
         let (leader, follower) = (self.at[front as usize], self.at[back as usize]);

@@ -85,14 +85,17 @@ impl<'a> Search<'a> {
         Some(found)
     }
 
-    /// **Shortest path**, carriers disregarded: fewest rails, and the lowest next bay each time. Answers its rails.
-    pub fn path(&mut self, from: u8, to: u8, path: &mut [u8; 256]) -> usize {
+    /// **Shortest path** past the bays avoided: fewest rails, and the lowest next bay each time. Answers its rails, if there is one.
+    pub fn path(&mut self, from: u8, to: u8, avoid: Bays, path: &mut [u8; 256]) -> Option<usize> {
         let mut ring = Bays::only(to);
-        let mut seen = ring;
+        let mut seen = avoid.with(to);
         let mut m = 0;
         self.rings[0] = ring;
         while !ring.has(from) {
             ring = self.yard.beside(ring).without(seen);
+            if ring.is_none() {
+                return None;
+            }
             seen = seen.or(ring);
             m += 1;
             self.rings[m] = ring;
@@ -103,6 +106,6 @@ impl<'a> Search<'a> {
             bay = self.yard.joined[bay as usize].and(self.rings[m - i]).lowest().unwrap_or(to);
             path[i] = bay;
         }
-        m
+        Some(m)
     }
 }

@@ -46,9 +46,15 @@ fn y2_the_way_home() {
 }
 
 #[test]
-fn y3_and_y4_stopped_at_carrier_1() {
+fn y3_stopped_at_carrier_1() {
     assert_eq!(planned(4, &LINE_OF_FOUR, &[0, 1], &[1, 0]), Err((7, 1)));
-    assert_eq!(planned(4, &RING_OF_FOUR, &[0, 1], &[1, 0]), Err((7, 1)));
+}
+
+#[test]
+fn y4_the_carousel_is_turned() {
+    let way = crossings(&[(1, 1, 2), (0, 0, 1), (1, 2, 3), (1, 3, 0)]);
+    assert_eq!(planned(4, &RING_OF_FOUR, &[0, 1], &[1, 0]), Ok(way.clone()));
+    assert_eq!(slotted(4, &RING_OF_FOUR, &[0, 1], &[1, 0], &way), [1, 2, 2, 3]);
 }
 
 #[test]

@@ -14,7 +14,12 @@ fn plans_of_the_vectors() {
 
 #[test]
 fn plans_that_do_not_park_on_junctions() {
-    assert_eq!(plans(include_str!("../../reference/tests/data/plan-e2-e9.txt"), plan), (500, 0));
+    assert_eq!(plans(include_str!("../../reference/tests/data/plan-e2-e9.txt"), plan), (499, 0));
+}
+
+#[test]
+fn plans_on_carousels() {
+    assert_eq!(plans(include_str!("../../reference/tests/data/plan-e2-e9-e3.txt"), plan), (500, 0));
 }
 
 #[test]

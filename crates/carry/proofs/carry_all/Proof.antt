@@ -113,7 +113,7 @@ loop-again c =
       omega (arith, k .1 .1 .1 .1 .1 .0, v .3),
       omega (arith, k .1 .1 .1 .1 .1 .1 .0, v .4),
       omega (arith, k .1 .1 .1 .1 .1 .1 .1 .1 .0, v .5),
-      home-more (z .2) (p .most) (z .1) (c .before .before .before .before .before .before .before .before .before .before .before .before .before .before .before .before .before .before .before .before .before .before .before .before .before .before .before .before .before .args .goals .now) (l .r) (l .placement) (b .played .placed) g hr (v .6) (rw e at (f (z .2 .tabled))),
+      home-more (p .tabled) (p .most) (z .1) (c .before .before .before .before .before .before .before .before .before .before .before .before .before .before .before .before .before .before .before .before .before .before .before .before .before .before .before .before .before .args .goals .now) (l .r) (l .placement) (b .played .placed) g hr (v .6) (rw e at (f (p .tabled))),
       λ t. served-more (v .7 t) (c .before .before .before .before .before .before .before .before .before .before .before .before .before .before .before .before .before .before .before .loop-test .taken) (rw e at (f t)),
       omega (arith, k .1 .1 .1 .1 .1 .1 .1 .0, v .8),
       c .before .before .before .before .before .before .before .before .before .before .before .before .before .carry .ensures .2 .below _ e,

@@ -1,0 +1,4 @@
+pub mod Round
+pub mod Leads
+pub mod Order
+pub mod Due
