@@ -1,4 +1,4 @@
--- `ledger::same_record` meets its contract, test by test.
+-- `entries::same_record` meets its contract, test by test.
 -- Assumes nothing.
 use borrow.Author.Needs.{needs}
 use mathlib.Core.Path.{_≡_, sym, _∙_}
@@ -6,8 +6,8 @@ use mathlib.Core.Bool.{true, false}
 use borrow.Author.Tests.{not-true, not-false, eq-eqb, ne-eqb}
 use Rattle.paper.specs.Basics.{_and_}
 use Rattle.bills.specs.Answering.{sameNumbers}
-use Rattle.ledger.proofs.same_record.Statement.{statement}
-use Rattle.ledger.proofs.same_record.Tie as tie
+use Rattle.entries.proofs.same_record.Statement.{statement}
+use Rattle.entries.proofs.same_record.Tie as tie
 
 same-places-requires : tie.Need-same-places-requires
 same-places-requires c κs = search needs

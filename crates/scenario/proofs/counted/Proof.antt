@@ -1,12 +1,11 @@
--- `link::counted` meets its contract.
+-- `scenario::counted` meets its contract.
 -- Assumes nothing.
 use borrow.Author.Needs.{needs}
-use Rattle.link.proofs.Making.{counted-below, counted-above}
-use Rattle.link.proofs.Making.{counted-below, counted-above}
-use Rattle.link.proofs.counted.Statement.{statement}
-use Rattle.link.proofs.counted.Tie as tie
-use Rattle.link.proofs.counted.Reads as reads
-use Rattle.link.proofs.counted.Lts as lts
+use Rattle.scenario.proofs.Taking.{counted-below, counted-above}
+use Rattle.scenario.proofs.counted.Statement.{statement}
+use Rattle.scenario.proofs.counted.Tie as tie
+use Rattle.scenario.proofs.counted.Reads as reads
+use Rattle.scenario.proofs.counted.Lts as lts
 
 returns : tie.Need-returns
 returns c = search needs

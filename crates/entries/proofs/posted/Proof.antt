@@ -1,4 +1,4 @@
--- `ledger::posted` meets its contract, field by field.
+-- `entries::posted` meets its contract, field by field.
 -- Assumes nothing.
 use borrow.Author.Needs.{needs}
 use mathlib.Core.Path.{refl}
@@ -6,8 +6,8 @@ use native.Mathlib.Numerals.{add-one}
 use Rattle.docket.specs.Reading.{crossingOf}
 use Rattle.bills.specs.Billing.{posted}
 use Rattle.bills.proofs.Stepping.{record-parts}
-use Rattle.ledger.proofs.posted.Statement.{statement}
-use Rattle.ledger.proofs.posted.Tie as tie
+use Rattle.entries.proofs.posted.Statement.{statement}
+use Rattle.entries.proofs.posted.Tie as tie
 
 cast-carrier : tie.Need-cast-carrier
 cast-carrier c = search needs

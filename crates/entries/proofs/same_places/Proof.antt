@@ -1,11 +1,11 @@
--- `ledger::same_places` meets its contract: what is left of both decides, as proofs/Comparing has it. Arrays of one type are as long.
+-- `entries::same_places` meets its contract: what is left of both decides, as proofs/Comparing has it. Arrays of one type are as long.
 -- Assumes nothing.
 use borrow.Author.Needs.{needs}
 use mathlib.Core.Path.{sym, _∙_}
 use Prim.Native.Nat.{_-_}
-use Rattle.ledger.proofs.Comparing.{Matching, numbers-differ, numbers-on, numbers-end}
-use Rattle.ledger.proofs.same_places.Statement.{statement}
-use Rattle.ledger.proofs.same_places.Tie as tie
+use Rattle.entries.proofs.Comparing.{Matching, numbers-differ, numbers-on, numbers-end}
+use Rattle.entries.proofs.same_places.Statement.{statement}
+use Rattle.entries.proofs.same_places.Tie as tie
 
 abbrev Inv-loop : tie.InvT-loop
 Inv-loop a b c₀ c = Matching a b c

@@ -1,11 +1,11 @@
--- `ledger::charged` meets its contract: one crossing more.
+-- `entries::charged` meets its contract: one crossing more.
 -- Assumes nothing.
 use borrow.Author.Needs.{needs}
 use mathlib.Core.Path.{ap}
 use Prim.Native.Nat.{ℕ}
 use native.Mathlib.Numerals.{add-one}
-use Rattle.ledger.proofs.charged.Statement.{statement}
-use Rattle.ledger.proofs.charged.Tie as tie
+use Rattle.entries.proofs.charged.Statement.{statement}
+use Rattle.entries.proofs.charged.Tie as tie
 
 add-t3 : tie.Need-add-t3
 add-t3 c = search needs
