@@ -93,6 +93,18 @@ static void illegal(void)
     holds("a refusal wrote", slots[0] == 5 && marks[0] == 5 && out[0] == 5 && lines[0].billed == 5);
 }
 
+/* A plan of 19 crossings, two of whose vacates filled a bay of three rails or more; beside a refusal stands 0. */
+static void parked_on_junctions(void)
+{
+    const uint16_t rails[14] = {2, 0, 5, 1, 2, 3, 0, 6, 6, 1, 3, 6, 4, 2};
+    const uint16_t start[4] = {5, 4, 6, 0}, goal[4] = {0, 4, 3, 6};
+    uint64_t plan[64];
+    told("a plan that parks", sejjekoru_plan(7, rails, 14, start, 4, goal, 4, plan, 64, &parked, &value), 0, 19);
+    holds("two were parked on junctions", parked == 2);
+    told("the same without room", sejjekoru_plan(7, rails, 14, start, 4, goal, 4, plan, 18, &parked, &value), SEJJEKORU_ROOM, 19);
+    holds("none beside a refusal", parked == 0);
+}
+
 /* Y9: the same, one carrier. */
 static void crowd(void)
 {
@@ -619,6 +631,7 @@ int main(void)
     nothing(257, 1, 0);
     nothing(UINT64_MAX, 1, 0);
     empty_plan();
+    parked_on_junctions();
     illegal();
     crowd();
     there_and_back();

@@ -49,6 +49,9 @@ def plans():
     refused(4, 0, s.plan, s.Order(2, [(0, 1)], [0], [1]))
     refused(2, 1, s.plan, s.Order(4, [(0, 1), (1, 0), (1, 2)], [], []))
     assert s.plan(s.Order(2, [(0, 1)], [], [])) == []
+    rails = [(2, 0), (5, 1), (2, 3), (0, 6), (6, 1), (3, 6), (4, 2)]
+    plan, parked = s.plan_counted(s.Order(7, rails, [5, 4, 6, 0], [0, 4, 3, 6]))
+    assert (len(plan), parked) == (19, 2)
     assert s.plan(s.Order(4, RING, [0, 1], [1, 2])) == [s.Crossing(1, 1, 2), s.Crossing(0, 0, 1)]
     there_and_back = [s.Crossing(0, 0, 1), s.Crossing(0, 1, 0)]
     assert s.shorten(s.Order(4, LINE, [0], [0]), there_and_back) == []

@@ -79,7 +79,7 @@ part-ahead path u ahead e = part path 1 ∙ ap (drop 1) e
 pub part-home : (path : List ℕ) (u : Bay) (ahead : List Bay) → path ≡ u ∷ ahead → take (length path - 1 - 1) (drop 1 path) ≡ dropLast ahead
 part-home path u ahead e = rw e (part-between u ahead)
 
-pub at-most-more : {at j m k : ℕ} {z : Staged} → m + k ≤ at + j → AtMost m k z → AtMost at j z
+pub at-most-more : {at : Tally} {j : ℕ} {m : Tally} {k : ℕ} {z : Staged} → m .crossings + k ≤ at .crossings + j → AtMost m k z → AtMost at j z
 at-most-more h a = record { few = λ b e. let f = a .few b e in omega arith }
 
 -- ## The bays of the finished carriers

@@ -33,14 +33,7 @@ module _ (Y : Yard) where
       (λ l. ⊎-elim (λ m. absurd (omega (arith, l .0))) (λ m. omega (arith, l .1, m .1)) t)
       s
 
-  -- of two bays one is taken, and it comes before both
-  fewer-either : (P : Bay → Type 0) (a b : Bay) → P a → P b → P (fewer Y a b)
-  unfolding fewer
-  fewer-either P a b x y =
-      by-cases (ltb (railsAt Y a) (railsAt Y b))
-      (λ l. rw l x)
-      (λ l. by-cases (ltb (railsAt Y b) (railsAt Y a)) (λ m. rw (l, m) y) (λ m. rw (l, m) (min-either P a b x y)))
-
+  -- what is taken of two bays comes before both, and is one of them
   fewer-both : (a b : Bay) → Rather (railsAt Y) (fewer Y a b) a × Rather (railsAt Y) (fewer Y a b) b
   unfolding fewer
   fewer-both a b =
@@ -53,6 +46,13 @@ module _ (Y : Yard) where
       rw (l, m) (by-cases (ltb a b)
       (λ k. let e : min a b ≡ a = omega (arith, ltb-true a b k) in rw e (rather-itself a, inr (same, omega (arith, ltb-true a b k))))
       (λ k. let e : min a b ≡ b = omega (arith, ltb-false a b k) in rw e (inr (sym same, omega (arith, ltb-false a b k)), rather-itself b)))))
+
+  fewer-either : (P : Bay → Type 0) (a b : Bay) → P a → P b → P (fewer Y a b)
+  unfolding fewer
+  fewer-either P a b x y =
+      by-cases (ltb (railsAt Y a) (railsAt Y b))
+      (λ l. rw l x)
+      (λ l. by-cases (ltb (railsAt Y b) (railsAt Y a)) (λ m. rw (l, m) y) (λ m. rw (l, m) (min-either P a b x y)))
 
   module _ (q : Bay → Bool) where
     -- a member that passes, taken rather than every other

@@ -1,4 +1,4 @@
--- `carry::carry` meets its contract. The path is the paper's, and there is one, for the yard is in one piece.
+-- `carry::carry` meets its contract. The path is the paper's; where there is none, the paper is stuck too.
 -- Assumes nothing.
 use mathlib.Core.Path.{_≡_, sym, refl}
 use native.Mathlib.Omega.{arith}
@@ -6,37 +6,35 @@ use lib.ListN.{length, take}
 use lib.Seq.{length-take-le}
 use borrow.Author.Needs.{needs}
 use Rattle.words.specs.Sets.{span}
-use Rattle.trial.proofs.Copying.{path-found, freeShown}
-use Rattle.carry.proofs.Carrying.{on-path, never-apart}
+use Rattle.home.proofs.Homing.{at-most-stuck}
+use Rattle.carry.proofs.Carrying.{settledShown, on-path, carried-nowhere, settles-stuck}
 use Rattle.carry.proofs.carry.Statement.{statement}
 use Rattle.carry.proofs.carry.Tie as tie
 
 cast-own : tie.Need-cast-own
 cast-own c = search needs
 
-mul-t18 : tie.Need-mul-t18
-mul-t18 c = search needs
+mul-t17 : tie.Need-mul-t17
+mul-t17 c = search needs
 
-slice-read-t20 : tie.Need-slice-read-t20
-slice-read-t20 c = search needs
+slice-read-t19 : tie.Need-slice-read-t19
+slice-read-t19 c = search needs
 
-mul-t18-2 : tie.Need-mul-t18-2
-mul-t18-2 c = search needs
+mul-t17-2 : tie.Need-mul-t17-2
+mul-t17-2 c = search needs
 
-shared-slice-read-t20 : tie.Need-shared-slice-read-t20
-shared-slice-read-t20 c = search needs
+shared-slice-read-t19 : tie.Need-shared-slice-read-t19
+shared-slice-read-t19 c = search needs
 
-slice-aggregate-path-between : tie.Need-slice-aggregate-path-between
-slice-aggregate-path-between c = search needs
+slice-aggregate-path-past : tie.Need-slice-aggregate-path-past
+slice-aggregate-path-past c = search needs
 
-slice-aggregate-path-between-2 : tie.Need-slice-aggregate-path-between-2
-slice-aggregate-path-between-2 c = search needs
-
-path-between-requires : tie.Need-path-between-requires
-path-between-requires c κs =
+path-past-requires : tie.Need-path-past-requires
+path-past-requires c κs =
     let p = c .before .before .before .before .before .before .before .before .before .before .before .before .before .pre .0 in
     let z = c .before .before .before .before .before .before .before .before .before .before .before .before .before .pre .1 in
-    (p .most, p .placed .inside (c .before .before .before .before .before .before .before .before .before .before .before .before .before .args .r .0) (z .0), z .1 .inside (c .before .before .before .before .before .before .before .before .before .before .before .before .before .args .r .0) (omega (arith, z .0, z .1 .many)), omega (arith, p .table-size), refl, omega (arith, p .most), freeShown (p .tabled))
+    let r = c .before .before .before .before .before .before .before .before .before .before .before .before .before .args .r .0 in
+    (p .most, p .placed .inside r (z .0), z .1 .inside r (omega (arith, z .0, z .1 .many)), omega (arith, p .table-size), z .7 .size, omega (arith, p .most), settledShown (p .tabled) r _ (z .7))
 
 enum-known-k : tie.Need-enum-known-k
 enum-known-k c = search needs
@@ -44,38 +42,41 @@ enum-known-k c = search needs
 enum-told : tie.Need-enum-told
 enum-told c = search needs
 
+same-length : tie.Need-same-length
+same-length c = search needs
+
 returns : tie.Need-returns
 returns c =
-    let p = c .before .before .before .before .before .before .before .before .before .before .before .before .before .before .before .before .before .pre .0 in
-    let z = c .before .before .before .before .before .before .before .before .before .before .before .before .before .before .before .before .before .pre .1 in
-    let w = z .4 in
-    never-apart w _ _ (p .placed .inside (c .before .before .before .before .before .before .before .before .before .before .before .before .before .before .before .before .before .args .r .0) (z .0)) (z .1 .inside (c .before .before .before .before .before .before .before .before .before .before .before .before .before .before .before .before .before .args .r .0) (omega (arith, z .0, z .1 .many))) ((rw (c .enum-told .given .1) at (c .before .before .before .path-between .ensures (freeShown (w .tabled)))) .same)
+    let z = c .before .before .before .before .before .before .before .before .before .before .before .before .before .before .before .before .before .pre .1 in (
+      at-most-stuck,
+      λ t. carried-nowhere t _ _ _ refl ((rw (c .enum-told .given .1) at (c .before .before .before .path-past .ensures (settledShown t (c .before .before .before .before .before .before .before .before .before .before .before .before .before .before .before .before .before .args .r .0) _ (z .7)))) .same),
+      settles-stuck,
+    )
 
 array-share-prefix-path : tie.Need-array-share-prefix-path
 array-share-prefix-path c =
     let p = c .before .before .before .before .before .before .before .before .before .before .before .before .before .before .before .before .before .before .pre .0 in
-    let f = rw (c .before .k .given .1) at (c .before .before .before .before .path-between .ensures (freeShown (p .tabled))) in
-    let kept : length (c .before .before .before .before .path-between .last .1 .1 .1 .1 .1 .0) ≡ span = c .before .before .before .before .path-between .kept .1 .1 .1 .1 .1 .0 in
+    let z = c .before .before .before .before .before .before .before .before .before .before .before .before .before .before .before .before .before .before .pre .1 in
+    let f = rw (c .before .k .given .1) at (c .before .before .before .before .path-past .ensures (settledShown (p .tabled) (c .before .before .before .before .before .before .before .before .before .before .before .before .before .before .before .before .before .before .args .r .0) _ (z .7))) in
+    let kept : length (c .before .before .before .before .path-past .last .1 .1 .1 .1 .1 .0) ≡ span = c .before .before .before .before .path-past .kept .1 .1 .1 .1 .1 .0 in
     omega (arith, f .fits, p .most, kept)
 
 slice-aggregate-carry-along : tie.Need-slice-aggregate-carry-along
 slice-aggregate-carry-along c =
     let p = c .before .before .before .before .before .before .before .before .before .before .before .before .before .before .before .before .before .before .before .pre .0 in
-    let f = rw (c .before .before .k .given .1) at (c .before .before .before .before .before .path-between .ensures (freeShown (p .tabled))) in
-    let kept : length (c .before .before .before .before .before .path-between .last .1 .1 .1 .1 .1 .0) ≡ span = c .before .before .before .before .before .path-between .kept .1 .1 .1 .1 .1 .0 in
+    let z = c .before .before .before .before .before .before .before .before .before .before .before .before .before .before .before .before .before .before .before .pre .1 in
+    let f = rw (c .before .before .k .given .1) at (c .before .before .before .before .before .path-past .ensures (settledShown (p .tabled) (c .before .before .before .before .before .before .before .before .before .before .before .before .before .before .before .before .before .before .before .args .r .0) _ (z .7))) in
+    let kept : length (c .before .before .before .before .before .path-past .last .1 .1 .1 .1 .1 .0) ≡ span = c .before .before .before .before .before .path-past .kept .1 .1 .1 .1 .1 .0 in
     sym (length-take-le _ _ (omega (arith, f .fits, p .most, kept)))
 
 carry-along-requires : tie.Need-carry-along-requires
 carry-along-requires c κs =
     let p = c .before .before .before .before .before .before .before .before .before .before .before .before .before .before .before .before .before .before .before .before .before .before .before .before .pre .0 in
     let z = c .before .before .before .before .before .before .before .before .before .before .before .before .before .before .before .before .before .before .before .before .before .before .before .before .pre .1 in
-    let f = rw (c .before .before .before .before .before .before .before .k .given .1) at (c .before .before .before .before .before .before .before .before .before .before .path-between .ensures (freeShown (p .tabled))) in
-    let kept : length (c .before .before .before .before .before .before .before .before .before .before .path-between .last .1 .1 .1 .1 .1 .0) ≡ span = c .before .before .before .before .before .before .before .before .before .before .path-between .kept .1 .1 .1 .1 .1 .0 in
-    let len : length (take (c .before .before .before .before .before .before .before .k .given .0 .0) (c .before .before .before .before .before .before .before .before .before .before .path-between .last .1 .1 .1 .1 .1 .0)) ≡ c .before .before .before .before .before .before .before .k .given .0 .0 = length-take-le _ _ (omega (arith, f .fits, p .most, kept)) in
-    (p, (z .0, z .1, z .2, z .3, omega (arith, len, f .fits, p .most), on-path (p .tabled) (p .most) _ _ _ (p .placed .inside (c .before .before .before .before .before .before .before .before .before .before .before .before .before .before .before .before .before .before .before .before .before .before .before .before .args .r .0) (z .0)) (z .1 .inside (c .before .before .before .before .before .before .before .before .before .before .before .before .before .before .before .before .before .before .before .before .before .before .before .before .args .r .0) (omega (arith, z .0, z .1 .many))) (f .same), z .5, z .6, z .7))
-
-same-length : tie.Need-same-length
-same-length c = search needs
+    let f = rw (c .before .before .before .before .before .before .before .k .given .1) at (c .before .before .before .before .before .before .before .before .before .before .path-past .ensures (settledShown (p .tabled) (c .before .before .before .before .before .before .before .before .before .before .before .before .before .before .before .before .before .before .before .before .before .before .before .before .args .r .0) _ (z .7))) in
+    let kept : length (c .before .before .before .before .before .before .before .before .before .before .path-past .last .1 .1 .1 .1 .1 .0) ≡ span = c .before .before .before .before .before .before .before .before .before .before .path-past .kept .1 .1 .1 .1 .1 .0 in
+    let len : length (take (c .before .before .before .before .before .before .before .k .given .0 .0) (c .before .before .before .before .before .before .before .before .before .before .path-past .last .1 .1 .1 .1 .1 .0)) ≡ c .before .before .before .before .before .before .before .k .given .0 .0 = length-take-le _ _ (omega (arith, f .fits, p .most, kept)) in
+    (p, (z .0, z .1, z .2, z .3, omega (arith, len, f .fits, p .most), on-path (p .tabled) (p .most) (z .2) _ _ _ (p .placed) (z .1) (z .0) (z .3) _ (f .same), z .5, z .6, z .7))
 
 same-length-2 : tie.Need-same-length-2
 same-length-2 c = search needs
@@ -89,12 +90,14 @@ same-length-4 c = search needs
 same-length-5 : tie.Need-same-length-5
 same-length-5 c = search needs
 
+same-length-6 : tie.Need-same-length-6
+same-length-6 c = search needs
+
 returns-2 : tie.Need-returns-2
 returns-2 c =
-    let p = c .before .before .before .before .before .before .before .before .before .before .before .before .before .before .before .before .before .before .before .before .before .before .before .before .before .before .before .before .before .before .before .before .before .before .before .pre .0 in
     let z = c .before .before .before .before .before .before .before .before .before .before .before .before .before .before .before .before .before .before .before .before .before .before .before .before .before .before .before .before .before .before .before .before .before .before .before .pre .1 in (
       c .before .before .before .before .before .before .before .before .before .before .carry-along .ensures .0,
-      λ t. c .before .before .before .before .before .before .before .before .before .before .carry-along .ensures .1 t (path-found t _ _ _ (p .placed .inside (c .before .before .before .before .before .before .before .before .before .before .before .before .before .before .before .before .before .before .before .before .before .before .before .before .before .before .before .before .before .before .before .before .before .before .before .args .r .0) (z .0)) (z .1 .inside (c .before .before .before .before .before .before .before .before .before .before .before .before .before .before .before .before .before .before .before .before .before .before .before .before .before .before .before .before .before .before .before .before .before .before .before .args .r .0) (omega (arith, z .0, z .1 .many))) ((rw (c .before .before .before .before .before .before .before .before .before .before .before .before .before .before .before .before .before .before .k .given .1) at (c .before .before .before .before .before .before .before .before .before .before .before .before .before .before .before .before .before .before .before .before .before .path-between .ensures (freeShown t))) .same) .0),
+      λ t. c .before .before .before .before .before .before .before .before .before .before .carry-along .ensures .1 t ((rw (c .before .before .before .before .before .before .before .before .before .before .before .before .before .before .before .before .before .before .k .given .1) at (c .before .before .before .before .before .before .before .before .before .before .before .before .before .before .before .before .before .before .before .before .before .path-past .ensures (settledShown t (c .before .before .before .before .before .before .before .before .before .before .before .before .before .before .before .before .before .before .before .before .before .before .before .before .before .before .before .before .before .before .before .before .before .before .before .args .r .0) _ (z .7)))) .same),
       c .before .before .before .before .before .before .before .before .before .before .carry-along .ensures .2,
     )
 
@@ -103,22 +106,22 @@ carry-spec =
     tie.close
     (tie.spec
     cast-own
-    mul-t18
-    slice-read-t20
-    mul-t18-2
-    shared-slice-read-t20
-    slice-aggregate-path-between
-    slice-aggregate-path-between-2
-    path-between-requires
+    mul-t17
+    slice-read-t19
+    mul-t17-2
+    shared-slice-read-t19
+    slice-aggregate-path-past
+    path-past-requires
     enum-known-k
     enum-told
+    same-length
     returns
     array-share-prefix-path
     slice-aggregate-carry-along
     carry-along-requires
-    same-length
     same-length-2
     same-length-3
     same-length-4
     same-length-5
+    same-length-6
     returns-2)

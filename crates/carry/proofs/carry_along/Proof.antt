@@ -1,6 +1,6 @@
 -- `carry::carry_along` meets its contract. The way home starts where r's path ends.
 -- Assumes nothing.
-use mathlib.Core.Path.{_≡_, ap, refl}
+use mathlib.Core.Path.{_≡_, _∙_, ap, refl}
 use native.Mathlib.Omega.{arith}
 use lib.ListN.{length}
 use borrow.Author.Needs.{needs}
@@ -166,7 +166,7 @@ way-home-requires c κs =
     (ready-again p _ _ _ kw kf (d .2 .placed), (omega (arith, z .0, g .many), omega (arith, kp, g .many), g .apart, rw kw (z .2), omega (arith, few, z .4, z .6, part-long (c .before .before .before .before .before .before .before .before .before .before .before .before .before .before .before .before .before .before .before .before .before .before .before .before .before .before .before .before .before .before .before .before .before .before .before .before .before .before .before .before .before .before .before .args .path .now) 1, ap length s2, ap length s, drop-last-long (z .5 .ahead)), rw (kw, s2) h, rw kw (z .7), more))
 
 same-length-11 : tie.Need-same-length-11
-same-length-11 c = search needs
+same-length-11 c = c .before .before .before .before .before .before .before .before .before .before .way-home .kept .1 .1 .1 .1 .1 .0 ∙ c .before .before .before .before .before .before .before .before .before .before .before .before .before .before .before .before .before .before .before .before .before .before .before .before .before .before .before .before .before .before .before .before .before .before .before .before .before .go .kept .1 .1 .1 .0
 
 same-length-12 : tie.Need-same-length-12
 same-length-12 c = search needs

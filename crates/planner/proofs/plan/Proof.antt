@@ -17,13 +17,13 @@ same-length : tie.Need-same-length
 same-length c = search needs
 
 returns : tie.Need-returns
-returns c = rw (c .before .counted .given .1) at (c .before .before .before .before .plan-counted .ensures .says)
+returns c = rw (c .before .counted .given .1) at (c .before .before .before .before .before .plan-counted .ensures .says)
 
 same-length-2 : tie.Need-same-length-2
 same-length-2 c = search needs
 
 returns-2 : tie.Need-returns-2
-returns-2 c = rw (c .before .counted2 .given .1) at (c .before .before .before .before .plan-counted .ensures .says)
+returns-2 c = rw (c .before .counted2 .given .1) at (c .before .before .before .before .before .plan-counted .ensures .says)
 
 pub plan-spec : {M : Type 1} → statement M
 plan-spec =
