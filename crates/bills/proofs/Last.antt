@@ -19,6 +19,7 @@ use Rattle.paper.proofs.Reporting.{marks-long, tell-facts}
 use Rattle.bills.specs.Billing.{untouched, lastDone}
 use Rattle.bills.specs.Answering.{changes, marksThen}
 use Rattle.bills.specs.Keeping.{Books, answerOn, booksBy, booksFrom, billedFrom}
+unfoldable pub use Rattle.bills.specs.Demand.{lastOf}
 use Rattle.bills.proofs.Stepping.{last-is, last-other}
 use Rattle.bills.proofs.Keeping.{order-of, changes-exactly, accepts-exactly}
 
@@ -102,11 +103,6 @@ module _ (xs : List Crossing) (ms : List ℕ) (i : ℕ) (len : length ms ≡ len
       by-cases (eqb (named xs i .carrier) c)
       (λ e. rw e (rw (← eqb-true (named xs i .carrier) c e) (last-is untouched 0 xs ms i h len d (closed-of xs ms order) ∙ omega arith)))
       (λ e. rw e (last-other c untouched 0 xs ms i h len d (eqb-false (named xs i .carrier) c e)))
-
--- the last of the names, in the order accepted, that is carrier c's
-unfoldable pub lastOf : Carrier → List Crossing → ℕ → List ℕ → ℕ
-lastOf c xs last [] = last
-lastOf c xs last (i ∷ is) = let here = if eqb (named xs i .carrier) c then i else last in lastOf c xs here is
 
 marks-then : (plan : List ℕ) (b : Books) (q : Request) → booksBy plan b q .marks ≡ (if changes (answerOn plan b q) then set (b .marks) (q .name) 1 else b .marks)
 unfolding marksThen

@@ -6,3 +6,4 @@ pub mod Last
 pub mod Summing
 pub mod Demand3
 pub mod Worked
+pub mod Nailed

@@ -10,6 +10,7 @@ use Rattle.paper.specs.Yard.{Bay, Placement, crossings}
 use Rattle.paper.proofs.Tests.{by-cases, not-both, and-left, and-right, and-both}
 use Rattle.bills.specs.Billing.{recordOf, linesOf}
 use Rattle.bills.specs.Answering.{sameNumbers, sameRecord, sameLine, sameLines, agree}
+pub use Rattle.bills.specs.Demand.{Afresh}
 use Rattle.bills.specs.declared.Record.{Record}
 use Rattle.bills.specs.declared.Line.{Line}
 use Rattle.bills.proofs.Stepping.{record-parts, line-parts, lines-long}
@@ -67,10 +68,6 @@ lines-same l m = (to l m, λ e. rw e (from m))
     from : (m : List Line) → sameLines m m ≡ true
     from [] = refl
     from (a ∷ m) = and-both _ _ (same-line a) (from m)
-
--- record and lines are what plan, start and marks give worked out afresh
-abbrev pub Afresh : Placement → List ℕ → List ℕ → Record → List Line → Type 0
-Afresh starts plan marks rec lines = (rec ≡ recordOf starts (crossings plan) marks) × (lines ≡ linesOf (length starts) (crossings plan) marks)
 
 module _ (n : ℕ) (ends : List Bay) (starts goals : Placement) (plan marks : List ℕ) (rec : Record) (lines : List Line) where
   pub agree-exactly : (agree n ends starts goals plan marks rec lines ≡ true) ↔ Afresh starts plan marks rec lines

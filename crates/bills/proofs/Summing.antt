@@ -11,12 +11,8 @@ use Rattle.paper.specs.Yard.{Crossing, named}
 use Rattle.paper.specs.Dependence.{doneOf, countOf}
 use Rattle.paper.proofs.Tests.{by-cases}
 use Rattle.bills.specs.Billing.{lineOf, linesOf}
+unfoldable pub use Rattle.bills.specs.Demand.{allBilled}
 use Rattle.bills.specs.declared.Line.{Line}
-
--- the crossings billed, over all lines
-unfoldable pub allBilled : List Line → ℕ
-allBilled [] = 0
-allBilled (l ∷ ls) = l .billed + allBilled ls
 
 -- the counts of the carriers from a on, k of them
 counts : ℕ → ℕ → List Crossing → ℕ

@@ -1,3 +1,4 @@
 pub mod Billing
 pub mod Answering
 pub mod Keeping
+pub mod Demand

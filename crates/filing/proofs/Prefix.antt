@@ -214,8 +214,14 @@ scenario-shortened (badLine l) file = refl
 scenario-shortened (good G) none = refl
 scenario-shortened (good G) (some t) = rw (scenario-decided (G .width) (G .height) (bayIn G) t)
 
--- The program prints the same for the first bytes of its files as for the whole files.
+-- The program answers the same for the first bytes of its files as for the whole files,
+pub answer-decided : (mapFile scenarioFile : Option Text)
+    → programAnswer (shortened map-bytes mapFile) (shortened scenario-bytes scenarioFile) ≡ programAnswer mapFile scenarioFile
+unfolding programAnswer
+answer-decided mapFile scenarioFile =
+    ap (λ r. scenarioRead r (shortened scenario-bytes scenarioFile)) (map-shortened mapFile) ∙ scenario-shortened (readFile readMap mapFile) scenarioFile
+
+-- and so it prints the same.
 pub program-decided : (mapFile scenarioFile : Option Text) → program (shortened map-bytes mapFile) (shortened scenario-bytes scenarioFile) ≡ program mapFile scenarioFile
-unfolding program programAnswer
-program-decided mapFile scenarioFile =
-    ap printed (ap (λ r. scenarioRead r (shortened scenario-bytes scenarioFile)) (map-shortened mapFile) ∙ scenario-shortened (readFile readMap mapFile) scenarioFile)
+unfolding program
+program-decided mapFile scenarioFile = ap printed (answer-decided mapFile scenarioFile)

@@ -1,39 +1,37 @@
--- What opening leaves, way out by way out.
-use mathlib.Core.Path.{_≡_, _∙_, ap, ap₂}
+-- What opening leaves, way out by way out, and what follows for lines that are lent.
+use mathlib.Core.Path.{_≡_, sym, _∙_, ap, ap₂}
 use mathlib.Core.List.{List, [], _++_, append-nil}
 use mathlib.Core.Option.{none, some}
-use Prim.Native.Nat.{ℕ, _≤_}
+use Prim.Native.Nat.{ℕ, _≤_, _<_}
 use native.Mathlib.Omega.{arith}
-use borrow.Author.Tests.{eq-eqb, ne-eqb}
-use lib.ListN.{length, drop, length-replicate, drop-of-length-le}
+use borrow.Author.Tests.{not-false, eqb-true, eq-eqb, ne-eqb}
+use lib.ListN.{length, take, drop, drop-of-length-le}
 use Rattle.paper.specs.Yard.{Bay, Placement, crossings}
+use Rattle.paper.specs.Docket.{room}
+use Rattle.paper.specs.Docket as paper
+use Rattle.paper.proofs.Tests.{by-option, none-both, none-when, never-some}
 use Rattle.docket.specs.Reading.{refusalOf}
 use Rattle.docket.specs.declared.Refusal.{Refusal}
 use Rattle.docket.specs.declared.Refusal.the-variants.{Room}
 use Rattle.checker.specs.declared.Checked.the-variants as checked
-use Rattle.bills.specs.Billing.{recordOf, linesOf, noLine}
+use Rattle.bills.specs.Billing.{recordOf, linesOf}
 use Rattle.bills.specs.Answering.{upToEleven, opening, openedRecord, openedLines}
 use Rattle.bills.specs.declared.Line.{Line}
 use Rattle.bills.specs.declared.Record.{Record}
 use Rattle.bills.proofs.Stepping.{lines-long}
-use Rattle.ledger.specs.Lines.{noLines, heldOf, gathered}
+use Rattle.bills.proofs.Same.{Afresh}
+use Rattle.ledger.specs.Lines.{noLines, heldOf, laid, gathered, linesHeld}
 use Rattle.ledger.specs.Statements.{OpenSays}
 use Rattle.ledger.specs.declared.Held.{Held}
+use Rattle.ledger.specs.declared.Opening.{Opening}
 use Rattle.ledger.proofs.Laid.{held-long, held-taken}
 use Rattle.ledger.proofs.Refusing.{fit-of}
 
 module _ (n : ℕ) (ends : List Bay) (starts goals : Placement) (plan marks : List ℕ) (rec : Record) (count : ℕ) where
   pub open-refused : (r : Refusal) (held : Held) → held ≡ heldOf 0 noLines → some (refusalOf r) ≡ opening n ends starts goals plan marks count
       → OpenSays n ends starts goals plan marks rec count (record { answer = checked.Refused r; running = rec; held = held })
-  unfolding openedRecord openedLines
-  open-refused r held e h = rw e (record {
-    answers = h;
-    leaves = rw (← h);
-    few = omega arith;
-    room = omega arith;
-    whole = length-replicate 256 noLine;
-    lines-then = λ lines l. rw (l, ← h);
-  })
+  unfolding openedRecord laid
+  open-refused r held e h = record { answers = h; leaves = rw (← h); holds = e ∙ rw (← h) }
 
   pub eleven-first : (r : Refusal) → some (refusalOf r) ≡ upToEleven n ends starts goals plan marks → some (refusalOf r) ≡ opening n ends starts goals plan marks count
   unfolding opening
@@ -47,20 +45,63 @@ module _ (n : ℕ) (ends : List Bay) (starts goals : Placement) (plan marks : Li
     pub open-written : count ≡ length starts → (running : Record) → running ≡ recordOf starts (crossings plan) marks
         → (held : Held) → held ≡ gathered (linesOf count (crossings plan) marks)
         → OpenSays n ends starts goals plan marks rec count (record { answer = checked.Passed; running = running; held = held })
-    unfolding opening openedRecord openedLines
+    unfolding opening openedRecord
     open-written k running er held eh =
-        let fresh = linesOf count (crossings plan) marks in
-        let many : length fresh ≡ count = lines-long count (crossings plan) marks in
-        let few : count ≤ 256 = omega (arith, k, fit-of n ends starts goals plan marks passes .few) in
         let free = eq-eqb count (length starts) k in
-        rw (er, eh) (record {
+        record {
           answers = rw (← passes, free);
-          leaves = rw (← passes, free);
-          few = omega (arith, many, few);
-          room = omega (arith, many);
-          whole = held-long fresh;
-          lines-then = λ lines l.
-              let rest : drop (length fresh) lines ≡ [] = drop-of-length-le lines {i = length fresh} (omega (arith, l, many)) in
-              ap₂ (λ (a b : List Line). a ++ b) (held-taken fresh (omega (arith, many, few))) rest ∙ append-nil fresh
-              ∙ ap (λ (j : ℕ). linesOf j (crossings plan) marks) k ∙ rw (l, ← passes, free);
-        })
+          leaves = er ∙ rw (← passes, free);
+          holds = eh ∙ ap (λ (j : ℕ). gathered (linesOf j (crossings plan) marks)) k ∙ rw (← passes, free);
+        }
+
+  module _ (r : Opening) (s : OpenSays n ends starts goals plan marks rec count r) where
+    abbrev fresh : List Line
+    fresh = linesOf (length starts) (crossings plan) marks
+
+    -- refused, with no line; or open, with as many as there are carriers
+    by-opening : {P : Type 0} → ((x : paper.Refusal) → opening n ends starts goals plan marks count ≡ some x → r .held ≡ gathered [] → P)
+        → (opening n ends starts goals plan marks count ≡ none → count ≡ length starts → length starts < 256 → r .held ≡ gathered fresh → P) → P
+    unfolding opening
+    by-opening f g =
+        by-option (opening n ends starts goals plan marks count)
+        (λ u.
+        let both = none-both (upToEleven n ends starts goals plan marks) _ u in
+        g u (eqb-true _ _ (not-false _ (none-when _ (room (length starts)) (both .1)))) (fit-of n ends starts goals plan marks (sym (both .0)) .few) (s .holds ∙ rw u))
+        (λ x u. f x u (s .holds ∙ rw u))
+
+    -- What opening leaves is what a report and the agreement test take for worked out afresh.
+    pub opened-afresh : opening n ends starts goals plan marks count ≡ none → Afresh starts plan marks (r .running) (linesHeld (r .held))
+    unfolding openedRecord
+    opened-afresh u =
+        by-opening
+        (λ x v e. never-some x (sym u ∙ v))
+        (λ v k few e. (s .leaves ∙ rw u, ap linesHeld e ∙ held-taken fresh (omega (arith, lines-long (length starts) (crossings plan) marks, few))))
+
+    -- ## The lines over the first of those that are lent
+
+    pub held-few : r .held .count ≤ 256
+    held-few =
+        by-opening
+        (λ x u e. omega (arith, ap (λ (h : Held). h .count) e))
+        (λ u k few e. omega (arith, ap (λ (h : Held). h .count) e, lines-long (length starts) (crossings plan) marks, few))
+
+    pub held-room : r .held .count ≤ count
+    held-room =
+        by-opening
+        (λ x u e. omega (arith, ap (λ (h : Held). h .count) e))
+        (λ u k few e. omega (arith, ap (λ (h : Held). h .count) e, lines-long (length starts) (crossings plan) marks, k))
+
+    pub held-whole : length (r .held .lines) ≡ 256
+    held-whole = by-opening (λ x u e. ap (λ (h : Held). length (h .lines)) e ∙ held-long []) (λ u k few e. ap (λ (h : Held). length (h .lines)) e ∙ held-long fresh)
+
+    pub lines-filled : (lines : List Line) → length lines ≡ count
+        → linesHeld (r .held) ++ drop (r .held .count) lines ≡ openedLines n ends starts goals plan marks lines
+    unfolding openedLines laid
+    lines-filled lines l =
+        by-opening
+        (λ x u e. ap (λ (h : Held). linesHeld h ++ drop (h .count) lines) e ∙ rw (l, u))
+        (λ u k few e.
+        let many : length fresh ≡ length starts = lines-long (length starts) (crossings plan) marks in
+        let rest : drop (length fresh) lines ≡ [] = drop-of-length-le lines {i = length fresh} (omega (arith, l, many, k)) in
+        ap (λ (h : Held). linesHeld h ++ drop (h .count) lines) e
+        ∙ ap₂ (λ (a b : List Line). a ++ b) (held-taken fresh (omega (arith, many, few))) rest ∙ append-nil fresh ∙ rw (l, u))

@@ -1,35 +1,28 @@
 -- A report once all agree, and the whole of it, way out by way out.
-use mathlib.Core.Path.{_≡_, refl, sym, _∙_, ap, ap₂}
+use mathlib.Core.Path.{_≡_, refl, sym, _∙_, ap}
 use mathlib.Core.Bool.{Bool, true, false}
-use mathlib.Core.List.{List, [], _∷_}
-use Prim.Native.Nat.{ℕ, zero, suc, _<_, _≤_}
-use native.Mathlib.Omega.{arith}
+use mathlib.Core.List.{List}
+use Prim.Native.Nat.{ℕ, _<_}
 use lib.Dec.{leb}
-use lib.ListN.{length, getD, set, length-map}
+use lib.ListN.{length, set}
 use borrow.Author.Tests.{leb-true, leb-false}
 use Rattle.paper.specs.Basics.{if_then_else_}
-use Rattle.paper.specs.Yard.{Bay, Placement, Crossing, crossings, named}
+use Rattle.paper.specs.Yard.{Bay, Placement, Crossing, crossings}
 use Rattle.paper.specs.Docket as paper
 use Rattle.paper.specs.Answers.{Report, accept, already, refuse, accepts, marksAfter}
 use Rattle.paper.proofs.Tests.{by-cases, by-option, not-both}
-use Rattle.paper.proofs.Packing.{named-is}
-use Rattle.docket.specs.declared.Refusal.{Refusal}
 use Rattle.marks.specs.Reading.{toldInOrder}
 use Rattle.marks.proofs.Telling.{told-on, told-unknown}
-use Rattle.bills.specs.Billing.{charged, noLine}
-use Rattle.bills.specs.Answering.{Billed, told, disagrees, agrees, differs, refused, changes, upToEleven, agree, agreement, billing, marksThen, recordThen, linesThen}
+use Rattle.bills.specs.Billing.{noLine}
+use Rattle.bills.specs.Answering.{Billed, told, disagrees, agrees, differs, refused, changes, upToEleven, agree, agreement, billing, marksThen, recordThen}
 use Rattle.bills.specs.declared.Line.{Line}
 use Rattle.bills.specs.declared.Record.{Record}
-use Rattle.bills.proofs.Stepping.{lines-long}
 use Rattle.bills.proofs.Same.{agree-exactly, differ-exactly}
 use Rattle.bills.proofs.Keeping.{eleven-exactly, agrees-exactly, differs-exactly}
-use Rattle.ledger.specs.Lines.{gathered, lineAt}
-use Rattle.ledger.specs.Statements.{billedOf, PostSays, SettleSays, Settled}
+use Rattle.ledger.specs.Lines.{linesHeld}
+use Rattle.ledger.specs.Statements.{billedOf, PostSays, SettleSays, BillingSays}
 use Rattle.ledger.specs.declared.Held.{Held}
 use Rattle.ledger.specs.declared.Told.{Told}
-use Rattle.ledger.specs.declared.Billed.the-variants as bill
-use Rattle.ledger.proofs.Laid.{held-at}
-use Rattle.ledger.proofs.Refusing.{fit-of}
 
 -- an accepted name is in the plan
 pub told-inside : (xs : List Crossing) (marks : List ℕ) (name : ℕ) → accepts (toldInOrder xs marks name) ≡ true → name < length xs
@@ -49,11 +42,6 @@ accepted-is accept y = refl
 accepted-is already y = not-both y refl
 accepted-is (refuse r) y = not-both y refl
 
-set-past : (lines : List Line) (i : ℕ) (line : Line) → length lines ≤ i → set lines i line ≡ lines
-set-past [] i line h = refl
-set-past (l ∷ lines) zero line h = absurd (omega arith)
-set-past (l ∷ lines) (suc i) line h = ap {B = List Line} (λ r. l ∷ r) (set-past lines i line (omega arith))
-
 marks-by : (marks : List ℕ) (name : ℕ) (a : Report) → marksAfter marks name a ≡ (if accepts a then set marks name 1 else marks)
 unfolding marksAfter accepts
 marks-by marks name accept = refl
@@ -70,31 +58,25 @@ module _ (plan marks : List ℕ) (name : ℕ) (rec : Record) (held : Held) (r : 
   }
 
   pub settle-left : (a : Report) → a ≡ toldInOrder (crossings plan) marks name → accepts a ≡ false → billedOf (r .answer) ≡ told a
-      → r .running ≡ rec → r .at ≡ held .count → SettleSays plan marks name rec held r marks′
-  settle-left a e not-so b k i = record {
+      → r .running ≡ rec → r .at ≡ held .count → r .line ≡ noLine → SettleSays plan marks name rec held r marks′
+  settle-left a e not-so b k i l = record {
     answers = b ∙ ap told e;
     marks-then = m;
     changed = λ y. not-both y (ap accepts (sym e) ∙ not-so);
-    unchanged = λ y. (k, i);
+    unchanged = λ y. (k, i, l);
   }
 
-module _ (n : ℕ) (ends : List Bay) (starts goals : Placement) (plan marks : List ℕ) (rec : Record) (held : Held) (name : ℕ) (r : Told) (marks′ : List ℕ)
-    (lines : List Line) (e : held ≡ gathered lines) where
-  count-is : held .count ≡ length lines
-  count-is = ap (λ (h : Held). h .count) e
+module _ (n : ℕ) (ends : List Bay) (starts goals : Placement) (plan marks : List ℕ) (rec : Record) (held : Held) (name : ℕ) (r : Told) (marks′ : List ℕ) where
+  abbrev lines : List Line
+  lines = linesHeld held
 
   -- nothing changes
   pub billing-left : (b : Billed) → b ≡ billing n ends starts goals plan marks rec lines name → changes b ≡ false → billedOf (r .answer) ≡ b
-      → r .running ≡ rec → r .at ≡ held .count → marks′ ≡ marks → Settled n ends starts goals plan marks rec lines name r marks′
-  unfolding marksThen recordThen linesThen
-  billing-left b is not-so a k i m =
+      → r .running ≡ rec → r .at ≡ held .count → r .line ≡ noLine → marks′ ≡ marks → BillingSays n ends starts goals plan marks name rec held r marks′
+  unfolding marksThen recordThen
+  billing-left b is not-so a k i l m =
       let same : changes (billing n ends starts goals plan marks rec lines name) ≡ false = ap changes (sym is) ∙ not-so in
-      record {
-        answers = a ∙ is;
-        marks-then = m ∙ rw same;
-        leaves = k ∙ rw same;
-        lines-then = set-past lines (r .at) (r .line) (omega (arith, i, count-is)) ∙ rw same;
-      }
+      record { answers = a ∙ is; marks-then = m ∙ rw same; leaves = k ∙ rw same; place = i ∙ rw same; line-then = l ∙ rw same }
 
   -- the record disagrees
   pub billing-differs : differs ≡ agreement n ends starts goals plan marks rec lines → disagrees ≡ billing n ends starts goals plan marks rec lines name
@@ -127,29 +109,18 @@ module _ (n : ℕ) (ends : List Bay) (starts goals : Placement) (plan marks : Li
 
   -- all agree: the rest tells
   pub billing-settled : agrees ≡ agreement n ends starts goals plan marks rec lines → SettleSays plan marks name rec held r marks′
-      → Settled n ends starts goals plan marks rec lines name r marks′
-  unfolding billing marksThen recordThen linesThen changes
+      → BillingSays n ends starts goals plan marks name rec held r marks′
+  unfolding billing marksThen recordThen changes
   billing-settled h s =
       let f = agrees-exactly n ends starts goals plan marks rec lines .0 (sym h) in
       let ok = eleven-exactly n ends starts goals plan marks .0 (f .0) in
-      let fit = fit-of n ends starts goals plan marks (sym (f .0)) in
       let xs = crossings plan in
-      let x = named xs name in
       let yes = agree-exactly n ends starts goals plan marks rec lines .1 (f .1) in
       let is : billing n ends starts goals plan marks rec lines name ≡ told (toldInOrder xs marks name) = rw (f .0, yes) (ap told (told-on xs marks name (ok .1))) in
-      let many : length lines ≡ length starts = ap length (f .1 .1) ∙ lines-long (length starts) xs marks in
       record {
         answers = s .answers ∙ sym is;
         marks-then = s .marks-then ∙ marks-by marks name (toldInOrder xs marks name) ∙ rw is;
-        leaves = by-cases (accepts (toldInOrder xs marks name))
-            (λ a. s .changed a .0 ∙ rw (is, a))
-            (λ a. s .unchanged a .0 ∙ rw (is, a));
-        lines-then = by-cases (accepts (toldInOrder xs marks name))
-            (λ a.
-            let in-plan : name < length plan = rw length-map at (told-inside xs marks name a) in
-            let there : x .carrier < length starts = rw (named-is plan name) (fit .fits name in-plan .0) in
-            let line : lineAt held (x .carrier) ≡ getD lines (x .carrier) noLine =
-            ap (λ (g : Held). lineAt g (x .carrier)) e ∙ held-at lines (x .carrier) (omega (arith, there, many)) (omega (arith, there, fit .few)) in
-            ap₂ (set lines) (s .changed a .1) (s .changed a .2 ∙ ap (λ l. charged l name) line) ∙ rw (is, a))
-            (λ a. set-past lines (r .at) (r .line) (omega (arith, s .unchanged a .1, count-is)) ∙ rw (is, a));
+        leaves = by-cases (accepts (toldInOrder xs marks name)) (λ a. s .changed a .0 ∙ rw (is, a)) (λ a. s .unchanged a .0 ∙ rw (is, a));
+        place = by-cases (accepts (toldInOrder xs marks name)) (λ a. s .changed a .1 ∙ rw (is, a)) (λ a. s .unchanged a .1 ∙ rw (is, a));
+        line-then = by-cases (accepts (toldInOrder xs marks name)) (λ a. s .changed a .2 ∙ rw (is, a)) (λ a. s .unchanged a .2 ∙ rw (is, a));
       }

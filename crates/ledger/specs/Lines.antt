@@ -2,7 +2,7 @@
 -- Assumes nothing.
 use mathlib.Core.List.{List, [], _∷_, map}
 use Prim.Native.Nat.{ℕ, min}
-use lib.ListN.{length, getD, replicate}
+use lib.ListN.{length, getD, take, replicate}
 use Rattle.paper.specs.Basics.{upTo}
 use Rattle.paper.specs.Yard.{Carrier}
 use Rattle.bills.specs.Billing.{noLine}
@@ -31,6 +31,10 @@ laid (l ∷ ls) (o ∷ others) = l ∷ laid ls others
 -- all that is held of lent lines
 abbrev pub gathered : List Line → Held
 gathered ls = heldOf (length ls) (laid ls noLines)
+
+-- the lines of what is held: the first `count`, whatever stands behind them
+abbrev pub linesHeld : Held → List Line
+linesHeld held = take (held .count) (held .lines)
 
 -- the lines of so many carriers, from their counts and last names
 abbrev pub listed : ℕ → List ℕ → List ℕ → List Line

@@ -1,24 +1,25 @@
--- What the functions on record and lines by value promise. Lines come as they are held, so each promise is of every list of lines that is held so.
+-- What the functions on record and lines by value promise. Lines come as they are held: the promises read the first `count` of them, and so are of
+-- whatever is handed in.
 -- Assumes nothing.
 use mathlib.Core.Path.{_≡_}
 use mathlib.Core.Bool.{Bool, true, false}
-use mathlib.Core.List.{List, _++_}
+use mathlib.Core.List.{List, []}
 use Prim.Native.Nat.{ℕ, _≤_, _<_}
-use lib.ListN.{length, getD, set, take, drop}
-use Rattle.paper.specs.Basics.{_and_}
-use Rattle.paper.specs.Yard.{Bay, Carrier, Placement, crossings, named, most-crossings}
+use lib.ListN.{length, getD}
+use Rattle.paper.specs.Basics.{if_then_else_, if-some_then_else_, _and_}
+use Rattle.paper.specs.Yard.{Bay, Placement, crossings, named, most-crossings}
 use Rattle.paper.specs.Dependence.{slots}
 use Rattle.paper.specs.OnePass.{Fits}
 use Rattle.paper.specs.Answers.{accept, already, refuse, accepts, marksAfter}
 use Rattle.docket.specs.Reading.{refusalOf}
 use Rattle.marks.specs.Reading.{toldInOrder}
 use Rattle.checker.specs.Reading.{checkedOf}
-use Rattle.bills.specs.Billing.{recordOf, lineOf, linesOf, posted, charged}
-use Rattle.bills.specs.Answering.{sameRecord, sameLines, opening, openedRecord, openedLines, agreement, billing, marksThen, recordThen, linesThen}
+use Rattle.bills.specs.Billing.{recordOf, linesOf, posted, charged, noLine}
+use Rattle.bills.specs.Answering.{sameRecord, sameLines, changes, opening, openedRecord, billing, marksThen, recordThen}
 use Rattle.bills.specs.Answering as told
 use Rattle.bills.specs.declared.Line.{Line}
 use Rattle.bills.specs.declared.Record.{Record}
-use Rattle.ledger.specs.Lines.{gathered, lineAt}
+use Rattle.ledger.specs.Lines.{gathered, lineAt, linesHeld}
 use Rattle.ledger.specs.declared.Held.{Held}
 use Rattle.ledger.specs.declared.Agreement.{Agreement}
 use Rattle.ledger.specs.declared.Agreement.the-variants as test
@@ -42,19 +43,13 @@ billedOf (bill.Refused r) = told.told (refuse (refusalOf r))
 pub record Fit (starts : Placement) (plan marks : List ℕ) : Type 0 where
   pub even : length marks ≡ length plan
   pub short : length plan ≤ most-crossings
-  pub few : length starts ≤ 256
+  pub few : length starts < 256
   pub fits : Fits (length starts) 256 plan
 
--- whether as many lines are lent as are fresh, each the same
-pub record SameHeld (lent fresh : Held) (r : Bool) : Type 0 where
-  pub says : (ls ls′ : List Line) → length ls′ ≤ 256 → lent ≡ gathered ls → fresh ≡ gathered ls′ → r ≡ sameLines ls ls′
-  pub alike : r ≡ true → (c : Carrier) → c < fresh .count → lineAt lent c ≡ lineAt fresh c
-
-pub record AgreeSays (starts : Placement) (plan marks : List ℕ) (rec : Record) (held : Held) (r : Bool) : Type 0 where
-  pub says : (lines : List Line) → held ≡ gathered lines
-      → r ≡ sameRecord rec (recordOf starts (crossings plan) marks) and sameLines lines (linesOf (length starts) (crossings plan) marks)
-  pub as-fresh : r ≡ true
-      → (rec ≡ recordOf starts (crossings plan) marks) × ((c : Carrier) → c < length starts → lineAt held c ≡ lineOf (crossings plan) marks c)
+-- whether record and lines are what start, plan and marks give worked out afresh
+abbrev pub allSame : Placement → List ℕ → List ℕ → Record → Held → Bool
+allSame starts plan marks rec held =
+    sameRecord rec (recordOf starts (crossings plan) marks) and sameLines (linesHeld held) (linesOf (length starts) (crossings plan) marks)
 
 -- the step asks that name, carrier and counters have their places
 pub record PostAsks (plan : List ℕ) (name : ℕ) (rec : Record) (held : Held) : Type 0 where
@@ -77,7 +72,7 @@ pub record SettleAsks (plan marks : List ℕ) (rec : Record) (held : Held) : Typ
   pub not-all : rec .done < 4294967295
   pub not-full : (name : ℕ) → name < length plan → lineAt held (named (crossings plan) name .carrier) .billed < 4294967295
 
--- from 12 on: acceptance changes the mark, the record and one line; any other answer changes nothing, and the place is past the last line
+-- from 12 on: acceptance changes the mark, the record and one line; any other answer changes nothing, the place is past the last line, and the line is empty
 pub record SettleSays (plan marks : List ℕ) (name : ℕ) (rec : Record) (held : Held) (r : Told) (marks′ : List ℕ) : Type 0 where
   pub answers : billedOf (r .answer) ≡ told.told (toldInOrder (crossings plan) marks name)
   pub marks-then : marks′ ≡ marksAfter marks name (toldInOrder (crossings plan) marks name)
@@ -85,27 +80,32 @@ pub record SettleSays (plan marks : List ℕ) (name : ℕ) (rec : Record) (held 
       → (r .running ≡ posted rec (named (crossings plan) name) (getD (slots (crossings plan)) name 0))
       × (r .at ≡ named (crossings plan) name .carrier)
       × (r .line ≡ charged (lineAt held (named (crossings plan) name .carrier)) name)
-  pub unchanged : accepts (toldInOrder (crossings plan) marks name) ≡ false → (r .running ≡ rec) × (r .at ≡ held .count)
+  pub unchanged : accepts (toldInOrder (crossings plan) marks name) ≡ false → (r .running ≡ rec) × (r .at ≡ held .count) × (r .line ≡ noLine)
 
 module _ (n : ℕ) (ends : List Bay) (starts goals : Placement) (plan marks : List ℕ) where
-  pub record AgreementSays (rec : Record) (held : Held) (r : Agreement) : Type 0 where
-    pub says : (lines : List Line) → held ≡ gathered lines → agreementOf r ≡ agreement n ends starts goals plan marks rec lines
-    pub may-settle : r ≡ test.Agrees → SettleAsks plan marks rec held
+  -- the lines that opening builds: none where it is refused
+  abbrev pub built : ℕ → List Line
+  built count = if-some opening n ends starts goals plan marks count then (λ r. []) else linesOf (length starts) (crossings plan) marks
 
   pub record OpenSays (rec : Record) (count : ℕ) (r : Opening) : Type 0 where
     pub answers : checkedOf (r .answer) ≡ opening n ends starts goals plan marks count
     pub leaves : r .running ≡ openedRecord n ends starts goals plan marks rec count
-    pub few : r .held .count ≤ 256
-    pub room : r .held .count ≤ count
-    pub whole : length (r .held .lines) ≡ 256
-    pub lines-then : (lines : List Line) → length lines ≡ count
-        → take (r .held .count) (r .held .lines) ++ drop (r .held .count) lines ≡ openedLines n ends starts goals plan marks lines
+    pub holds : r .held ≡ gathered (built count)
 
-  pub record Settled (rec : Record) (lines : List Line) (name : ℕ) (r : Told) (marks′ : List ℕ) : Type 0 where
-    pub answers : billedOf (r .answer) ≡ billing n ends starts goals plan marks rec lines name
-    pub marks-then : marks′ ≡ marksThen n ends starts goals plan marks rec lines name
-    pub leaves : r .running ≡ recordThen n ends starts goals plan marks rec lines name
-    pub lines-then : set lines (r .at) (r .line) ≡ linesThen n ends starts goals plan marks rec lines name
+  module _ (name : ℕ) (rec : Record) (held : Held) where
+    abbrev billed : told.Billed
+    billed = billing n ends starts goals plan marks rec (linesHeld held) name
 
-  abbrev pub BillingSays : ℕ → Record → Held → Told → List ℕ → Type 0
-  BillingSays name rec held r marks′ = (lines : List Line) → held ≡ gathered lines → Settled rec lines name r marks′
+    -- the one line that changes, with its place: past the last line where none does, and then an empty one
+    abbrev pub placeThen : ℕ
+    placeThen = if changes billed then named (crossings plan) name .carrier else held .count
+
+    abbrev pub lineThen : Line
+    lineThen = if changes billed then charged (lineAt held (named (crossings plan) name .carrier)) name else noLine
+
+    pub record BillingSays (r : Told) (marks′ : List ℕ) : Type 0 where
+      pub answers : billedOf (r .answer) ≡ billing n ends starts goals plan marks rec (linesHeld held) name
+      pub marks-then : marks′ ≡ marksThen n ends starts goals plan marks rec (linesHeld held) name
+      pub leaves : r .running ≡ recordThen n ends starts goals plan marks rec (linesHeld held) name
+      pub place : r .at ≡ placeThen
+      pub line-then : r .line ≡ lineThen

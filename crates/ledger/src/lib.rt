@@ -7,18 +7,16 @@ ghost use Rattle.paper.specs.Yard.{crossings, most-crossings};
 ghost use Rattle.paper.specs.Dependence.{placementBy};
 ghost use Rattle.paper.specs.OnePass.{Fits};
 ghost use Rattle.paper.specs.Answers.{accepts};
-ghost use Rattle.docket.specs.Reading.{crossingOf};
 ghost use Rattle.marks.specs.Reading.{reportOf};
 ghost use Rattle.checker.specs.Reading.{checkedOf};
-ghost use Rattle.bills.specs.Billing.{places, recordOf, linesOf, posted as postedOf, charged as chargedOf};
-ghost use Rattle.bills.specs.Answering.{sameNumbers, sameRecord, sameLine, upToEleven, told};
-ghost use Rattle.ledger.specs.Lines.{noLines, heldOf, topOf, lineAt, gathered, listed};
-ghost use Rattle.ledger.specs.Statements.{billedOf, Fit, SameHeld, AgreeSays, AgreementSays, OpenSays, PostAsks, PostSays, SettleAsks, SettleSays, BillingSays};
+ghost use Rattle.bills.specs.Billing.{places, noLine, recordOf, linesOf};
+ghost use Rattle.bills.specs.Answering.{upToEleven, agreement, told};
+ghost use Rattle.ledger.specs.Lines.{noLines, heldOf, topOf, lineAt, gathered, linesHeld, listed};
+ghost use Rattle.ledger.specs.Statements.{agreementOf, billedOf, Fit, allSame, OpenSays, PostAsks, PostSays, SettleAsks, SettleSays, BillingSays};
 use bills::Line;
 use bills::Record;
 use bills::UNTOUCHED;
 use checker::Checked;
-use docket::Crossing;
 use docket::Refusal;
 use marks::Reported;
 use yard::Yard;
@@ -33,11 +31,7 @@ pub struct Held {
 pub fn no_lines() -> [Line; Yard::BAYS]
     ensures { λ r. ⌜ r ≡ noLines ⌝ }
 {
-    let line = Line {
-        carrier: 0,
-        billed: 0,
-        last: 0,
-    };
+    let line = entries::no_line();
     [line; Yard::BAYS]
 }
 
@@ -62,12 +56,12 @@ pub fn top(count: usize) -> usize
     }
 }
 
-// The line at place i.
+// The line at place i: none past the last place.
 pub fn line_at(held: Held, i: usize) -> Line
-    requires { ⌜ i < 256 ⌝ }
     ensures { λ r. ⌜ r ≡ lineAt held i ⌝ }
 {
-    held.lines[i]
+    let lines = held.lines;
+    entries::line_in(lines, i)
 }
 
 // The carriers where the done crossings leave them.
@@ -124,76 +118,18 @@ fn fresh_lines(count: usize, plan: &[u64], marks: &[u8]) -> Held
     list_lines(count, &billed, &last)
 }
 
-// Whether two placements are the same.
-fn same_places(a: [u16; Yard::BAYS], b: [u16; Yard::BAYS]) -> bool
-    ensures { λ r. ⌜ r ≡ sameNumbers a b ⌝ }
-{
-    let mut c = 0;
-    while c < Yard::BAYS {
-        if a[c] != b[c] {
-            return false;
-        }
-        c += 1;
-    }
-    true
-}
-
-// Whether two records are the same.
-fn same_record(a: Record, b: Record) -> bool
-    ensures { λ r. ⌜ r ≡ sameRecord a b ⌝ }
-{
-    let here = a.at;
-    let there = b.at;
-    if !same_places(here, there) {
-        return false;
-    }
-    if a.done != b.done {
-        return false;
-    }
-    a.highest == b.highest
-}
-
-// Whether two lines are the same.
-fn same_line(a: Line, b: Line) -> bool
-    ensures { λ r. ⌜ r ≡ sameLine a b ⌝ }
-{
-    if a.carrier != b.carrier {
-        return false;
-    }
-    if a.billed != b.billed {
-        return false;
-    }
-    a.last == b.last
-}
-
-// Whether the lines are as many as those worked out afresh, and each is the same.
-fn same_held(lent: Held, fresh: Held) -> bool
-    requires { ⌜ fresh .count ≤ 256 ⌝ }
-    ensures { λ r. ⌜ SameHeld lent fresh r ⌝ }
-{
-    if lent.count != fresh.count {
-        return false;
-    }
-    let count = fresh.count;
-    let mut c = 0;
-    while c < count {
-        if !same_line(lent.lines[c], fresh.lines[c]) {
-            return false;
-        }
-        c += 1;
-    }
-    true
-}
-
 // Whether record and lines are those worked out afresh.
 fn agree(start: &[u16], plan: &[u64], marks: &[u8], running: Record, held: Held) -> bool
     requires { ⌜ Fit (now start) (now plan) (now marks) ⌝ }
-    ensures { λ r. ⌜ AgreeSays (now (start .entry)) (now (plan .entry)) (now (marks .entry)) running held r ⌝ }
+    ensures { λ r. ⌜ r ≡ allSame (now (start .entry)) (now (plan .entry)) (now (marks .entry)) running held ⌝ }
 {
-    if !same_record(running, fresh_record(start, plan, marks)) {
+    if !entries::same_record(running, fresh_record(start, plan, marks)) {
         return false;
     }
-    same_held(held, fresh_lines(start.len(), plan, marks))
+    let fresh = fresh_lines(start.len(), plan, marks);
+    let lent_lines = held.lines;
+    let fresh_lines = fresh.lines;
+    entries::same_lines(held.count, lent_lines, fresh.count, fresh_lines)
 }
 
 // The refusals up to 11: the check, then the marks.
@@ -224,7 +160,7 @@ pub enum Agreement {
     Refused(Refusal),
 }
 
-// The agreement test: the refusals up to 11, then whether all agree.
+// The agreement test: the refusals up to 11, then whether all agree. The lines are the first `count` that are held, whatever stands behind them.
 pub fn compare(
     bays: u64,
     rails: &[u16],
@@ -235,7 +171,7 @@ pub fn compare(
     running: Record,
     held: Held,
 ) -> Agreement
-    ensures { λ r. ⌜ AgreementSays bays (now (rails .entry)) (now (start .entry)) (now (goal .entry)) (now (plan .entry)) (now (marks .entry)) running held r ⌝ }
+    ensures { λ r. ⌜ agreementOf r ≡ agreement bays (now (rails .entry)) (now (start .entry)) (now (goal .entry)) (now (plan .entry)) (now (marks .entry)) running (linesHeld held) ⌝ }
 {
     let checked = up_to_eleven(bays, rails, start, goal, plan, marks);
     if let Checked::Refused(r) = checked {
@@ -297,7 +233,7 @@ pub enum Billed {
     Refused(Refusal),
 }
 
-// What a report answers and leaves: the record, and one line with its place, which is past the last line where none changes.
+// What a report answers and leaves: the record, and one line with its place. Where none changes the place is past the last line, and the line is empty.
 pub struct Told {
     pub answer: Billed,
     pub running: Record,
@@ -307,40 +243,13 @@ pub struct Told {
 
 // Nothing changes.
 fn unchanged(answer: Billed, running: Record, held: Held) -> Told
-    ensures { λ r. ⌜ (r .answer ≡ answer) × (r .running ≡ running) × (r .at ≡ held .count) ⌝ }
+    ensures { λ r. ⌜ (r .answer ≡ answer) × (r .running ≡ running) × (r .at ≡ held .count) × (r .line ≡ noLine) ⌝ }
 {
     Told {
         answer: answer,
         running: running,
         at: held.count,
-        line: line_at(held, 0),
-    }
-}
-
-// The record after an accepted crossing.
-fn posted(running: Record, x: Crossing, slot: u32) -> Record
-    requires { ⌜ (x .carrier .0 < 256) × (running .done < 4294967295) ⌝ }
-    ensures { λ r. ⌜ r ≡ postedOf running (crossingOf x) slot ⌝ }
-{
-    let carrier = x.carrier.0 as usize;
-    let mut at = running.at;
-    at[carrier] = x.to.0;
-    Record {
-        at: at,
-        done: running.done + 1,
-        highest: slots::higher(running.highest, slot),
-    }
-}
-
-// The line after an accepted name.
-fn charged(line: Line, name: u32) -> Line
-    requires { ⌜ line .billed < 4294967295 ⌝ }
-    ensures { λ r. ⌜ r ≡ chargedOf line name ⌝ }
-{
-    Line {
-        carrier: line.carrier,
-        billed: line.billed + 1,
-        last: name,
+        line: entries::no_line(),
     }
 }
 
@@ -354,9 +263,9 @@ fn post(plan: &[u64], name: usize, running: Record, held: Held) -> Told
     let slot = slots::slot_of(plan, name);
     Told {
         answer: Billed::Accepted,
-        running: posted(running, x, slot),
+        running: entries::posted(running, x, slot),
         at: carrier,
-        line: charged(line_at(held, carrier), name as u32),
+        line: entries::charged(line_at(held, carrier), name as u32),
     }
 }
 

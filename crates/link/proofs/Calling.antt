@@ -31,6 +31,7 @@ use Rattle.link.specs.declared.Link.{Link}
 use Rattle.link.specs.declared.Said.the-variants as said
 use Rattle.link.specs.declared.Turn.{Turn}
 use Rattle.link.specs.Link.{readingIn, carriersIn, stateIn, keptOf, keptBy, carriersBy, stepIn, linkBy, finishIn, told, verdictBy, overLink, FedSays, PieceSays, OverSays, EndSays, BeginSays}
+use Rattle.scenario.proofs.Taking.{feeds-sound, ends-sound}
 use Rattle.link.proofs.Standing.{sound-in, stored-in, kept-state, carriers-broken, carriers-on, state-again, carriers-again}
 
 abbrev gridOf : Link → Held
@@ -46,7 +47,7 @@ module _ (l : Link) (bytes : Text) (m : length (l .start) ≡ 254) (n : length (
   came : Came (l .cells) (gridOf l) (stateIn l) bytes r (l .start) starts (l .goal) goals
   came =
       let v : Feeds (l .cells) (gridOf l) (readingIn (l .kept)) bytes r (l .start) starts (l .goal) goals = rw e at w in
-      v .feeds (sound-in (l .kept)) (carriersIn l) (l .start) (l .goal) (stored-in l m n)
+      feeds-sound (l .cells) (gridOf l) (readingIn (l .kept)) (sound-in (l .kept)) r bytes v (carriersIn l) (l .start) (l .goal) (stored-in l m n)
 
   kept-is : k ≡ keptBy (stateOf r (came .carriers))
   kept-is = q ∙ kept-state r (came .sound) (came .carriers) (came .stored .count)
@@ -99,7 +100,7 @@ module _ (l : Link) (m : length (l .start) ≡ 254) (n : length (l .goal) ≡ 25
   done : Over (l .cells) (gridOf l) (stateIn l) r (l .start) starts (l .goal) goals
   done =
       let v : Ends (l .cells) (gridOf l) (readingIn (l .kept)) r (l .start) starts (l .goal) goals = rw e at w in
-      v .ends (sound-in (l .kept)) (carriersIn l) (l .start) (l .goal) (stored-in l m n)
+      ends-sound (l .cells) (gridOf l) (readingIn (l .kept)) (sound-in (l .kept)) r v (carriersIn l) (l .start) (l .goal) (stored-in l m n)
 
   counted : answerOf found ≡ countRead (readOf r (done .carriers))
   counted = a ∙ answer-is r (done .carriers) (done .stored .count)

@@ -1,23 +1,18 @@
--- What the small functions make: yes and no, the count, a reading of the numbers, and the numbers of a reading, field by field.
+-- What the small functions make: yes and no, a reading of the numbers, and the numbers of a reading, field by field.
 use mathlib.Core.Path.{_≡_, _∙_, ap}
 use mathlib.Core.Bool.{Bool, true, false}
-use Prim.Native.Nat.{ℕ, _≤_, _<_}
-use borrow.Author.Tests.{ne-eqb, lt-ltb, le-ltb}
+use Prim.Native.Nat.{ℕ}
+use borrow.Author.Tests.{ne-eqb}
+use Rattle.scenario.specs.Under.{countIn}
 use Rattle.scenario.specs.declared.Reading.{Reading}
 use Rattle.link.specs.declared.Kept.{Kept}
-use Rattle.link.specs.Link.{yesOf, bitOf, countIn, readingIn, blankKept, keptOf}
+use Rattle.link.specs.Link.{yesOf, bitOf, readingIn, blankKept, keptOf}
 
 pub yes-none : (n : ℕ) → n ≡ 0 → false ≡ yesOf n
 yes-none n e = rw e
 
 pub yes-some : (n : ℕ) → (n ≡ 0 → ⊥) → true ≡ yesOf n
 yes-some n h = rw (ne-eqb n 0 h)
-
-pub counted-below : (v : Bool) (n : ℕ) → v ≡ false → n < 254 → n ≡ countIn v n
-counted-below v n e h = rw (e, lt-ltb n 254 h)
-
-pub counted-above : (v : Bool) (n : ℕ) → v ≡ false → 254 ≤ n → 254 ≡ countIn v n
-counted-above v n e h = rw (e, le-ltb n 254 h)
 
 pub reading-is : (k : Kept) {v f b h a w d p l g : Bool} {n : ℕ} → v ≡ yesOf (k .version) → f ≡ yesOf (k .failed) → b ≡ yesOf (k .begun) → h ≡ yesOf (k .held) → n ≡ countIn v (k .count)
     → a ≡ yesOf (k .agrees) → w ≡ yesOf (k .well) → d ≡ yesOf (k .digits) → p ≡ yesOf (k .point) → l ≡ yesOf (k .plain) → g ≡ yesOf (k .figure)

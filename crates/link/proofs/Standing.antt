@@ -4,32 +4,26 @@ use mathlib.Core.Bool.{Bool, true, false}
 use mathlib.Core.List.{List, [], _∷_, _++_}
 use Prim.Native.Nat.{ℕ, zero, suc, _+_, _-_, _≤_}
 use native.Mathlib.Omega.{arith}
-use lib.Dec.{eqb, ltb}
+use lib.Dec.{eqb}
 use lib.ListN.{length, take, drop, take-append-drop}
 use lib.Seq.{sets, sets-eq, length-take-le}
-use borrow.Author.Tests.{ne-eqb, ltb-true, ltb-false}
+use borrow.Author.Tests.{ne-eqb}
 use Rattle.paper.specs.Yard.{Bay}
 use Rattle.paper.specs.Bytes.{State, failed, going, Under, inVersion, inCarrier}
 use Rattle.paper.proofs.Tests.{by-cases}
 use Rattle.stores.specs.Writing.{Wrote}
 use Rattle.stores.proofs.Stores.{wrote-stands}
+use Rattle.scenario.proofs.Taking.{count-few, count-same}
 use Rattle.scenario.specs.declared.Reading.{Reading}
 use Rattle.scenario.specs.Under.{Sound, stateOf, startsOf, goalsOf, Stored}
 use Rattle.link.specs.declared.Kept.{Kept}
 use Rattle.link.specs.declared.Link.{Link}
-use Rattle.link.specs.Link.{yesOf, bitOf, countIn, readingIn, pairs, carriersIn, keptOf, blankKept, keptBy, carriersBy}
+use Rattle.link.specs.Link.{yesOf, bitOf, readingIn, pairs, carriersIn, keptOf, blankKept, keptBy, carriersBy}
 
 -- ## Numbers
 pub yes-bit : (b : Bool) → yesOf (bitOf b) ≡ b
 yes-bit true = refl
 yes-bit false = refl
-
-count-few : (version : Bool) (n : ℕ) → countIn version n ≤ 254
-count-few true n = omega arith
-count-few false n = by-cases (ltb n 254) (λ e. rw e (omega (arith, ltb-true n 254 e))) (λ e. rw e (omega arith))
-
-count-same : (n : ℕ) → n ≤ 254 → countIn false n ≡ n
-count-same n h = by-cases (ltb n 254) (λ e. rw e) (λ e. rw e (omega (arith, ltb-false n 254 e)))
 
 pub sound-in : (k : Kept) → Sound (readingIn k)
 sound-in k = record { first = λ v. rw v; few = count-few (yesOf (k .version)) (k .count) }

@@ -4,7 +4,7 @@ use mathlib.Core.Bool.{Bool, true, false}
 use mathlib.Core.List.{List, [], _∷_, foldl}
 use mathlib.Core.Path.{_≡_}
 use Prim.Native.Nat.{ℕ, _-_}
-use lib.Dec.{eqb, ltb, leb}
+use lib.Dec.{eqb, leb}
 use lib.ListN.{length, take, replicate}
 use lib.Seq.{sets}
 use Rattle.paper.specs.Basics.{if_then_else_}
@@ -15,7 +15,7 @@ use Rattle.paper.specs.Map.{Grid, cells}
 use Rattle.paper.specs.Bytes.{State, failed, going, Under, inVersion, inCarrier, scenarioStep, scenarioFinish, unread}
 use Rattle.gridmap.specs.Cells.{numbering, bayFound}
 use Rattle.scenario.specs.declared.Reading.{Reading}
-use Rattle.scenario.specs.Under.{stateOf, startsOf, goalsOf}
+use Rattle.scenario.specs.Under.{countIn, stateOf, startsOf, goalsOf}
 use Rattle.docket.specs.Reading.{verdictOf}
 use Rattle.link.specs.declared.Kept.{Kept}
 use Rattle.link.specs.declared.Link.{Link}
@@ -31,10 +31,6 @@ yesOf n = if eqb n 0 then false else true
 
 abbrev pub bitOf : Bool → ℕ
 bitOf b = if b then 1 else 0
-
--- no carrier is read before the version, and no 255th
-abbrev pub countIn : Bool → ℕ → ℕ
-countIn version count = if version then 0 else if ltb count 254 then count else 254
 
 abbrev pub readingIn : Kept → Reading
 readingIn k = record {

@@ -11,7 +11,7 @@ use scenario::Reading;
 use scenario::ScenarioRead;
 ghost use mathlib.Core.Path.{_≡_};
 ghost use Rattle.paper.specs.Map.{readMap};
-ghost use Rattle.link.specs.Link.{yesOf, bitOf, countIn, readingIn, keptOf, FedSays, OverSays, BeginSays, PieceSays, EndSays};
+ghost use Rattle.link.specs.Link.{yesOf, bitOf, readingIn, keptOf, FedSays, OverSays, BeginSays, PieceSays, EndSays};
 
 // What is known of the line under way. A number that says yes or no says no where it is 0. The spare byte is 0: with it the struct has no gaps,
 // so that a caller may compare two states byte by byte.
@@ -76,16 +76,6 @@ fn bit(b: bool) -> u8
     if b { 1 } else { 0 }
 }
 
-// The carriers that a state says, at most 254, and none before the version.
-fn counted(version: bool, count: u16) -> u16
-    ensures { λ r. ⌜ r ≡ countIn version count ⌝ }
-{
-    if version {
-        return 0;
-    }
-    if count < 254 { count } else { 254 }
-}
-
 // The reading that the numbers stand for.
 fn reading(k: Kept) -> Reading
     ensures { λ r. ⌜ r ≡ readingIn k ⌝ }
@@ -96,7 +86,7 @@ fn reading(k: Kept) -> Reading
         version: version,
         begun: yes(k.begun),
         held: yes(k.held),
-        count: counted(version, k.count),
+        count: scenario::counted(version, k.count),
         start: 0,
         goal: 0,
         text: TextSeen {

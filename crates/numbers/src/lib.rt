@@ -1,4 +1,5 @@
 // The two numbers by which C is told an answer: document 01's number, 0 where it is accepted, and the value that goes with it.
+ghost use mathlib.Core.Path.{_≡_};
 ghost use mathlib.Core.Option.{none, some};
 ghost use Rattle.docket.specs.Reading.{refusalOf, verdictOf};
 ghost use Rattle.checker.specs.Reading.{checkedOf};

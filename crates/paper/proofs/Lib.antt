@@ -26,6 +26,7 @@ pub mod Packing
 pub mod Logging
 pub mod Handing
 pub mod Demands
+pub mod Nailed
 pub mod Determined
 pub mod Fed
 pub mod Fields

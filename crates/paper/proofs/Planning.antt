@@ -15,6 +15,7 @@ use Rattle.paper.specs.Yard.{Bay, Carrier, Placement, Crossing, after, l
 use Rattle.paper.specs.Procedure.{Made, Outcome, planned, stuck, procedure}
 use Rattle.paper.specs.Docket.{Refusal, number, apart, stopped, room, yardOf}
 use Rattle.paper.specs.Answers.{accepted, refused, crossingsOf, parkedOf, within, unless, plan, beside, planParked, firstSix}
+pub use Rattle.paper.specs.Demands.{TooLong, Gives}
 use Rattle.paper.proofs.Tests.{by-cases, by-option, or-neither, or-left, or-right, never}
 use Rattle.paper.proofs.Carrying.{procedure-right}
 use Rattle.paper.proofs.Admitted.{clean-of, sound-of, good-of, six-number}
@@ -22,14 +23,6 @@ use Rattle.paper.proofs.Admitted.{clean-of, sound-of, good-of, six-numb
 by-outcome : {P : Type 0} (o : Outcome) → ((m : Made) → o ≡ planned m → P) → ((c : Carrier) → o ≡ stuck c → P) → P
 by-outcome (planned m) f g = f m refl
 by-outcome (stuck c) f g = g c refl
-
--- the outcome is a plan of these crossings
-abbrev pub Gives : Outcome → List Crossing → Type 0
-Gives o xs = (m : Made) × (o ≡ planned m) × (m .moves ≡ xs)
-
--- longer than the lent list, or over 65,536
-abbrev pub TooLong : ℕ → ℕ → Type 0
-TooLong lent needed = (lent < needed) ⊎ (most-crossings < needed)
 
 module _ (lent : ℕ) where
   pub within-stuck : (c : Carrier) → within lent (stuck c) ≡ refused (stopped c)

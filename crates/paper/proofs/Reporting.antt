@@ -15,13 +15,10 @@ use Rattle.paper.specs.Yard.{Bay, Placement, Crossing, crossings, named}
 use Rattle.paper.specs.Dependence.{depend, isDone, undoneBefore}
 use Rattle.paper.specs.Docket.{Refusal, unknown, early, badMarks}
 use Rattle.paper.specs.Answers.{check, Report, accept, already, refuse, tell, report, marksAfter, marksEnd}
+pub use Rattle.paper.specs.Demands.{Ready}
 use Rattle.paper.proofs.Tests.{by-cases, by-option, not-both, and-left, and-right, and-both, or-none, or-neither}
 use Rattle.paper.proofs.Members.{any-of, in-count, count-high, find-none, none-find, find-upTo}
 use Rattle.paper.proofs.Playing.{bay-in}
-
--- each earlier crossing that it depends on is done
-abbrev pub Ready : List Crossing → List ℕ → ℕ → Type 0
-Ready xs ms i = (e : ℕ) → e < i → depend (named xs i) (named xs e) ≡ true → isDone ms e ≡ true
 
 pub ready-of : (xs : List Crossing) (ms : List ℕ) (i : ℕ) → undoneBefore xs ms i ≡ none → Ready xs ms i
 unfolding undoneBefore

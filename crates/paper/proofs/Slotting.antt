@@ -16,6 +16,7 @@ use Rattle.paper.specs.Dependence.{depend, highest, slotsAfter, slots}
 use Rattle.paper.specs.Docket.{Refusal}
 use Rattle.paper.specs.Answers.{slotsRefusal, slotsEnd}
 use Rattle.paper.specs.OnePass.{put, slotsPass}
+pub use Rattle.paper.specs.Demands.{Numbering}
 use Rattle.paper.proofs.Tests.{by-cases}
 
 highest-above : (x : Crossing) (es : List Crossing) (ss : List ℕ) (e : ℕ) → e < length es → e < length ss
@@ -62,12 +63,7 @@ pub slot-at : (xs : List Crossing) (i : ℕ) → i < length xs
 unfolding slots
 slot-at xs i h = after-at [] [] xs i h
 
--- a numbering from 1 that rises strictly along dependence
-pub record Numbering (xs : List Crossing) (t : ℕ → ℕ) : Type 0 where
-  pub from-one : (i : ℕ) → i < length xs → 1 ≤ t i
-  pub rises : (e i : ℕ) → e < i → i < length xs → depend (named xs i) (named xs e) ≡ true → t e < t i
-
--- The slots are one,
+-- The slots are a numbering from 1 that rises strictly along dependence,
 pub slots-rise : (xs : List Crossing) → Numbering xs (λ i. getD (slots xs) i 0)
 slots-rise xs = record {
   from-one = λ i h. let s = slot-at xs i h in omega arith;

@@ -23,7 +23,7 @@ use Rattle.gridmap.specs.declared.Grid.{Grid}
 use Rattle.scenario.specs.declared.Reading.{Reading}
 use Rattle.scenario.specs.declared.ScenarioRead.{ScenarioRead}
 use Rattle.scenario.specs.declared.ScenarioRead.the-variants as answer
-use Rattle.scenario.specs.Under.{bayBy, Sound, lineNo, stateOf, carriersAfter, dueOf, readOf, answerOf, answerBy, countRead, kept, Stored, Feeds, Ends, Ended, Reads, startsAfter, goalsAfter, Closes, Steps, Released, Finishes}
+use Rattle.scenario.specs.Under.{bayBy, Sound, lineNo, stateOf, carriersAfter, dueOf, readOf, answerOf, answerBy, countRead, kept, Stored, FeedsOn, EndsOn, Ended, Reads, startsAfter, goalsAfter, Closes, Steps, Released, Finishes}
 
 module _ (W H : ℕ) (bay : ℕ → ℕ → Option Bay) where
   -- what a state without a line under way gives
@@ -144,11 +144,11 @@ kept-length s r x l m e =
     (λ t. let q : m ≡ l = e ∙ rw t in ap length q)
     (λ t. let q : m ≡ set l (s .count) x = e ∙ rw t in ap length q ∙ length-set l (s .count) x)
 
-pub feeds-none : (t : List ℕ) (G : Grid) (s : Reading) (b b′ : List ℕ) → Feeds t G s [] s b b b′ b′
+pub feeds-none : (t : List ℕ) (G : Grid) (s : Reading) (b b′ : List ℕ) → FeedsOn t G s [] s b b b′ b′
 feeds-none t G s b b′ = record { feeds = λ o cs a a′ w. record { carriers = cs; stored = w; sound = o; state = refl } }
 
 pub feeds-next : (t : List ℕ) (G : Grid) (s₀ : Reading) (file : Text) (i : ℕ) (s r : Reading) {a b c a′ b′ d : List ℕ} → i < length file
-    → Feeds t G s₀ (take i file) s a b a′ b′ → (Sound s → Steps t G s (getD file i 0) r) → c ≡ kept s r (r .start) b → d ≡ kept s r (r .goal) b′ → Feeds t G s₀ (take (i + 1) file) r a c a′ d
+    → FeedsOn t G s₀ (take i file) s a b a′ b′ → (Sound s → Steps t G s (getD file i 0) r) → c ≡ kept s r (r .start) b → d ≡ kept s r (r .goal) b′ → FeedsOn t G s₀ (take (i + 1) file) r a c a′ d
 feeds-next t G s₀ file i s r h w f e g =
     rw (add-one i, take-suc file i 0 h) (record {
       feeds = λ o cs l l′ q.
@@ -162,7 +162,7 @@ feeds-next t G s₀ file i s r h w f e g =
           };
     })
 
-pub ends-now : (t : List ℕ) (G : Grid) (s r : Reading) {b c b′ d : List ℕ} → (Sound s → Finishes t G s r) → c ≡ kept s r (r .start) b → d ≡ kept s r (r .goal) b′ → Ends t G s r b c b′ d
+pub ends-now : (t : List ℕ) (G : Grid) (s r : Reading) {b c b′ d : List ℕ} → (Sound s → Finishes t G s r) → c ≡ kept s r (r .start) b → d ≡ kept s r (r .goal) b′ → EndsOn t G s r b c b′ d
 ends-now t G s r f e g = record {
   ends = λ o cs l l′ q.
       let k = f o in
@@ -180,7 +180,7 @@ sound-first s e = rw e (record { first = λ v. refl; few = omega arith })
 stored-first : (s : Reading) (a b : List ℕ) → s ≡ dueOf true 0 0 0 → Stored [] s a a b b
 stored-first s a b e = rw e (record { count = refl; startsWrote = record { left = refl; counted = refl }; goalsWrote = record { left = refl; counted = refl } })
 
-pub came-all : (t : List ℕ) (G : Grid) (file : Text) (s₀ s r : Reading) {a b c a′ b′ d : List ℕ} → s₀ ≡ dueOf true 0 0 0 → Feeds t G s₀ file s a b a′ b′ → Ends t G s r b c b′ d → Ended file G t r a c a′ d
+pub came-all : (t : List ℕ) (G : Grid) (file : Text) (s₀ s r : Reading) {a b c a′ b′ d : List ℕ} → s₀ ≡ dueOf true 0 0 0 → FeedsOn t G s₀ file s a b a′ b′ → EndsOn t G s r b c b′ d → Ended file G t r a c a′ d
 came-all t G file s₀ s r {a} {b} {c} {a′} {b′} {d} e w f =
     let v = w .feeds (sound-first s₀ e) [] a a′ (stored-first s₀ a a′ e) in
     let k = f .ends (v .sound) (v .carriers) a a′ (v .stored) in

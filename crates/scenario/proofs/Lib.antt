@@ -2,3 +2,4 @@ pub mod Closing
 pub mod Stepping
 pub mod Ending
 pub mod OfMap
+pub mod Taking

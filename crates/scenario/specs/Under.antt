@@ -5,7 +5,7 @@ use mathlib.Core.List.{List, [], _∷_, _++_, map, foldl}
 use mathlib.Core.Option.{Option, none, some}
 use mathlib.Core.Path.{_≡_}
 use Prim.Native.Nat.{ℕ, suc, _+_, _≤_}
-use lib.Dec.{eqb}
+use lib.Dec.{eqb, ltb}
 use lib.ListN.{length, set}
 use lib.Seq.{sets}
 use Rattle.paper.specs.Basics.{if_then_else_}
@@ -48,6 +48,25 @@ carriersAfter s r cs = if eqb (r .count) (s .count) then cs else cs ++ ((r .star
 pub record Sound (s : Reading) : Type 0 where
   pub first : s .version ≡ true → s .count ≡ 0
   pub few : s .count ≤ 254
+
+-- the carriers that a state says it has read, with at most 254 and none before the version
+abbrev pub countIn : Bool → ℕ → ℕ
+countIn version count = if version then 0 else if ltb count 254 then count else 254
+
+-- what a state stands for, whatever its numbers are
+abbrev pub takenAs : Reading → Reading
+takenAs s = record {
+  failed = s .failed;
+  version = s .version;
+  begun = s .begun;
+  held = s .held;
+  count = countIn (s .version) (s .count);
+  start = s .start;
+  goal = s .goal;
+  text = s .text;
+  past = s .past;
+  field = s .field;
+}
 
 abbrev pub carrierIs : Found → Option (Bay × Bay)
 carrierIs (Carrier s g) = some (s, g)
@@ -157,9 +176,14 @@ pub record Came (table : List ℕ) (G : Grid) (from : State Under) (bs : Text) (
   pub sound : Sound s
   pub state : stateOf s carriers ≡ foldl (scenarioStep (G .width) (G .height) (bayBy table G)) from bs
 
--- whatever carriers were stored before, in whatever lists
-pub record Feeds (table : List ℕ) (G : Grid) (s : Reading) (bs : Text) (r : Reading) (starts starts′ goals goals′ : List ℕ) : Type 0 where
+-- from a sound state on, whatever carriers were stored before, in whatever lists
+pub record FeedsOn (table : List ℕ) (G : Grid) (s : Reading) (bs : Text) (r : Reading) (starts starts′ goals goals′ : List ℕ) : Type 0 where
   pub feeds : Sound s → (cs : List (Bay × Bay)) (starts₀ goals₀ : List ℕ) → Stored cs s starts₀ starts goals₀ goals → Came table G (stateOf s cs) bs r starts₀ starts′ goals₀ goals′
+
+-- from any state on, by what it stands for
+pub record Feeds (table : List ℕ) (G : Grid) (s : Reading) (bs : Text) (r : Reading) (starts starts′ goals goals′ : List ℕ) : Type 0 where
+  pub feeds : (cs : List (Bay × Bay)) (starts₀ goals₀ : List ℕ) → Stored cs (takenAs s) starts₀ starts goals₀ goals
+      → Came table G (stateOf (takenAs s) cs) bs r starts₀ starts′ goals₀ goals′
 
 -- the file ended after a state
 pub record Over (table : List ℕ) (G : Grid) (from : State Under) (r : Reading) (starts₀ starts goals₀ goals : List ℕ) : Type 0 where
@@ -168,8 +192,12 @@ pub record Over (table : List ℕ) (G : Grid) (from : State Under) (r : Reading)
   pub sound : Sound r
   pub reads : readOf r carriers ≡ scenarioFinish (G .width) (G .height) (bayBy table G) from
 
-pub record Ends (table : List ℕ) (G : Grid) (s r : Reading) (starts starts′ goals goals′ : List ℕ) : Type 0 where
+pub record EndsOn (table : List ℕ) (G : Grid) (s r : Reading) (starts starts′ goals goals′ : List ℕ) : Type 0 where
   pub ends : Sound s → (cs : List (Bay × Bay)) (starts₀ goals₀ : List ℕ) → Stored cs s starts₀ starts goals₀ goals → Over table G (stateOf s cs) r starts₀ starts′ goals₀ goals′
+
+pub record Ends (table : List ℕ) (G : Grid) (s r : Reading) (starts starts′ goals goals′ : List ℕ) : Type 0 where
+  pub ends : (cs : List (Bay × Bay)) (starts₀ goals₀ : List ℕ) → Stored cs (takenAs s) starts₀ starts goals₀ goals
+      → Over table G (stateOf (takenAs s) cs) r starts₀ starts′ goals₀ goals′
 
 -- the whole file was read
 pub record Ended (file : Text) (G : Grid) (table : List ℕ) (r : Reading) (starts₀ starts goals₀ goals : List ℕ) : Type 0 where

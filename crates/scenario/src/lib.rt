@@ -10,7 +10,7 @@ ghost use mathlib.Core.Bool.{true, false};
 ghost use Prim.Native.Nat.{_<_};
 ghost use Rattle.paper.specs.Bytes.{carrierOf};
 ghost use Rattle.fields.specs.Kept.{pastOf};
-ghost use Rattle.scenario.specs.Under.{bayBy, Sound, carrierIs, dueOf, Broken, Closes, Steps, On, Released, Marked, Finishes, answerOf, answerBy, kept, Feeds, Ends, Ended, Reads};
+ghost use Rattle.scenario.specs.Under.{bayBy, Sound, countIn, takenAs, carrierIs, dueOf, Broken, Closes, Steps, On, Released, Marked, Finishes, answerOf, answerBy, kept, FeedsOn, EndsOn, Feeds, Ends, Ended, Reads};
 
 // The scenario under way: whether it broke its layout, whether the version is due, whether the line has begun, whether a CR is held
 // back, how many carriers were read, the last one's start and goal, and what is known of the line.
@@ -37,6 +37,26 @@ pub enum Found {
 pub enum ScenarioRead {
     Carriers(u16),
     Bad(u64),
+}
+
+// How many carriers a state has read: none before the version, and at most 254, whatever it says.
+pub fn counted(version: bool, count: u16) -> u16
+    ensures { λ r. ⌜ r ≡ countIn version count ⌝ }
+{
+    if version {
+        return 0;
+    }
+    if count < 254 { count } else { 254 }
+}
+
+// What a state stands for: a caller may hand in any.
+fn taken(s: Reading) -> Reading
+    ensures { λ r. ⌜ r ≡ takenAs s ⌝ }
+{
+    let n = counted(s.version, s.count);
+    let mut r = s;
+    r.count = n;
+    r
 }
 
 // The carrier, once its line has ended.
@@ -215,7 +235,7 @@ fn keep(s: Reading, r: Reading, starts: &mut [u16], goals: &mut [u16])
 }
 
 // One byte of the scenario.
-pub fn step(s: Reading, b: u8, grid: Grid, cells: &[u16]) -> Reading
+fn step(s: Reading, b: u8, grid: Grid, cells: &[u16]) -> Reading
     ensures { λ r. ⌜ (Sound s → Steps (now (cells .entry)) grid s b r) ⌝ }
 {
     if s.failed {
@@ -231,8 +251,8 @@ pub fn step(s: Reading, b: u8, grid: Grid, cells: &[u16]) -> Reading
     marked(on_byte(u, b, grid), false)
 }
 
-// Bytes of the scenario, from a state on: the whole file, or a piece of it. Starts and goals are stored as far as there is room for them.
-pub fn feed(
+// Bytes of the scenario, from a state on.
+fn feed_on(
     s: Reading,
     bytes: &[u8],
     grid: Grid,
@@ -240,7 +260,7 @@ pub fn feed(
     starts: &mut [u16],
     goals: &mut [u16],
 ) -> Reading
-    ensures { λ r. ⌜ Feeds (now (cells .entry)) grid s (now (bytes .entry)) r (now (starts .entry)) (now (starts .exit)) (now (goals .entry)) (now (goals .exit)) ⌝ }
+    ensures { λ r. ⌜ FeedsOn (now (cells .entry)) grid s (now (bytes .entry)) r (now (starts .entry)) (now (starts .exit)) (now (goals .entry)) (now (goals .exit)) ⌝ }
 {
     let mut at = s;
     let mut i = 0;
@@ -253,7 +273,36 @@ pub fn feed(
     at
 }
 
-// The end of the scenario, likewise.
+// The whole file, or a piece of it, from any state on. Starts and goals are stored as far as there is room for them.
+pub fn feed(
+    s: Reading,
+    bytes: &[u8],
+    grid: Grid,
+    cells: &[u16],
+    starts: &mut [u16],
+    goals: &mut [u16],
+) -> Reading
+    ensures { λ r. ⌜ Feeds (now (cells .entry)) grid s (now (bytes .entry)) r (now (starts .entry)) (now (starts .exit)) (now (goals .entry)) (now (goals .exit)) ⌝ }
+{
+    feed_on(taken(s), bytes, grid, cells, starts, goals)
+}
+
+// The end of the scenario, after a state.
+fn finish_on(
+    s: Reading,
+    grid: Grid,
+    cells: &[u16],
+    starts: &mut [u16],
+    goals: &mut [u16],
+) -> Reading
+    ensures { λ r. ⌜ EndsOn (now (cells .entry)) grid s r (now (starts .entry)) (now (starts .exit)) (now (goals .entry)) (now (goals .exit)) ⌝ }
+{
+    let r = finished(s, grid, cells);
+    keep(s, r, starts, goals);
+    r
+}
+
+// The same after any state.
 pub fn finish(
     s: Reading,
     grid: Grid,
@@ -263,17 +312,15 @@ pub fn finish(
 ) -> Reading
     ensures { λ r. ⌜ Ends (now (cells .entry)) grid s r (now (starts .entry)) (now (starts .exit)) (now (goals .entry)) (now (goals .exit)) ⌝ }
 {
-    let r = finished(s, grid, cells);
-    keep(s, r, starts, goals);
-    r
+    finish_on(taken(s), grid, cells, starts, goals)
 }
 
 // All bytes of the scenario, and its end.
 fn fold(file: &[u8], grid: Grid, cells: &[u16], starts: &mut [u16], goals: &mut [u16]) -> Reading
     ensures { λ r. ⌜ Ended (now (file .entry)) grid (now (cells .entry)) r (now (starts .entry)) (now (starts .exit)) (now (goals .entry)) (now (goals .exit)) ⌝ }
 {
-    let s = feed(start(), file, grid, cells, starts, goals);
-    finish(s, grid, cells, starts, goals)
+    let s = feed_on(start(), file, grid, cells, starts, goals);
+    finish_on(s, grid, cells, starts, goals)
 }
 
 // The scenario: how many carriers, with their starts and goals in the lent lists, or the first bad line, which changes neither.

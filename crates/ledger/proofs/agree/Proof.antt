@@ -3,6 +3,7 @@
 use borrow.Author.Needs.{needs}
 use mathlib.Core.Path.{sym, _∙_, ap}
 use denote.Ref.{now}
+use native.Mathlib.Omega.{arith}
 use borrow.Author.Tests.{not-true, not-false}
 use Rattle.bills.specs.Answering.{sameRecord}
 use Rattle.ledger.proofs.Standing.{fits-all}
@@ -20,13 +21,17 @@ returns : tie.Need-returns
 returns c = let s = c .before .before .before .before .before .before in agree-not (now (s .args .start)) (now (s .args .plan)) (now (s .args .marks)) (s .pre) (s .args .running) (s .args .held) (ap (sameRecord (s .args .running)) (sym (c .before .before .fresh-record .ensures)) ∙ sym (c .before .same-record .ensures) ∙ not-true _ (c .if1 .taken))
 
 fresh-lines-requires : tie.Need-fresh-lines-requires
-fresh-lines-requires c κs = let f = c .before .before .before .before .before .before .pre in (f .few, f .even, f .short, fits-all _ _ _ f)
+fresh-lines-requires c κs = let f = c .before .before .before .before .before .before .pre in (omega (arith, f .few), f .even, f .short, fits-all _ _ _ f)
 
-same-held-requires : tie.Need-same-held-requires
-same-held-requires c κs = fresh-few _ _ _ (c .before .before .before .before .before .before .before .pre) (c .before .before .before .before .before .before .before .args .running) (c .before .before .before .before .before .before .before .args .held) _ (c .fresh-lines .ensures)
+same-lines-requires : tie.Need-same-lines-requires
+same-lines-requires c κs =
+    let s = c .before .before .before .before .before .before .before .before .before in
+    fresh-few _ _ _ (s .pre) (s .args .running) (s .args .held) _ (c .before .before .fresh-lines .ensures)
 
 returns-2 : tie.Need-returns-2
-returns-2 c = let s = c .before .before .before .before .before .before .before .before in agree-lines (now (s .args .start)) (now (s .args .plan)) (now (s .args .marks)) (s .pre) (s .args .running) (s .args .held) (ap (sameRecord (s .args .running)) (sym (c .before .before .before .before .fresh-record .ensures)) ∙ sym (c .before .before .before .same-record .ensures) ∙ not-false _ (c .before .before .if1 .left)) (c .before .fresh-lines .result) (c .before .fresh-lines .ensures) (c .same-held .result) (c .same-held .ensures)
+returns-2 c =
+    let s = c .before .before .before .before .before .before .before .before .before .before in
+    agree-lines (now (s .args .start)) (now (s .args .plan)) (now (s .args .marks)) (s .pre) (s .args .running) (s .args .held) (ap (sameRecord (s .args .running)) (sym (c .before .before .before .before .before .before .fresh-record .ensures)) ∙ sym (c .before .before .before .before .before .same-record .ensures) ∙ not-false _ (c .before .before .before .before .if1 .left)) (c .before .before .before .fresh-lines .result) (c .before .before .before .fresh-lines .ensures) (c .same-lines .result) (c .same-lines .ensures)
 
 pub agree-spec : {M : Type 1} → statement M
 agree-spec =
@@ -36,5 +41,5 @@ agree-spec =
     same-record-requires
     returns
     fresh-lines-requires
-    same-held-requires
+    same-lines-requires
     returns-2)

@@ -2,6 +2,7 @@
 -- Assumes nothing.
 use borrow.Author.Needs.{needs}
 use mathlib.Core.Path.{sym, _∙_, ap}
+use native.Mathlib.Omega.{arith}
 use denote.Ref.{now}
 use Rattle.checker.specs.Reading.{checkedOf}
 use Rattle.ledger.specs.Lines.{heldOf}
@@ -45,7 +46,7 @@ fresh-lines-requires : tie.Need-fresh-lines-requires
 fresh-lines-requires c κs =
     let s = c .before .before .before .before .before .before .before .before .before .before in
     let f = fit-of (s .args .bays) (now (s .args .rails)) (now (s .args .start)) (now (s .args .goal)) (now (s .args .plan)) (now (s .args .marks)) (ap checkedOf (sym (c .before .before .enum-told .given .1)) ∙ c .before .before .before .before .up-to-eleven .ensures) in
-    (rw (c .before .if1 .left) (f .few), f .even, f .short, fits-all _ _ _ f)
+    (omega (arith, c .before .if1 .left, f .few), f .even, f .short, fits-all _ _ _ f)
 
 returns-3 : tie.Need-returns-3
 returns-3 c = let s = c .before .before .before .before .before .before .before .before .before .before .before in open-written (s .args .bays) (now (s .args .rails)) (now (s .args .start)) (now (s .args .goal)) (now (s .args .plan)) (now (s .args .marks)) (s .args .running) (s .args .count) (ap checkedOf (sym (c .before .before .before .enum-told .given .1)) ∙ c .before .before .before .before .before .up-to-eleven .ensures) (c .before .before .if1 .left) (c .before .fresh-record .result) (c .before .fresh-record .ensures) (c .fresh-lines .result) (c .fresh-lines .ensures)

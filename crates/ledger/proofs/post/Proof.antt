@@ -25,7 +25,7 @@ posted-requires : tie.Need-posted-requires
 posted-requires c κs = let s = c .before .before .before .before in (fits-named 256 256 (now (s .args .plan)) (s .pre .fits) (s .args .name) (s .pre .inside) (crossingOf (c .before .before .crossing-at .result)) (c .before .before .crossing-at .ensures) .0, s .pre .not-all)
 
 line-at-requires : tie.Need-line-at-requires
-line-at-requires c κs = let s = c .before .before .before .before .before in fits-named 256 256 (now (s .args .plan)) (s .pre .fits) (s .args .name) (s .pre .inside) (crossingOf (c .before .before .before .crossing-at .result)) (c .before .before .before .crossing-at .ensures) .0
+line-at-requires c κs = search needs
 
 cast-charged : tie.Need-cast-charged
 cast-charged c = search needs

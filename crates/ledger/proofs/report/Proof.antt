@@ -9,6 +9,7 @@ use Rattle.paper.specs.Answers.{refuse, accepts}
 use Rattle.docket.specs.Reading.{refusalOf}
 use Rattle.bills.specs.Answering.{told, disagrees, changes}
 use Rattle.ledger.specs.Statements.{agreementOf, billedOf}
+use Rattle.ledger.proofs.Agreeing.{may-settle}
 use Rattle.ledger.proofs.Settling.{billing-left, billing-differs, billing-refused, billing-settled}
 use Rattle.ledger.proofs.report.Statement.{statement}
 use Rattle.ledger.proofs.report.Tie as tie
@@ -28,7 +29,9 @@ enum-told : tie.Need-enum-told
 enum-told c = search needs
 
 settle-requires : tie.Need-settle-requires
-settle-requires c κs = c .before .before .before .compare .ensures .may-settle (c .before .enum-told .given .1)
+settle-requires c κs =
+    let s = c .before .before .before .before .before .before .before .before .before .before in
+    may-settle (s .args .bays) (now (s .args .rails)) (now (s .args .start)) (now (s .args .goal)) (now (s .args .plan)) (now (s .args .marks)) (s .args .running) (s .args .held) (ap agreementOf (sym (c .before .enum-told .given .1)) ∙ c .before .before .before .compare .ensures)
 
 enum-told-2 : tie.Need-enum-told-2
 enum-told-2 c = search needs
@@ -46,27 +49,27 @@ same-length : tie.Need-same-length
 same-length c = search needs
 
 returns : tie.Need-returns
-returns c lines e =
+returns c =
     let s = c .before .before .before .before .before .before .before .before .before .before .before .before .before in
-    billing-settled (s .args .bays) (now (s .args .rails)) (now (s .args .start)) (now (s .args .goal)) (now (s .args .plan)) (now (s .args .marks)) (s .args .running) (s .args .held) (s .args .name) (c .before .before .settle .result) _ lines e (ap agreementOf (sym (c .before .before .before .before .enum-told .given .1)) ∙ c .before .before .before .before .before .before .compare .ensures .says lines e) (c .before .before .settle .ensures)
+    billing-settled (s .args .bays) (now (s .args .rails)) (now (s .args .start)) (now (s .args .goal)) (now (s .args .plan)) (now (s .args .marks)) (s .args .running) (s .args .held) (s .args .name) (c .before .before .settle .result) _ (ap agreementOf (sym (c .before .before .before .before .enum-told .given .1)) ∙ c .before .before .before .before .before .before .compare .ensures) (c .before .before .settle .ensures)
 
 same-length-2 : tie.Need-same-length-2
 same-length-2 c = search needs
 
 returns-2 : tie.Need-returns-2
-returns-2 c lines e =
+returns-2 c =
     let s = c .before .before .before .before .before .before .before .before .before .before in
     let u = c .unchanged .ensures in
-    billing-left (s .args .bays) (now (s .args .rails)) (now (s .args .start)) (now (s .args .goal)) (now (s .args .plan)) (now (s .args .marks)) (s .args .running) (s .args .held) (s .args .name) (c .unchanged .result) (now (s .args .marks)) lines e disagrees (billing-differs (s .args .bays) (now (s .args .rails)) (now (s .args .start)) (now (s .args .goal)) (now (s .args .plan)) (now (s .args .marks)) (s .args .running) (s .args .held) (s .args .name) (c .unchanged .result) (now (s .args .marks)) lines e (ap agreementOf (sym (c .before .enum-told2 .given .1)) ∙ c .before .before .before .compare .ensures .says lines e)) no-19 (ap billedOf (u .0)) (u .1) (u .2) refl
+    billing-left (s .args .bays) (now (s .args .rails)) (now (s .args .start)) (now (s .args .goal)) (now (s .args .plan)) (now (s .args .marks)) (s .args .running) (s .args .held) (s .args .name) (c .unchanged .result) (now (s .args .marks)) disagrees (billing-differs (s .args .bays) (now (s .args .rails)) (now (s .args .start)) (now (s .args .goal)) (now (s .args .plan)) (now (s .args .marks)) (s .args .running) (s .args .held) (s .args .name) (c .unchanged .result) (now (s .args .marks)) (ap agreementOf (sym (c .before .enum-told2 .given .1)) ∙ c .before .before .before .compare .ensures)) no-19 (ap billedOf (u .0)) (u .1) (u .2) (u .3) refl
 
 same-length-3 : tie.Need-same-length-3
 same-length-3 c = search needs
 
 returns-3 : tie.Need-returns-3
-returns-3 c lines e =
+returns-3 c =
     let s = c .before .before .before .before .before .before .before .before .before .before .before in
     let u = c .unchanged2 .ensures in
-    billing-left (s .args .bays) (now (s .args .rails)) (now (s .args .start)) (now (s .args .goal)) (now (s .args .plan)) (now (s .args .marks)) (s .args .running) (s .args .held) (s .args .name) (c .unchanged2 .result) (now (s .args .marks)) lines e (told (refuse (refusalOf (c .before .before .agreed .given .0 .0)))) (billing-refused (s .args .bays) (now (s .args .rails)) (now (s .args .start)) (now (s .args .goal)) (now (s .args .plan)) (now (s .args .marks)) (s .args .running) (s .args .held) (s .args .name) (c .unchanged2 .result) (now (s .args .marks)) lines e _ (ap agreementOf (sym (c .before .before .agreed .given .1)) ∙ c .before .before .before .before .compare .ensures .says lines e)) (no-refusal _) (ap billedOf (u .0)) (u .1) (u .2) refl
+    billing-left (s .args .bays) (now (s .args .rails)) (now (s .args .start)) (now (s .args .goal)) (now (s .args .plan)) (now (s .args .marks)) (s .args .running) (s .args .held) (s .args .name) (c .unchanged2 .result) (now (s .args .marks)) (told (refuse (refusalOf (c .before .before .agreed .given .0 .0)))) (billing-refused (s .args .bays) (now (s .args .rails)) (now (s .args .start)) (now (s .args .goal)) (now (s .args .plan)) (now (s .args .marks)) (s .args .running) (s .args .held) (s .args .name) (c .unchanged2 .result) (now (s .args .marks)) _ (ap agreementOf (sym (c .before .before .agreed .given .1)) ∙ c .before .before .before .before .compare .ensures)) (no-refusal _) (ap billedOf (u .0)) (u .1) (u .2) (u .3) refl
 
 pub report-spec : {M : Type 1} → statement M
 report-spec =

@@ -57,7 +57,7 @@ returns-2 c =
     let u = c .unchanged .ensures in
     settle-left (now (s .args .plan)) (now (s .args .marks)) (s .args .name) (s .args .running) (s .args .held) (c .unchanged .result) _
     (c .before .before .before .before .before .before .mark-accepted .ensures ∙ ap (marksAfter (now (s .args .marks)) (s .args .name)) (t .ensures))
-    (reportOf (t .result)) (t .ensures) (sym (c .before .before .before .is-billed .ensures) ∙ c .before .before .if1 .left) (ap billedOf (u .0) ∙ c .before .told-as .ensures) (u .1) (u .2)
+    (reportOf (t .result)) (t .ensures) (sym (c .before .before .before .is-billed .ensures) ∙ c .before .before .if1 .left) (ap billedOf (u .0) ∙ c .before .told-as .ensures) (u .1) (u .2) (u .3)
 
 pub settle-spec : {M : Type 1} → statement M
 settle-spec =

@@ -1,29 +1,24 @@
--- `scenario::finish` meets its contract: the line under way ends, and its carrier is stored.
+-- `scenario::finish` meets its contract: any state stands for a sound one, from which it goes on.
 -- Assumes nothing.
 use borrow.Author.Needs.{needs}
-use Rattle.scenario.proofs.Ending.{kept-length, ends-now}
+use Rattle.scenario.proofs.Taking.{ends-any}
 use Rattle.scenario.proofs.finish.Statement.{statement}
 use Rattle.scenario.proofs.finish.Tie as tie
-use Rattle.scenario.proofs.finish.Reads as reads
-use Rattle.scenario.proofs.finish.Lts as lts
-use Rattle.scenario.proofs.finished.Reads as finished-reads
-use Rattle.scenario.proofs.keep.Reads as keep-reads
 
-finished-requires : tie.Need-finished-requires
-finished-requires c κs = search needs
+taken-requires : tie.Need-taken-requires
+taken-requires c κs = search needs
 
-keep-requires : tie.Need-keep-requires
-keep-requires c κs = search needs
+finish-on-requires : tie.Need-finish-on-requires
+finish-on-requires c κs = search needs
 
 same-length : tie.Need-same-length
-same-length c = kept-length _ _ _ _ _ (c .before .before .before .before .keep .ensures .0)
+same-length c = search needs
 
 same-length-2 : tie.Need-same-length-2
-same-length-2 c = kept-length _ _ _ _ _ (c .before .before .before .before .keep .ensures .1)
+same-length-2 c = search needs
 
 returns : tie.Need-returns
-returns c = ends-now (c .before .before .before .before .before .before .before .before .before .before .before .args .cells .now) (c .before .before .before .before .before .before .before .before .before .before .before .args .grid) (c .before .before .before .before .before .before .before .before .before .before .before .args .s) _ (c .before .before .before .before .before .before .before .finished .ensures) (c .before .before .before .before .keep .ensures .0) (c .before .before .before .before .keep .ensures .1)
+returns c = ends-any _ _ _ _ _ (c .before .before .before .before .before .before .before .taken .ensures) (c .before .before .before .before .finish-on .ensures)
 
 pub finish-spec : {M : Type 1} → statement M
-finish-spec =
-    tie.close (tie.spec finished-requires keep-requires same-length same-length-2 returns)
+finish-spec = tie.close (tie.spec taken-requires finish-on-requires same-length same-length-2 returns)

@@ -6,18 +6,18 @@ use Rattle.scenario.proofs.fold.Statement.{statement}
 use Rattle.scenario.proofs.fold.Tie as tie
 use Rattle.scenario.proofs.fold.Reads as reads
 use Rattle.scenario.proofs.fold.Lts as lts
-use Rattle.scenario.proofs.feed.Reads as feed-reads
-use Rattle.scenario.proofs.finish.Reads as finish-reads
+use Rattle.scenario.proofs.feed_on.Reads as feed-on-reads
+use Rattle.scenario.proofs.finish_on.Reads as finish-on-reads
 use Rattle.scenario.proofs.start.Reads as start-reads
 
 start-requires : tie.Need-start-requires
 start-requires c κs = search needs
 
-feed-requires : tie.Need-feed-requires
-feed-requires c κs = search needs
+feed-on-requires : tie.Need-feed-on-requires
+feed-on-requires c κs = search needs
 
-finish-requires : tie.Need-finish-requires
-finish-requires c κs = search needs
+finish-on-requires : tie.Need-finish-on-requires
+finish-on-requires c κs = search needs
 
 same-length : tie.Need-same-length
 same-length c = search needs
@@ -26,9 +26,9 @@ same-length-2 : tie.Need-same-length-2
 same-length-2 c = search needs
 
 returns : tie.Need-returns
-returns c = let start = c .before .before .before .before .before .before .before .before .before .before .before .before .before .before .before .before .before .before .before .args in came-all (start .cells .now) (start .grid) (start .file .now) _ _ _ (c .before .before .before .before .before .before .before .before .before .before .before .before .before .before .start .ensures) (c .before .before .before .before .before .before .before .before .before .before .before .feed .ensures) (c .before .before .before .before .finish .ensures)
+returns c = let start = c .before .before .before .before .before .before .before .before .before .before .before .before .before .before .before .before .before .before .before .args in came-all (start .cells .now) (start .grid) (start .file .now) _ _ _ (c .before .before .before .before .before .before .before .before .before .before .before .before .before .before .start .ensures) (c .before .before .before .before .before .before .before .before .before .before .before .feed-on .ensures) (c .before .before .before .before .finish-on .ensures)
 
 pub fold-spec : {M : Type 1} → statement M
 fold-spec =
     tie.close
-    (tie.spec start-requires feed-requires finish-requires same-length same-length-2 returns)
+    (tie.spec start-requires feed-on-requires finish-on-requires same-length same-length-2 returns)

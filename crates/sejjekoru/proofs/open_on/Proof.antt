@@ -1,6 +1,7 @@
 -- `sejjekoru::open_on` meets its contract: what `ledger::open` says, told by numbers.
 -- Assumes nothing.
 use Rattle.numbers.specs.Numbers.{numberOf, valueOf}
+use Rattle.ledger.proofs.Opened.{held-few, held-room, held-whole, lines-filled}
 use Rattle.sejjekoru.proofs.Saying.{told-as}
 use borrow.Author.Needs.{needs}
 use Rattle.sejjekoru.proofs.open_on.Statement.{statement}
@@ -18,10 +19,10 @@ returns c =
     record {
       tells = told-as numberOf (valueOf 0) (o .answers) (c .told-checked .ensures);
       record-then = o .leaves;
-      few = o .few;
-      room = o .room;
-      whole = o .whole;
-      lines-then = o .lines-then;
+      few = held-few _ _ _ _ _ _ _ _ _ o;
+      room = held-room _ _ _ _ _ _ _ _ _ o;
+      whole = held-whole _ _ _ _ _ _ _ _ _ o;
+      lines-then = lines-filled _ _ _ _ _ _ _ _ _ o;
     }
 
 pub open-on-spec : {M : Type 1} → statement M

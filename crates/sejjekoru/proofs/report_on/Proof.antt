@@ -1,6 +1,7 @@
 -- `sejjekoru::report_on` meets its contract: what `ledger::report` says, told by numbers.
 -- Assumes nothing.
 use Rattle.numbers.specs.Numbers.{billedNumber, billedValue}
+use Rattle.ledger.proofs.Lent.{settled-of-lent}
 use Rattle.sejjekoru.proofs.Saying.{told-as}
 use borrow.Author.Needs.{needs}
 use Rattle.sejjekoru.proofs.report_on.Statement.{statement}
@@ -17,7 +18,7 @@ same-length c = search needs
 
 returns : tie.Need-returns
 returns c lines e =
-    let s = c .before .before .before .before .before .before .report .ensures lines e in
+    let s = settled-of-lent _ _ _ _ _ _ _ lines _ e _ _ _ (c .before .before .before .before .before .before .report .ensures) in
     record {
       tells = told-as billedNumber billedValue (s .answers) (c .told-billed .ensures);
       marks-then = s .marks-then;

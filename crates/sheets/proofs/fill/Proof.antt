@@ -165,11 +165,11 @@ module _ {M : Type 1} (𝓤 : URA M) (H : Heap 𝓤) (A : Atoms 𝓤) (W : Given
     abbrev to-line : ℕ → LineAt 𝓤 H A at-mem run .Ghost
     to-line i = ((tt, tt, tt, (held, (i, tt)), (val held ∷ [], (vint w64 i ∷ [], tt))), tt)
 
-    -- what it asks is facts alone
+    -- it asks nothing but its arguments
     goes-line : (i : ℕ) → i < 256 → ent 𝓤 (emp 𝓤) (LineAt 𝓤 H A at-mem run .pre (to-line i))
     goes-line i p =
-        qed W [] ∵ says ! p $ nothing ! $ frame ! $ nothing ! $ owned ! usize (Is usize) (uint-makes 𝓤 H A W w64) i _ (refl, lt-of-le-of-lt (le-of-lt p) (lit< tt)) $ fjoin ! $
-        owned ! S.the-row (Is S.the-row) (LL.makes S.the-type S′.the-plain 𝓤 H A) held _ gh $ fjoin ! $ done !
+        qed W [] ∵ nothing ! $ owned ! usize (Is usize) (uint-makes 𝓤 H A W w64) i _ (refl, lt-of-le-of-lt (le-of-lt p) (lit< tt)) $ fjoin ! $
+        owned ! S.the-row (Is S.the-row) (LL.makes S.the-type S′.the-plain 𝓤 H A) held _ gh $ fjoin ! $ nothing ! $ join ! $ frame ! $ done !
 
     module _ (𝓣 : Tables 𝓤 H) (known : Triple 𝓤 (𝓣 .C #ledger·line-at) (LineAt 𝓤 H A at-mem run)) (l₀ l₁ l₂ l₃ l₄ l₅ l₆ l₇ l₈ : ℕ) where
       abbrev C : Calls 𝓤 H

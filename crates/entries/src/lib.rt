@@ -1,0 +1,117 @@
+// Records and lines by value: whether two are the same, and how an accepted crossing changes them.
+ghost use mathlib.Core.Path.{_≡_};
+ghost use Prim.Native.Nat.{_<_};
+ghost use lib.ListN.{getD, take};
+ghost use Rattle.docket.specs.Reading.{crossingOf};
+ghost use Rattle.bills.specs.Billing.{noLine, posted as postedOf, charged as chargedOf};
+ghost use Rattle.bills.specs.Answering.{sameNumbers, sameRecord, sameLine, sameLines};
+use bills::Line;
+use bills::Record;
+use docket::Crossing;
+use yard::Yard;
+
+// The line that stands where there is none.
+pub fn no_line() -> Line
+    ensures { λ r. ⌜ r ≡ noLine ⌝ }
+{
+    Line {
+        carrier: 0,
+        billed: 0,
+        last: 0,
+    }
+}
+
+// The line at place i: none past the last place.
+pub fn line_in(lines: [Line; Yard::BAYS], i: usize) -> Line
+    ensures { λ r. ⌜ r ≡ getD lines i noLine ⌝ }
+{
+    if i < Yard::BAYS { lines[i] } else { no_line() }
+}
+
+// Whether two placements are the same.
+fn same_places(a: [u16; Yard::BAYS], b: [u16; Yard::BAYS]) -> bool
+    ensures { λ r. ⌜ r ≡ sameNumbers a b ⌝ }
+{
+    let mut c = 0;
+    while c < Yard::BAYS {
+        if a[c] != b[c] {
+            return false;
+        }
+        c += 1;
+    }
+    true
+}
+
+// Whether two records are the same.
+pub fn same_record(a: Record, b: Record) -> bool
+    ensures { λ r. ⌜ r ≡ sameRecord a b ⌝ }
+{
+    let here = a.at;
+    let there = b.at;
+    if !same_places(here, there) {
+        return false;
+    }
+    if a.done != b.done {
+        return false;
+    }
+    a.highest == b.highest
+}
+
+// Whether two lines are the same.
+fn same_line(a: Line, b: Line) -> bool
+    ensures { λ r. ⌜ r ≡ sameLine a b ⌝ }
+{
+    if a.carrier != b.carrier {
+        return false;
+    }
+    if a.billed != b.billed {
+        return false;
+    }
+    a.last == b.last
+}
+
+// Whether the first `lent` lines of one list are the first `fresh` of the other. Of the second there are fewer than a list has places: a count that is
+// higher than the places then differs from it.
+pub fn same_lines(lent: usize, a: [Line; Yard::BAYS], fresh: usize, b: [Line; Yard::BAYS]) -> bool
+    requires { ⌜ fresh < 256 ⌝ }
+    ensures { λ r. ⌜ r ≡ sameLines (take lent a) (take fresh b) ⌝ }
+{
+    if lent != fresh {
+        return false;
+    }
+    let mut c = 0;
+    while c < fresh {
+        if !same_line(a[c], b[c]) {
+            return false;
+        }
+        c += 1;
+    }
+    true
+}
+
+// The record after an accepted crossing.
+pub fn posted(running: Record, x: Crossing, slot: u32) -> Record
+    requires { ⌜ (x .carrier .0 < 256) × (running .done < 4294967295) ⌝ }
+    ensures { λ r. ⌜ r ≡ postedOf running (crossingOf x) slot ⌝ }
+{
+    let carrier = x.carrier.0 as usize;
+    let mut at = running.at;
+    at[carrier] = x.to.0;
+    Record {
+        at: at,
+        done: running.done + 1,
+        highest: slots::higher(running.highest, slot),
+    }
+}
+
+// The line after an accepted name.
+pub fn charged(line: Line, name: u32) -> Line
+    requires { ⌜ line .billed < 4294967295 ⌝ }
+    ensures { λ r. ⌜ r ≡ chargedOf line name ⌝ }
+{
+    Line {
+        carrier: line.carrier,
+        billed: line.billed + 1,
+        last: name,
+    }
+}

@@ -1,0 +1,29 @@
+-- `scenario::finish_on` meets its contract: the line under way ends, and its carrier is stored.
+-- Assumes nothing.
+use borrow.Author.Needs.{needs}
+use Rattle.scenario.proofs.Ending.{kept-length, ends-now}
+use Rattle.scenario.proofs.finish_on.Statement.{statement}
+use Rattle.scenario.proofs.finish_on.Tie as tie
+use Rattle.scenario.proofs.finish_on.Reads as reads
+use Rattle.scenario.proofs.finish_on.Lts as lts
+use Rattle.scenario.proofs.finished.Reads as finished-reads
+use Rattle.scenario.proofs.keep.Reads as keep-reads
+
+finished-requires : tie.Need-finished-requires
+finished-requires c κs = search needs
+
+keep-requires : tie.Need-keep-requires
+keep-requires c κs = search needs
+
+same-length : tie.Need-same-length
+same-length c = kept-length _ _ _ _ _ (c .before .before .before .before .keep .ensures .0)
+
+same-length-2 : tie.Need-same-length-2
+same-length-2 c = kept-length _ _ _ _ _ (c .before .before .before .before .keep .ensures .1)
+
+returns : tie.Need-returns
+returns c = ends-now (c .before .before .before .before .before .before .before .before .before .before .before .args .cells .now) (c .before .before .before .before .before .before .before .before .before .before .before .args .grid) (c .before .before .before .before .before .before .before .before .before .before .before .args .s) _ (c .before .before .before .before .before .before .before .finished .ensures) (c .before .before .before .before .keep .ensures .0) (c .before .before .before .before .keep .ensures .1)
+
+pub finish-on-spec : {M : Type 1} → statement M
+finish-on-spec =
+    tie.close (tie.spec finished-requires keep-requires same-length same-length-2 returns)
