@@ -84,10 +84,13 @@ fn y2_the_way_home() {
 }
 
 #[test]
-fn y3_y4_stopped() {
-    let stopped = Err(Refusal::Stopped(Carrier(1)));
-    assert_eq!(line(4, [0, 1], [1, 0]).plan(64), stopped);
-    assert_eq!(ring_of_four([0, 1], [1, 0]).plan(64), stopped);
+fn y3_stopped() {
+    assert_eq!(line(4, [0, 1], [1, 0]).plan(64), Err(Refusal::Stopped(Carrier(1))));
+}
+
+#[test]
+fn y4_carousel() {
+    ring_of_four([0, 1], [1, 0]).gives(&[(1, 1, 2), (0, 0, 1), (1, 2, 3), (1, 3, 0)], &[1, 2, 2, 3]);
 }
 
 #[test]
