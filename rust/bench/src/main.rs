@@ -16,6 +16,7 @@ use yards::Order;
 /// With a table's name as the argument that table alone.
 fn main() {
     match std::env::args().nth(1).as_deref() {
+        Some("plans") => return plans::tables(),
         Some("shortening") => return shortening::tables(),
         Some("bills") => return bills::tables(),
         Some("compare") => return compare::tables(),
