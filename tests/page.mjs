@@ -151,7 +151,7 @@ const lossy = async () => {
   await browser.set('seed', 42);
   await browser.click('#line-end');
   await browser.until('document.getElementById("line-run").textContent === "Run the line"');
-  assert.equal(await numberIn('record', 'done'), '120 of 120');
+  assert.equal(await numberIn('record', 'done'), '122 of 122');
 };
 
 test('over a lossy line every crossing is billed once, and the bill loads again', async () => {
@@ -162,8 +162,8 @@ test('over a lossy line every crossing is billed once, and the bill loads again'
   await browser.picture(join(pictures, 'log.png'));
   const bill = (await downloaded('#save-bill', 'empty-8-8.csv')).toString();
   const marks = await downloaded('#save-marks', 'empty-8-8.marks');
-  assert.deepEqual([...marks], new Array(120).fill(1));
-  assert.equal(bill.split(',accepted,').length - 1, 120);
+  assert.deepEqual([...marks], new Array(122).fill(1));
+  assert.equal(bill.split(',accepted,').length - 1, 122);
   await browser.click('#fresh');
   await browser.hand('log-file', [written('small.csv', bill)]);
   assert.match(await browser.text('loaded'), /The bill is the same\./);
@@ -188,7 +188,7 @@ test('marks load again, at any place of a plan', async () => {
   for (let i = 0; i < 40; i++) await browser.click('#line-tick');
   const marks = await downloaded('#save-marks', 'empty-8-8.marks');
   const done = marks.reduce((sum, mark) => sum + mark, 0);
-  assert.ok(done > 0 && done < 120, `${done} done`);
+  assert.ok(done > 0 && done < 122, `${done} done`);
   const before = await carriers();
   await browser.click('#fresh');
   assert.notDeepEqual(await carriers(), before);
