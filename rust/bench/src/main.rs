@@ -7,6 +7,7 @@ mod plans;
 mod reports;
 mod reversing;
 mod shortening;
+mod sizes;
 mod timing;
 mod trains;
 
@@ -17,6 +18,7 @@ use yards::Order;
 fn main() {
     match std::env::args().nth(1).as_deref() {
         Some("plans") => return plans::tables(),
+        Some("sizes") => return sizes::tables(),
         Some("shortening") => return shortening::tables(),
         Some("bills") => return bills::tables(),
         Some("compare") => return compare::tables(),
@@ -26,6 +28,7 @@ fn main() {
         _ => {}
     }
     plans::tables();
+    sizes::tables();
     reports::tables();
     shortening::tables();
     bills::tables();

@@ -25,7 +25,7 @@ pub fn tables() {
         row("random, 1,024 rails", (0..15).map(|seed| random(carriers, seed)).collect());
     }
     row("line, siding at every fourth, in reverse", vec![reversed(line_with_sidings(256, 4), 52)]);
-    row("line, siding at every bay, in reverse", vec![reversed(comb(), 126)]);
+    row("line, siding at every bay, in reverse", vec![reversed(comb(256), 126)]);
 }
 
 fn carried(rails: Vec<u16>, carriers: usize, seed: u64) -> Order {
@@ -37,10 +37,11 @@ fn random(carriers: usize, seed: u64) -> Order {
     Order::on(256, connected(256, 1_024, 256, &mut dice)).with_carriers(carriers, &mut dice)
 }
 
-struct Timed {
-    library: Duration,
-    reference: Duration,
-    crossings: u64,
+pub struct Timed {
+    pub library: Duration,
+    pub reference: Duration,
+    /// Those needed, in a refusal for want of room too; 0 where the procedure stops.
+    pub crossings: u64,
 }
 
 fn row(name: &str, orders: Vec<Order>) {
@@ -63,15 +64,20 @@ fn row(name: &str, orders: Vec<Order>) {
     );
 }
 
-/// Both on one order. The crossings are those needed, in a refusal for want of room too; 0 where the procedure stops.
+/// Both on one order.
 fn time(order: &Order) -> Timed {
+    time_within(Duration::from_millis(100), order)
+}
+
+/// The same, in so much time and as often as that allows: once at least.
+pub fn time_within(budget: Duration, order: &Order) -> Timed {
     let Order { bays, rails, start, goal } = order;
     let (mut out, mut other) = (vec![0; ROOM], vec![0; ROOM]);
     let answer = numbers::plan(yard(order), &mut out);
     assert_eq!(answer, reference::plan_parked(*bays, rails, start, goal, &mut other));
     assert!(out == other);
     let (library, reference) = race(
-        Duration::from_millis(100),
+        budget,
         || numbers::plan(yard(black_box(order)), &mut out),
         || reference::plan_parked(*bays, black_box(rails), start, goal, &mut other),
     );

@@ -3,14 +3,15 @@
 use std::hint::black_box;
 use std::time::{Duration, Instant};
 
-/// The least times of two works, repeated by turns until both together took `budget`, three times at least, so that what disturbs the
-/// machine disturbs both.
+/// The least times of two works, repeated by turns until both together took `budget`, so that what disturbs the machine disturbs both. Each is done once
+/// before it is timed, and twice more at least, unless it takes longer than that budget.
 pub fn race<T>(budget: Duration, mut one: impl FnMut() -> T, mut other: impl FnMut() -> T) -> (Duration, Duration) {
     let begun = Instant::now();
-    let (turns_of_one, turns_of_other) = (turns(&mut one), turns(&mut other));
-    let mut least = (Duration::MAX, Duration::MAX);
+    let (once_of_one, once_of_other) = (timed(1, &mut one), timed(1, &mut other));
+    let (turns_of_one, turns_of_other) = (turns(once_of_one), turns(once_of_other));
+    let mut least = (once_of_one, once_of_other);
     let mut rounds = 0;
-    while rounds < 3 || begun.elapsed() < budget {
+    while (rounds < 2 && least.0.max(least.1) < budget) || begun.elapsed() < budget {
         least.0 = least.0.min(timed(turns_of_one, &mut one));
         least.1 = least.1.min(timed(turns_of_other, &mut other));
         rounds += 1;
@@ -21,10 +22,10 @@ pub fn race<T>(budget: Duration, mut one: impl FnMut() -> T, mut other: impl FnM
 /// The least time of one work, repeated as in a race.
 pub fn least<T>(budget: Duration, mut work: impl FnMut() -> T) -> Duration {
     let begun = Instant::now();
-    let turns = turns(&mut work);
-    let mut least = Duration::MAX;
+    let mut least = timed(1, &mut work);
+    let turns = turns(least);
     let mut rounds = 0;
-    while rounds < 3 || begun.elapsed() < budget {
+    while rounds < 2 || begun.elapsed() < budget {
         least = least.min(timed(turns, &mut work));
         rounds += 1;
     }
@@ -32,10 +33,9 @@ pub fn least<T>(budget: Duration, mut work: impl FnMut() -> T) -> Duration {
 }
 
 /// How often a work is done in one go, so that reading the clock does not count.
-fn turns<T>(work: &mut impl FnMut() -> T) -> u32 {
+fn turns(once: Duration) -> u32 {
     const LONG: Duration = Duration::from_micros(50);
-    let once = timed(1, work).max(Duration::from_nanos(100));
-    (LONG.as_nanos() / once.as_nanos()) as u32 + 1
+    (LONG.as_nanos() / once.max(Duration::from_nanos(100)).as_nanos()) as u32 + 1
 }
 
 /// The time of one turn.

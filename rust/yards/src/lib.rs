@@ -73,6 +73,23 @@ impl Order {
         self
     }
 
+    /// Starts and goals for so many carriers at random, with the goals in the order of the starts: on a ring numbered along it no other order can be
+    /// planned.
+    pub fn in_turn(mut self, carriers: usize, dice: &mut Dice) -> Order {
+        self = self.with_carriers(carriers, dice);
+        let mut order = dice.shuffled(carriers);
+        let turn = dice.below(carriers);
+        let (mut start, mut goal) = (self.start.clone(), self.goal.clone());
+        start.sort_unstable();
+        goal.sort_unstable();
+        goal.rotate_left(turn);
+        for (place, carrier) in order.drain(..).enumerate() {
+            self.start[carrier as usize] = start[place];
+            self.goal[carrier as usize] = goal[place];
+        }
+        self
+    }
+
     /// The same yard with its bays numbered at random and its rails in another order: on a grid numbered row by row a wrong tie-break is
     /// right nearly always.
     pub fn renumbered(mut self, dice: &mut Dice) -> Order {
@@ -128,9 +145,51 @@ pub fn line_with_sidings(bays: usize, every: usize) -> Vec<u16> {
     rails
 }
 
-/// A line of 128 bays with a siding at each of them: bay 2i and its siding 2i + 1.
-pub fn comb() -> Vec<u16> {
-    (0..128).flat_map(|i| [[2 * i, 2 * i + 1], [2 * i, 2 * i + 2]]).flatten().take(255 * 2).collect()
+/// A line with a siding at each of its bays: bay 2i and its siding 2i + 1.
+pub fn comb(bays: usize) -> Vec<u16> {
+    (0..bays as u16 / 2).flat_map(|i| [[2 * i, 2 * i + 1], [2 * i, 2 * i + 2]]).flatten().take((bays - 1) * 2).collect()
+}
+
+/// A grid with walls at random, about a quarter of its cells, and so many bays, all in one piece, numbered row by row.
+pub fn walled(bays: usize, dice: &mut Dice) -> Vec<u16> {
+    let width = (1..).find(|width| 3 * width * width >= 4 * bays).unwrap_or(bays);
+    let mut free = vec![true; width * width];
+    let mut left = width * width;
+    while left > bays {
+        let cell = dice.below(width * width);
+        if free[cell] {
+            free[cell] = false;
+            left -= 1;
+            if in_reach(&free, width) < left {
+                free[cell] = true;
+                left += 1;
+            }
+        }
+    }
+    let name: Vec<usize> = free.iter().scan(0, |next, &free| Some(std::mem::replace(next, *next + free as usize))).collect();
+    let both = |rail: &&[u16]| rail.iter().all(|&cell| free[cell as usize]);
+    grid(width, width).chunks_exact(2).filter(both).flatten().map(|&cell| name[cell as usize] as u16).collect()
+}
+
+/// How many free cells are reached from the first one.
+fn in_reach(free: &[bool], width: usize) -> usize {
+    let mut met: Vec<usize> = free.iter().position(|&free| free).into_iter().collect();
+    let mut seen = vec![false; free.len()];
+    met.iter().for_each(|&cell| seen[cell] = true);
+    let mut done = 0;
+    while done < met.len() {
+        let cell = met[done];
+        let sides = [(cell % width > 0, cell.wrapping_sub(1)), (cell % width + 1 < width, cell + 1)];
+        for (there, next) in sides.into_iter().chain([(cell >= width, cell.wrapping_sub(width)), (cell + width < free.len(), cell + width)])
+        {
+            if there && free[next] && !seen[next] {
+                seen[next] = true;
+                met.push(next);
+            }
+        }
+        done += 1;
+    }
+    done
 }
 
 /// Carriers in the first bays, to be put in reverse order: on a line few of them have long plans.
