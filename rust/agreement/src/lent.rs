@@ -201,7 +201,8 @@ impl<'a> Asked<'a> {
     pub fn shorten(&self, plan: &[u64], marks: &[u8], room: usize) -> u64 {
         let Order { bays, rails, start, goal } = self.order;
         let mut expected = vec![u64::GUARD; room];
-        let answer = reference::shorten(*bays, rails, start, goal, plan, marks, &mut expected);
+        let shorten = if plan.len() > crate::LONG { reference::shorten_at_once } else { reference::shorten };
+        let answer = shorten(*bays, rails, start, goal, plan, marks, &mut expected);
         let (lists, lent, lent_marks, out) = (self.lists(), Lent::new(plan), Lent::new(marks), Lent::room(room));
         // SAFETY: as in `plan`.
         let told = unsafe { ask!(sejjekoru_shorten, lists, [lent], [lent_marks], [out]) };

@@ -20,7 +20,7 @@ mod trains;
 
 use lent::Asked;
 use tally::Tally;
-use yards::{line_with_sidings, reversed, Dice};
+use yards::{line_with_sidings, reversed, Dice, Order};
 
 const ORDERS: u64 = 60_000;
 const PLANS: u64 = 60_000;
@@ -92,22 +92,25 @@ fn plan_by_plan() -> [Tally; 3] {
     [check, slots, report]
 }
 
-/// Longer plans are asked about with their first crossing done: the reference's plain way would take minutes for one.
-const LONG: usize = 4_000;
+/// Longer plans are shortened by the reference at once: its plain way would take minutes for one.
+pub const LONG: usize = 4_000;
 
-/// Plans that wander, that the reference made, that are neither; rooms around the length that is left.
+/// Plans that wander, that the reference made, that are neither; rooms around the length that is left. The reference's two ways leave the same of each
+/// that is not long.
 fn shortening() -> Tally {
     let mut tally = Tally::new("shorten", &[0, 1, 2, 3, 4, 5, 6, 8, 9, 10, 11, 25]);
     let mut shorter = 0;
     for seed in 0..PLANS {
         let mut dice = Dice::new(0x0400_0000 + seed);
         let (order, plan) = plans::any(&mut dice);
-        let mut marks = plans::fresh_or_not(&mut dice, &plan);
-        if plan.len() > LONG {
-            marks[0] = 1;
+        let marks = plans::fresh_or_not(&mut dice, &plan);
+        let Order { bays, rails, start, goal } = &order;
+        let (mut ample, mut other) = (vec![0; plan.len()], vec![0; plan.len()]);
+        let (number, left) = reference::shorten_at_once(*bays, rails, start, goal, &plan, &marks, &mut ample);
+        if plan.len() <= LONG {
+            assert_eq!((number, left), reference::shorten(*bays, rails, start, goal, &plan, &marks, &mut other));
+            assert!(ample == other);
         }
-        let mut ample = vec![0; plan.len()];
-        let (number, left) = reference::shorten(order.bays, &order.rails, &order.start, &order.goal, &plan, &marks, &mut ample);
         shorter += (number == 0 && left < plan.len() as u64) as u64;
         let room = orders::room(&mut dice, left as usize);
         tally.add(Asked::new(&order).shorten(&plan, &marks, room));

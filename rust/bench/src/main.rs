@@ -6,6 +6,7 @@ mod compare;
 mod plans;
 mod reports;
 mod reversing;
+mod rings;
 mod shortening;
 mod sizes;
 mod timing;
@@ -18,6 +19,7 @@ use yards::Order;
 fn main() {
     match std::env::args().nth(1).as_deref() {
         Some("plans") => return plans::tables(),
+        Some("rings") => return rings::table(),
         Some("sizes") => return sizes::tables(),
         Some("shortening") => return shortening::tables(),
         Some("bills") => return bills::tables(),
@@ -29,6 +31,7 @@ fn main() {
     }
     plans::tables();
     sizes::tables();
+    rings::table();
     reports::tables();
     shortening::tables();
     bills::tables();

@@ -1,7 +1,7 @@
-//! Shortening: how it grows with the plan. The reference's plain way takes minutes for such plans, so it is not raced.
+//! Shortening: how it grows with the plan. The reference's way that drops all trips at once is raced; its plain one takes minutes for such plans.
 
 use crate::reports::{BUDGET, LENGTHS};
-use crate::timing::{least, written};
+use crate::timing::{race, ratio, written};
 use crate::yard;
 use sejjekoru::numbers;
 use std::hint::black_box;
@@ -11,9 +11,9 @@ const CARRIERS: [usize; 3] = [128, 200, 240];
 
 pub fn tables() {
     println!("\n## Shortening by the plan's length: orders one after the other on a grid 16 × 16\n");
-    let columns = CARRIERS.map(|carriers| format!("{carriers} carriers: left | Library"));
+    let columns = CARRIERS.map(|carriers| format!("{carriers} carriers: left | Library | Reference | Ratio"));
     println!("| Crossings | {} |", columns.join(" | "));
-    println!("|---{}|", "|---".repeat(2 * CARRIERS.len()));
+    println!("|---{}|", "|---".repeat(4 * CARRIERS.len()));
     for crossings in LENGTHS {
         let cells = CARRIERS.map(|carriers| cell(carriers, crossings));
         println!("| {crossings} | {} |", cells.join(" | "));
@@ -31,8 +31,16 @@ fn cell(carriers: usize, crossings: usize) -> String {
     assert_eq!(numbers::check(yard(&order), &kept), (0, 0));
     assert_eq!(numbers::shorten(yard(&order), &kept, &marks[..kept.len()], &mut out), (0, left));
     assert!(out[..kept.len()] == kept);
-    let time = least(BUDGET, || numbers::shorten(yard(&order), black_box(&plan), &marks, &mut out));
-    format!("{left} | {}", written(time))
+    let Order { bays, rails, start, goal } = &order;
+    let mut other = vec![0; plan.len()];
+    assert_eq!(reference::shorten_at_once(*bays, rails, start, goal, &plan, &marks, &mut other), (0, left));
+    assert!(other[..kept.len()] == kept);
+    let (library, reference) = race(
+        BUDGET,
+        || numbers::shorten(yard(&order), black_box(&plan), &marks, &mut out),
+        || reference::shorten_at_once(*bays, rails, start, goal, black_box(&plan), &marks, &mut other),
+    );
+    format!("{left} | {} | {} | {}", written(library), written(reference), ratio(library, reference))
 }
 
 /// The planner's plans for orders at random, each from where the one before ended, cut off at so many crossings; as one order.

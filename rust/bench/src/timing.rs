@@ -19,14 +19,21 @@ pub fn race<T>(budget: Duration, mut one: impl FnMut() -> T, mut other: impl FnM
     least
 }
 
-/// The least time of one work, repeated as in a race.
-pub fn least<T>(budget: Duration, mut work: impl FnMut() -> T) -> Duration {
+/// The least times of three works, as in a race.
+pub fn least<A, B, C>(
+    budget: Duration,
+    mut one: impl FnMut() -> A,
+    mut two: impl FnMut() -> B,
+    mut three: impl FnMut() -> C,
+) -> [Duration; 3] {
     let begun = Instant::now();
-    let mut least = timed(1, &mut work);
-    let turns = turns(least);
+    let once = [timed(1, &mut one), timed(1, &mut two), timed(1, &mut three)];
+    let turns = once.map(turns);
+    let mut least = once;
     let mut rounds = 0;
     while rounds < 2 || begun.elapsed() < budget {
-        least = least.min(timed(turns, &mut work));
+        let now = [timed(turns[0], &mut one), timed(turns[1], &mut two), timed(turns[2], &mut three)];
+        least = [0, 1, 2].map(|i| least[i].min(now[i]));
         rounds += 1;
     }
     least

@@ -1,5 +1,5 @@
-//! Request E7 of document 02: bills as we go. Record and lines are worked out afresh each time, from the request's own words, and nothing is changed
-//! in place, so that a step that goes wrong shows against it. It is not made to be fast.
+//! Request E7 of document 02: bills as we go. Record and lines are worked out afresh at every call, in one pass over the done crossings; an accepted report
+//! changes one line and the record.
 
 use crate::crossing::Crossing;
 use crate::docket::Refusal;
@@ -39,33 +39,49 @@ pub enum Billed {
     Disagrees,
 }
 
+/// Record and lines as plan, start and marks give them, and what the next slot is told from.
+struct Afresh {
+    record: Record,
+    lines: [Line; 256],
+    of_carrier: [u32; 256],
+    of_bay: [u32; 256],
+}
+
 impl Job<'_> {
     /// The refusals up to 11, then 8 carrying k unless there are k lines, then both are built.
     pub fn open(self, marks: &[u8], record: &mut Record, lines: &mut [Line]) -> Result<(), Refusal> {
         self.up_to_11(marks)?;
-        if lines.len() != self.start.len() {
-            return Err(Refusal::Room(self.start.len() as u64));
+        let carriers = self.start.len();
+        if lines.len() != carriers {
+            return Err(Refusal::Room(carriers as u64));
         }
-        *record = self.record(marks);
-        lines.copy_from_slice(&self.lines(marks));
+        let afresh = self.afresh(marks);
+        *record = afresh.record;
+        lines.copy_from_slice(&afresh.lines[..carriers]);
         Ok(())
     }
 
     /// The refusals up to 11, then whether all agree.
     pub fn agrees(self, marks: &[u8], record: &Record, lines: &[Line]) -> Result<bool, Refusal> {
         self.up_to_11(marks)?;
-        Ok(*record == self.record(marks) && lines == self.lines(marks))
+        Ok(self.afresh(marks).is(record, lines, self.start.len()))
     }
 
-    /// The refusals up to 11, then 19, then as a report answers; what an acceptance leaves is worked out from its marks.
+    /// The refusals up to 11, then 19, then as a report answers; an acceptance changes mark, record and line.
     pub fn report(self, marks: &mut [u8], name: u64, record: &mut Record, lines: &mut [Line]) -> Result<Billed, Refusal> {
-        if !self.agrees(marks, record, lines)? {
+        self.up_to_11(marks)?;
+        let afresh = self.afresh(marks);
+        if !afresh.is(record, lines, self.start.len()) {
             return Ok(Billed::Disagrees);
         }
-        let told = log::report(self.bays, self.rails, self.start, self.goal, self.plan, marks, name)?;
+        let told = log::report_on(self.plan, marks, name)?;
         if let Told::Accepted = told {
-            *record = self.record(marks);
-            lines.copy_from_slice(&self.lines(marks));
+            let Crossing { carrier, from, to } = Crossing::read(self.plan[name as usize]);
+            record.at[carrier as usize] = to;
+            record.done += 1;
+            record.highest = record.highest.max(afresh.slot(carrier, from, to));
+            lines[carrier as usize].billed += 1;
+            lines[carrier as usize].last = name as u32;
         }
         Ok(Billed::Told(told))
     }
@@ -75,37 +91,45 @@ impl Job<'_> {
         log::marks_fit(self.plan, marks)
     }
 
-    /// The done crossings in plan order, each with its name.
-    fn done<'a>(&'a self, marks: &'a [u8]) -> impl Iterator<Item = (usize, Crossing)> + 'a {
-        let named = self.plan.iter().map(|&number| Crossing::read(number)).enumerate();
-        named.filter(|&(name, _)| marks[name] == 1)
-    }
-
-    fn record(self, marks: &[u8]) -> Record {
-        let mut at = [0; 256];
-        at[..self.start.len()].copy_from_slice(self.start);
-        self.done(marks).for_each(|(_, crossing)| at[crossing.carrier as usize] = crossing.to);
-        let slots = self.slots();
-        let highest = self.done(marks).map(|(name, _)| slots[name]).max();
-        Record { at, done: self.done(marks).count() as u32, highest: highest.unwrap_or(0) }
-    }
-
-    fn slots(self) -> Vec<u32> {
-        let mut slots = vec![0; self.plan.len()];
-        let written = log::slots(self.bays, self.rails, self.start, self.goal, self.plan, &mut slots);
-        assert_eq!(written, Ok(slots.len() as u64));
-        slots
-    }
-
-    /// One line a carrier, by rising number. Crossings of one carrier depend on each other, so the last name accepted is the highest.
-    fn lines(self, marks: &[u8]) -> Vec<Line> {
-        let untouched = |carrier| Line { carrier, billed: 0, last: UNTOUCHED };
-        let mut lines: Vec<Line> = (0..self.start.len() as u32).map(untouched).collect();
-        for (name, crossing) in self.done(marks) {
-            let line = &mut lines[crossing.carrier as usize];
-            line.billed += 1;
-            line.last = name as u32;
+    /// The done crossings in plan order. All that a done crossing depends on is done, so their slots need no others. Crossings of one carrier depend on
+    /// each other, so the last name accepted is the highest.
+    fn afresh(self, marks: &[u8]) -> Afresh {
+        let line = |carrier| Line { carrier: carrier as u32, billed: 0, last: UNTOUCHED };
+        let record = Record { at: [0; 256], done: 0, highest: 0 };
+        let mut afresh = Afresh { record, lines: std::array::from_fn(line), of_carrier: [0; 256], of_bay: [0; 256] };
+        afresh.record.at[..self.start.len()].copy_from_slice(self.start);
+        for (name, (&number, &mark)) in self.plan.iter().zip(marks).enumerate() {
+            if mark == 1 {
+                afresh.cross(name as u32, Crossing::read(number));
+            }
         }
-        lines
+        afresh
+    }
+}
+
+impl Afresh {
+    #[inline(always)]
+    fn cross(&mut self, name: u32, crossing: Crossing) {
+        let Crossing { carrier, from, to } = crossing;
+        let slot = self.slot(carrier, from, to);
+        self.of_carrier[carrier as usize & 255] = slot;
+        self.of_bay[from as usize & 255] = slot;
+        self.of_bay[to as usize & 255] = slot;
+        self.record.at[carrier as usize & 255] = to;
+        self.record.done += 1;
+        self.record.highest = self.record.highest.max(slot);
+        let line = &mut self.lines[carrier as usize & 255];
+        line.billed += 1;
+        line.last = name;
+    }
+
+    /// One more than the highest among those done that it depends on.
+    #[inline(always)]
+    fn slot(&self, carrier: u32, from: u16, to: u16) -> u32 {
+        1 + self.of_carrier[carrier as usize & 255].max(self.of_bay[from as usize & 255]).max(self.of_bay[to as usize & 255])
+    }
+
+    fn is(&self, record: &Record, lines: &[Line], carriers: usize) -> bool {
+        *record == self.record && *lines == self.lines[..carriers]
     }
 }

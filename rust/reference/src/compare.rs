@@ -2,14 +2,14 @@
 
 use crate::crossing::Crossing;
 use crate::docket::Refusal;
-use crate::yard::Yard;
+use crate::yard::MOST_CROSSINGS;
 
 /// Carrier numbers are 0 to 253.
 const CARRIERS: usize = 254;
 
 /// The number of equal leading crossings, and the rest of the longer list, or of the first, from there on. Tests 1, 5 and 8.
 pub fn compare<'a>(first: &'a [u64], second: &'a [u64], differences: &mut [i64]) -> Result<(u64, &'a [u64]), Refusal> {
-    if first.len().max(second.len()) > Yard::MOST_CROSSINGS {
+    if first.len().max(second.len()) > MOST_CROSSINGS {
         return Err(Refusal::Size);
     }
     if let Some(carrier) = carriers(first).chain(carriers(second)).find(|&carrier| carrier >= CARRIERS) {

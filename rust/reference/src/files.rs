@@ -4,6 +4,7 @@
 use crate::crossing::Crossing;
 use crate::docket::Refusal;
 use crate::planner;
+use crate::search::Seeking;
 use crate::shorten;
 
 const ROOM: usize = 8_192;
@@ -30,7 +31,7 @@ pub fn program_short(map: Option<&[u8]>, scenario: Option<&[u8]>) -> Vec<u8> {
 fn planned<'a>(map: Option<&[u8]>, scenario: Option<&[u8]>, room: &'a mut [u64]) -> Result<&'a [u64], Refusal> {
     let map = map_of(map.ok_or(Refusal::Map(0))?)?;
     let (start, goal) = scenario_of(scenario.ok_or(Refusal::Scenario(0))?, &map)?;
-    let length = planner::plan(map.bays as u64, &map.rails(), &start, &goal, room)?.length;
+    let length = planner::plan(Seeking::Kept, map.bays as u64, &map.rails(), &start, &goal, room)?.length;
     Ok(&room[..length as usize])
 }
 

@@ -6,6 +6,7 @@
 
 mod bays;
 mod bills;
+mod choice;
 mod compare;
 mod crossing;
 mod distances;
@@ -20,13 +21,17 @@ mod reverse;
 mod search;
 mod shorten;
 mod survey;
+mod swaps;
 mod trains;
+mod trips;
+mod ways;
 mod yard;
 
 pub use bills::{Job, Line, Record, UNTOUCHED};
 pub use files::{program, program_short};
 pub use readback::{read_plan, read_reports};
 pub use reverse::reverse;
+pub use search::Seeking;
 pub use trains::all_at_once;
 
 use bills::Billed;
@@ -35,15 +40,20 @@ use log::Told;
 
 /// Plans from start to goal into `out`; the value of an acceptance is the plan's length.
 pub fn plan(bays: u64, rails: &[u16], start: &[u16], goal: &[u16], out: &mut [u64]) -> (u64, u64) {
-    docket(planner::plan(bays, rails, start, goal, out).map(|planned| (ACCEPTED, planned.length)))
+    docket(planner::plan(Seeking::Kept, bays, rails, start, goal, out).map(|planned| (ACCEPTED, planned.length)))
 }
 
 /// The same, and on acceptance how many vacates in the plan, undoing left aside, filled a bay of three rails or more; 0 on refusal.
 pub fn plan_parked(bays: u64, rails: &[u16], start: &[u16], goal: &[u16], out: &mut [u64]) -> (u64, u64, u64) {
-    let planned = planner::plan(bays, rails, start, goal, out);
+    let planned = planner::plan(Seeking::Kept, bays, rails, start, goal, out);
     let parked = planned.as_ref().map_or(0, |planned| planned.parked);
     let (number, value) = docket(planned.map(|planned| (ACCEPTED, planned.length)));
     (number, value, parked)
+}
+
+/// The same plan, found so.
+pub fn plan_by(seeking: Seeking, bays: u64, rails: &[u16], start: &[u16], goal: &[u16], out: &mut [u64]) -> (u64, u64) {
+    docket(planner::plan(seeking, bays, rails, start, goal, out).map(|planned| (ACCEPTED, planned.length)))
 }
 
 /// Whether the plan is legal from the start and brings every carrier home.
@@ -73,9 +83,17 @@ fn told(told: Told) -> (u64, u64) {
     }
 }
 
-/// Drops the plan's there-and-back trips; the value of an acceptance is the length written.
+/// Drops the plan's there-and-back trips, one after the other as the request says; the value of an acceptance is the length written.
 pub fn shorten(bays: u64, rails: &[u16], start: &[u16], goal: &[u16], plan: &[u64], marks: &[u8], out: &mut [u64]) -> (u64, u64) {
-    let answer = shorten::shorten(bays, rails, start, goal, plan, marks, out);
+    shortened(shorten::shorten(false, bays, rails, start, goal, plan, marks, out))
+}
+
+/// The same in time that grows with the plan alone.
+pub fn shorten_at_once(bays: u64, rails: &[u16], start: &[u16], goal: &[u16], plan: &[u64], marks: &[u8], out: &mut [u64]) -> (u64, u64) {
+    shortened(shorten::shorten(true, bays, rails, start, goal, plan, marks, out))
+}
+
+fn shortened(answer: Result<shorten::Answer, docket::Refusal>) -> (u64, u64) {
     docket(answer.map(|told| match told {
         shorten::Answer::Written(length) => (ACCEPTED, length),
         shorten::Answer::Begun => (BEGUN, 0),

@@ -2,7 +2,7 @@
 
 use crate::crossing::Crossing;
 use crate::docket::Refusal;
-use crate::yard::Yard;
+use crate::yard::{by_words, Yard};
 
 pub enum Told {
     Accepted,
@@ -11,8 +11,12 @@ pub enum Told {
 
 /// Tests 1 to 6, then 9, then 10.
 pub fn check(bays: u64, rails: &[u16], start: &[u16], goal: &[u16], plan: &[u64]) -> Result<(), Refusal> {
-    let mut joined = Yard::NO_RAILS;
-    let yard = Yard::open(&mut joined, bays, rails, start, goal, plan.len())?;
+    by_words!(bays, check_by(bays, rails, start, goal, plan))
+}
+
+fn check_by<const W: usize>(bays: u64, rails: &[u16], start: &[u16], goal: &[u16], plan: &[u64]) -> Result<(), Refusal> {
+    let mut yard = Yard::<W>::NONE;
+    yard.open(bays, rails, start, goal, plan.len())?;
     let end = play(&yard, start, plan)?;
     match goal.iter().zip(end).position(|(&goal, end)| goal != end) {
         Some(carrier) => Err(Refusal::GoalMissed(carrier as u64)),
@@ -21,11 +25,11 @@ pub fn check(bays: u64, rails: &[u16], start: &[u16], goal: &[u16], plan: &[u64]
 }
 
 /// The placement that a legal plan leaves; 9 where it is not legal.
-fn play(yard: &Yard, start: &[u16], plan: &[u64]) -> Result<[u16; 256], Refusal> {
+fn play<const W: usize>(yard: &Yard<W>, start: &[u16], plan: &[u64]) -> Result<[u16; 256], Refusal> {
     const NOWHERE: u16 = u16::MAX;
     let mut place = [NOWHERE; 256];
     let mut taken = [false; 256];
-    let (bays, joined, carriers) = (yard.bays, yard.joined, start.len());
+    let (bays, joined, carriers) = (yard.bays, &yard.joined, start.len());
     place[..carriers].copy_from_slice(start);
     start.iter().for_each(|&bay| taken[bay as usize] = true);
     for (name, &number) in plan.iter().enumerate() {
@@ -69,6 +73,11 @@ pub fn slots(bays: u64, rails: &[u16], start: &[u16], goal: &[u16], plan: &[u64]
 pub fn report(bays: u64, rails: &[u16], start: &[u16], goal: &[u16], plan: &[u64], marks: &mut [u8], name: u64) -> Result<Told, Refusal> {
     check(bays, rails, start, goal, plan)?;
     marks_fit(plan, marks)?;
+    report_on(plan, marks, name)
+}
+
+/// 12, "already", 13, and the mark, of marks that fit.
+pub fn report_on(plan: &[u64], marks: &mut [u8], name: u64) -> Result<Told, Refusal> {
     if name >= plan.len() as u64 {
         return Err(Refusal::Unknown);
     }

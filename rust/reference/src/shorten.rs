@@ -1,9 +1,9 @@
-//! Request E10 of document 02: there-and-back trips are dropped from a plan of which nothing is done. It follows the request's sentences one by one
-//! and scans the plan anew for each trip; it is not made to be fast.
+//! Request E10 of document 02: there-and-back trips are dropped from a plan of which nothing is done. `without_trips` follows the request's sentences one by
+//! one and scans the plan anew for each trip; it is not made to be fast.
 
 use crate::crossing::Crossing;
 use crate::docket::Refusal;
-use crate::log;
+use crate::{log, trips};
 
 pub enum Answer {
     Written(u64),
@@ -11,8 +11,10 @@ pub enum Answer {
     Begun,
 }
 
-/// The check, 11, 25, then 8.
+/// The check, 11, 25, then 8. With `at_once` by lists of entries, else by the request's sentences.
+#[allow(clippy::too_many_arguments)]
 pub fn shorten(
+    at_once: bool,
     bays: u64,
     rails: &[u16],
     start: &[u16],
@@ -26,7 +28,7 @@ pub fn shorten(
     if marks.contains(&1) {
         return Ok(Answer::Begun);
     }
-    let left = without_trips(plan);
+    let left = if at_once { trips::without_trips(start, plan) } else { without_trips(plan) };
     if left.len() > out.len() {
         return Err(Refusal::Room(left.len() as u64));
     }

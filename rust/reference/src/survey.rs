@@ -39,7 +39,8 @@ pub fn write(bays: u64, rails: &[u16], out: &mut [u8]) -> Result<u64, Refusal> {
 
 /// 1 to 3 of a yard with no carriers.
 fn passes(bays: u64, rails: &[u16]) -> Result<(), Refusal> {
-    Yard::open(&mut { Yard::NO_RAILS }, bays, rails, &[], &[], 0).map(|_| ())
+    let mut yard = Yard::<4>::NONE;
+    yard.open(bays, rails, &[], &[], 0)
 }
 
 /// What the file says, or its first bad line.
