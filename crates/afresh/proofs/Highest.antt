@@ -7,6 +7,7 @@ use native.Mathlib.Numerals.{add-one}
 use lib.ListN.{length, getD, drop, replicate}
 use lib.Seq.{drop-cons}
 use Rattle.paper.specs.Basics.{if_then_else_}
+use Rattle.paper.specs.Limits.{most-bays}
 use Rattle.paper.specs.Yard.{Crossing, crossings, named}
 use Rattle.paper.specs.Dependence.{done, slots}
 use Rattle.paper.specs.OnePass.{Fits}
@@ -19,7 +20,7 @@ pub record Rising (plan marks carriers bays : List ℕ) (highest i : ℕ) : Type
   pub tables : Tables plan carriers bays i
   pub whole : max highest (highestDone (still plan carriers bays i) (drop i marks)) ≡ highestDone (slots (crossings plan)) marks
 
-pub rising-start : (plan marks : List ℕ) → Rising plan marks (replicate 256 0) (replicate 256 0) 0 0
+pub rising-start : (plan marks : List ℕ) → Rising plan marks (replicate most-bays 0) (replicate most-bays 0) 0 0
 rising-start plan marks = record {
   tables = tables-start plan;
   whole =
@@ -34,7 +35,7 @@ unfolding highestDone
 passed highest s m ss ms = by-cases (done m) (λ d. rw d (omega arith)) (λ d. rw d)
 
 pub rising-on : (plan marks carriers bays : List ℕ) (highest i : ℕ) → Rising plan marks carriers bays highest i → i < length plan
-    → length marks ≡ length plan → Fits 256 256 plan → (x : Crossing) → x ≡ named (crossings plan) i
+    → length marks ≡ length plan → Fits most-bays most-bays plan → (x : Crossing) → x ≡ named (crossings plan) i
     → (s : ℕ) (carriers′ bays′ : List ℕ) → Turned carriers bays x s carriers′ bays′
     → (high : ℕ) → high ≡ (if done (getD marks i 0) then max highest s else highest) → Rising plan marks carriers′ bays′ high (i + 1)
 rising-on plan marks carriers bays highest i p more same fits x is s carriers′ bays′ turned high e =

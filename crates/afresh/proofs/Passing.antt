@@ -10,6 +10,7 @@ use lib.Dec.{eqb}
 use lib.ListN.{length, getD, drop, set, replicate, length-set, length-replicate}
 use lib.Seq.{drop-cons, getD-set-same, getD-set-other}
 use Rattle.paper.specs.Basics.{if_then_else_, _and_}
+use Rattle.paper.specs.Limits.{most-bays}
 use Rattle.paper.specs.Yard.{Placement, Carrier, Crossing, crossings, named, after, move}
 use Rattle.paper.specs.Dependence.{done, doneOf, countOf}
 use Rattle.paper.proofs.Tests.{by-cases}
@@ -99,11 +100,11 @@ lastFrom plan marks c last i = lastDone c last i (drop i (crossings plan)) (drop
 
 pub record Billing (plan marks billed last : List ℕ) (i : ℕ) : Type 0 where
   pub within : i ≤ length plan
-  pub all-billed : length billed ≡ 256
-  pub all-last : length last ≡ 256
+  pub all-billed : length billed ≡ most-bays
+  pub all-last : length last ≡ most-bays
   pub low : (c : Carrier) → getD billed c 0 ≤ i
-  pub counts : (c : Carrier) → c < 256 → getD billed c 0 + countOf c (rest plan marks i) ≡ countOf c (rest plan marks 0)
-  pub names : (c : Carrier) → c < 256 → lastFrom plan marks c (getD last c 0) i ≡ lastFrom plan marks c untouched 0
+  pub counts : (c : Carrier) → c < most-bays → getD billed c 0 + countOf c (rest plan marks i) ≡ countOf c (rest plan marks 0)
+  pub names : (c : Carrier) → c < most-bays → lastFrom plan marks c (getD last c 0) i ≡ lastFrom plan marks c untouched 0
 
 getD-replicate : (k v c : ℕ) → c < k → getD (replicate k v) c 0 ≡ v
 getD-replicate zero v c h = absurd (omega arith)
@@ -115,14 +116,14 @@ zeros-low zero c = omega arith
 zeros-low (suc k) zero = omega arith
 zeros-low (suc k) (suc c) = zeros-low k c
 
-pub billing-start : (plan marks : List ℕ) → Billing plan marks (replicate 256 0) (replicate 256 untouched) 0
+pub billing-start : (plan marks : List ℕ) → Billing plan marks (replicate most-bays 0) (replicate most-bays untouched) 0
 billing-start plan marks = record {
   within = omega arith;
-  all-billed = length-replicate {A = ℕ} 256 0;
-  all-last = length-replicate {A = ℕ} 256 untouched;
-  low = zeros-low 256;
-  counts = λ c h. let z = getD-replicate 256 0 c h in omega arith;
-  names = λ c h. ap (λ l. lastFrom plan marks c l 0) (getD-replicate 256 untouched c h);
+  all-billed = length-replicate {A = ℕ} most-bays 0;
+  all-last = length-replicate {A = ℕ} most-bays untouched;
+  low = zeros-low most-bays;
+  counts = λ c h. let z = getD-replicate most-bays 0 c h in omega arith;
+  names = λ c h. ap (λ l. lastFrom plan marks c l 0) (getD-replicate most-bays untouched c h);
 }
 
 count-cons : (c : Carrier) (x : Crossing) (xs : List Crossing) → countOf c (x ∷ xs) ≡ (if eqb (x .carrier) c then suc (countOf c xs) else countOf c xs)
@@ -143,7 +144,7 @@ module _ (plan marks : List ℕ) (len : length marks ≡ length plan) (billed la
         ∙ last-cons c l i (named (crossings plan) i) (drop (suc i) (crossings plan)) (getD marks i 0) (drop (suc i) marks)
         ∙ rw (add-one i)
 
-    pub billing-done : getD marks i 0 ≡ 1 → (x : Crossing) → x ≡ named (crossings plan) i → x .carrier < 256
+    pub billing-done : getD marks i 0 ≡ 1 → (x : Crossing) → x ≡ named (crossings plan) i → x .carrier < most-bays
         → Billing plan marks (set billed (x .carrier) (getD billed (x .carrier) 0 + 1)) (set last (x .carrier) i) (i + 1)
     unfolding _and_
     billing-done e x is small =
@@ -203,10 +204,10 @@ module _ (plan marks : List ℕ) (len : length marks ≡ length plan) (billed la
           ap (λ l. lastFrom plan marks c l (i + 1)) (sym q) ∙ sym (last-turn c (getD last c 0)) ∙ b .names c h;
     }
 
-  pub billing-counts : length plan ≤ i → (c : Carrier) → c < 256 → getD billed c 0 ≡ countOf c (doneOf (crossings plan) marks)
+  pub billing-counts : length plan ≤ i → (c : Carrier) → c < most-bays → getD billed c 0 ≡ countOf c (doneOf (crossings plan) marks)
   unfolding countOf
   billing-counts h c k = let r = ap (countOf c) (rest-ends plan marks len i h) in let w = b .counts c k in omega arith
 
-  pub billing-names : length plan ≤ i → (c : Carrier) → c < 256 → getD last c 0 ≡ lastDone c untouched 0 (crossings plan) marks
+  pub billing-names : length plan ≤ i → (c : Carrier) → c < most-bays → getD last c 0 ≡ lastDone c untouched 0 (crossings plan) marks
   unfolding lastDone
   billing-names h c k = sym (ap (λ l. lastDone c (getD last c 0) i l (drop i marks)) (rest-none plan i h)) ∙ b .names c k

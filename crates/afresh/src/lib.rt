@@ -3,6 +3,7 @@ ghost use mathlib.Core.Path.{_≡_};
 ghost use Prim.Native.Nat.{ℕ, _≤_, _<_, max};
 ghost use lib.ListN.{length, getD, replicate};
 ghost use Rattle.paper.specs.Basics.{if_then_else_};
+ghost use Rattle.paper.specs.Limits.{most-bays};
 ghost use Rattle.paper.specs.Yard.{crossings, after, most-crossings};
 ghost use Rattle.paper.specs.Dependence.{done, doneOf, countOf, slots as slotsOf};
 ghost use Rattle.paper.specs.OnePass.{Fits};
@@ -12,7 +13,7 @@ use yard::Yard;
 
 // The carriers of the done crossings are moved, each to where its crossing leads.
 pub fn move_done(plan: &[u64], marks: &[u8], at: &mut [u16; Yard::BAYS])
-    requires { ⌜ (length (now marks) ≡ length (now plan)) × Fits 256 256 (now plan) ⌝ }
+    requires { ⌜ (length (now marks) ≡ length (now plan)) × Fits most-bays most-bays (now plan) ⌝ }
     ensures { λ _. ⌜ now (at .exit) ≡ after (now (at .entry)) (doneOf (crossings (now (plan .entry))) (now (marks .entry))) ⌝ }
 {
     let mut i = 0;
@@ -49,8 +50,8 @@ pub fn bill_done(
     billed: &mut [u32; Yard::BAYS],
     last: &mut [u32; Yard::BAYS],
 )
-    requires { ⌜ (length (now marks) ≡ length (now plan)) × (length (now plan) ≤ most-crossings) × Fits 256 256 (now plan) × (now billed ≡ replicate 256 0) × (now last ≡ replicate 256 untouched) ⌝ }
-    ensures { λ _. ⌜ ((c : ℕ) → c < 256 → getD (now (billed .exit)) c 0 ≡ countOf c (doneOf (crossings (now (plan .entry))) (now (marks .entry)))) × ((c : ℕ) → c < 256 → getD (now (last .exit)) c 0 ≡ lastDone c untouched 0 (crossings (now (plan .entry))) (now (marks .entry))) ⌝ }
+    requires { ⌜ (length (now marks) ≡ length (now plan)) × (length (now plan) ≤ most-crossings) × Fits most-bays most-bays (now plan) × (now billed ≡ replicate most-bays 0) × (now last ≡ replicate most-bays untouched) ⌝ }
+    ensures { λ _. ⌜ ((c : ℕ) → c < most-bays → getD (now (billed .exit)) c 0 ≡ countOf c (doneOf (crossings (now (plan .entry))) (now (marks .entry)))) × ((c : ℕ) → c < most-bays → getD (now (last .exit)) c 0 ≡ lastDone c untouched 0 (crossings (now (plan .entry))) (now (marks .entry))) ⌝ }
 {
     let mut i = 0;
     while i < plan.len() {
@@ -77,11 +78,11 @@ fn highest_with(highest: u32, slot: u32, mark: u8) -> u32
 
 // The highest slot in which anything is done, or 0.
 pub fn highest_done(plan: &[u64], marks: &[u8]) -> u32
-    requires { ⌜ (length (now marks) ≡ length (now plan)) × (length (now plan) ≤ most-crossings) × Fits 256 256 (now plan) ⌝ }
+    requires { ⌜ (length (now marks) ≡ length (now plan)) × (length (now plan) ≤ most-crossings) × Fits most-bays most-bays (now plan) ⌝ }
     ensures { λ r. ⌜ r ≡ highestDone (slotsOf (crossings (now (plan .entry)))) (now (marks .entry)) ⌝ }
 {
-    let mut carriers: [u32; 256] = [0; 256];
-    let mut bays: [u32; 256] = [0; 256];
+    let mut carriers: [u32; Yard::BAYS] = [0; Yard::BAYS];
+    let mut bays: [u32; Yard::BAYS] = [0; Yard::BAYS];
     let mut highest = 0u32;
     let mut i = 0;
     while i < plan.len() {

@@ -3,8 +3,9 @@
 use mathlib.Core.Path.{_≡_, refl}
 use mathlib.Core.List.{List, [], _∷_, map}
 use mathlib.Core.Option.{none, some}
-use Prim.Native.Nat.{ℕ}
+use Prim.Native.Nat.{ℕ, _-_}
 use lib.ListN.{replicate}
+use Rattle.paper.specs.Limits.{most-bays}
 use Rattle.paper.specs.Yard.{Bay, Placement, Crossing, crossing, pack}
 use Rattle.paper.specs.Dependence.{slots, fresh}
 use Rattle.paper.specs.Docket.{mismarked, unknown, early, room, missed}
@@ -12,7 +13,7 @@ use Rattle.paper.specs.Answers.{accept, already, refuse, check}
 use Rattle.paper.specs.Log.{Request}
 use Rattle.paper.proofs.Worked.{computing}
 use Rattle.bills.specs.Billing
-use Rattle.bills.specs.Billing.{recordOf, linesOf, posted, entered}
+use Rattle.bills.specs.Billing.{untouched, recordOf, linesOf, posted, entered}
 use Rattle.bills.specs.Answering
 use Rattle.bills.specs.Answering.{agrees, differs, refused, Billed, told, disagrees, opening, agreement, billing}
 use Rattle.bills.specs.Keeping
@@ -42,7 +43,7 @@ abbrev plan : List ℕ
 plan = map pack xs
 
 abbrev standing : ℕ → ℕ → ℕ → ℕ → ℕ → Record
-standing a b c done highest = record { at = a ∷ b ∷ c ∷ replicate 253 0; done = done; highest = highest }
+standing a b c done highest = record { at = a ∷ b ∷ c ∷ replicate (most-bays - 3) 0; done = done; highest = highest }
 
 abbrev line : ℕ → ℕ → ℕ → Line
 line c billed last = record { carrier = c; billed = billed; last = last }
@@ -59,9 +60,9 @@ unfolding computing-bills
 all-records = refl
 
 pub all-lines : map (linesOf 3 xs) ((0 ∷ 0 ∷ 0 ∷ 0 ∷ 0 ∷ []) ∷ (1 ∷ 0 ∷ 1 ∷ 0 ∷ 0 ∷ []) ∷ (1 ∷ 0 ∷ 1 ∷ 1 ∷ 0 ∷ []) ∷ (1 ∷ 1 ∷ 1 ∷ 1 ∷ 1 ∷ []) ∷ [])
-    ≡ (line 0 0 65536 ∷ line 1 0 65536 ∷ line 2 0 65536 ∷ [])
-    ∷ (line 0 1 0 ∷ line 1 1 2 ∷ line 2 0 65536 ∷ [])
-    ∷ (line 0 2 3 ∷ line 1 1 2 ∷ line 2 0 65536 ∷ [])
+    ≡ (line 0 0 untouched ∷ line 1 0 untouched ∷ line 2 0 untouched ∷ [])
+    ∷ (line 0 1 0 ∷ line 1 1 2 ∷ line 2 0 untouched ∷ [])
+    ∷ (line 0 2 3 ∷ line 1 1 2 ∷ line 2 0 untouched ∷ [])
     ∷ (line 0 2 3 ∷ line 1 2 4 ∷ line 2 1 1 ∷ [])
     ∷ []
 unfolding computing-bills
@@ -69,7 +70,7 @@ all-lines = refl
 
 -- 3 accepted with 0 and 2 done, in place; then 1, whose slot is lower than the highest
 pub in-place : (posted (standing 1 2 6 2 1) (crossing 0 1 0) 2 ≡ standing 0 2 6 3 2)
-    × (entered (line 0 1 0 ∷ line 1 1 2 ∷ line 2 0 65536 ∷ []) (crossing 0 1 0) 3 ≡ line 0 2 3 ∷ line 1 1 2 ∷ line 2 0 65536 ∷ [])
+    × (entered (line 0 1 0 ∷ line 1 1 2 ∷ line 2 0 untouched ∷ []) (crossing 0 1 0) 3 ≡ line 0 2 3 ∷ line 1 1 2 ∷ line 2 0 untouched ∷ [])
     × (posted (standing 0 2 6 3 2) (crossing 2 6 5) 1 ≡ standing 0 2 5 4 2)
 unfolding computing-bills
 in-place = (refl, refl, refl)
@@ -82,7 +83,7 @@ abbrev rec : Record
 rec = standing 1 2 6 2 1
 
 abbrev lines : List Line
-lines = line 0 1 0 ∷ line 1 1 2 ∷ line 2 0 65536 ∷ []
+lines = line 0 1 0 ∷ line 1 1 2 ∷ line 2 0 untouched ∷ []
 
 abbrev reported : Placement → List ℕ → Record → List Line → ℕ → Billed
 reported goals marks rec lines name = billing 7 line-7 starts goals plan marks rec lines name
@@ -96,7 +97,7 @@ pub all-answered : (reported goals marks rec lines 3
     ∷ reported goals marks (standing 1 2 5 2 1) lines 3
     ∷ reported goals marks (standing 1 2 6 1 1) lines 0
     ∷ reported goals marks (standing 1 2 6 2 2) lines 4
-    ∷ reported goals marks rec (line 0 1 0 ∷ line 1 2 2 ∷ line 2 0 65536 ∷ []) 5
+    ∷ reported goals marks rec (line 0 1 0 ∷ line 1 2 2 ∷ line 2 0 untouched ∷ []) 5
     ∷ reported goals marks rec (line 0 1 0 ∷ line 1 1 2 ∷ line 2 0 0 ∷ []) 3
     ∷ reported goals marks rec (line 0 1 0 ∷ line 1 1 2 ∷ []) 3
     ∷ reported goals (0 ∷ 0 ∷ 1 ∷ 1 ∷ 0 ∷ []) rec [] 3

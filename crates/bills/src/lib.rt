@@ -18,4 +18,4 @@ pub struct Line {
 }
 
 // No name is as high.
-pub const UNTOUCHED: u32 = 65536;
+pub const UNTOUCHED: u32 = Yard::CROSSINGS as u32;

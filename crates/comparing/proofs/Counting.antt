@@ -11,10 +11,11 @@ use lib.Dec.{eqb, leb}
 use lib.ListN.{length, getD, drop, set, replicate, length-set, length-replicate, getD-replicate, drop-of-length-le}
 use lib.Seq.{drop-cons, getD-set-same, getD-set-other}
 use Rattle.paper.specs.Basics.{find, if_then_else_}
+use Rattle.paper.specs.Limits.{most-carriers}
 use Rattle.paper.specs.Yard.{Carrier, crossings}
 use Rattle.paper.specs.Dependence.{countOf}
 use Rattle.paper.proofs.Tests.{by-cases}
-use Rattle.comparing.specs.Comparing.{most-carriers, carrierOf, firstAbove}
+use Rattle.comparing.specs.Comparing.{carrierOf, firstAbove}
 use Rattle.comparing.specs.Statements.{Counts}
 
 pub record Counting (list counts : List ℕ) (i : ℕ) : Type 0 where

@@ -9,11 +9,12 @@ use lib.Dec.{eqb, ltb}
 use lib.IntN.{ℤ, pos, negℤ, _+ℤ_, _-ℤ_, +ℤ-comm, negℤ-+ℤ, negℤ-negℤ}
 use lib.ListN.{length}
 use Rattle.paper.specs.Basics.{_or_, orElse, _>>=_, when, upTo}
+use Rattle.paper.specs.Limits.{most-carriers}
 use Rattle.paper.specs.Yard.{Carrier, crossings, most-crossings}
 use Rattle.paper.specs.Docket.{Refusal, size, start, room, granted, denied, unlessDenied}
 use Rattle.paper.specs.Dependence.{countOf}
 use Rattle.paper.proofs.Tests.{by-option, or-none, or-neither, none-both, none-from, none-when, never}
-use Rattle.comparing.specs.Comparing.{most-carriers, firstAbove, no-1, no-5, no-8, refusal, equalLeading, comparison, difference, differences}
+use Rattle.comparing.specs.Comparing.{firstAbove, no-1, no-5, no-8, refusal, equalLeading, comparison, difference, differences}
 use Rattle.comparing.proofs.Leading.{leading-exchanged}
 
 -- what a comparison that is granted has passed

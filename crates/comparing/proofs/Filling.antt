@@ -11,9 +11,10 @@ use lib.IntN.{ℤ, pos, _-ℤ_}
 use lib.ListN.{length, getD, drop, set, length-set, drop-of-length-le}
 use lib.Seq.{drop-cons, getD-set-same, getD-set-other}
 use Rattle.paper.specs.Basics.{if_then_else_}
+use Rattle.paper.specs.Limits.{most-carriers}
 use Rattle.paper.specs.Yard.{Carrier}
 use Rattle.paper.proofs.Tests.{by-cases}
-use Rattle.comparing.specs.Comparing.{most-carriers, equalLeading}
+use Rattle.comparing.specs.Comparing.{equalLeading}
 use Rattle.comparing.specs.Statements.{FillSays}
 
 -- ## The differences

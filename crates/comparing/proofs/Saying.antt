@@ -11,6 +11,7 @@ use lib.IntN.{ℤ, pos, _-ℤ_}
 use lib.ListN.{length, getD, length-map}
 use lib.Seq.{ext-getD}
 use Rattle.paper.specs.Basics.{_or_, orElse, _>>=_, when, upTo, countFrom}
+use Rattle.paper.specs.Limits.{most-carriers}
 use Rattle.paper.specs.Yard.{Carrier, crossings, most-crossings}
 use Rattle.paper.specs.Dependence.{countOf}
 use Rattle.paper.proofs.Tests.{or-left, or-right, or-neither, none-both}
@@ -18,7 +19,7 @@ use Rattle.docket.specs.Reading.{refusalOf, verdictOf}
 use Rattle.docket.specs.declared.Carrier.{Carrier as Carried}
 use Rattle.docket.specs.declared.Refusal.{Refusal}
 use Rattle.docket.specs.declared.Refusal.the-variants.{Size, Start, Room}
-use Rattle.comparing.specs.Comparing.{most-carriers, firstAbove, no-1, no-5, no-8, refusal, comparison, equalLeading, difference, differences, differencesBy}
+use Rattle.comparing.specs.Comparing.{firstAbove, no-1, no-5, no-8, refusal, comparison, equalLeading, difference, differences, differencesBy}
 use Rattle.paper.specs.Docket.{Verdict, granted, denied}
 use Rattle.comparing.specs.Statements.{Counts, CountSays, FillSays, DifferSays}
 use Rattle.comparing.specs.declared.Counted.{Counted}

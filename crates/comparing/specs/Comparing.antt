@@ -3,18 +3,15 @@
 use mathlib.Core.Bool.{not}
 use mathlib.Core.List.{List, [], _∷_, map}
 use mathlib.Core.Option.{Option, some, Option·getD}
-use Prim.Native.Nat.{ℕ, zero, suc, _-_}
+use Prim.Native.Nat.{ℕ, zero, suc}
 use lib.Dec.{eqb, ltb, leb}
 use lib.IntN.{ℤ, pos, _-ℤ_}
 use lib.ListN.{length, drop}
 use Rattle.paper.specs.Basics.{if_then_else_, _or_, _>>=_, orElse, when, find, upTo}
-use Rattle.paper.specs.Yard.{Carrier, unpack, crossings, most-bays, most-crossings, kept-empty}
+use Rattle.paper.specs.Limits.{most-carriers, most-crossings}
+use Rattle.paper.specs.Yard.{Carrier, unpack, crossings}
 use Rattle.paper.specs.Docket.{Refusal, size, start, room, number, carried, Verdict, granted, denied, unlessDenied}
 use Rattle.paper.specs.Dependence.{countOf}
-
--- the carriers of the largest yard, of whose bays two stay empty: their numbers are 0 to 253
-abbrev pub most-carriers : ℕ
-most-carriers = most-bays - kept-empty
 
 -- ## What is refused
 

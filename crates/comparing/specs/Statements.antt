@@ -6,12 +6,13 @@ use mathlib.Core.Option.{Option, none, some}
 use Prim.Native.Nat.{ℕ, _<_, _≤_}
 use lib.IntN.{ℤ, pos, _-ℤ_}
 use lib.ListN.{length, getD}
+use Rattle.paper.specs.Limits.{most-carriers}
 use Rattle.paper.specs.Yard.{Carrier, crossings}
 use Rattle.paper.specs.Dependence.{countOf}
 use Rattle.paper.specs.Docket.{Verdict, granted, denied}
 use Rattle.docket.specs.Reading.{verdictOf}
 use Rattle.docket.specs.declared.Verdict.{Verdict as Held}
-use Rattle.comparing.specs.Comparing.{most-carriers, firstAbove, comparison, partBy, longerBy, differencesBy, numberBy, valueBy}
+use Rattle.comparing.specs.Comparing.{firstAbove, comparison, partBy, longerBy, differencesBy, numberBy, valueBy}
 use Rattle.comparing.specs.declared.Counted.{Counted}
 use Rattle.comparing.specs.declared.Counted.the-variants.{All, Above}
 

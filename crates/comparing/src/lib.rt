@@ -5,8 +5,9 @@ ghost use Prim.Native.Nat.{_≤_, min};
 ghost use lib.IntN.{pos, _-ℤ_};
 ghost use lib.ListN.{length, replicate};
 ghost use Rattle.paper.specs.Basics.{orElse};
+ghost use Rattle.paper.specs.Limits.{most-carriers};
 ghost use Rattle.paper.specs.Yard.{most-crossings};
-ghost use Rattle.comparing.specs.Comparing.{most-carriers, equalLeading, longerBy, partBy, numberBy, valueBy};
+ghost use Rattle.comparing.specs.Comparing.{equalLeading, longerBy, partBy, numberBy, valueBy};
 ghost use Rattle.docket.specs.Reading.{verdictOf};
 ghost use Rattle.comparing.specs.Statements.{countedOf, Within, CountSays, FillSays, DifferSays, CompareSays};
 use docket::Carrier;
@@ -14,17 +15,14 @@ use docket::Refusal;
 use docket::Verdict;
 use yard::Yard;
 
-// The carriers of the largest yard.
-const CARRIERS: usize = Yard::BAYS - Yard::KEPT_EMPTY;
-
 // What counting a list answers: each carrier has its count, or the first carrier number that has none.
 enum Counted {
     All,
     Above(Carrier),
 }
 
-// Counts each carrier's crossings, up to the first carrier number above 253.
-fn count(list: &[u64], counts: &mut [u32; CARRIERS]) -> Counted
+// Counts each carrier's crossings, up to the first carrier number that no yard has.
+fn count(list: &[u64], counts: &mut [u32; Yard::CARRIERS]) -> Counted
     requires { ⌜ (length (now list) ≤ most-crossings) × (now counts ≡ replicate most-carriers 0) ⌝ }
     ensures { λ r. ⌜ CountSays (now (list .entry)) r (now (counts .exit)) ⌝ }
 {
@@ -33,7 +31,7 @@ fn count(list: &[u64], counts: &mut [u32; CARRIERS]) -> Counted
         let x = docket::unpack(list[i]);
         let carrier = x.carrier;
         let place = carrier.0 as usize;
-        if CARRIERS <= place {
+        if Yard::CARRIERS <= place {
             return Counted::Above(carrier);
         }
         counts[place] += 1;
@@ -60,12 +58,12 @@ fn less(count: u32, other: u32) -> i64
 }
 
 // Second less first, carrier by carrier.
-fn fill(firsts: &[u32; CARRIERS], seconds: &[u32; CARRIERS], differences: &mut [i64])
+fn fill(firsts: &[u32; Yard::CARRIERS], seconds: &[u32; Yard::CARRIERS], differences: &mut [i64])
     requires { ⌜ length (now differences) ≡ most-carriers ⌝ }
     ensures { λ _. ⌜ FillSays (now (seconds .entry)) (now (firsts .entry)) (now (differences .exit)) ⌝ }
 {
     let mut c = 0;
-    while c < CARRIERS {
+    while c < Yard::CARRIERS {
         differences[c] = less(seconds[c], firsts[c]);
         c += 1;
     }
@@ -102,16 +100,16 @@ fn differ(first: &[u64], second: &[u64], differences: &mut [i64]) -> Verdict
     if Yard::CROSSINGS < second.len() {
         return Verdict::Denied(Refusal::Size);
     }
-    let mut firsts = [0u32; CARRIERS];
+    let mut firsts = [0u32; Yard::CARRIERS];
     let of_first = count(first, &mut firsts);
-    let mut seconds = [0u32; CARRIERS];
+    let mut seconds = [0u32; Yard::CARRIERS];
     let of_second = count(second, &mut seconds);
     let of_both = earlier(of_first, of_second);
     if let Counted::Above(carrier) = of_both {
         return Verdict::Denied(Refusal::Start(carrier));
     }
-    if differences.len() != CARRIERS {
-        return Verdict::Denied(Refusal::Room(CARRIERS as u64));
+    if differences.len() != Yard::CARRIERS {
+        return Verdict::Denied(Refusal::Room(Yard::CARRIERS as u64));
     }
     fill(&firsts, &seconds, differences);
     Verdict::Granted(equal_leading(first, second) as u64)

@@ -10,6 +10,9 @@ pub struct Bay(pub u16);
 
 pub struct Carrier(pub u32);
 
+// A bay's number has 16 bits: the base in which a crossing's two bays stand.
+const BASE: u64 = 65536;
+
 pub struct Crossing {
     pub carrier: Carrier,
     pub from: Bay,
@@ -23,7 +26,7 @@ pub fn pack(x: Crossing) -> u64
     let carrier = x.carrier.0 as u64;
     let from = x.from.0 as u64;
     let to = x.to.0 as u64;
-    carrier * 4294967296 + from * 65536 + to
+    carrier * 4294967296 + from * BASE + to
 }
 
 // Every number reads as some crossing.
@@ -32,8 +35,8 @@ pub fn unpack(w: u64) -> Crossing
 {
     Crossing {
         carrier: Carrier((w / 4294967296) as u32),
-        from: Bay((w / 65536 % 65536) as u16),
-        to: Bay((w % 65536) as u16),
+        from: Bay((w / BASE % BASE) as u16),
+        to: Bay((w % BASE) as u16),
     }
 }
 

@@ -9,6 +9,7 @@ use borrow.Author.Tests.{lt-ltb, le-ltb, eq-eqb, ne-eqb}
 use lib.Dec.{ltb, eqb}
 use lib.ListN.{length, drop}
 use Rattle.paper.specs.Basics.{_or_, if_then_else_}
+use Rattle.paper.specs.Limits.{most-bays}
 use Rattle.paper.specs.Yard.{Bay, Placement, Crossing, crossings, most-crossings}
 use Rattle.paper.specs.Dependence.{slots}
 use Rattle.paper.specs.Answers.{check, slotsRefusal, slotsEnd}
@@ -52,7 +53,7 @@ module _ (n : ℕ) (ends : List Bay) (starts goals : Placement) (plan : List ℕ
     says-refused out r h = record { answers = rw (k, ← h); leaves = rw (k, ← h) }
 
     module _ (passes : none ≡ check n ends starts goals plan) where
-      pub fits : Fits 256 256 plan
+      pub fits : Fits most-bays most-bays plan
       fits = check-fits n ends starts goals plan (sym passes)
 
       pub short : length plan ≤ most-crossings

@@ -4,6 +4,7 @@ ghost use mathlib.Core.Path.{_≡_};
 ghost use mathlib.Core.List.{_++_};
 ghost use Prim.Native.Nat.{_≤_};
 ghost use lib.ListN.{length, drop};
+ghost use Rattle.paper.specs.Limits.{most-bays};
 ghost use Rattle.paper.specs.Yard.{crossings, most-crossings};
 ghost use Rattle.paper.specs.OnePass.{Fits};
 ghost use Rattle.editions.specs.Editions.{isKnown, slotsBy};
@@ -24,7 +25,7 @@ pub fn known(edition: u64) -> bool
 
 // The slots by an edition, into the first places of `out`; what stands beyond the plan's length stays.
 pub fn pass(edition: u64, plan: &[u64], out: &mut [u32])
-    requires { ⌜ (length (now plan) ≤ length (now out)) × (length (now plan) ≤ most-crossings) × Fits 256 256 (now plan) ⌝ }
+    requires { ⌜ (length (now plan) ≤ length (now out)) × (length (now plan) ≤ most-crossings) × Fits most-bays most-bays (now plan) ⌝ }
     ensures { λ _. ⌜ now (out .exit) ≡ slotsBy edition (crossings (now (plan .entry))) ++ drop (length (now (plan .entry))) (now (out .entry)) ⌝ }
 {
     if edition == 2 {

@@ -10,6 +10,7 @@ use lib.Dec.{eqb, ltb}
 use lib.ListN.{length, getD, take, drop, drop-of-length-le}
 use lib.Seq.{drop-cons, getD-take, length-take-le, take-all}
 use Rattle.paper.specs.Basics.{_and_}
+use Rattle.paper.specs.Limits.{most-bays}
 use Rattle.paper.proofs.Tests.{by-cases}
 use Rattle.bills.specs.Billing.{noLine}
 use Rattle.bills.specs.Answering.{sameNumbers, sameLine, sameLines}
@@ -55,7 +56,7 @@ pub record Alike (lent : ℕ) (a : List Line) (fresh : ℕ) (b : List Line) (c :
   pub whole : sameLines (take lent a) (take fresh b) ≡ sameLines (drop c (take lent a)) (drop c (take fresh b))
 
 -- both lists have 256 places
-module _ (lent : ℕ) (a : List Line) (fresh : ℕ) (b : List Line) (all : length a ≡ 256) (all′ : length b ≡ 256) (few : fresh < 256) where
+module _ (lent : ℕ) (a : List Line) (fresh : ℕ) (b : List Line) (all : length a ≡ most-bays) (all′ : length b ≡ most-bays) (few : fresh < most-bays) where
   fresh-long : length (take fresh b) ≡ fresh
   fresh-long = length-take-le fresh b (omega (arith, all′, few))
 
@@ -91,8 +92,8 @@ module _ (lent : ℕ) (a : List Line) (fresh : ℕ) (b : List Line) (all : lengt
   -- another count is another length, also where it is more than 256
   pub lines-miscounted : (lent ≡ fresh → ⊥) → false ≡ sameLines (take lent a) (take fresh b)
   lines-miscounted d =
-      by-cases (ltb lent 256)
-      (λ e. other-count (take lent a) (take fresh b) (λ q. d (sym (length-take-le lent a (let l = ltb-true lent 256 e in omega (arith, l, all))) ∙ q ∙ fresh-long)))
+      by-cases (ltb lent most-bays)
+      (λ e. other-count (take lent a) (take fresh b) (λ q. d (sym (length-take-le lent a (let l = ltb-true lent most-bays e in omega (arith, l, all))) ∙ q ∙ fresh-long)))
       (λ e. other-count (take lent a) (take fresh b) (λ q.
-      let long : length (take lent a) ≡ 256 = ap length (take-all lent a (let l = ltb-false lent 256 e in omega (arith, l, all))) ∙ all in
+      let long : length (take lent a) ≡ most-bays = ap length (take-all lent a (let l = ltb-false lent most-bays e in omega (arith, l, all))) ∙ all in
       absurd (omega (arith, long, q, fresh-long, few))))

@@ -2,6 +2,7 @@
 ghost use mathlib.Core.Path.{_≡_};
 ghost use Prim.Native.Nat.{_<_};
 ghost use lib.ListN.{getD, take};
+ghost use Rattle.paper.specs.Limits.{most-bays};
 ghost use Rattle.docket.specs.Reading.{crossingOf};
 ghost use Rattle.bills.specs.Billing.{noLine, posted as postedOf, charged as chargedOf};
 ghost use Rattle.bills.specs.Answering.{sameNumbers, sameRecord, sameLine, sameLines};
@@ -73,7 +74,7 @@ fn same_line(a: Line, b: Line) -> bool
 // Whether the first `lent` lines of one list are the first `fresh` of the other. Of the second there are fewer than a list has places: a count that is
 // higher than the places then differs from it.
 pub fn same_lines(lent: usize, a: [Line; Yard::BAYS], fresh: usize, b: [Line; Yard::BAYS]) -> bool
-    requires { ⌜ fresh < 256 ⌝ }
+    requires { ⌜ fresh < most-bays ⌝ }
     ensures { λ r. ⌜ r ≡ sameLines (take lent a) (take fresh b) ⌝ }
 {
     if lent != fresh {
@@ -91,7 +92,7 @@ pub fn same_lines(lent: usize, a: [Line; Yard::BAYS], fresh: usize, b: [Line; Ya
 
 // The record after an accepted crossing.
 pub fn posted(running: Record, x: Crossing, slot: u32) -> Record
-    requires { ⌜ (x .carrier .0 < 256) × (running .done < 4294967295) ⌝ }
+    requires { ⌜ (x .carrier .0 < most-bays) × (running .done < 4294967295) ⌝ }
     ensures { λ r. ⌜ r ≡ postedOf running (crossingOf x) slot ⌝ }
 {
     let carrier = x.carrier.0 as usize;

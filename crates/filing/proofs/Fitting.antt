@@ -10,10 +10,11 @@ use lib.Dec.{ltb}
 use lib.ListN.{length, length-append}
 use borrow.Author.Tests.{ltb-true}
 use Rattle.paper.specs.Basics.{if_then_else_, if-some_then_else_, _and_, _or_, concat, countFrom, upTo}
+use Rattle.paper.specs.Limits.{most-carriers}
 use Rattle.paper.specs.Yard.{Bay}
 use Rattle.paper.specs.Text.{Text, text, TAB, lines, split, same, Read, good, badLine, readLines}
 use Rattle.paper.specs.Map.{Grid, readMap, cells, bayAt, numberAt, bayIn, railsAt, railEnds}
-use Rattle.paper.specs.Scenario.{Listed, versionDue, carriers, most-carriers, carrierLine, scenarioLine, scenarioEnd, readScenario}
+use Rattle.paper.specs.Scenario.{Listed, versionDue, carriers, carrierLine, scenarioLine, scenarioEnd, readScenario}
 use Rattle.paper.specs.Program.{readFile}
 use Rattle.paper.proofs.Tests.{by-cases, by-option, never, some-when, some-from}
 use Rattle.gridmap.proofs.Good.{Sized}
@@ -54,24 +55,24 @@ soFar versionDue = 0
 soFar (carriers cs) = length cs
 
 module _ (W H : ℕ) (bay : ℕ → ℕ → Option Bay) where
-  line-few : (a : Listed) (l : Text) (a′ : Listed) → scenarioLine W H bay a l ≡ some a′ → soFar a′ ≤ 254
+  line-few : (a : Listed) (l : Text) (a′ : Listed) → scenarioLine W H bay a l ≡ some a′ → soFar a′ ≤ most-carriers
   unfolding scenarioLine
   line-few versionDue l a′ e = let q = some-when (same l (text "version 1") or same l (text "version 1.0")) (carriers []) e in rw (← q .1) (omega arith)
   line-few (carriers cs) l a′ e =
       by-cases (ltb (length cs) most-carriers)
       (λ h.
       let q = some-from (λ c. carriers (cs ++ (c ∷ []))) (carrierLine W H bay (split TAB l)) (rw h at e) in
-      let i : length cs < 254 = ltb-true _ _ h in
+      let i : length cs < most-carriers = ltb-true _ _ h in
       let g : carriers (cs ++ (q .0 ∷ [])) ≡ a′ = q .2 in
       rw (← g) (omega (arith, length-append cs (q .0 ∷ []))))
       (λ h. let z : none ≡ some a′ = rw h at e in never (cc))
 
-  end-few : (a : Listed) (cs : List (Bay × Bay)) → scenarioEnd W H bay a ≡ some cs → soFar a ≤ 254 → length cs ≤ 254
+  end-few : (a : Listed) (cs : List (Bay × Bay)) → scenarioEnd W H bay a ≡ some cs → soFar a ≤ most-carriers → length cs ≤ most-carriers
   unfolding scenarioEnd
   end-few versionDue cs e h = never (cc)
   end-few (carriers ds) cs e h = let z : ds ≡ cs = cc in rw (← z) h
 
-  lines-few : (n : ℕ) (a : Listed) (ls : List Text) (cs : List (Bay × Bay)) → readLines (scenarioLine W H bay) (scenarioEnd W H bay) n a ls ≡ good cs → soFar a ≤ 254 → length cs ≤ 254
+  lines-few : (n : ℕ) (a : Listed) (ls : List Text) (cs : List (Bay × Bay)) → readLines (scenarioLine W H bay) (scenarioEnd W H bay) n a ls ≡ good cs → soFar a ≤ most-carriers → length cs ≤ most-carriers
   unfolding readLines
   lines-few n a [] cs e h =
       by-option (scenarioEnd W H bay a)
@@ -82,7 +83,7 @@ module _ (W H : ℕ) (bay : ℕ → ℕ → Option Bay) where
       (λ q. let z : badLine n ≡ good cs = rw q at e in never (cc))
       (λ a′ q. lines-few (suc n) a′ ls cs (rw q at e) (line-few a l a′ q))
 
-  carriers-few : (file : Option Text) (cs : List (Bay × Bay)) → readFile (readScenario W H bay) file ≡ good cs → length cs ≤ 254
+  carriers-few : (file : Option Text) (cs : List (Bay × Bay)) → readFile (readScenario W H bay) file ≡ good cs → length cs ≤ most-carriers
   unfolding readFile readScenario
   carriers-few none cs e = never (cc)
   carriers-few (some t) cs e = lines-few 1 versionDue (lines t) cs e (omega arith)
@@ -90,9 +91,9 @@ module _ (W H : ℕ) (bay : ℕ → ℕ → Option Bay) where
 -- ## An order
 pub record Fits (ends : List ℕ) (cs : List (Bay × Bay)) : Type 0 where
   pub rails : length ends ≤ 16384
-  pub carriers : length cs ≤ 254
+  pub carriers : length cs ≤ most-carriers
 
-fits-scenario : (G : Grid) → Sized G → (r : Read (List (Bay × Bay))) → ((cs : List (Bay × Bay)) → r ≡ good cs → length cs ≤ 254) → (n : ℕ) (ends : List ℕ) (cs : List (Bay × Bay)) → carriersFiled G r ≡ order n ends cs → Fits ends cs
+fits-scenario : (G : Grid) → Sized G → (r : Read (List (Bay × Bay))) → ((cs : List (Bay × Bay)) → r ≡ good cs → length cs ≤ most-carriers) → (n : ℕ) (ends : List ℕ) (cs : List (Bay × Bay)) → carriersFiled G r ≡ order n ends cs → Fits ends cs
 fits-scenario G s (badLine l) few n ends cs e = never (cc)
 fits-scenario G s (good ds) few n ends cs e =
     let a : railEnds G ≡ ends = cc in

@@ -11,10 +11,11 @@ use lib.ListN.{length, getD, take, drop, length-append, take-append-drop, drop-o
 use lib.Seq.{drop-cons}
 use borrow.Author.Tests.{ltb-true, leb-true, eqb-true, eq-eqb}
 use Rattle.paper.specs.Basics.{_and_, _or_}
+use Rattle.paper.specs.Limits.{most-carriers}
 use Rattle.paper.specs.Yard.{Bay}
 use Rattle.paper.specs.Text.{Text, text, TAB, join, split, same, value, sized, isNumber, Read, good, badLine}
 use Rattle.paper.specs.Map.{Grid, Due, typeDue, heightDue, widthDue, mapDue, rowDue, sideAfter, isRow, mapLine, mapEnd, readMap, bayIn}
-use Rattle.paper.specs.Scenario.{Listed, versionDue, carriers, most-carriers, isLength, nineFields, carrierLine, scenarioLine, scenarioEnd, readScenario}
+use Rattle.paper.specs.Scenario.{Listed, versionDue, carriers, isLength, nineFields, carrierLine, scenarioLine, scenarioEnd, readScenario}
 use Rattle.paper.specs.Print.{printed}
 use Rattle.paper.specs.Program.{readFile, scenarioRead, programAnswer, program}
 use Rattle.paper.proofs.Tests.{by-cases, and-left, and-right, not-both, never, or-cases, some-when, some-from, some-same}
@@ -93,8 +94,8 @@ map-decided t = decided mapLine mapEnd mapMost map-bounded 1 typeDue t map-bytes
 
 -- ## The scenario
 abbrev scenarioMost : Listed → ℕ
-scenarioMost versionDue = 49035
-scenarioMost (carriers cs) = (254 - length cs) * 193
+scenarioMost versionDue = 13 + most-carriers * 193
+scenarioMost (carriers cs) = (most-carriers - length cs) * 193
 
 -- the bytes of pieces, and a tab behind each
 unfoldable tabbed : List Text → ℕ
@@ -187,7 +188,7 @@ module _ (W H : ℕ) (bay : ℕ → ℕ → Option Bay) where
       by-cases (ltb (length cs) most-carriers)
       (λ h.
       let q = some-from (λ c. carriers (cs ++ (c ∷ []))) (carrierLine W H bay (split TAB l)) (rw h at e) in
-      let i : length cs < 254 = ltb-true _ _ h in
+      let i : length cs < most-carriers = ltb-true _ _ h in
       let s : length l ≤ 191 = carrier-short l (q .0) (q .1) in
       let n : length (cs ++ (q .0 ∷ [])) ≡ length cs + 1 = length-append cs (q .0 ∷ []) in
       let g : carriers (cs ++ (q .0 ∷ [])) ≡ a′ = q .2 in

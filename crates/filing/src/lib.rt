@@ -9,7 +9,7 @@ ghost use Rattle.filing.specs.Filing.{map-bytes, scenario-bytes, fileOf,
 // So many first bytes of a map and of a scenario decide what they read as, however long the files are.
 pub const MAP_BYTES: usize = 4264;
 
-pub const SCENARIO_BYTES: usize = 49036;
+pub const SCENARIO_BYTES: usize = 14 + paper::CARRIERS * 193;
 
 // They are those of the theorem: this function does nothing, its statement says it.
 pub fn limits()

@@ -2,7 +2,7 @@
 use mathlib.Core.Path.{_≡_, refl, sym, _∙_, ap}
 use mathlib.Core.List.{List, [], _∷_, _++_, map, map-append, append-assoc, append-nil}
 use mathlib.Core.Option.{none, some}
-use Prim.Native.Nat.{ℕ, zero, suc, _+_, _-_, _*_, _%_, _≤_, _<_}
+use Prim.Native.Nat.{ℕ, zero, suc, _+_, _-_, _*_, _%_, _^_, _≤_, _<_}
 use native.Mathlib.Omega.{arith}
 use native.Mathlib.Nat.{mul-le-mul-left, mul-zero}
 use native.Mathlib.Numerals.{add-one}
@@ -14,9 +14,9 @@ use Rattle.paper.proofs.Tests.{by-cases}
 use Rattle.stores.specs.Writing.{Wrote}
 use Rattle.gridmap.specs.Cells.{numberIn, besideIn, railOf, railsAtIn, railsTo, numbered, bayFound}
 
--- sides below 256 make a product below 65,536, and one that is no 0 has no side 0
-pub product-small : (a b : ℕ) → a < 256 → b < 256 → a * b < 65536
-product-small a b h i = let m : a * b ≤ a * 255 = mul-le-mul-left a (omega arith) in omega arith
+-- sides of 8 bits make a product of 16, and one that is no 0 has no side 0
+pub product-small : (a b : ℕ) → a < 2 ^ 8 → b < 2 ^ 8 → a * b < 2 ^ 16
+product-small a b h i = let m : a * b ≤ a * (2 ^ 8 - 1) = mul-le-mul-left a (omega arith) in omega arith
 
 pub product-some : (a b i : ℕ) → i < a * b → 0 < b
 product-some a zero i h = absurd (omega (arith, mul-zero a))

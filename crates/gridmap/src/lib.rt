@@ -30,7 +30,7 @@ pub enum Cell {
 
 // The bays up to this letter.
 fn counted(b: u8, bays: u16) -> u16
-    requires { ⌜ bays + 1 < 65536 ⌝ }
+    requires { ⌜ bays + 1 < 2 ^ 16 ⌝ }
     ensures { λ r. ⌜ (r ≡ countWith b bays) × (r ≤ bays + 1) ⌝ }
 {
     if sides::is_bay(b) { bays + 1 } else { bays }
@@ -38,7 +38,7 @@ fn counted(b: u8, bays: u16) -> u16
 
 // The number of a cell with this letter, so many bays before it.
 fn mark(b: u8, bays: u16) -> u16
-    requires { ⌜ bays + 1 < 65536 ⌝ }
+    requires { ⌜ bays + 1 < 2 ^ 16 ⌝ }
     ensures { λ r. ⌜ r ≡ markOf b bays ⌝ }
 {
     if sides::is_bay(b) { bays + 1 } else { 0 }
@@ -98,7 +98,7 @@ fn number_at(cells: &[u16], size: usize, i: usize) -> u16
 
 // That of the cell beside it, if it stands in the same row.
 fn number_beside(cells: &[u16], size: usize, width: usize, i: usize) -> u16
-    requires { ⌜ (0 < width) × (i < 65536) ⌝ }
+    requires { ⌜ (0 < width) × (i < 2 ^ 16) ⌝ }
     ensures { λ r. ⌜ r ≡ besideIn (now (cells .entry)) size width i ⌝ }
 {
     if i % width + 1 < width {
@@ -132,7 +132,7 @@ fn put_rails(
     ends: &mut [u16],
     at: usize,
 ) -> usize
-    requires { ⌜ (0 < width) × (i + width < 131072) × (i < 65536) × (at + 4 < 2 ^ 63) ⌝ }
+    requires { ⌜ (0 < width) × (i + width < 2 ^ 17) × (i < 2 ^ 16) × (at + 4 < 2 ^ 63) ⌝ }
     ensures { λ r. ⌜ Wrote (now (ends .entry)) at (railsAtIn (now (cells .entry)) size width i) (now (ends .exit)) r ⌝ }
 {
     let lower = number_at(cells, size, i);

@@ -10,9 +10,10 @@ use lib.Dec.{eqb, ltb, leb}
 use lib.ListN.{length, getD}
 use borrow.Author.Tests.{ltb-true, lt-ltb, leb-true, le-leb, eqb-true, eq-eqb}
 use Rattle.paper.specs.Basics.{if_then_else_, _and_, _or_, _>>=_, when, any}
+use Rattle.paper.specs.Limits.{most-carriers}
 use Rattle.paper.specs.Yard.{Bay}
 use Rattle.paper.specs.Text.{Text, text, TAB, lines, split, same, all, count, isDigit, isPoint, value, sized, isNumber, good, badLine}
-use Rattle.paper.specs.Scenario.{most-carriers, isLength, Listed, versionDue, carriers, nineFields, startAndGoal, carrierLine, scenarioLine, scenarioEnd, readScenario}
+use Rattle.paper.specs.Scenario.{isLength, Listed, versionDue, carriers, nineFields, startAndGoal, carrierLine, scenarioLine, scenarioEnd, readScenario}
 use Rattle.paper.proofs.Tests.{by-cases, by-option, and-left, and-right, and-both, or-left, or-right, or-cases, some-when, some-from, never-some, some-same, never}
 use Rattle.exactly.proofs.Lists.{any-exactly}
 use Rattle.layouts.specs.Files.{Whole, FirstBadLine}

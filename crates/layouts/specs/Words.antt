@@ -6,10 +6,11 @@ use mathlib.Core.Option.{Option, some}
 use mathlib.Core.Path.{_≡_}
 use Prim.Native.Nat.{ℕ, _<_, _≤_, _+_, _*_}
 use lib.ListN.{length, getD}
+use Rattle.paper.specs.Limits.{most-carriers}
 use Rattle.paper.specs.Yard.{Bay}
 use Rattle.paper.specs.Text.{Text, text, TAB, split, count, isPoint, value}
 use Rattle.paper.specs.Map.{most-side, Grid, Due, typeDue, heightDue, widthDue, mapDue, rowDue, cells, numberAt}
-use Rattle.paper.specs.Scenario.{most-carriers, Listed, versionDue, carriers}
+use Rattle.paper.specs.Scenario.{Listed, versionDue, carriers}
 
 -- ## Bytes and fields
 

@@ -9,6 +9,7 @@ use lib.Dec.{eqb}
 use lib.ListN.{length, getD, length-map, length-take}
 use lib.Seq.{getD-take}
 use Rattle.paper.specs.Basics.{_and_}
+use Rattle.paper.specs.Limits.{most-bays}
 use Rattle.paper.specs.Yard.{Bay, Carrier, Placement, Crossing, crossings, named}
 use Rattle.paper.specs.Dependence.{done, doneOf, countOf}
 use Rattle.paper.proofs.Tests.{by-cases}
@@ -45,10 +46,10 @@ module _ (starts : Placement) (plan marks : List ℕ) (fit : Fit starts plan mar
   abbrev afresh : List Line
   afresh = linesOf (length starts) (crossings plan) marks
 
-  afresh-few : length afresh < 256
+  afresh-few : length afresh < most-bays
   afresh-few = rw lines-long (fit .few)
 
-  pub fresh-few : (fresh : Held) → fresh ≡ gathered afresh → fresh .count < 256
+  pub fresh-few : (fresh : Held) → fresh ≡ gathered afresh → fresh .count < most-bays
   fresh-few fresh e = rw (ap (λ (h : Held). h .count) e) afresh-few
 
   pub agree-not : sameRecord rec (recordOf starts (crossings plan) marks) ≡ false → false ≡ allSame starts plan marks rec held

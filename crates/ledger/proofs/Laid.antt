@@ -6,6 +6,7 @@ use Prim.Native.Nat.{ℕ, zero, suc, _<_, _≤_, min}
 use native.Mathlib.Omega.{arith}
 use native.Mathlib.Nat.{min-zero, zero-min, suc-min-suc}
 use lib.ListN.{length, getD, set, take, length-replicate}
+use Rattle.paper.specs.Limits.{most-bays}
 use Rattle.bills.specs.Billing.{noLine}
 use Rattle.bills.specs.declared.Line.{Line}
 use Rattle.ledger.specs.Lines.{noLines, heldOf, topOf, lineAt, laid, gathered}
@@ -55,21 +56,21 @@ pub one-more-read : (ls : List Line) (i : ℕ) (d : Line) → i < length ls → 
 unfolding readTo
 one-more-read ls i d l = laid-one-more i ls noLines d l
 
-pub read-length : (ls : List Line) (i : ℕ) → length (readTo ls i) ≡ 256
+pub read-length : (ls : List Line) (i : ℕ) → length (readTo ls i) ≡ most-bays
 unfolding readTo
-read-length ls i = laid-long (take i ls) noLines ∙ length-replicate 256 noLine
+read-length ls i = laid-long (take i ls) noLines ∙ length-replicate most-bays noLine
 
 pub all-read : (ls : List Line) → heldOf (length ls) (readTo ls (topOf (length ls))) ≡ gathered ls
 unfolding readTo
-all-read ls = ap (heldOf (length ls)) (ap (λ (k : ℕ). laid (take (min (length ls) k) ls) noLines) (sym (length-replicate 256 noLine)) ∙ laid-all ls noLines)
+all-read ls = ap (heldOf (length ls)) (ap (λ (k : ℕ). laid (take (min (length ls) k) ls) noLines) (sym (length-replicate most-bays noLine)) ∙ laid-all ls noLines)
 
-pub held-long : (ls : List Line) → length (gathered ls .lines) ≡ 256
-held-long ls = laid-long ls noLines ∙ length-replicate 256 noLine
+pub held-long : (ls : List Line) → length (gathered ls .lines) ≡ most-bays
+held-long ls = laid-long ls noLines ∙ length-replicate most-bays noLine
 
 -- a line that is held stands at its place
-pub held-at : (ls : List Line) (i : ℕ) → i < length ls → i < 256 → lineAt (gathered ls) i ≡ getD ls i noLine
+pub held-at : (ls : List Line) (i : ℕ) → i < length ls → i < most-bays → lineAt (gathered ls) i ≡ getD ls i noLine
 held-at ls i h k = laid-at ls noLines i noLine h (rw length-replicate k)
 
 -- and where all are held, the first of what is held are the lines
-pub held-taken : (ls : List Line) → length ls ≤ 256 → take (length ls) (gathered ls .lines) ≡ ls
+pub held-taken : (ls : List Line) → length ls ≤ most-bays → take (length ls) (gathered ls .lines) ≡ ls
 held-taken ls h = laid-taken ls noLines (rw length-replicate h)

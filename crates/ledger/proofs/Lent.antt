@@ -10,6 +10,7 @@ use borrow.Author.Tests.{leb-true, leb-false}
 use lib.Dec.{leb}
 use lib.ListN.{length, getD, set, length-map, length-take}
 use lib.Seq.{take-all, set-out, getD-take}
+use Rattle.paper.specs.Limits.{most-bays}
 use Rattle.paper.specs.Yard.{Bay, Placement, crossings, named}
 use Rattle.paper.proofs.Tests.{by-cases, by-option}
 use Rattle.paper.proofs.Packing.{named-is}
@@ -33,11 +34,11 @@ module _ (n : ℕ) (ends : List Bay) (starts goals : Placement) (plan marks : Li
       → agree n ends starts goals plan marks rec (linesHeld (gathered lines)) ≡ agree n ends starts goals plan marks rec lines
   agree-lent passes =
       let few = fit-of n ends starts goals plan marks passes .few in
-      by-cases (leb (length lines) 256)
-      (λ e. ap (agree n ends starts goals plan marks rec) (held-taken lines (leb-true (length lines) 256 e)))
+      by-cases (leb (length lines) most-bays)
+      (λ e. ap (agree n ends starts goals plan marks rec) (held-taken lines (leb-true (length lines) most-bays e)))
       (λ e.
-      let over = leb-false (length lines) 256 e in
-      let long : length (linesHeld (gathered lines)) ≡ 256 = ap length (take-all (length lines) (gathered lines .lines) (omega (arith, held-long lines, over))) ∙ held-long lines in
+      let over = leb-false (length lines) most-bays e in
+      let long : length (linesHeld (gathered lines)) ≡ most-bays = ap length (take-all (length lines) (gathered lines .lines) (omega (arith, held-long lines, over))) ∙ held-long lines in
       other-length n ends starts goals plan marks rec (linesHeld (gathered lines)) (λ q. absurd (omega (arith, long, q, few)))
       ∙ sym (other-length n ends starts goals plan marks rec lines (λ q. absurd (omega (arith, over, q, few)))))
 
@@ -51,7 +52,7 @@ module _ (n : ℕ) (ends : List Bay) (starts goals : Placement) (plan marks : Li
 
   -- where a report changes a line, all lines are there, and the name's carrier among them
   accepted-there : (name : ℕ) → changes (billing n ends starts goals plan marks rec lines name) ≡ true
-      → (length lines ≡ length starts) × (named (crossings plan) name .carrier < length starts) × (length starts < 256)
+      → (length lines ≡ length starts) × (named (crossings plan) name .carrier < length starts) × (length starts < most-bays)
   accepted-there name y =
       let a = accepts-exactly n ends starts goals plan marks rec lines name .0 (changes-exactly (billing n ends starts goals plan marks rec lines name) .0 y) in
       let fit = fit-of n ends starts goals plan marks (sym (a .0)) in

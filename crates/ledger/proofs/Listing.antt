@@ -8,6 +8,7 @@ use native.Mathlib.Numerals.{add-one}
 use lib.ListN.{length, getD, set, length-map}
 use lib.Seq.{ext-getD}
 use Rattle.paper.specs.Basics.{upTo}
+use Rattle.paper.specs.Limits.{most-bays}
 use Rattle.paper.specs.Yard.{Carrier, Crossing}
 use Rattle.paper.specs.Dependence.{doneOf, countOf}
 use Rattle.bills.specs.Billing.{noLine, untouched, lastDone, linesOf, lineOf}
@@ -40,14 +41,14 @@ module _ (k : ℕ) (billed last : List ℕ) where
         (ap₂ (λ (a : List Line) (b : Line). set a c b) (l .so-far) (sym (listed-at c h)) ∙ one-more-read (listed k billed last) c noLine (rw listed-long h));
   }
 
-  pub listing-end : (lines : List Line) (c : ℕ) → Listing lines c → k ≤ 256 → k ≤ c → heldOf k lines ≡ gathered (listed k billed last)
+  pub listing-end : (lines : List Line) (c : ℕ) → Listing lines c → k ≤ most-bays → k ≤ c → heldOf k lines ≡ gathered (listed k billed last)
   listing-end lines c l few h =
       let all : c ≡ topOf (length (listed k billed last)) = omega (arith, l .within, listed-long) in
       ap₂ heldOf (sym listed-long) (l .so-far ∙ ap (readTo (listed k billed last)) all) ∙ all-read (listed k billed last)
 
-  pub listed-afresh : (xs : List Crossing) (ms : List ℕ) → k ≤ 256
-      → ((c : Carrier) → c < 256 → getD billed c 0 ≡ countOf c (doneOf xs ms))
-      → ((c : Carrier) → c < 256 → getD last c 0 ≡ lastDone c untouched 0 xs ms)
+  pub listed-afresh : (xs : List Crossing) (ms : List ℕ) → k ≤ most-bays
+      → ((c : Carrier) → c < most-bays → getD billed c 0 ≡ countOf c (doneOf xs ms))
+      → ((c : Carrier) → c < most-bays → getD last c 0 ≡ lastDone c untouched 0 xs ms)
       → listed k billed last ≡ linesOf k xs ms
   listed-afresh xs ms few counts names =
       ext-getD noLine (listed k billed last) (linesOf k xs ms) (listed-long ∙ sym (lines-long k xs ms))

@@ -6,6 +6,7 @@ use Prim.Native.Nat.{ℕ, _≤_, _<_}
 use native.Mathlib.Omega.{arith}
 use borrow.Author.Tests.{not-false, eqb-true, eq-eqb, ne-eqb}
 use lib.ListN.{length, take, drop, drop-of-length-le}
+use Rattle.paper.specs.Limits.{most-bays}
 use Rattle.paper.specs.Yard.{Bay, Placement, crossings}
 use Rattle.paper.specs.Docket.{room}
 use Rattle.paper.specs.Docket as paper
@@ -60,7 +61,7 @@ module _ (n : ℕ) (ends : List Bay) (starts goals : Placement) (plan marks : Li
 
     -- refused, with no line; or open, with as many as there are carriers
     by-opening : {P : Type 0} → ((x : paper.Refusal) → opening n ends starts goals plan marks count ≡ some x → r .held ≡ gathered [] → P)
-        → (opening n ends starts goals plan marks count ≡ none → count ≡ length starts → length starts < 256 → r .held ≡ gathered fresh → P) → P
+        → (opening n ends starts goals plan marks count ≡ none → count ≡ length starts → length starts < most-bays → r .held ≡ gathered fresh → P) → P
     unfolding opening
     by-opening f g =
         by-option (opening n ends starts goals plan marks count)
@@ -79,7 +80,7 @@ module _ (n : ℕ) (ends : List Bay) (starts goals : Placement) (plan marks : Li
 
     -- ## The lines over the first of those that are lent
 
-    pub held-few : r .held .count ≤ 256
+    pub held-few : r .held .count ≤ most-bays
     held-few =
         by-opening
         (λ x u e. omega (arith, ap (λ (h : Held). h .count) e))
@@ -91,7 +92,7 @@ module _ (n : ℕ) (ends : List Bay) (starts goals : Placement) (plan marks : Li
         (λ x u e. omega (arith, ap (λ (h : Held). h .count) e))
         (λ u k few e. omega (arith, ap (λ (h : Held). h .count) e, lines-long (length starts) (crossings plan) marks, k))
 
-    pub held-whole : length (r .held .lines) ≡ 256
+    pub held-whole : length (r .held .lines) ≡ most-bays
     held-whole = by-opening (λ x u e. ap (λ (h : Held). length (h .lines)) e ∙ held-long []) (λ u k few e. ap (λ (h : Held). length (h .lines)) e ∙ held-long fresh)
 
     pub lines-filled : (lines : List Line) → length lines ≡ count

@@ -6,6 +6,7 @@ use mathlib.Core.Option.{none, some}
 use Prim.Native.Nat.{ℕ}
 use native.Mathlib.Omega.{arith}
 use lib.ListN.{length, length-map}
+use Rattle.paper.specs.Limits.{most-bays}
 use Rattle.paper.specs.Yard.{Bay, Placement, crossings}
 use Rattle.paper.specs.OnePass.{Fits}
 use Rattle.paper.specs.Docket.{badMarks, mismarked}
@@ -35,7 +36,7 @@ module _ (n : ℕ) (ends : List Bay) (starts goals : Placement) (plan marks : Li
     unfolding upToEleven
     eleven-none b = rw (← passes, b)
 
-    pub check-gives-fits : Fits 256 256 plan
+    pub check-gives-fits : Fits most-bays most-bays plan
     check-gives-fits = check-fits n ends starts goals plan (sym passes)
 
   -- once none of them holds, all numbers fit

@@ -4,6 +4,7 @@ use mathlib.Core.List.{List, [], _∷_, _++_}
 use Prim.Native.Nat.{ℕ, zero, suc, _<_, _-_}
 use native.Mathlib.Omega.{arith}
 use lib.ListN.{length, set, drop, replicate, length-set, length-map}
+use Rattle.paper.specs.Limits.{most-bays}
 use Rattle.paper.specs.Yard.{Placement, Crossing, crossings, named, after, move}
 use Rattle.paper.specs.Dependence.{done, doneOf, placementBy}
 use Rattle.paper.specs.OnePass.{Fits}
@@ -18,8 +19,8 @@ drop-zeros (suc k) zero = let e : 0 ≡ 0 - suc k = omega arith in ap (λ (j : �
 drop-zeros (suc k) (suc m) = let e : m - k ≡ suc m - suc k = omega arith in drop-zeros k m ∙ ap (λ (j : ℕ). replicate {A = ℕ} j 0) e
 
 -- a placement over zeros
-pub over-zeros : (p : Placement) (at : List ℕ) → at ≡ replicate 256 0 → p ++ drop (length p) at ≡ places p
-over-zeros p at z = ap (λ l. p ++ l) (ap (drop (length p)) z ∙ drop-zeros (length p) 256)
+pub over-zeros : (p : Placement) (at : List ℕ) → at ≡ replicate most-bays 0 → p ++ drop (length p) at ≡ places p
+over-zeros p at z = ap (λ l. p ++ l) (ap (drop (length p)) z ∙ drop-zeros (length p) most-bays)
 
 set-left : (p q : List ℕ) (i v : ℕ) → i < length p → set (p ++ q) i v ≡ set p i v ++ q
 set-left [] q i v h = absurd (omega arith)
@@ -28,8 +29,8 @@ set-left (x ∷ p) q (suc i) v h = ap {B = List ℕ} (λ r. x ∷ r) (set-left p
 
 pub places-move : (p : Placement) (x : Crossing) → x .carrier < length p → move (places p) x ≡ places (move p x)
 places-move p x h =
-    set-left p (replicate (256 - length p) 0) (x .carrier) (x .to) h
-    ∙ ap (λ k. set p (x .carrier) (x .to) ++ replicate (256 - k) 0) (sym (length-set p (x .carrier) (x .to)))
+    set-left p (replicate (most-bays - length p) 0) (x .carrier) (x .to) h
+    ∙ ap (λ k. set p (x .carrier) (x .to) ++ replicate (most-bays - k) 0) (sym (length-set p (x .carrier) (x .to)))
 
 -- each crossing's carrier is there
 abbrev There : ℕ → List Crossing → Type 0
@@ -51,5 +52,5 @@ stands starts plan marks f =
     after-places starts (crossings plan) marks (λ i h. rw (named-is plan i) (f .fits i (rw length-map at h) .0))
 
 -- carriers below k ≤ 256 are below 256
-pub fits-all : (starts : Placement) (plan marks : List ℕ) → Fit starts plan marks → Fits 256 256 plan
+pub fits-all : (starts : Placement) (plan marks : List ℕ) → Fit starts plan marks → Fits most-bays most-bays plan
 fits-all starts plan marks f i h = let g = f .fits i h in (omega (arith, g .0, f .few), g .1, g .2)

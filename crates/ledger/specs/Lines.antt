@@ -4,6 +4,7 @@ use mathlib.Core.List.{List, [], _∷_, map}
 use Prim.Native.Nat.{ℕ, min}
 use lib.ListN.{length, getD, take, replicate}
 use Rattle.paper.specs.Basics.{upTo}
+use Rattle.paper.specs.Limits.{most-bays}
 use Rattle.paper.specs.Yard.{Carrier}
 use Rattle.bills.specs.Billing.{noLine}
 use Rattle.bills.specs.declared.Line.{Line}
@@ -11,13 +12,13 @@ use Rattle.ledger.specs.declared.Held.{Held}
 
 -- as many lines as are held, none of them read
 abbrev pub noLines : List Line
-noLines = replicate 256 noLine
+noLines = replicate most-bays noLine
 
 abbrev pub heldOf : ℕ → List Line → Held
 heldOf n ls = record { count = n; lines = ls }
 
 abbrev pub topOf : ℕ → ℕ
-topOf n = min n 256
+topOf n = min n most-bays
 
 abbrev pub lineAt : Held → ℕ → Line
 lineAt held i = getD (held .lines) i noLine

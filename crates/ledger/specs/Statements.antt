@@ -7,6 +7,7 @@ use mathlib.Core.List.{List, []}
 use Prim.Native.Nat.{ℕ, _≤_, _<_}
 use lib.ListN.{length, getD}
 use Rattle.paper.specs.Basics.{if_then_else_, if-some_then_else_, _and_}
+use Rattle.paper.specs.Limits.{most-bays}
 use Rattle.paper.specs.Yard.{Bay, Placement, crossings, named, most-crossings}
 use Rattle.paper.specs.Dependence.{slots}
 use Rattle.paper.specs.OnePass.{Fits}
@@ -43,8 +44,8 @@ billedOf (bill.Refused r) = told.told (refuse (refusalOf r))
 pub record Fit (starts : Placement) (plan marks : List ℕ) : Type 0 where
   pub even : length marks ≡ length plan
   pub short : length plan ≤ most-crossings
-  pub few : length starts < 256
-  pub fits : Fits (length starts) 256 plan
+  pub few : length starts < most-bays
+  pub fits : Fits (length starts) most-bays plan
 
 -- whether record and lines are what start, plan and marks give worked out afresh
 abbrev pub allSame : Placement → List ℕ → List ℕ → Record → Held → Bool
@@ -55,7 +56,7 @@ allSame starts plan marks rec held =
 pub record PostAsks (plan : List ℕ) (name : ℕ) (rec : Record) (held : Held) : Type 0 where
   pub inside : name < length plan
   pub short : length plan ≤ most-crossings
-  pub fits : Fits 256 256 plan
+  pub fits : Fits most-bays most-bays plan
   pub not-all : rec .done < 4294967295
   pub not-full : lineAt held (named (crossings plan) name .carrier) .billed < 4294967295
 
@@ -68,7 +69,7 @@ pub record PostSays (plan : List ℕ) (name : ℕ) (rec : Record) (held : Held) 
 pub record SettleAsks (plan marks : List ℕ) (rec : Record) (held : Held) : Type 0 where
   pub even : length marks ≡ length plan
   pub short : length plan ≤ most-crossings
-  pub fits : Fits 256 256 plan
+  pub fits : Fits most-bays most-bays plan
   pub not-all : rec .done < 4294967295
   pub not-full : (name : ℕ) → name < length plan → lineAt held (named (crossings plan) name .carrier) .billed < 4294967295
 

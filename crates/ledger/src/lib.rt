@@ -3,6 +3,7 @@
 ghost use mathlib.Core.Path.{_≡_};
 ghost use Prim.Native.Nat.{_≤_, _<_};
 ghost use lib.ListN.{length, replicate};
+ghost use Rattle.paper.specs.Limits.{most-bays};
 ghost use Rattle.paper.specs.Yard.{crossings, most-crossings};
 ghost use Rattle.paper.specs.Dependence.{placementBy};
 ghost use Rattle.paper.specs.OnePass.{Fits};
@@ -66,7 +67,7 @@ pub fn line_at(held: Held, i: usize) -> Line
 
 // The carriers where the done crossings leave them.
 fn stand(start: &[u16], plan: &[u64], marks: &[u8], at: &mut [u16; Yard::BAYS])
-    requires { ⌜ Fit (now start) (now plan) (now marks) × (now at ≡ replicate 256 0) ⌝ }
+    requires { ⌜ Fit (now start) (now plan) (now marks) × (now at ≡ replicate most-bays 0) ⌝ }
     ensures { λ _. ⌜ now (at .exit) ≡ places (placementBy (now (start .entry)) (crossings (now (plan .entry))) (now (marks .entry))) ⌝ }
 {
     copies::shorts(at, start);
@@ -91,7 +92,7 @@ fn fresh_record(start: &[u16], plan: &[u64], marks: &[u8]) -> Record
 
 // So many lines with these counts and last names.
 fn list_lines(count: usize, billed: &[u32; Yard::BAYS], last: &[u32; Yard::BAYS]) -> Held
-    requires { ⌜ count ≤ 256 ⌝ }
+    requires { ⌜ count ≤ most-bays ⌝ }
     ensures { λ r. ⌜ r ≡ gathered (listed count (now (billed .entry)) (now (last .entry))) ⌝ }
 {
     let mut lines = no_lines();
@@ -109,7 +110,7 @@ fn list_lines(count: usize, billed: &[u32; Yard::BAYS], last: &[u32; Yard::BAYS]
 
 // The lines of so many carriers worked out afresh.
 fn fresh_lines(count: usize, plan: &[u64], marks: &[u8]) -> Held
-    requires { ⌜ (count ≤ 256) × (length (now marks) ≡ length (now plan)) × (length (now plan) ≤ most-crossings) × Fits 256 256 (now plan) ⌝ }
+    requires { ⌜ (count ≤ most-bays) × (length (now marks) ≡ length (now plan)) × (length (now plan) ≤ most-crossings) × Fits most-bays most-bays (now plan) ⌝ }
     ensures { λ r. ⌜ r ≡ gathered (linesOf count (crossings (now (plan .entry))) (now (marks .entry))) ⌝ }
 {
     let mut billed = [0u32; Yard::BAYS];

@@ -7,6 +7,7 @@ use native.Mathlib.Omega.{arith}
 use lib.ListN.{length, take, replicate}
 use lib.Seq.{sets}
 use borrow.Author.Tests.{eq-eqb, ne-eqb, le-leb, lt-leb}
+use Rattle.paper.specs.Limits.{most-carriers}
 use Rattle.paper.specs.Yard.{Bay}
 use Rattle.paper.specs.Text.{Text, Read, good, badLine}
 use Rattle.paper.specs.Map.{Grid, readMap, cells, bayCount}
@@ -30,7 +31,7 @@ use Rattle.link.specs.declared.Kept.{Kept}
 use Rattle.link.specs.declared.Link.{Link}
 use Rattle.link.specs.declared.Said.the-variants as said
 use Rattle.link.specs.declared.Turn.{Turn}
-use Rattle.link.specs.Link.{readingIn, carriersIn, stateIn, keptOf, keptBy, carriersBy, stepIn, linkBy, finishIn, told, verdictBy, overLink, FedSays, PieceSays, OverSays, EndSays, BeginSays}
+use Rattle.link.specs.Link.{piece-bytes, readingIn, carriersIn, stateIn, keptOf, keptBy, carriersBy, stepIn, linkBy, finishIn, told, verdictBy, overLink, FedSays, PieceSays, OverSays, EndSays, BeginSays}
 use Rattle.scenario.proofs.Taking.{feeds-sound, ends-sound}
 use Rattle.link.proofs.Standing.{sound-in, stored-in, kept-state, carriers-broken, carriers-on, state-again, carriers-again}
 
@@ -42,7 +43,7 @@ abbrev withKept : Link → Kept → List ℕ → List ℕ → Link
 withKept l k starts goals = record { start = starts; goal = goals; cells = l .cells; kept = k; phase = l .phase; height = l .height; width = l .width }
 
 -- ## A piece
-module _ (l : Link) (bytes : Text) (m : length (l .start) ≡ 254) (n : length (l .goal) ≡ 254) (s r : Reading) {starts goals : List ℕ} (e : s ≡ readingIn (l .kept))
+module _ (l : Link) (bytes : Text) (m : length (l .start) ≡ most-carriers) (n : length (l .goal) ≡ most-carriers) (s r : Reading) {starts goals : List ℕ} (e : s ≡ readingIn (l .kept))
     (w : Feeds (l .cells) (gridOf l) s bytes r (l .start) starts (l .goal) goals) (k : Kept) (q : k ≡ keptOf r) where
   came : Came (l .cells) (gridOf l) (stateIn l) bytes r (l .start) starts (l .goal) goals
   came =
@@ -74,16 +75,16 @@ module _ (l : Link) (bytes : Text) (m : length (l .start) ≡ 254) (n : length (
       }
 
 module _ (l : Link) (bytes : Text) where
-  pub piece-more : l .phase ≡ 1 → length bytes ≤ 256 → (r : Link) → FedSays l bytes r → PieceSays l bytes (record { said = said.More; link = r })
+  pub piece-more : l .phase ≡ 1 → length bytes ≤ piece-bytes → (r : Link) → FedSays l bytes r → PieceSays l bytes (record { said = said.More; link = r })
   piece-more e h r w =
       let o = eq-eqb (l .phase) 1 e in
-      let s = le-leb (length bytes) 256 h in
+      let s = le-leb (length bytes) piece-bytes h in
       record { answers = rw (o, s); after = record { leaves = rw (o, s) (w .leaves); means = λ a b. w .means } }
 
-  pub piece-long : l .phase ≡ 1 → 256 < length bytes → PieceSays l bytes (record { said = said.Told (verdict.Denied docket.LongPiece); link = l })
+  pub piece-long : l .phase ≡ 1 → piece-bytes < length bytes → PieceSays l bytes (record { said = said.Told (verdict.Denied docket.LongPiece); link = l })
   piece-long e h =
       let o = eq-eqb (l .phase) 1 e in
-      let s = lt-leb (length bytes) 256 h in
+      let s = lt-leb (length bytes) piece-bytes h in
       record { answers = rw (o, s); after = record { leaves = rw (o, s); means = λ a b. not-both b s } }
 
   pub piece-ended : (l .phase ≡ 1 → ⊥) → PieceSays l bytes (record { said = said.Told (verdict.Denied docket.Ended); link = l })
@@ -95,7 +96,7 @@ module _ (l : Link) (bytes : Text) where
 abbrev ended : Link → List ℕ → List ℕ → Link
 ended l starts goals = record { start = starts; goal = goals; cells = l .cells; kept = l .kept; phase = 2; height = l .height; width = l .width }
 
-module _ (l : Link) (m : length (l .start) ≡ 254) (n : length (l .goal) ≡ 254) (s r : Reading) {starts goals : List ℕ} (e : s ≡ readingIn (l .kept))
+module _ (l : Link) (m : length (l .start) ≡ most-carriers) (n : length (l .goal) ≡ most-carriers) (s r : Reading) {starts goals : List ℕ} (e : s ≡ readingIn (l .kept))
     (w : Ends (l .cells) (gridOf l) s r (l .start) starts (l .goal) goals) (found : ScenarioRead) (a : answerOf found ≡ answerBy r) where
   done : Over (l .cells) (gridOf l) (stateIn l) r (l .start) starts (l .goal) goals
   done =
@@ -150,7 +151,7 @@ module _ {map before table : List ℕ} {x : MapRead} (w : Reads map before x tab
   begin-bad b e = let q = map-bad w b e in rw q (record { answers = refl; leaves = refl })
 
   pub begin-good : (g : Held) → x ≡ map-read.Grid g → before ≡ replicate 4096 0 → (s : Reading) → s ≡ dueOf true 0 0 0 → (k : Kept) → k ≡ keptOf s
-      → BeginSays (readMap map) l (record { said = said.Told (verdict.Granted 0); link = record { start = replicate 254 0; goal = replicate 254 0; cells = table; kept = k; phase = 1; height = g .height; width = g .width } })
+      → BeginSays (readMap map) l (record { said = said.Told (verdict.Granted 0); link = record { start = replicate most-carriers 0; goal = replicate most-carriers 0; cells = table; kept = k; phase = 1; height = g .height; width = g .width } })
   begin-good g e z s f k q =
       by-read (readMap map)
       (λ G p.
@@ -160,6 +161,6 @@ module _ {map before table : List ℕ} {x : MapRead} (w : Reads map before x tab
       let new : k ≡ keptOf (dueOf true 0 0 0) = q ∙ ap keptOf f in
       rw p (record {
         answers = refl;
-        leaves = λ i. record { start = replicate 254 0; goal = replicate 254 0; cells = numbers i; kept = new i; phase = 1; height = t i .0; width = t i .1 };
+        leaves = λ i. record { start = replicate most-carriers 0; goal = replicate most-carriers 0; cells = numbers i; kept = new i; phase = 1; height = t i .0; width = t i .1 };
       }))
       (λ b p. let y : _≡_ {A = Read (ℕ × ℕ × ℕ)} (good (g .height, g .width, g .bays)) (badLine b) = rw (e, p) at (w .answer) in never (cc))

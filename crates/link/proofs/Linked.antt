@@ -28,12 +28,12 @@ use Rattle.readers.specs.Reading.{Listing, listed, unlisted, listing, listingIn
 use Rattle.readers.proofs.Whole.{by-read}
 use Rattle.link.specs.declared.Link.{Link}
 use Rattle.link.specs.declared.Turn.{Turn}
-use Rattle.link.specs.Link.{stateIn, isOpen, stepIn, linkBy, finishIn, verdictBy, carriersRead, Saying, told, sayingOf, beginLink, begunLink, pieceLink, endSaying, Holds, BeginSays, PieceLeaves, EndLeaves, EndSays}
+use Rattle.link.specs.Link.{piece-bytes, stateIn, isOpen, stepIn, linkBy, finishIn, verdictBy, carriersRead, Saying, told, sayingOf, beginLink, begunLink, pieceLink, endSaying, Holds, BeginSays, PieceLeaves, EndLeaves, EndSays}
 
 -- a run of pieces, each at most 256 bytes: each call has the link that the last one left
 pub data Run : Link → List Text → Link → Type 0 where
   none : {l : Link} → Run l [] l
-  fed : {l l′ end : Link} {p : Text} {ps : List Text} → length p ≤ 256 → PieceLeaves l p l′ → Run l′ ps end → Run l (p ∷ ps) end
+  fed : {l l′ end : Link} {p : Text} {ps : List Text} → length p ≤ piece-bytes → PieceLeaves l p l′ → Run l′ ps end → Run l (p ∷ ps) end
 
 module _ (G : Grid) where
   abbrev table : List ℕ
@@ -56,10 +56,10 @@ module _ (G : Grid) where
   stands-first : (l₀ : Link) → l₀ ≡ begunLink G → Stands [] l₀
   stands-first l₀ e = rw e (record { opened = refl; high = refl; wide = refl; numbers = refl; state = refl })
 
-  stands-next : {bs p : Text} {l l′ : Link} → Stands bs l → length p ≤ 256 → PieceLeaves l p l′ → Stands (bs ++ p) l′
+  stands-next : {bs p : Text} {l l′ : Link} → Stands bs l → length p ≤ piece-bytes → PieceLeaves l p l′ → Stands (bs ++ p) l′
   stands-next {bs} {p} {l} {l′} w h s =
       let o = w .opened in
-      let short : leb (length p) 256 ≡ true = le-leb (length p) 256 h in
+      let short : leb (length p) piece-bytes ≡ true = le-leb (length p) piece-bytes h in
       let e : l′ ≡ linkBy l (foldl (stepIn l) (stateIn l) p) = rw (o, short) at (s .leaves) in
       record {
         opened = ap isOpen e ∙ o;

@@ -8,6 +8,7 @@ use lib.Dec.{eqb}
 use lib.ListN.{length, take, drop, take-append-drop}
 use lib.Seq.{sets, sets-eq, length-take-le}
 use borrow.Author.Tests.{ne-eqb}
+use Rattle.paper.specs.Limits.{most-carriers}
 use Rattle.paper.specs.Yard.{Bay}
 use Rattle.paper.specs.Bytes.{State, failed, going, Under, inVersion, inCarrier}
 use Rattle.paper.proofs.Tests.{by-cases}
@@ -65,10 +66,10 @@ wrote-first : (k : ℕ) (l t : List ℕ) → k ≤ length l → t ≡ take k l �
 wrote-first k l t h e = record { left = sym (ap (sets l 0) e ∙ sets-same k l h); counted = omega (arith, ap length e, length-take-le k l h) }
 
 -- the carriers that a link says stand in its lists
-pub stored-in : (l : Link) → length (l .start) ≡ 254 → length (l .goal) ≡ 254 → Stored (carriersIn l) (readingIn (l .kept)) (l .start) (l .start) (l .goal) (l .goal)
+pub stored-in : (l : Link) → length (l .start) ≡ most-carriers → length (l .goal) ≡ most-carriers → Stored (carriersIn l) (readingIn (l .kept)) (l .start) (l .start) (l .goal) (l .goal)
 stored-in l a b =
     let k : ℕ = readingIn (l .kept) .count in
-    let f : readingIn (l .kept) .count ≤ 254 = count-few (yesOf (l .kept .version)) (l .kept .count) in
+    let f : readingIn (l .kept) .count ≤ most-carriers = count-few (yesOf (l .kept .version)) (l .kept .count) in
     let h : readingIn (l .kept) .count ≤ length (l .start) = omega (arith, a, f) in
     let i : readingIn (l .kept) .count ≤ length (l .goal) = omega (arith, b, f) in
     record {
@@ -116,7 +117,7 @@ module _ (r : Reading) (o : Sound r) (cs : List (Bay × Bay)) where
       (record { place = r .field .place; number = r .field .number; digits = yes-bit (r .field .digits) i; point = yes-bit (r .field .point) i; plain = yes-bit (r .field .plain) i; figure = yes-bit (r .field .figure) i })))))
 
   -- the carriers stored are those that the numbers say
-  pub carriers-again : {a b a′ b′ : List ℕ} → Stored cs r a b a′ b′ → length a ≡ 254 → length a′ ≡ 254 → r .failed ≡ false → r .version ≡ false
+  pub carriers-again : {a b a′ b′ : List ℕ} → Stored cs r a b a′ b′ → length a ≡ most-carriers → length a′ ≡ most-carriers → r .failed ≡ false → r .version ≡ false
       → pairs (take (readingIn (keptOf r) .count) b) (take (readingIn (keptOf r) .count) b′) ≡ cs
   carriers-again {a} {b} {a′} {b′} w m n e f =
       let c : readingIn (keptOf r) .count ≡ r .count = rw (e, f) (count-same (r .count) (o .few)) in

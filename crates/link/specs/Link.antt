@@ -8,6 +8,7 @@ use lib.Dec.{eqb, leb}
 use lib.ListN.{length, take, replicate}
 use lib.Seq.{sets}
 use Rattle.paper.specs.Basics.{if_then_else_}
+use Rattle.paper.specs.Limits.{most-carriers}
 use Rattle.paper.specs.Yard.{Bay}
 use Rattle.paper.specs.Docket.{no-14, no-15, ended, longPiece, Verdict, granted, denied}
 use Rattle.paper.specs.Text.{Text, Read, good, badLine}
@@ -204,8 +205,8 @@ sayingOf (said.Told v) = told (verdictOf v)
 -- begin
 abbrev pub begunLink : Grid → Link
 begunLink G = record {
-  start = replicate 254 0;
-  goal = replicate 254 0;
+  start = replicate most-carriers 0;
+  goal = replicate most-carriers 0;
   cells = sets (replicate 4096 0) 0 (numbering 0 (cells G));
   kept = keptBy (going 1 false false (inVersion (record { place = 0; agrees = true })));
   phase = 1;
@@ -245,6 +246,10 @@ pub record FedSays (l : Link) (bytes : Text) (r : Link) : Type 0 where
   pub leaves : r ≡ linkBy l (foldl (stepIn l) (stateIn l) bytes)
   pub means : stateIn r ≡ foldl (stepIn l) (stateIn l) bytes
 
+-- the bytes of the longest piece
+abbrev pub piece-bytes : ℕ
+piece-bytes = 256
+
 -- "Refusals, in order: 17, ended; 18, piece over 256 bytes."
 abbrev pub pieceSaying : Bool → Bool → Saying
 pieceSaying false short = told (denied ended)
@@ -257,11 +262,11 @@ pieceLink true false l bytes = l
 pieceLink true true l bytes = linkBy l (foldl (stepIn l) (stateIn l) bytes)
 
 pub record PieceLeaves (l : Link) (bytes : Text) (r : Link) : Type 0 where
-  pub leaves : r ≡ pieceLink (isOpen l) (leb (length bytes) 256) l bytes
-  pub means : isOpen l ≡ true → leb (length bytes) 256 ≡ true → stateIn r ≡ foldl (stepIn l) (stateIn l) bytes
+  pub leaves : r ≡ pieceLink (isOpen l) (leb (length bytes) piece-bytes) l bytes
+  pub means : isOpen l ≡ true → leb (length bytes) piece-bytes ≡ true → stateIn r ≡ foldl (stepIn l) (stateIn l) bytes
 
 pub record PieceSays (l : Link) (bytes : Text) (r : Turn) : Type 0 where
-  pub answers : sayingOf (r .said) ≡ pieceSaying (isOpen l) (leb (length bytes) 256)
+  pub answers : sayingOf (r .said) ≡ pieceSaying (isOpen l) (leb (length bytes) piece-bytes)
   pub after : PieceLeaves l bytes (r .link)
 
 -- the end

@@ -1,4 +1,4 @@
-// A scenario over the serial link, in pieces of at most 256 bytes: its state by value, and the three calls, begin, piece and end. The
+// A scenario over the serial link, in pieces of at most PIECE bytes: its state by value, and the three calls, begin, piece and end. The
 // state is plain numbers, so that any bytes which a caller lends are some state.
 use docket::Refusal;
 use docket::Verdict;
@@ -12,6 +12,9 @@ use scenario::ScenarioRead;
 ghost use mathlib.Core.Path.{_≡_};
 ghost use Rattle.paper.specs.Map.{readMap};
 ghost use Rattle.link.specs.Link.{yesOf, bitOf, readingIn, keptOf, FedSays, OverSays, BeginSays, PieceSays, EndSays};
+
+// The bytes of the longest piece.
+const PIECE: usize = 256;
 
 // What is known of the line under way. A number that says yes or no says no where it is 0. The spare byte is 0: with it the struct has no gaps,
 // so that a caller may compare two states byte by byte.
@@ -43,8 +46,8 @@ pub struct Kept {
 // is anything else.
 #[repr(C)]
 pub struct Link {
-    pub start: [u16; 254],
-    pub goal: [u16; 254],
+    pub start: [u16; paper::CARRIERS],
+    pub goal: [u16; paper::CARRIERS],
     pub cells: [u16; 4096],
     pub kept: Kept,
     pub phase: u16,
@@ -171,8 +174,8 @@ pub fn begin(link: Link, map: &[u8]) -> Turn
     let found = gridmap::read(map, &mut cells);
     match found {
         MapRead::Grid(grid) => {
-            let start = [0u16; 254];
-            let goal = [0u16; 254];
+            let start = [0u16; paper::CARRIERS];
+            let goal = [0u16; paper::CARRIERS];
             Turn {
                 said: Said::Told(Verdict::Granted(0)),
                 link: Link {
@@ -229,7 +232,7 @@ pub fn piece(link: Link, bytes: &[u8]) -> Turn
     ensures { λ r. ⌜ PieceSays link (now (bytes .entry)) r ⌝ }
 {
     if link.phase == 1 {
-        if bytes.len() <= 256 {
+        if bytes.len() <= PIECE {
             return Turn {
                 said: Said::More,
                 link: fed(link, bytes),

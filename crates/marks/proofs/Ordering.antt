@@ -10,6 +10,7 @@ use borrow.Author.Tests.{eq-eqb, ne-eqb}
 use lib.ListN.{length, getD, drop, set, replicate, length-set, length-replicate}
 use lib.Seq.{drop-cons}
 use Rattle.paper.specs.Basics.{_or_}
+use Rattle.paper.specs.Limits.{most-bays}
 use Rattle.paper.specs.Yard.{Crossing, crossings, named}
 use Rattle.paper.specs.Dependence.{outOfOrder}
 use Rattle.paper.specs.OnePass.{Fits, orderPass}
@@ -20,19 +21,19 @@ use Rattle.plans.proofs.Rest.{rest-next, rest-none, fits-named}
 -- The tables are 1 at each carrier and bay that an undone crossing among the first `i` has touched.
 pub record Ordering (plan marks carriers bays : List ℕ) (i : ℕ) : Type 0 where
   pub within : i ≤ length plan
-  pub all-carriers : length carriers ≡ 256
-  pub all-bays : length bays ≡ 256
+  pub all-carriers : length carriers ≡ most-bays
+  pub all-bays : length bays ≡ most-bays
   pub so-far : outOfOrder (crossings plan) marks ≡ orderPass (flag carriers) (flag bays) (drop i (crossings plan)) (drop i marks)
 
-pub ordering-start : (plan marks : List ℕ) → Ordering plan marks (replicate 256 0) (replicate 256 0) 0
+pub ordering-start : (plan marks : List ℕ) → Ordering plan marks (replicate most-bays 0) (replicate most-bays 0) 0
 ordering-start plan marks = record {
   within = omega arith;
-  all-carriers = length-replicate {A = ℕ} 256 0;
-  all-bays = length-replicate {A = ℕ} 256 0;
-  so-far = order-start 256 256 (crossings plan) marks;
+  all-carriers = length-replicate {A = ℕ} most-bays 0;
+  all-bays = length-replicate {A = ℕ} most-bays 0;
+  so-far = order-start most-bays most-bays (crossings plan) marks;
 }
 
-module _ (plan marks carriers bays : List ℕ) (i : ℕ) (o : Ordering plan marks carriers bays i) (more : i < length plan) (len : length marks ≡ length plan) (fits : Fits 256 256 plan) (x : Crossing) (is : x ≡ named (crossings plan) i) where
+module _ (plan marks carriers bays : List ℕ) (i : ℕ) (o : Ordering plan marks carriers bays i) (more : i < length plan) (len : length marks ≡ length plan) (fits : Fits most-bays most-bays plan) (x : Crossing) (is : x ≡ named (crossings plan) i) where
   abbrev m : ℕ
   m = getD marks i 0
 
@@ -41,7 +42,7 @@ module _ (plan marks carriers bays : List ℕ) (i : ℕ) (o : Ordering plan mark
 
   pub ordering-undone : (m ≡ 1 → ⊥) → Ordering plan marks (set carriers (x .carrier) 1) (set (set bays (x .from) 1) (x .to) 1) (i + 1)
   ordering-undone u =
-      let small = fits-named 256 256 plan fits i more x is in
+      let small = fits-named most-bays most-bays plan fits i more x is in
       record {
         within = omega arith;
         all-carriers = length-set carriers (x .carrier) 1 ∙ o .all-carriers;

@@ -1,11 +1,12 @@
 // The marks of a plan that has passed the check: whether they are in order, what a report on them answers, and the one mark that it changes.
-// Each step is one pass over the plan. The plan's carriers and bays are below 256, so what a pass remembers of them are two small arrays.
+// Each step is one pass over the plan. The plan's carriers and bays are below BAYS, so what a pass remembers of them are two small arrays.
 ghost use mathlib.Core.Path.{_≡_};
 ghost use mathlib.Core.Bool.{not};
 ghost use Prim.Native.Nat.{_≤_, _<_};
 ghost use lib.Dec.{eqb};
 ghost use lib.ListN.{length};
 ghost use Rattle.paper.specs.Basics.{_and_, _or_, any, find, upTo};
+ghost use Rattle.paper.specs.Limits.{most-bays};
 ghost use Rattle.paper.specs.Yard.{crossings, named};
 ghost use Rattle.paper.specs.Dependence.{depend, isDone, outOfOrder};
 ghost use Rattle.paper.specs.Docket.{badMarks};
@@ -16,11 +17,12 @@ ghost use Rattle.docket.specs.Reading.{crossingOf};
 ghost use Rattle.marks.specs.Reading.{earlierOf, reportOf, toldInOrder};
 use docket::Crossing;
 use docket::Refusal;
+use paper::BAYS;
 use plans::Named;
 
 // Whether an undone crossing has touched the carrier or one of the bays.
-fn touched(carriers: &[u8; 256], bays: &[u8; 256], carrier: usize, from: usize, to: usize) -> bool
-    requires { ⌜ (carrier < 256) × (from < 256) × (to < 256) ⌝ }
+fn touched(carriers: &[u8; BAYS], bays: &[u8; BAYS], carrier: usize, from: usize, to: usize) -> bool
+    requires { ⌜ (carrier < most-bays) × (from < most-bays) × (to < most-bays) ⌝ }
     ensures { λ r. ⌜ r ≡ flag (now (carriers .entry)) carrier or flag (now (bays .entry)) from or flag (now (bays .entry)) to ⌝ }
 {
     if carriers[carrier] == 1 {
@@ -34,11 +36,11 @@ fn touched(carriers: &[u8; 256], bays: &[u8; 256], carrier: usize, from: usize, 
 
 // Whether a crossing is marked done before an earlier one it depends on.
 fn order_pass(plan: &[u64], marks: &[u8]) -> bool
-    requires { ⌜ (length (now marks) ≡ length (now plan)) × Fits 256 256 (now plan) ⌝ }
+    requires { ⌜ (length (now marks) ≡ length (now plan)) × Fits most-bays most-bays (now plan) ⌝ }
     ensures { λ r. ⌜ r ≡ outOfOrder (crossings (now (plan .entry))) (now (marks .entry)) ⌝ }
 {
-    let mut carriers: [u8; 256] = [0; 256];
-    let mut bays: [u8; 256] = [0; 256];
+    let mut carriers: [u8; BAYS] = [0; BAYS];
+    let mut bays: [u8; BAYS] = [0; BAYS];
     let mut i = 0;
     while i < plan.len() {
         let x = plans::crossing_at(plan, i);
@@ -74,7 +76,7 @@ fn odd_mark(marks: &[u8]) -> bool
 
 // Whether the report is refused with 11.
 pub fn bad_marks(plan: &[u64], marks: &[u8]) -> bool
-    requires { ⌜ Fits 256 256 (now plan) ⌝ }
+    requires { ⌜ Fits most-bays most-bays (now plan) ⌝ }
     ensures { λ r. ⌜ r ≡ badMarks (crossings (now (plan .entry))) (now (marks .entry)) ⌝ }
 {
     if marks.len() != plan.len() {
@@ -169,7 +171,7 @@ pub fn tell_in_order(plan: &[u64], marks: &[u8], name: u64) -> Reported
 
 // Once the check has passed: 11, and then the rest.
 pub fn tell(plan: &[u64], marks: &[u8], name: u64) -> Reported
-    requires { ⌜ Fits 256 256 (now plan) ⌝ }
+    requires { ⌜ Fits most-bays most-bays (now plan) ⌝ }
     ensures { λ r. ⌜ reportOf r ≡ told (crossings (now (plan .entry))) (now (marks .entry)) name ⌝ }
 {
     if bad_marks(plan, marks) {

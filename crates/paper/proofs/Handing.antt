@@ -8,6 +8,7 @@ use native.Mathlib.Omega.{arith}
 use lib.Dec.{eqb}
 use lib.ListN.{length, getD, length-map, length-set}
 use borrow.Author.Tests.{eqb-true}
+use Rattle.paper.specs.Limits.{most-bays}
 use Rattle.paper.specs.Yard.{Bay, Carrier, Yard, Placement, Crossing, bayOf, move, legalPlan, most-crossings, pack, unpack, crossings, named}
 use Rattle.paper.specs.Docket.{yardOf}
 use Rattle.paper.specs.Answers.{accepted, firstSix, plan, check}
@@ -20,7 +21,7 @@ use Rattle.paper.proofs.Planning.{accepted-right, accepted-exactly}
 use Rattle.paper.proofs.Checking.{passed-check, check-passed}
 use Rattle.paper.proofs.Packing.{unpack-pack, named-is}
 
-module _ (Y : Yard) (sound : Sound Y) (few : Y .bays ≤ 256) where
+module _ (Y : Yard) (sound : Sound Y) (few : Y .bays ≤ most-bays) where
   -- a legal plan's numbers read as its crossings
   reads-back : (p : Placement) (xs : List Crossing) → ((c : Carrier) → c < length p → bayOf p c < Y .bays) → legalPlan Y p xs ≡ true
       → crossings (map pack xs) ≡ xs
@@ -93,8 +94,8 @@ module _ (Y : Yard) (sound : Sound Y) where
       (λ e. rw (move-other Y p x l c e) (inside c (rw length-set at q))))
       (plan-tail Y p x xs h) i (omega arith))
 
--- What passes the check names carriers and bays below 256: what the passes over a checked plan ask.
-pub check-fits : (n : ℕ) (ends : List Bay) (s g : Placement) (plan : List ℕ) → check n ends s g plan ≡ none → Fits 256 256 plan
+-- What passes the check names carriers and bays of the largest yard: what the passes over a checked plan ask.
+pub check-fits : (n : ℕ) (ends : List Bay) (s g : Placement) (plan : List ℕ) → check n ends s g plan ≡ none → Fits most-bays most-bays plan
 check-fits n ends s g plan h i k =
     let p = check-passed n ends s g plan h in
     let c = clean-of n ends s g (length plan) (p .sound) in

@@ -9,9 +9,10 @@ use lib.Dec.{eqb, ltb}
 use lib.ListN.{length}
 use borrow.Author.Tests.{ne-eqb}
 use Rattle.paper.specs.Basics.{if_then_else_, _and_, _>>=_, concat, when, _or_}
+use Rattle.paper.specs.Limits.{most-carriers}
 use Rattle.paper.specs.Yard.{Bay}
 use Rattle.paper.specs.Text.{Text, TAB, join, split, value, sized, isNumber, text}
-use Rattle.paper.specs.Scenario.{Listed, versionDue, carriers, most-carriers, isLength, nineFields, startAndGoal, carrierLine, scenarioLine, scenarioEnd, readScenario}
+use Rattle.paper.specs.Scenario.{Listed, versionDue, carriers, isLength, nineFields, startAndGoal, carrierLine, scenarioLine, scenarioEnd, readScenario}
 use Rattle.paper.specs.Bytes.{State, Match, unmatched, matchByte, Field, blank, see, fieldOf, Past, nonePast, keepAt, Under, inVersion, inCarrier, wellField, fieldPast, carrierOf, beginLine, inLine, closeLine, listedSoFar, unread, scenarioStep, scenarioFinish}
 use Rattle.paper.proofs.Tests.{by-cases, and-left, and-right}
 use Rattle.paper.proofs.Fed.{ByByte, Some, join-some, fed}

@@ -8,9 +8,10 @@ use Prim.Native.Nat.{ℕ, suc, _+_, _-_, _*_}
 use lib.Dec.{eqb, ltb, leb}
 use lib.ListN.{length, getD}
 use Rattle.paper.specs.Basics.{if_then_else_, _and_, _or_, _>>=_, when}
+use Rattle.paper.specs.Limits.{most-carriers}
 use Rattle.paper.specs.Yard.{Bay}
 use Rattle.paper.specs.Text.{Text, text, LF, CR, TAB, isDigit, isPoint, Read, good, badLine}
-use Rattle.paper.specs.Scenario.{Listed, versionDue, carriers, most-carriers, startAndGoal}
+use Rattle.paper.specs.Scenario.{Listed, versionDue, carriers, startAndGoal}
 
 -- ## Any layout
 

@@ -1,4 +1,5 @@
 pub mod Basics
+pub mod Limits
 pub mod Yard
 pub mod Path
 pub mod Procedure

@@ -3,16 +3,13 @@
 use mathlib.Core.Bool.{Bool}
 use mathlib.Core.List.{List, [], _∷_, _++_}
 use mathlib.Core.Option.{Option, none, some}
-use Prim.Native.Nat.{ℕ, _-_}
+use Prim.Native.Nat.{ℕ}
 use lib.Dec.{eqb, ltb, leb}
 use lib.ListN.{length, getD}
 use Rattle.paper.specs.Basics.{if_then_else_, if-some_then_else_, _and_, _or_, _>>=_, when, any}
-use Rattle.paper.specs.Yard.{Bay, most-bays, kept-empty}
+use Rattle.paper.specs.Limits.{most-carriers}
+use Rattle.paper.specs.Yard.{Bay}
 use Rattle.paper.specs.Text.{Text, text, TAB, lines, split, same, all, count, isDigit, isPoint, value, sized, isNumber, Read, readLines}
-
--- "A 255th carrier line is 15."
-abbrev pub most-carriers : ℕ
-most-carriers = most-bays - kept-empty
 
 -- "1 to 20 bytes of digits with at most one point, and at least one digit"
 unfoldable pub isLength : Text → Bool

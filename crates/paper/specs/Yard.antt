@@ -6,6 +6,7 @@ use Prim.Native.Nat.{ℕ, _+_, _-_, _*_, _/_, _%_, _^_}
 use lib.Dec.{eqb, ltb, leb}
 use lib.ListN.{length, getD, set}
 use Rattle.paper.specs.Basics.{if_then_else_, _and_, _or_, filter, any, elem, placeOf, upTo}
+pub use Rattle.paper.specs.Limits.{fewest-bays, most-bays, most-rails, most-crossings, kept-empty}
 
 -- Bays are numbered 0 to n − 1, carriers from 0.
 abbrev pub Bay : Type 0
@@ -21,22 +22,6 @@ Rail = Bay × Bay
 pub record Yard : Type 0 where
   pub bays : ℕ
   pub rails : List Rail
-
--- The limits of a yard: n from 2 to 256; at most 1,024 rails; at most 65,536 crossings in a plan; two bays must stay empty.
-abbrev pub fewest-bays : ℕ
-fewest-bays = 2
-
-abbrev pub most-bays : ℕ
-most-bays = 256
-
-abbrev pub most-rails : ℕ
-most-rails = 1024
-
-abbrev pub most-crossings : ℕ
-most-crossings = 65536
-
-abbrev pub kept-empty : ℕ
-kept-empty = 2
 
 -- A placement names the bay of each carrier.
 abbrev pub Placement : Type 0

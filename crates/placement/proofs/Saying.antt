@@ -9,6 +9,7 @@ use borrow.Author.Tests.{lt-ltb, le-ltb}
 use lib.Dec.{ltb}
 use lib.ListN.{length, getD, drop, length-map, length-append}
 use Rattle.paper.specs.Basics.{orElse, when}
+use Rattle.paper.specs.Limits.{most-bays}
 use Rattle.paper.specs.Yard.{Bay, Placement, crossings, named, after, unpack}
 use Rattle.paper.specs.Docket.{badMarks, no-11, room, granted, denied, unlessDenied}
 use Rattle.paper.specs.Dependence.{doneOf, placementBy}
@@ -38,7 +39,7 @@ module _ (n : ℕ) (ends : List Bay) (starts goals : Placement) (plan marks : Li
   says-refused r h = refused r (rw (← h))
 
   module _ (passes : none ≡ check n ends starts goals plan) where
-    pub fits : Fits 256 256 plan
+    pub fits : Fits most-bays most-bays plan
     fits = check-fits n ends starts goals plan (sym passes)
 
     pub says-mismarked : badMarks (crossings plan) marks ≡ true → PlacementSays n ends starts goals plan marks lent (Denied Mismarked) lent
@@ -57,7 +58,7 @@ module _ (n : ℕ) (ends : List Bay) (starts goals : Placement) (plan marks : Li
       there i h = carrier-there _ starts (crossings plan) i (check-passed n ends starts goals plan (sym passes) .lawful) h
 
       -- each crossing's carrier has its place once the start is laid out
-      pub all-there : (at : List Bay) → at ≡ starts ++ drop (length starts) lent → Fits (length at) 256 plan
+      pub all-there : (at : List Bay) → at ≡ starts ++ drop (length starts) lent → Fits (length at) most-bays plan
       all-there at laid i l =
           let low : unpack (getD plan i 0) .carrier < length starts = rw (named-is plan i) at (there i (rw length-map l)) in
           let long : length at ≡ length starts + length (drop (length starts) lent) = ap length laid ∙ length-append starts (drop (length starts) lent) in

@@ -1,6 +1,7 @@
 // Where the carriers stand, by plan and marks: the start, and then the done crossings in plan order.
 ghost use mathlib.Core.Path.{_≡_};
 ghost use lib.ListN.{length};
+ghost use Rattle.paper.specs.Limits.{most-bays};
 ghost use Rattle.paper.specs.Yard.{crossings, after};
 ghost use Rattle.paper.specs.Dependence.{doneOf};
 ghost use Rattle.paper.specs.OnePass.{Fits};
@@ -11,7 +12,7 @@ use docket::Verdict;
 
 // The carriers of the done crossings are moved, each to where its crossing leads.
 fn move_done(plan: &[u64], marks: &[u8], at: &mut [u16])
-    requires { ⌜ (length (now marks) ≡ length (now plan)) × Fits (length (now at)) 256 (now plan) ⌝ }
+    requires { ⌜ (length (now marks) ≡ length (now plan)) × Fits (length (now at)) most-bays (now plan) ⌝ }
     ensures { λ _. ⌜ now (at .exit) ≡ after (now (at .entry)) (doneOf (crossings (now (plan .entry))) (now (marks .entry))) ⌝ }
 {
     let mut i = 0;

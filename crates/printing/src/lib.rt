@@ -99,7 +99,7 @@ pub fn plan(plan: &[u64], out: &mut [u8]) -> usize
     ensures { λ n. ⌜ Wrote (now (out .entry)) 0 (printed (handed (now (plan .entry)))) (now (out .exit)) n ⌝ }
 {
     let crossings = plan.len();
-    if crossings <= 65536 {
+    if crossings <= paper::CROSSINGS {
         let end = actions(plan, out);
         return cost(out, end, crossings as u64);
     }

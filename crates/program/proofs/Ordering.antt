@@ -6,6 +6,7 @@ use Prim.Native.Nat.{ℕ, _≤_}
 use native.Mathlib.Omega.{arith}
 use lib.ListN.{length, take, length-map}
 use lib.Seq.{sets}
+use Rattle.paper.specs.Limits.{most-carriers}
 use Rattle.paper.specs.Yard.{Bay}
 use Rattle.paper.specs.Docket.{Refusal}
 use Rattle.paper.specs.Text.{Text}
@@ -42,7 +43,7 @@ pub record Stands (mapFile scenarioFile : Option Text) (o : Order) (ends starts 
   pub answers : plan (o .bays) (take (o .ends) ends) (take (o .carriers) starts) (take (o .carriers) goals) program-room ≡ programAnswer mapFile scenarioFile
 
 module _ {mapFile scenarioFile : Option Text} {r : Ordered} {ends₀ ends starts₀ starts goals₀ goals : List ℕ} (f : Files mapFile scenarioFile r ends₀ ends starts₀ starts goals₀ goals) where
-  pub order-stands : (o : Order) → r ≡ the.Order o → 16384 ≤ length ends₀ → 254 ≤ length starts₀ → 254 ≤ length goals₀ → Stands mapFile scenarioFile o ends starts goals
+  pub order-stands : (o : Order) → r ≡ the.Order o → 16384 ≤ length ends₀ → most-carriers ≤ length starts₀ → most-carriers ≤ length goals₀ → Stands mapFile scenarioFile o ends starts goals
   order-stands o e he hs hg =
       by-filed (filed mapFile scenarioFile)
       (λ n es cs q.

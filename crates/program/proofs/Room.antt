@@ -6,6 +6,7 @@ use native.Mathlib.Omega.{arith}
 use native.Mathlib.Numerals.{add-one}
 use lib.ListN.{length, take, getD, length-append, length-map}
 use lib.Seq.{take-length}
+use Rattle.paper.specs.Limits.{most-bays}
 use Rattle.paper.specs.Yard.{Bay, Placement, Crossing, pack, unpack, crossings}
 use mathlib.Core.Option.{none}
 use Rattle.paper.specs.Answers.{Answer, accepted, refused, plan, check}
@@ -28,7 +29,7 @@ use Rattle.program.specs.Short.{shortAnswer, ShortIn}
 use Rattle.program.proofs.Telling.{by-answer, by-planned, handed-is, handed-in}
 use Rattle.program.proofs.Shortening.{left-fewer}
 
-three : (n : ℕ) → n < 256 → length (decimal n) ≤ 3
+three : (n : ℕ) → n < most-bays → length (decimal n) ≤ 3
 unfolding tenTo
 three n h = short 2 n (omega arith)
 
@@ -36,7 +37,7 @@ four : (n : ℕ) → n ≤ 8192 → length (decimal n) ≤ 4
 unfolding tenTo
 four n h = short 3 n (omega arith)
 
-action-fits : (x : Crossing) → x .carrier < 256 → x .from < 256 → x .to < 256 → length (ended (actionLine x ∷ [])) ≤ 22
+action-fits : (x : Crossing) → x .carrier < most-bays → x .from < most-bays → x .to < most-bays → length (ended (actionLine x ∷ [])) ≤ 22
 unfolding named
 action-fits x c f t =
     rw (← action-parts x) (simp length-append (omega (arith, three (x .carrier) c, three (x .from) f, three (x .to) t)))
@@ -45,7 +46,7 @@ cost-fits : (n : ℕ) → n ≤ 8192 → length (ended (costLine n ∷ [])) ≤ 
 unfolding named
 cost-fits n h = rw (← cost-parts n) (simp length-append (omega (arith, four n h)))
 
-lines-fit : (list : List ℕ) → Fits 256 256 list → (i : ℕ) → i ≤ length list → length (actionLines (take i list)) ≤ 22 * i
+lines-fit : (list : List ℕ) → Fits most-bays most-bays list → (i : ℕ) → i ≤ length list → length (actionLines (take i list)) ≤ 22 * i
 lines-fit list f zero h = rw lines-none (omega arith)
 lines-fit list f (suc i) h =
     let k : i < length list = omega arith in

@@ -2,20 +2,21 @@
 -- Assumes nothing.
 use mathlib.Core.Path.{_≡_}
 use mathlib.Core.List.{List}
-use Prim.Native.Nat.{ℕ, _≤_}
+use Prim.Native.Nat.{ℕ, _+_, _*_, _≤_}
 use lib.ListN.{length, take}
 use Rattle.paper.specs.Yard.{Crossing, crossings, most-crossings}
 use Rattle.paper.specs.Answers.{Answer, accepted}
 use Rattle.paper.specs.Print.{printed}
+use Rattle.paper.specs.Program.{program-room}
 use Rattle.docket.specs.declared.Refusal.{Refusal}
 use Rattle.stores.specs.Writing.{Wrote}
 use Rattle.planner.specs.declared.Planned.{Planned}
 use Rattle.planner.specs.declared.Planned.the-variants.{Accepted, Refused}
 use Rattle.planner.specs.Statement.{told, plannedOf}
 
--- 8,192 lines of 22 bytes and the cost's 26
+-- program-room lines of 22 bytes and the cost's 26
 abbrev pub print-room : ℕ
-print-room = 180250
+print-room = 22 * program-room + 26
 
 -- a plan lies in the list, and is not too long to print
 pub record Within (r : Planned) (list : List ℕ) : Type 0 where

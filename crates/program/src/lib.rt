@@ -3,6 +3,7 @@ use filing::Order;
 use filing::Ordered;
 use planner::Planned;
 use shorten::Shortened;
+use yard::Yard;
 ghost use mathlib.Core.Path.{_≡_};
 ghost use Prim.Native.Nat.{_≤_};
 ghost use lib.ListN.{length, take};
@@ -15,11 +16,9 @@ ghost use Rattle.program.specs.Printout.{print-room, Within, Prints};
 ghost use Rattle.program.specs.Short.{shortAnswer, programShort, PlannedIn, ShortIn};
 
 // Room for every print, and for every order's rails and carriers.
-pub const PRINT_BYTES: usize = 180250;
+pub const PRINT_BYTES: usize = 22 * CROSSINGS + 26;
 
 const ENDS: usize = 16384;
-
-const CARRIERS: usize = 254;
 
 const CROSSINGS: usize = 8192;
 
@@ -61,8 +60,8 @@ pub fn program(map: &[u8], mapped: bool, scenario: &[u8], listed: bool, out: &mu
     ensures { λ r. ⌜ Wrote (now (out .entry)) 0 (printedFor (fileOf mapped (now (map .entry))) (fileOf listed (now (scenario .entry)))) (now (out .exit)) r × (r ≤ print-room) ⌝ }
 {
     let mut ends = [0u16; ENDS];
-    let mut starts = [0u16; CARRIERS];
-    let mut goals = [0u16; CARRIERS];
+    let mut starts = [0u16; Yard::CARRIERS];
+    let mut goals = [0u16; Yard::CARRIERS];
     let ordered = filing::read_order(
         map,
         mapped,
@@ -147,8 +146,8 @@ pub fn program_short(
     ensures { λ r. ⌜ Wrote (now (out .entry)) 0 (programShort (fileOf mapped (now (map .entry))) (fileOf listed (now (scenario .entry)))) (now (out .exit)) r × (r ≤ print-room) ⌝ }
 {
     let mut ends = [0u16; ENDS];
-    let mut starts = [0u16; CARRIERS];
-    let mut goals = [0u16; CARRIERS];
+    let mut starts = [0u16; Yard::CARRIERS];
+    let mut goals = [0u16; Yard::CARRIERS];
     let ordered = filing::read_order(
         map,
         mapped,

@@ -279,7 +279,7 @@ pub fn plan(file: &[u8], out: &mut [u64]) -> Verdict
     let found = fold(false, file, &mut none);
     match found {
         Found::Numbers(count) => {
-            if 65536 < count {
+            if paper::CROSSINGS < count {
                 return Verdict::Denied(Refusal::Size);
             }
             give(false, file, count, out)

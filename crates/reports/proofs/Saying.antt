@@ -9,6 +9,7 @@ use borrow.Author.Tests.{lt-ltb, le-ltb}
 use lib.Dec.{ltb}
 use lib.ListN.{length, drop}
 use Rattle.paper.specs.Basics.{_or_}
+use Rattle.paper.specs.Limits.{most-bays}
 use Rattle.paper.specs.Yard.{Bay, Placement, crossings, most-crossings}
 use Rattle.paper.specs.Dependence.{slots as slotsOf}
 use Rattle.paper.specs.Answers.{accept, tell, marksAfter, check, slotsRefusal, slotsEnd, report}
@@ -44,7 +45,7 @@ module _ (n : ℕ) (ends : List Bay) (starts goals : Placement) (plan : List ℕ
   report-refused marks name r h = record { answers = rw (← h); leaves = rw (← h) }
 
   module _ (passes : none ≡ check n ends starts goals plan) where
-    pub fits : Fits 256 256 plan
+    pub fits : Fits most-bays most-bays plan
     fits = check-fits n ends starts goals plan (sym passes)
 
     pub short : length plan ≤ most-crossings

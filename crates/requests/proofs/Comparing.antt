@@ -10,6 +10,7 @@ use lib.Dec.{eqb, ltb, leb}
 use lib.ListN.{length, getD}
 use borrow.Author.Tests.{not-true, ltb-true, lt-ltb, leb-true, le-leb, eqb-false, ne-eqb}
 use Rattle.paper.specs.Basics.{_or_, orElse, find, elem, _and_}
+use Rattle.paper.specs.Limits.{most-carriers}
 use Rattle.paper.specs.Yard.{Carrier, most-crossings}
 use Rattle.paper.specs.Docket.{Refusal, size, start, room, number, carried, Verdict, granted, denied}
 use Rattle.paper.proofs.Tests.{by-cases, by-option, not-both, never-some, some-same, or-left, or-right, or-cases, either}
@@ -17,7 +18,7 @@ use Rattle.paper.proofs.Determined.{docket-tells}
 use Rattle.exactly.specs.First.{plain, carrying, NoneOf, Given, distinct, FirstOf}
 use Rattle.exactly.proofs.First.{after-it, plain-test, carrying-test, known-test}
 use Rattle.exactly.proofs.Six.{Refuses}
-use Rattle.comparing.specs.Comparing.{most-carriers, carrierOf, firstAbove, refusal, equalLeading, comparison}
+use Rattle.comparing.specs.Comparing.{carrierOf, firstAbove, refusal, equalLeading, comparison}
 use Rattle.requests.specs.Rows.{FirstAbove, AboveInEither, compareRows}
 use Rattle.requests.proofs.Verdicts.{verdict-denies, verdict-grants}
 

@@ -19,12 +19,12 @@ use Rattle.exactly.specs.First.{NoneOf, Given, distinct}
 use Rattle.exactly.proofs.First.{after-it, exactly, nothing-exactly, plain-test}
 use Rattle.exactly.proofs.Six.{Refuses}
 use Rattle.link.specs.declared.Link.{Link}
-use Rattle.link.specs.Link.{Saying, more, told, isOpen, pieceSaying, endSaying}
+use Rattle.link.specs.Link.{piece-bytes, Saying, more, told, isOpen, pieceSaying, endSaying}
 use Rattle.requests.specs.Rows.{pieceRows}
 
 module _ (l : Link) (bytes : Text) where
   abbrev short : Bool
-  short = leb (length bytes) 256
+  short = leb (length bytes) piece-bytes
 
   abbrev tests : Option Refusal
   tests = orElse (when (not (isOpen l)) ended) (when (not short) longPiece)
@@ -34,7 +34,7 @@ module _ (l : Link) (bytes : Text) where
       after-it number carried
       (plain-test number carried (l .phase ≡ 1 → ⊥) (not (isOpen l)) ended (docket-tells ended) refl
       (λ h. eqb-false _ _ (not-true _ h), λ f. ap not (ne-eqb _ _ f))) (λ _.
-      plain-test number carried (256 < length bytes) (not short) longPiece (docket-tells longPiece) refl
+      plain-test number carried (piece-bytes < length bytes) (not short) longPiece (docket-tells longPiece) refl
       (λ h. leb-false _ _ (not-true _ h), λ f. ap not (lt-leb _ _ f)))
 
   saying : (running short : Bool) (r : Refusal) → (pieceSaying running short ≡ told (denied r)) ↔ (orElse (when (not running) ended) (when (not short) longPiece) ≡ some r)

@@ -7,6 +7,7 @@ use mathlib.Core.Option.{Option, none, some}
 use mathlib.Core.Path.{_≡_}
 use Prim.Native.Nat.{ℕ, _<_, _≤_}
 use lib.ListN.{length, getD}
+use Rattle.paper.specs.Limits.{most-carriers}
 use Rattle.paper.specs.Yard.{Bay, Carrier, Placement, Crossing, most-crossings, crossings}
 use Rattle.paper.specs.Docket.{number, carried}
 use Rattle.exactly.specs.First.{Row, plain, carrying, FirstOf}
@@ -18,9 +19,10 @@ use Rattle.bills.specs.Billing.{recordOf, linesOf}
 use Rattle.bills.specs.Answering.{Billed, told, disagrees}
 use Rattle.bills.specs.declared.Record.{Record}
 use Rattle.bills.specs.declared.Line.{Line}
-use Rattle.comparing.specs.Comparing.{most-carriers, carrierOf}
+use Rattle.comparing.specs.Comparing.{carrierOf}
 use Rattle.survey.specs.Survey.{surveyOf}
 use Rattle.paper.specs.Text.{Text}
+use Rattle.link.specs.Link.{piece-bytes}
 use Rattle.link.specs.declared.Link.{Link}
 
 -- ## Numbers of answers that are none of the table's
@@ -122,4 +124,4 @@ writingRows n ends lent = threeRows n ends ++ (no-room lent (length (surveyOf n 
 
 -- "Refusals, in order: 17, ended; 18, piece over 256 bytes."
 abbrev pub pieceRows : Link → Text → List Row
-pieceRows l bytes = plain 17 (l .phase ≡ 1 → ⊥) ∷ plain 18 (256 < length bytes) ∷ []
+pieceRows l bytes = plain 17 (l .phase ≡ 1 → ⊥) ∷ plain 18 (piece-bytes < length bytes) ∷ []

@@ -10,6 +10,7 @@ use lib.Dec.{eqb}
 use lib.ListN.{length, length-append}
 use borrow.Author.Tests.{lt-ltb, le-ltb, eq-eqb, ne-eqb}
 use Rattle.paper.specs.Basics.{_and_, _or_}
+use Rattle.paper.specs.Limits.{most-carriers}
 use Rattle.paper.specs.Yard.{Bay}
 use Rattle.paper.proofs.Tests.{not-both}
 use Rattle.paper.specs.Scenario.{startAndGoal}
@@ -50,13 +51,13 @@ module _ (t : List ℕ) (G : Grid) (s : Reading) where
   unfolding closeLine
   not-version v f cs l = rw (v, f)
 
-  pub not-carrier : s .version ≡ false → none ≡ carrierOf (G .width) (G .height) (bayBy t G) due-past → s .count < 254 → (cs : List (Bay × Bay)) → length cs ≡ s .count → closeLine (G .width) (G .height) (bayBy t G) (underOf s cs) ≡ none
+  pub not-carrier : s .version ≡ false → none ≡ carrierOf (G .width) (G .height) (bayBy t G) due-past → s .count < most-carriers → (cs : List (Bay × Bay)) → length cs ≡ s .count → closeLine (G .width) (G .height) (bayBy t G) (underOf s cs) ≡ none
   unfolding closeLine
-  not-carrier v f k cs l = rw (v, l, lt-ltb (s .count) 254 k, ← f)
+  not-carrier v f k cs l = rw (v, l, lt-ltb (s .count) most-carriers k, ← f)
 
-  pub too-many : s .version ≡ false → 254 ≤ s .count → (cs : List (Bay × Bay)) → length cs ≡ s .count → closeLine (G .width) (G .height) (bayBy t G) (underOf s cs) ≡ none
+  pub too-many : s .version ≡ false → most-carriers ≤ s .count → (cs : List (Bay × Bay)) → length cs ≡ s .count → closeLine (G .width) (G .height) (bayBy t G) (underOf s cs) ≡ none
   unfolding closeLine
-  too-many v k cs l = rw (v, l, le-ltb (s .count) 254 k)
+  too-many v k cs l = rw (v, l, le-ltb (s .count) most-carriers k)
 
   pub closes-broken : Sound s → (r : Reading) → Broken s r
       → ((cs : List (Bay × Bay)) → length cs ≡ s .count → closeLine (G .width) (G .height) (bayBy t G) (underOf s cs) ≡ none)
@@ -77,11 +78,11 @@ module _ (t : List ℕ) (G : Grid) (s : Reading) where
         closes = λ cs l. let z = o .first v in rw (no-length cs (l ∙ z), v, m, z);
       })
 
-  pub closes-carrier : (r : Reading) (a g : ℕ) → r ≡ dueOf false (s .count + 1) a g → s .version ≡ false → s .count < 254 → some (a, g) ≡ carrierOf (G .width) (G .height) (bayBy t G) due-past → Closes t G s r
+  pub closes-carrier : (r : Reading) (a g : ℕ) → r ≡ dueOf false (s .count + 1) a g → s .version ≡ false → s .count < most-carriers → some (a, g) ≡ carrierOf (G .width) (G .height) (bayBy t G) due-past → Closes t G s r
   unfolding lineClosed closeLine beginLine
   closes-carrier r a g e v k f =
       rw e (record {
         sound = record { first = λ q. not-both q refl; few = omega (arith, k) };
         counts = λ cs l. rw (ne-eqb (s .count + 1) (s .count) (omega arith), length-append) (ap (λ k. k + 1) l);
-        closes = λ cs l. rw (v, l, lt-ltb (s .count) 254 k, ← f, ne-eqb (s .count + 1) (s .count) (omega arith), add-one (s .count));
+        closes = λ cs l. rw (v, l, lt-ltb (s .count) most-carriers k, ← f, ne-eqb (s .count + 1) (s .count) (omega arith), add-one (s .count));
       })

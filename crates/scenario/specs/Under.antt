@@ -9,6 +9,7 @@ use lib.Dec.{eqb, ltb}
 use lib.ListN.{length, set}
 use lib.Seq.{sets}
 use Rattle.paper.specs.Basics.{if_then_else_}
+use Rattle.paper.specs.Limits.{most-carriers}
 use Rattle.paper.specs.Yard.{Bay}
 use Rattle.paper.specs.Text.{Text, Read, good, badLine}
 use Rattle.paper.specs.Scenario.{readScenario}
@@ -47,11 +48,11 @@ carriersAfter s r cs = if eqb (r .count) (s .count) then cs else cs ++ ((r .star
 -- no carrier is read before the version, and no 255th
 pub record Sound (s : Reading) : Type 0 where
   pub first : s .version ≡ true → s .count ≡ 0
-  pub few : s .count ≤ 254
+  pub few : s .count ≤ most-carriers
 
 -- the carriers that a state says it has read, with at most 254 and none before the version
 abbrev pub countIn : Bool → ℕ → ℕ
-countIn version count = if version then 0 else if ltb count 254 then count else 254
+countIn version count = if version then 0 else if ltb count most-carriers then count else most-carriers
 
 -- what a state stands for, whatever its numbers are
 abbrev pub takenAs : Reading → Reading

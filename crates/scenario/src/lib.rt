@@ -39,14 +39,17 @@ pub enum ScenarioRead {
     Bad(u64),
 }
 
-// How many carriers a state has read: none before the version, and at most 254, whatever it says.
+// The carriers of the largest yard, as a count of lines.
+const MOST: u16 = paper::CARRIERS as u16;
+
+// How many carriers a state has read: none before the version, and at most MOST, whatever it says.
 pub fn counted(version: bool, count: u16) -> u16
     ensures { λ r. ⌜ r ≡ countIn version count ⌝ }
 {
     if version {
         return 0;
     }
-    if count < 254 { count } else { 254 }
+    if count < MOST { count } else { MOST }
 }
 
 // What a state stands for: a caller may hand in any.
@@ -139,7 +142,7 @@ fn closed(s: Reading, grid: Grid, cells: &[u16]) -> Reading
         return broken(s);
     }
     let count = s.count;
-    if count < 254 {
+    if count < MOST {
         let past = fields::field_past(s.past, s.field, grid.width as u32, grid.height as u32);
         let found = carrier_of(past, grid, cells);
         let Found::Carrier(start, goal) = found else {

@@ -14,7 +14,7 @@ use Rattle.numbers.specs.Tells.{Tells}
 use Rattle.readers.specs.Reading.{Laid, Listing, listing}
 use Rattle.readers.proofs.Whole.{by-read}
 use Rattle.link.specs.declared.Link.{Link}
-use Rattle.link.specs.Link.{isOpen, finishIn, endSaying, Holds}
+use Rattle.link.specs.Link.{piece-bytes, isOpen, finishIn, endSaying, Holds}
 use Rattle.link.proofs.Linked.{Run, none, fed, Whole, wholeVerdict, carriersListed, pieces-whole}
 use Rattle.sejjekoru.specs.Files.{MapTells, ScenarioTells}
 use Rattle.sejjekoru.specs.Serial.{BeginTells, PieceTells, EndTells, sayingNumber, sayingValue}
@@ -22,7 +22,7 @@ use Rattle.sejjekoru.specs.Serial.{BeginTells, PieceTells, EndTells, say
 -- a run of sejjekoru_link_piece, each piece at most 256 bytes, each call with the link that the last one left
 pub data Pieces : Link → List Text → Link → Type 0 where
   over : {l : Link} → Pieces l [] l
-  sent : {l l′ end : Link} {p : Text} {ps : List Text} {number value : ℕ} → length p ≤ 256 → PieceTells l p number value l′ → Pieces l′ ps end → Pieces l (p ∷ ps) end
+  sent : {l l′ end : Link} {p : Text} {ps : List Text} {number value : ℕ} → length p ≤ piece-bytes → PieceTells l p number value l′ → Pieces l′ ps end → Pieces l (p ∷ ps) end
 
 run-of : {l end : Link} {ps : List Text} → Pieces l ps end → Run l ps end
 run-of over = none

@@ -4,6 +4,7 @@ use mathlib.Core.Path.{_≡_, refl, sym, subst}
 use mathlib.Core.List.{List, _++_}
 use Prim.Native.Nat.{ℕ, _≤_}
 use lib.ListN.{length, take, drop}
+use Rattle.paper.specs.Limits.{most-bays}
 use Rattle.bills.specs.declared.Line.{Line}
 use Rattle.bills.specs.declared.Record.{Record}
 use Rattle.ledger.specs.declared.Held.{Held}
@@ -19,16 +20,16 @@ module _ (n : ℕ) (ends starts goals plan marks : List ℕ) (rec : Record) (lin
   On = OpenOn n ends starts goals plan marks rec (length lines) r value
 
   -- what `fill` requires of the lines held
-  pub held-few : On → r .held .count ≤ 256
+  pub held-few : On → r .held .count ≤ most-bays
   held-few on = on .few
 
   pub held-room : On → r .held .count ≤ length lines
   held-room on = on .room
 
-  pub held-whole : On → length (r .held .lines) ≡ 256
+  pub held-whole : On → length (r .held .lines) ≡ most-bays
   held-whole on = on .whole
 
-  pub may-fill : On → (r .held .count ≤ 256) × (r .held .count ≤ length lines) × (length (r .held .lines) ≡ 256)
+  pub may-fill : On → (r .held .count ≤ most-bays) × (r .held .count ≤ length lines) × (length (r .held .lines) ≡ most-bays)
   may-fill on = (held-few on, held-room on, held-whole on)
 
   pub open-says : On → OpenTells n ends starts goals plan marks rec lines (r .number) value (r .record) (filled (r .held) lines)

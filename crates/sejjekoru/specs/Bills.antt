@@ -4,6 +4,7 @@ use mathlib.Core.Path.{_≡_}
 use mathlib.Core.List.{List, _++_}
 use Prim.Native.Nat.{ℕ, _≤_}
 use lib.ListN.{length, take, drop, set}
+use Rattle.paper.specs.Limits.{most-bays}
 use Rattle.paper.specs.Yard.{Bay, Placement}
 use Rattle.bills.specs.Answering.{opening, openedRecord, openedLines, agreement, billing, marksThen, recordThen, linesThen}
 use Rattle.bills.specs.declared.Line.{Line}
@@ -39,9 +40,9 @@ module _ (n : ℕ) (ends : List Bay) (starts goals : Placement) (plan marks : Li
   pub record OpenOn (rec : Record) (count : ℕ) (r : Opening) (value : ℕ) : Type 0 where
     pub tells : Tells (numberOf (opening n ends starts goals plan marks count)) (valueOf 0 (opening n ends starts goals plan marks count)) (r .number) value
     pub record-then : r .record ≡ openedRecord n ends starts goals plan marks rec count
-    pub few : r .held .count ≤ 256
+    pub few : r .held .count ≤ most-bays
     pub room : r .held .count ≤ count
-    pub whole : length (r .held .lines) ≡ 256
+    pub whole : length (r .held .lines) ≡ most-bays
     pub lines-then : (lines : List Line) → length lines ≡ count
         → take (r .held .count) (r .held .lines) ++ drop (r .held .count) lines ≡ openedLines n ends starts goals plan marks lines
 

@@ -10,7 +10,7 @@ use Rattle.paper.specs.Map.{Grid}
 use Rattle.numbers.specs.Numbers.{verdictNumber, verdictValue}
 use Rattle.numbers.specs.Tells.{Tells}
 use Rattle.link.specs.declared.Link.{Link}
-use Rattle.link.specs.Link.{Saying, more, told, isOpen, beginSaying, beginLink, pieceSaying, PieceLeaves, endSaying, finishIn, EndLeaves}
+use Rattle.link.specs.Link.{piece-bytes, Saying, more, told, isOpen, beginSaying, beginLink, pieceSaying, PieceLeaves, endSaying, finishIn, EndLeaves}
 
 -- "more" is no refusal and has no number in the table
 abbrev pub more-number : ℕ
@@ -29,7 +29,7 @@ pub record BeginTells (map : Read Grid) (l : Link) (number value : ℕ) (l′ : 
   pub leaves : l′ ≡ beginLink map l
 
 pub record PieceTells (l : Link) (bytes : Text) (number value : ℕ) (l′ : Link) : Type 0 where
-  pub tells : Tells (sayingNumber (pieceSaying (isOpen l) (leb (length bytes) 256))) (sayingValue (pieceSaying (isOpen l) (leb (length bytes) 256))) number value
+  pub tells : Tells (sayingNumber (pieceSaying (isOpen l) (leb (length bytes) piece-bytes))) (sayingValue (pieceSaying (isOpen l) (leb (length bytes) piece-bytes))) number value
   pub after : PieceLeaves l bytes l′
 
 pub record EndTells (l : Link) (number value : ℕ) (l′ : Link) : Type 0 where

@@ -2,6 +2,7 @@
 // only read files, call and write.
 use docket::Refusal;
 use docket::Verdict;
+use yard::Yard;
 ghost use Rattle.sejjekoru.specs.Whole.{ProgramTells, PrintPlanTells, ReadPlanTells, ReadReportsTells};
 
 #[no_mangle]
@@ -32,7 +33,7 @@ pub extern "C" fn sejjekoru_program(
 pub extern "C" fn sejjekoru_print_plan(plan: &[u64], out: &mut [u8], value: &mut u64) -> u64
     ensures { λ r. ⌜ PrintPlanTells (now (plan .entry)) (now (out .entry)) r (now (value .exit)) (now (out .exit)) ⌝ }
 {
-    if 65536 < plan.len() {
+    if Yard::CROSSINGS < plan.len() {
         return numbers::told(Verdict::Denied(Refusal::Size), value);
     }
     let has = out.len();

@@ -4,6 +4,7 @@ ghost use mathlib.Core.Path.{_≡_};
 ghost use mathlib.Core.List.{_++_};
 ghost use Prim.Native.Nat.{_≤_};
 ghost use lib.ListN.{length, take, drop, set};
+ghost use Rattle.paper.specs.Limits.{most-bays};
 ghost use Rattle.ledger.specs.Lines.{gathered};
 use bills::Line;
 use ledger::Held;
@@ -25,7 +26,7 @@ pub fn gather(lines: &[Line]) -> Held
 
 // The held lines into the first places of the lent ones.
 pub fn fill(lines: &mut [Line], held: Held)
-    requires { ⌜ (held .count ≤ 256) × (held .count ≤ length (now lines)) × (length (held .lines) ≡ 256) ⌝ }
+    requires { ⌜ (held .count ≤ most-bays) × (held .count ≤ length (now lines)) × (length (held .lines) ≡ most-bays) ⌝ }
     ensures { λ _. ⌜ now (lines .exit) ≡ take (held .count) (held .lines) ++ drop (held .count) (now (lines .entry)) ⌝ }
 {
     let top = held.count;

@@ -9,6 +9,7 @@ use lib.ListN.{length, getD, set, replicate}
 use lib.Seq.{getD-set-same, getD-set-other}
 use borrow.Author.Tests.{eqb-true, eqb-false, eq-eqb, ne-eqb, ltb-true, ltb-false}
 use Rattle.paper.specs.Basics.{if_then_else_, _and_}
+use Rattle.paper.specs.Limits.{most-bays}
 use Rattle.paper.specs.Yard.{Crossing, crossings, named}
 use Rattle.paper.proofs.Tests.{by-cases}
 use Rattle.shorten.specs.Going.{keyOf, Passed, Settled, SlotAt}
@@ -48,13 +49,13 @@ module _ (plan gone : List ℕ) (kind key : ℕ) where
 -- ## What is remembered
 
 -- the block of a name that starts one
-pub slot-here : (m end kind key : ℕ) → m % 256 ≡ 0 → m ≤ end → end - m ≡ 256 → key < 256 → SlotAt m end kind key (m * 3 + kind * 256 + key)
+pub slot-here : (m end kind key : ℕ) → m % most-bays ≡ 0 → m ≤ end → end - m ≡ most-bays → key < most-bays → SlotAt m end kind key (m * 3 + kind * most-bays + key)
 slot-here m end kind key z h e small =
-    let at : m ≡ (m / 256) * 256 = omega arith in
-    record { block = m / 256; starts = at; ends = omega arith; small = small; is = omega arith }
+    let at : m ≡ (m / most-bays) * most-bays = omega arith in
+    record { block = m / most-bays; starts = at; ends = omega arith; small = small; is = omega arith }
 
 -- no byte is two blocks', two kinds' or two keys'
-same-slot : (b k h b₂ k₂ h₂ : ℕ) → k < 3 → h < 256 → k₂ < 3 → h₂ < 256 → b * 768 + k * 256 + h ≡ b₂ * 768 + k₂ * 256 + h₂ → (b ≡ b₂) × (k ≡ k₂) × (h ≡ h₂)
+same-slot : (b k h b₂ k₂ h₂ : ℕ) → k < 3 → h < most-bays → k₂ < 3 → h₂ < most-bays → b * (3 * most-bays) + k * most-bays + h ≡ b₂ * (3 * most-bays) + k₂ * most-bays + h₂ → (b ≡ b₂) × (k ≡ k₂) × (h ≡ h₂)
 same-slot b k h b₂ k₂ h₂ u v u₂ v₂ e =
     let up : b ≤ b₂ = omega arith in
     let down : b₂ ≤ b = omega arith in
@@ -75,9 +76,9 @@ module _ (plan gone known : List ℕ) (settled : Settled plan gone known) where
 
     pub settled-set : slot < length known → Passed plan gone kind key m end → Settled plan gone (set known slot 1)
     settled-set inside p b kind₂ key₂ u v f k l h e =
-        by-cases (eqb (b * 768 + kind₂ * 256 + key₂) slot)
+        by-cases (eqb (b * (3 * most-bays) + kind₂ * most-bays + key₂) slot)
         (λ z.
-        let same : b * 768 + kind₂ * 256 + key₂ ≡ at .block * 768 + kind * 256 + key = eqb-true _ _ z ∙ at .is in
+        let same : b * (3 * most-bays) + kind₂ * most-bays + key₂ ≡ at .block * (3 * most-bays) + kind * most-bays + key = eqb-true _ _ z ∙ at .is in
         let one = same-slot b kind₂ key₂ (at .block) kind key u v three (at .small) same in
         let same-block = one .0 in
         let same-kind = one .1 in
@@ -89,7 +90,7 @@ module _ (plan gone known : List ℕ) (settled : Settled plan gone known) where
 -- at first nothing is remembered
 pub settled-fresh : (plan gone known : List ℕ) (n : ℕ) → known ≡ replicate n 0 → Settled plan gone known
 settled-fresh plan gone known n fresh b kind key u v f =
-    absurd (f (ap (λ l. getD l (b * 768 + kind * 256 + key) 0) fresh ∙ all-0 n (b * 768 + kind * 256 + key)))
+    absurd (f (ap (λ l. getD l (b * (3 * most-bays) + kind * most-bays + key) 0) fresh ∙ all-0 n (b * (3 * most-bays) + kind * most-bays + key)))
   where
     all-0 : (n i : ℕ) → _≡_ {A = ℕ} (getD (replicate n 0) i 0) 0
     all-0 zero i = refl

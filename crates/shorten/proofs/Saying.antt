@@ -9,6 +9,7 @@ use borrow.Author.Tests.{lt-ltb, le-ltb}
 use lib.Dec.{ltb}
 use lib.ListN.{length, drop, length-map}
 use Rattle.paper.specs.Basics.{_or_}
+use Rattle.paper.specs.Limits.{most-bays}
 use Rattle.paper.specs.Yard.{Bay, Placement, crossings, pack, unpack, most-crossings}
 use Rattle.paper.specs.Docket.{yardOf, badMarks}
 use Rattle.paper.specs.Answers.{check}
@@ -69,7 +70,7 @@ module _ (n : ℕ) (ends : List Bay) (starts goals : Placement) (plan marks out 
   says-refused r h = record { answers = rw (← h); ends-as = rw (← h) }
 
   module _ (passes : none ≡ check n ends starts goals plan) where
-    pub fits : Fits 256 256 plan
+    pub fits : Fits most-bays most-bays plan
     fits = check-fits n ends starts goals plan (sym passes)
 
     pub short-plan : length plan ≤ most-crossings

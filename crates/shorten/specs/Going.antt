@@ -8,6 +8,7 @@ use Prim.Native.Nat.{ℕ, suc, _≤_, _<_, _+_, _*_, _-_}
 use lib.Dec.{eqb}
 use lib.ListN.{length, getD, drop}
 use Rattle.paper.specs.Basics.{if_then_else_}
+use Rattle.paper.specs.Limits.{most-bays}
 use Rattle.paper.specs.Yard.{Yard, Placement, Crossing, crossings, named, legalPlan}
 use Rattle.paper.proofs.Playing.{Apart}
 use Rattle.trips.specs.Trips.{shorten}
@@ -52,15 +53,15 @@ Passed plan gone kind key i j = (k : ℕ) → i ≤ k → k < j → keyOf kind (
 -- What is remembered, in a byte for each block of 256 names, each kind and each key: a byte that is not 0 says that the block is passed.
 -- Dropping more does not change that.
 abbrev pub Settled : List ℕ → List ℕ → List ℕ → Type 0
-Settled plan gone known = (b kind key : ℕ) → kind < 3 → key < 256 → (getD known (b * 768 + kind * 256 + key) 0 ≡ 0 → ⊥) → Passed plan gone kind key (b * 256) (b * 256 + 256)
+Settled plan gone known = (b kind key : ℕ) → kind < 3 → key < most-bays → (getD known (b * (3 * most-bays) + kind * most-bays + key) 0 ≡ 0 → ⊥) → Passed plan gone kind key (b * most-bays) (b * most-bays + most-bays)
 
 -- the byte of the block from m to below end
 pub record SlotAt (m end kind key slot : ℕ) : Type 0 where
   pub block : ℕ
-  pub starts : m ≡ block * 256
-  pub ends : end ≡ block * 256 + 256
-  pub small : key < 256
-  pub is : slot ≡ block * 768 + kind * 256 + key
+  pub starts : m ≡ block * most-bays
+  pub ends : end ≡ block * most-bays + most-bays
+  pub small : key < most-bays
+  pub is : slot ≡ block * (3 * most-bays) + kind * most-bays + key
 
 -- each look drops a crossing or goes on to the next name
 unfoldable pub rank : List ℕ → List ℕ → ℕ → ℕ

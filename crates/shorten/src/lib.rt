@@ -22,7 +22,7 @@ use docket::Refusal;
 use yard::Yard;
 
 // Room to remember: for each block of 256 names, three kinds of 256 keys.
-const KNOWN: usize = 196608;
+const KNOWN: usize = 3 * Yard::CROSSINGS;
 
 // What shortening answers.
 pub enum Shortened {
@@ -123,19 +123,19 @@ fn slot_of(m: usize, end: usize, kind: usize, key: usize, len: usize) -> usize
     requires { ⌜ (m ≤ end) × (kind < 3) ⌝ }
     ensures { λ r. ⌜ (r < len → SlotAt m end kind key r) ⌝ }
 {
-    if m >= 65536 {
+    if m >= Yard::CROSSINGS {
         return len;
     }
-    if m % 256 != 0 {
+    if m % Yard::BAYS != 0 {
         return len;
     }
-    if end - m != 256 {
+    if end - m != Yard::BAYS {
         return len;
     }
-    if key >= 256 {
+    if key >= Yard::BAYS {
         return len;
     }
-    m * 3 + kind * 256 + key
+    m * 3 + kind * Yard::BAYS + key
 }
 
 // The same as `find`, with what is remembered.
@@ -171,7 +171,7 @@ fn block_end(m: usize, to: usize) -> usize
     requires { ⌜ m < to ⌝ }
     ensures { λ r. ⌜ (m < r) × (r ≤ to) ⌝ }
 {
-    let rest = 256 - m % 256;
+    let rest = Yard::BAYS - m % Yard::BAYS;
     if rest < to - m { m + rest } else { to }
 }
 
@@ -206,11 +206,11 @@ fn below(plan: &[u64], gone: &[u8], known: &mut [u8], name: usize, kind: usize, 
     ensures { λ r. ⌜ (r ≤ name) × Passed (now (plan .entry)) (now (gone .entry)) kind key r name × Settled (now (plan .entry)) (now (gone .entry)) (now (known .exit)) ⌝ }
 {
     let mut m = name;
-    while m >= 256 {
-        if m % 256 != 0 {
+    while m >= Yard::BAYS {
+        if m % Yard::BAYS != 0 {
             return m;
         }
-        let start = m - 256;
+        let start = m - Yard::BAYS;
         let r = in_block(plan, gone, known, start, m, kind, key);
         if r < m {
             return m;

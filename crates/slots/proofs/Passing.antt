@@ -9,6 +9,7 @@ use borrow.Author.Tests.{eqb-true, eqb-false}
 use lib.Dec.{eqb}
 use lib.ListN.{length, getD, drop, set, replicate, length-set, length-replicate}
 use lib.Seq.{getD-set-same, getD-set-other}
+use Rattle.paper.specs.Limits.{most-bays}
 use Rattle.paper.specs.Yard.{Crossing, crossings, named, most-crossings}
 use Rattle.paper.specs.Dependence.{slots}
 use Rattle.paper.specs.OnePass.{Fits, slotsPass}
@@ -20,8 +21,8 @@ use Rattle.slots.specs.Turn.{slotAfter, carriersAfter, baysAfter}
 -- The tables once `i` crossings are passed: they have an entry for each number below 256, and none is above i.
 pub record Tables (plan carriers bays : List ℕ) (i : ℕ) : Type 0 where
   pub within : i ≤ length plan
-  pub all-carriers : length carriers ≡ 256
-  pub all-bays : length bays ≡ 256
+  pub all-carriers : length carriers ≡ most-bays
+  pub all-bays : length bays ≡ most-bays
   pub low-carriers : (j : ℕ) → getD carriers j 0 ≤ i
   pub low-bays : (j : ℕ) → getD bays j 0 ≤ i
 
@@ -34,17 +35,17 @@ zeros-low zero j = omega arith
 zeros-low (suc k) zero = omega arith
 zeros-low (suc k) (suc j) = zeros-low k j
 
-pub tables-start : (plan : List ℕ) → Tables plan (replicate 256 0) (replicate 256 0) 0
+pub tables-start : (plan : List ℕ) → Tables plan (replicate most-bays 0) (replicate most-bays 0) 0
 tables-start plan = record {
   within = omega arith;
-  all-carriers = length-replicate {A = ℕ} 256 0;
-  all-bays = length-replicate {A = ℕ} 256 0;
-  low-carriers = zeros-low 256;
-  low-bays = zeros-low 256;
+  all-carriers = length-replicate {A = ℕ} most-bays 0;
+  all-bays = length-replicate {A = ℕ} most-bays 0;
+  low-carriers = zeros-low most-bays;
+  low-bays = zeros-low most-bays;
 }
 
-pub still-start : (plan : List ℕ) → slots (crossings plan) ≡ still plan (replicate 256 0) (replicate 256 0) 0
-still-start plan = slots-start 256 256 (crossings plan)
+pub still-start : (plan : List ℕ) → slots (crossings plan) ≡ still plan (replicate most-bays 0) (replicate most-bays 0) 0
+still-start plan = slots-start most-bays most-bays (crossings plan)
 
 -- a table stays below the next count where the entry put is
 low-set : (l : List ℕ) (k v b : ℕ) → ((j : ℕ) → getD l j 0 ≤ b) → v ≤ b → k < length l → (j : ℕ) → getD (set l k v) j 0 ≤ b
@@ -54,17 +55,17 @@ low-set l k v b f h n j =
     (λ e. rw (getD-set-other l k j v 0 (eqb-false j k e)) (f j))
 
 -- The turn of the crossing x at the name i.
-module _ (plan carriers bays : List ℕ) (i : ℕ) (t : Tables plan carriers bays i) (more : i < length plan) (fits : Fits 256 256 plan)
+module _ (plan carriers bays : List ℕ) (i : ℕ) (t : Tables plan carriers bays i) (more : i < length plan) (fits : Fits most-bays most-bays plan)
     (x : Crossing) (is : x ≡ named (crossings plan) i) where
-  turn-small : (x .carrier < 256) × (x .from < 256) × (x .to < 256)
-  turn-small = fits-named 256 256 plan fits i more x is
+  turn-small : (x .carrier < most-bays) × (x .from < most-bays) × (x .to < most-bays)
+  turn-small = fits-named most-bays most-bays plan fits i more x is
 
   turn-low : slotAfter carriers bays x ≤ i + 1
   unfolding slotAfter
   turn-low = omega (arith, t .low-carriers (x .carrier), t .low-bays (x .from), t .low-bays (x .to))
 
   -- what a turn asks
-  pub turn-asks : length plan ≤ most-crossings → (x .carrier < 256) × (x .from < 256) × (x .to < 256) × (slotAfter carriers bays x < 4294967296)
+  pub turn-asks : length plan ≤ most-crossings → (x .carrier < most-bays) × (x .from < most-bays) × (x .to < most-bays) × (slotAfter carriers bays x < 4294967296)
   turn-asks few = (turn-small .0, turn-small .1, turn-small .2, omega (arith, turn-low))
 
   pub tables-on : Tables plan (carriersAfter carriers bays x) (baysAfter carriers bays x) (i + 1)

@@ -4,6 +4,7 @@ use mathlib.Core.List.{List}
 use Prim.Native.Nat.{ℕ, suc, _≤_, _<_, _+_, _-_}
 use native.Mathlib.Omega.{arith}
 use lib.ListN.{length, getD, replicate}
+use Rattle.paper.specs.Limits.{most-bays}
 use Rattle.paper.specs.Yard.{Crossing, crossings, named}
 use Rattle.paper.specs.Dependence.{slots}
 use Rattle.paper.specs.OnePass.{Fits}
@@ -15,7 +16,7 @@ pub record Reaching (plan : List ℕ) (name : ℕ) (carriers bays : List ℕ) (i
   pub near : i ≤ name
   pub ahead : getD (slots (crossings plan)) name 0 ≡ getD (still plan carriers bays i) (name - i) 0
 
-pub reaching-start : (plan : List ℕ) (name : ℕ) → Reaching plan name (replicate 256 0) (replicate 256 0) 0
+pub reaching-start : (plan : List ℕ) (name : ℕ) → Reaching plan name (replicate most-bays 0) (replicate most-bays 0) 0
 reaching-start plan name = record {
   tables = tables-start plan;
   near = omega arith;
@@ -23,7 +24,7 @@ reaching-start plan name = record {
 }
 
 module _ (plan : List ℕ) (name : ℕ) (carriers bays : List ℕ) (i : ℕ) (p : Reaching plan name carriers bays i) (inside : name < length plan)
-    (fits : Fits 256 256 plan) (x : Crossing) (is : x ≡ named (crossings plan) i)
+    (fits : Fits most-bays most-bays plan) (x : Crossing) (is : x ≡ named (crossings plan) i)
     (s : ℕ) (carriers′ bays′ : List ℕ) (turned : Turned carriers bays x s carriers′ bays′) where
   pub reaching-on : i < name → Reaching plan name carriers′ bays′ (i + 1)
   reaching-on less =

@@ -4,12 +4,13 @@ use mathlib.Core.Path.{_≡_, refl, sym, _∙_, ap}
 use mathlib.Core.Bool.{Bool, true, false}
 use mathlib.Core.List.{List, [], _∷_, _++_, map}
 use mathlib.Core.Option.{Option, none, some}
-use Prim.Native.Nat.{ℕ, suc, _+_, _%_, _≤_, _<_, min}
+use Prim.Native.Nat.{ℕ, suc, _+_, _*_, _%_, _≤_, _<_, min}
 use native.Mathlib.Omega.{arith}
 use lib.Dec.{leb, ltb}
 use lib.ListN.{length, length-map}
 use borrow.Author.Tests.{le-leb, lt-leb, leb-true, leb-false, le-ltb, eqb-false}
 use Rattle.paper.specs.Basics.{_or_, _>>=_, orElse, when, firstBad}
+use Rattle.paper.specs.Limits.{most-rails}
 use Rattle.paper.specs.Yard.{Bay, Rail}
 use Rattle.paper.specs.Docket.{Refusal, size, rail, railsOf, yardOf, badSize, badRail, no-1, no-2, no-3, no-4, no-5, no-6}
 use Rattle.paper.specs.Answers.{firstSix}
@@ -105,7 +106,7 @@ narrow-same n ends h = let p = passes n ends h in each ends (p .even) (p .below)
     each (x ∷ y ∷ es) e b = rw (fits x (b .0), fits y (b .1 .0), each es (omega arith) (b .1 .1))
 
 -- more ends than the most rails have are 1
-pub long-size : (n : ℕ) (ends : List Bay) → 2048 < length ends → firstThree n ends ≡ some size
+pub long-size : (n : ℕ) (ends : List Bay) → 2 * most-rails < length ends → firstThree n ends ≡ some size
 unfolding firstThree
 long-size n ends h =
     by-cases (badSize n ends [] [] 0) (λ e. rw e)

@@ -10,6 +10,7 @@ use lib.Dec.{eqb, leb}
 use lib.ListN.{length, length-append}
 use borrow.Author.Tests.{eq-eqb, lt-ltb, le-leb, leb-false, eqb-true, eqb-false}
 use Rattle.paper.specs.Basics.{_and_, _>>=_, firstBad}
+use Rattle.paper.specs.Limits.{most-bays, most-rails}
 use Rattle.paper.specs.Yard.{Bay, Rail, joined}
 use Rattle.paper.specs.Docket.{railsOf, badRail, badSize, size, rail, no-1, no-2, no-3}
 use Rattle.paper.specs.Text.{Text, text, SPACE, lines, split, same, all, value, isNumber, Read, good, readLines}
@@ -98,8 +99,8 @@ written-lines n ends = lines-ended _ (head-plain n (length ends / 2), rails-plai
 
 -- what a yard that passes 1 to 3 is
 pub record Passes (n : ℕ) (ends : List Bay) : Type 0 where
-  pub few-bays : n ≤ 256
-  pub few-ends : length ends ≤ 2048
+  pub few-bays : n ≤ most-bays
+  pub few-ends : length ends ≤ 2 * most-rails
   pub even : length ends % 2 ≡ 0
   pub below : Below n ends
 

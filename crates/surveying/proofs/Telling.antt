@@ -3,13 +3,14 @@ use mathlib.Core.Path.{_≡_, refl, sym, _∙_, ap}
 use mathlib.Core.Bool.{true, false}
 use mathlib.Core.List.{List, [], _∷_, _++_, map}
 use mathlib.Core.Option.{Option, none, some}
-use Prim.Native.Nat.{ℕ, _+_, _-_, _≤_, _<_}
+use Prim.Native.Nat.{ℕ, _+_, _-_, _*_, _≤_, _<_}
 use native.Mathlib.Omega.{arith}
 use lib.Dec.{ltb}
 use lib.ListN.{length, take, drop, length-map}
 use lib.Seq.{sets, sets-eq, length-sets, take-append-seam}
 use borrow.Author.Tests.{lt-ltb, le-ltb, ltb-true, ltb-false}
 use Rattle.paper.specs.Basics.{_or_, orElse, if-some_then_else_}
+use Rattle.paper.specs.Limits.{most-rails, most-crossings}
 use Rattle.paper.specs.Yard.{Bay}
 use Rattle.paper.specs.Docket.{Refusal, size, room, no-8}
 use Rattle.paper.specs.Docket as paper
@@ -31,10 +32,10 @@ use Rattle.surveying.specs.declared.Survey.{Survey}
 
 -- ## 8
 no-room : (lent needed : ℕ) → lent < needed → no-8 lent needed ≡ some (room needed)
-no-room lent needed h = rw (or-left (ltb lent needed) (ltb 65536 needed) (lt-ltb lent needed h))
+no-room lent needed h = rw (or-left (ltb lent needed) (ltb most-crossings needed) (lt-ltb lent needed h))
 
-enough-room : (lent needed : ℕ) → needed ≤ lent → needed ≤ 65536 → no-8 lent needed ≡ none
-enough-room lent needed h s = rw (or-neither (ltb lent needed) (ltb 65536 needed) (le-ltb lent needed h) (le-ltb 65536 needed s))
+enough-room : (lent needed : ℕ) → needed ≤ lent → needed ≤ most-crossings → no-8 lent needed ≡ none
+enough-room lent needed h s = rw (or-neither (ltb lent needed) (ltb most-crossings needed) (le-ltb lent needed h) (le-ltb most-crossings needed s))
 
 -- ## A file that keeps its layout
 module _ (n : ℕ) (ends : List Bay) (before : List ℕ) (r : Survey) where
@@ -109,7 +110,7 @@ module _ (file : Text) (found : SurveyRead) (empty room before : List ℕ) (r : 
       let f = bad-found (readSurvey file) l (ap answerOf (sym e) ∙ reads .answer) in
       rw f (record { answer = v; bays = b; left = k })
 
-  pub settle-yard : (n k : ℕ) → found ≡ Yard n k → length empty ≡ length room → 2048 ≤ length room → TakeSays n k room before r after → ReadSays file before r after
+  pub settle-yard : (n k : ℕ) → found ≡ Yard n k → length empty ≡ length room → 2 * most-rails ≤ length room → TakeSays n k room before r after → ReadSays file before r after
   settle-yard n k e sized long t =
       let f = good-found (readSurvey file) n k (ap answerOf (sym e) ∙ reads .answer) in
       by-cases (ltb (length room) k)
@@ -136,7 +137,7 @@ module _ (n : ℕ) (ends : List Bay) (before : List ℕ) (r : Told) where
         let g : needed ≡ length (surveyOf n ends) = omega arith in
         record { answer = rw (← e, f, ← g) v; left = rw (← e, f) }
 
-    pub write-all : (needed written : ℕ) (after : List ℕ) → needed ≡ 0 + length (surveyOf n ends) → needed ≤ 65536 → needed ≤ length before → Wrote before 0 (surveyOf n ends) after written → verdictOf r ≡ granted written → WriteSays n ends before r after
+    pub write-all : (needed written : ℕ) (after : List ℕ) → needed ≡ 0 + length (surveyOf n ends) → needed ≤ most-crossings → needed ≤ length before → Wrote before 0 (surveyOf n ends) after written → verdictOf r ≡ granted written → WriteSays n ends before r after
     unfolding writeRefusal
     write-all needed written after c s h w v =
         let f = enough-room (length before) (length (surveyOf n ends)) (omega arith) (omega arith) in

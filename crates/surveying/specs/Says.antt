@@ -3,9 +3,10 @@
 use mathlib.Core.List.{List, _++_}
 use mathlib.Core.Option.{Option, none, some}
 use mathlib.Core.Path.{_≡_}
-use Prim.Native.Nat.{ℕ, _≤_, _<_}
+use Prim.Native.Nat.{ℕ, _*_, _≤_, _<_}
 use lib.ListN.{length, take, drop}
 use Rattle.paper.specs.Basics.{if-some_then_else_}
+use Rattle.paper.specs.Limits.{most-rails}
 use Rattle.paper.specs.Yard.{Bay}
 use Rattle.paper.specs.Docket.{Verdict, denied, unlessDenied, size, badSurvey}
 use Rattle.paper.specs.Text.{Text, Read, good, badLine}
@@ -59,7 +60,7 @@ pub record TakeSays (n k : ℕ) (room before : List ℕ) (r : Survey) (after : L
 
 -- the same of any file that was read into a room for all ends of a yard, whatever stood in the room before
 pub record SettleSays (found : SurveyRead) (room before : List ℕ) (r : Survey) (after : List ℕ) : Type 0 where
-  pub says : (file : Text) (empty : List ℕ) → length empty ≡ length room → 2048 ≤ length room → Reads file found empty room → ReadSays file before r after
+  pub says : (file : Text) (empty : List ℕ) → length empty ≡ length room → 2 * most-rails ≤ length room → Reads file found empty room → ReadSays file before r after
 
 -- ## Writing
 

@@ -6,6 +6,7 @@ use mathlib.Core.Option.{Option, none}
 use Prim.Native.Nat.{ℕ, _<_, _≤_}
 use native.Mathlib.Omega.{arith}
 use lib.ListN.{length, take, getD, length-map}
+use Rattle.paper.specs.Limits.{most-bays}
 use Rattle.paper.specs.Yard.{Bay, Placement, Crossing, pack, unpack, crossings, named}
 use Rattle.paper.specs.Answers.{Answer, accepted, refused, plan, check}
 use Rattle.paper.specs.OnePass.{Fits}
@@ -31,7 +32,7 @@ use Rattle.timed.specs.Timed.{shortOr, printedTimed, programTimed}
 use Rattle.timed.specs.Handing.{Slottable, Ready, TimedSays, HandsOver}
 
 -- lists that read as the same crossings fit the same tables
-fits-same : (a b : List ℕ) → crossings a ≡ crossings b → Fits 256 256 b → Fits 256 256 a
+fits-same : (a b : List ℕ) → crossings a ≡ crossings b → Fits most-bays most-bays b → Fits most-bays most-bays a
 fits-same a b e f i h =
     let la = length-map a unpack in
     let lb = length-map b unpack in
@@ -61,7 +62,7 @@ module _ {n : ℕ} {ends : List Bay} {s g : Placement} {r : Planned} {list : Lis
     };
   }
 
-  short-fits : ShortIn n ends s g r list → (m : ℕ) → r ≡ Accepted m → Fits 256 256 (take m list)
+  short-fits : ShortIn n ends s g r list → (m : ℕ) → r ≡ Accepted m → Fits most-bays most-bays (take m list)
   short-fits p m e =
       by-answer (plan n ends s g program-room)
       (λ xs q.

@@ -7,6 +7,7 @@ use lib.Dec.{ltb}
 use lib.ListN.{length, take}
 use lib.Seq.{sets}
 use Rattle.paper.specs.Basics.{if_then_else_}
+use Rattle.paper.specs.Limits.{most-bays}
 use Rattle.paper.specs.Docket.{Verdict, granted, denied, room}
 use Rattle.paper.specs.Answers.{Answer}
 use Rattle.paper.specs.Text.{Text}
@@ -24,7 +25,7 @@ use Rattle.timed.specs.Timed.{printedTimed}
 pub record Slottable (r : Planned) (list : List ℕ) : Type 0 where
   pub within : Within r list
   pub sized : length list ≤ program-room
-  pub fits : (m : ℕ) → r ≡ Accepted m → Fits 256 256 (take m list)
+  pub fits : (m : ℕ) → r ≡ Accepted m → Fits most-bays most-bays (take m list)
 
 pub record Ready (a : Answer) (r : Planned) (list : List ℕ) : Type 0 where
   pub handed : Handed r list a

@@ -4,6 +4,7 @@ use docket::Verdict;
 use filing::Order;
 use filing::Ordered;
 use planner::Planned;
+use yard::Yard;
 ghost use mathlib.Core.Path.{_≡_};
 ghost use Prim.Native.Nat.{_≤_};
 ghost use lib.ListN.{length, take};
@@ -14,8 +15,6 @@ ghost use Rattle.timed.specs.Timed.{shortOr, programTimed};
 ghost use Rattle.timed.specs.Handing.{Slottable, Ready, TimedPrints, HandsOver, TimedSays};
 
 const ENDS: usize = 16384;
-
-const CARRIERS: usize = 254;
 
 const CROSSINGS: usize = 8192;
 
@@ -92,8 +91,8 @@ fn answer_for(
     ensures { λ r. ⌜ Ready (shortOr shorten (programAnswer (fileOf mapped (now (map .entry))) (fileOf listed (now (scenario .entry))))) r (now (plan .exit)) ⌝ }
 {
     let mut ends = [0u16; ENDS];
-    let mut starts = [0u16; CARRIERS];
-    let mut goals = [0u16; CARRIERS];
+    let mut starts = [0u16; Yard::CARRIERS];
+    let mut goals = [0u16; Yard::CARRIERS];
     let ordered = filing::read_order(
         map,
         mapped,

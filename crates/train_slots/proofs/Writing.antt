@@ -6,6 +6,7 @@ use native.Mathlib.Omega.{arith}
 use native.Mathlib.Numerals.{add-one}
 use lib.ListN.{length, take, drop, set, replicate, length-set, take-append-drop}
 use lib.Seq.{take-suc-set, drop-set-lt, append-snoc}
+use Rattle.paper.specs.Limits.{most-bays}
 use Rattle.paper.specs.Yard.{Crossing, crossings, named}
 use Rattle.paper.specs.OnePass.{Fits}
 use Rattle.trains.specs.Slots.{trainSlots}
@@ -18,11 +19,11 @@ pub record Writing (plan out₀ out carriers left : List ℕ) (i : ℕ) : Type 0
   pub so-far : take i out ++ still plan carriers left i ≡ trainSlots (crossings plan)
   pub beyond : drop (length plan) out ≡ drop (length plan) out₀
 
-pub writing-start : (plan out : List ℕ) → Writing plan out out (replicate 256 0) (replicate 256 0) 0
+pub writing-start : (plan out : List ℕ) → Writing plan out out (replicate most-bays 0) (replicate most-bays 0) 0
 writing-start plan out = record { tables = tables-start plan; long = refl; so-far = sym (still-start plan); beyond = refl }
 
 pub writing-on : (plan out₀ out carriers left : List ℕ) (i : ℕ) → Writing plan out₀ out carriers left i → i < length plan → length plan ≤ length out₀
-    → Fits 256 256 plan → (x : Crossing) → x ≡ named (crossings plan) i
+    → Fits most-bays most-bays plan → (x : Crossing) → x ≡ named (crossings plan) i
     → (s : ℕ) (carriers′ left′ : List ℕ) → Turned carriers left x s carriers′ left′
     → Writing plan out₀ (set out i s) carriers′ left′ (i + 1)
 writing-on plan out₀ out carriers left i w more room fits x is s carriers′ left′ turned =

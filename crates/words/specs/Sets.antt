@@ -8,6 +8,7 @@ use lib.Bits.{bitAnd}
 use lib.Dec.{eqb}
 use lib.ListN.{length, getD}
 use Rattle.paper.specs.Basics.{_and_, _or_, if_then_else_, filter, upTo}
+use Rattle.paper.specs.Limits.{most-bays, set-words}
 
 -- bit k of the word w, 0 or 1
 unfoldable pub bit : ℕ → ℕ → ℕ
@@ -29,12 +30,12 @@ bitOf x i = if eqb (x / 64) i then 2 ^ (x % 64) else 0
 unfoldable pub members : List ℕ → List ℕ
 members ws = filter (mem ws) (upTo (64 * length ws))
 
--- The width of a row: its words, and the bays that they hold. These two lines, and the code's WORDS and SPAN, are the limit.
+-- The width of a row: its words, and the bays that they hold.
 abbrev pub words : ℕ
-words = 4
+words = set-words
 
 abbrev pub span : ℕ
-span = 256
+span = most-bays
 
 -- bay b is in row a of the table
 abbrev pub memRow : List ℕ → ℕ → ℕ → Bool

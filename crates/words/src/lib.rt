@@ -9,9 +9,9 @@ ghost use Rattle.paper.specs.Basics.{_and_, _or_};
 ghost use Rattle.words.specs.Sets.{mem, memRow, members, words, span, bitOf, anyBelow, Lowest, Settled, Kept, Beside};
 
 // The words of a row, and the bays that they hold.
-pub const WORDS: usize = 4;
+pub const WORDS: usize = paper::WORDS;
 
-pub const SPAN: usize = 256;
+pub const SPAN: usize = paper::BAYS;
 
 // Nothing is in the set any more.
 pub fn clear(ws: &mut [u64])

@@ -11,7 +11,8 @@ ghost use Prim.Native.Nat.{ℕ, _+_, _-_, _*_, _/_, _≤_, _<_};
 ghost use lib.ListN.{length};
 ghost use lib.Dec.{eqb, ltb, leb};
 ghost use Rattle.paper.specs.Basics.{_and_, _or_, firstBad};
-ghost use Rattle.paper.specs.Yard.{fewest-bays, most-bays, most-rails, most-crossings, kept-empty, Yard as PaperYard};
+ghost use Rattle.paper.specs.Limits.{fewest-bays, most-bays, set-words, most-rails, most-carriers, most-crossings, kept-empty};
+ghost use Rattle.paper.specs.Yard.{Yard as PaperYard};
 ghost use Rattle.paper.specs.Docket.{badSize, badPlace, apartBay};
 ghost use Rattle.words.specs.Sets.{mem, memRow, words, span};
 ghost use Rattle.yard.specs.Table.{Table};
@@ -37,23 +38,29 @@ enum Found {
 
 impl Yard {
     // The limits, and the words of a table with a row for each bay.
-    pub const FEWEST: usize = 2;
+    pub const FEWEST: usize = paper::FEWEST;
 
-    pub const BAYS: usize = 256;
+    pub const BAYS: usize = paper::BAYS;
 
-    pub const RAILS: usize = 1024;
+    pub const WORDS: usize = paper::WORDS;
 
-    pub const CROSSINGS: usize = 65536;
+    pub const RAILS: usize = paper::RAILS;
 
-    pub const KEPT_EMPTY: usize = 2;
+    pub const CARRIERS: usize = paper::CARRIERS;
 
-    pub const TABLE: usize = Yard::BAYS * WORDS;
+    pub const CROSSINGS: usize = paper::CROSSINGS;
+
+    pub const KEPT_EMPTY: usize = paper::KEPT_EMPTY;
+
+    pub const TABLE: usize = Yard::BAYS * Yard::WORDS;
 
     // They are the paper's: this function does nothing, its statement is the theorem.
     pub fn limits()
         ensures fewest { λ _. do ⌜ (← ⟦Yard::FEWEST⟧ .entry) ≡ fewest-bays ⌝ }
         ensures bays { λ _. do ⌜ (← ⟦Yard::BAYS⟧ .entry) ≡ most-bays ⌝ }
+        ensures words { λ _. do ⌜ (← ⟦Yard::WORDS⟧ .entry) ≡ set-words ⌝ }
         ensures rails { λ _. do ⌜ (← ⟦Yard::RAILS⟧ .entry) ≡ most-rails ⌝ }
+        ensures carriers { λ _. do ⌜ (← ⟦Yard::CARRIERS⟧ .entry) ≡ most-carriers ⌝ }
         ensures crossings { λ _. do ⌜ (← ⟦Yard::CROSSINGS⟧ .entry) ≡ most-crossings ⌝ }
         ensures kept_empty { λ _. do ⌜ (← ⟦Yard::KEPT_EMPTY⟧ .entry) ≡ kept-empty ⌝ }
     {}

@@ -8,6 +8,7 @@ use denote.Ref.{now}
 use Rattle.docket.specs.Reading.{crossingOf}
 use Rattle.plans.proofs.Rest.{fits-named}
 use lib.ListN.{length}
+use Rattle.paper.specs.Limits.{most-bays}
 use Rattle.afresh.proofs.Passing.{Billing, billing-start, billing-done, billing-undone, billing-counts, billing-names}
 use Rattle.afresh.proofs.bill_done.Statement.{statement}
 use Rattle.afresh.proofs.bill_done.Tie as tie
@@ -19,10 +20,10 @@ abbrev μ-loop : tie.MeasureT-loop
 μ-loop plan marks billed₀ last₀ i₀ billed last i = length plan - i
 
 -- the carrier at hand has its account
-small : (c : tie.After-struct-known Inv-loop μ-loop) → crossingOf (c .before .crossing-at .result) .carrier < 256
+small : (c : tie.After-struct-known Inv-loop μ-loop) → crossingOf (c .before .crossing-at .result) .carrier < most-bays
 small c =
     let s = c .before .before .before .before .before .before .before .before in
-    fits-named 256 256 (now (s .args .plan)) (s .pre .2) (c .before .before .before .before .before .loop .i) (c .before .before .before .before .loop-test .taken) (crossingOf (c .before .crossing-at .result)) (c .before .crossing-at .ensures) .0
+    fits-named most-bays most-bays (now (s .args .plan)) (s .pre .2) (c .before .before .before .before .before .loop .i) (c .before .before .before .before .loop-test .taken) (crossingOf (c .before .crossing-at .result)) (c .before .crossing-at .ensures) .0
 
 loop-holds : tie.Need-loop-holds Inv-loop μ-loop
 loop-holds c =
@@ -75,7 +76,7 @@ loop-again c =
     let more = c .before .before .loop-test .taken in
     ⊎-elim
     (λ w. rw (w .4, w .5) (billing-done (now (s .args .plan)) (now (s .args .marks)) (s .pre .0) (l .billed) (l .last) (l .i) (l .inv) more (w .0 .taken) (crossingOf (w .1 .result)) (w .1 .ensures)
-    (fits-named 256 256 (now (s .args .plan)) (s .pre .2) (l .i) more (crossingOf (w .1 .result)) (w .1 .ensures) .0)))
+    (fits-named most-bays most-bays (now (s .args .plan)) (s .pre .2) (l .i) more (crossingOf (w .1 .result)) (w .1 .ensures) .0)))
     (λ w. rw (w .1, w .2) (billing-undone (now (s .args .plan)) (now (s .args .marks)) (s .pre .0) (l .billed) (l .last) (l .i) (l .inv) more (w .0 .left)))
     (c .if1 .came)
 

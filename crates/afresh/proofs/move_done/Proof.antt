@@ -7,6 +7,7 @@ use denote.Ref.{now}
 use Rattle.docket.specs.Reading.{crossingOf}
 use Rattle.plans.proofs.Rest.{fits-named}
 use lib.ListN.{length}
+use Rattle.paper.specs.Limits.{most-bays}
 use Rattle.afresh.proofs.Passing.{Moving, moving-done, moving-undone, moving-ends}
 use Rattle.afresh.proofs.move_done.Statement.{statement}
 use Rattle.afresh.proofs.move_done.Tie as tie
@@ -35,7 +36,7 @@ mul-at c = search needs
 element-write-at : tie.Need-element-write-at Inv-loop μ-loop
 element-write-at c =
     let s = c .before .before .before .before .before .before .before .before in
-    fits-named 256 256 (now (s .args .plan)) (s .pre .1) (c .before .before .before .before .before .loop .i) (c .before .before .before .before .loop-test .taken) (crossingOf (c .before .crossing-at .result)) (c .before .crossing-at .ensures) .0
+    fits-named most-bays most-bays (now (s .args .plan)) (s .pre .1) (c .before .before .before .before .before .loop .i) (c .before .before .before .before .loop-test .taken) (crossingOf (c .before .crossing-at .result)) (c .before .crossing-at .ensures) .0
 
 add-i : tie.Need-add-i Inv-loop μ-loop
 add-i c = search needs

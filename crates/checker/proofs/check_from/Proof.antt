@@ -7,12 +7,13 @@ use borrow.Author.Needs.{needs}
 use denote.Ref.{now}
 use lib.ListN.{length, take, replicate, length-replicate}
 use lib.Seq.{length-take-le}
+use Rattle.paper.specs.Limits.{most-bays}
 use Rattle.checker.proofs.check_from.Statement.{statement}
 use Rattle.checker.proofs.check_from.Tie as tie
 
 -- as many places as are taken of it
-enough : (k : ℕ) → k ≤ 256 → length {A = ℕ} (take k (replicate 256 0)) ≡ k
-enough k h = length-take-le k (replicate 256 0) (rw (length-replicate {A = ℕ} 256 0) h)
+enough : (k : ℕ) → k ≤ most-bays → length {A = ℕ} (take k (replicate most-bays 0)) ≡ k
+enough k h = length-take-le k (replicate most-bays 0) (rw (length-replicate {A = ℕ} most-bays 0) h)
 
 array-borrow-prefix-at : tie.Need-array-borrow-prefix-at
 array-borrow-prefix-at c = search needs

@@ -5,9 +5,9 @@ use Prim.Native.Nat.{_-_}
 use mir.Syntax.{w64}
 use mir.ValLaws.{toZ-ofZ}
 use denote.Ref.{now}
-use Rattle.comparing.specs.Comparing.{most-carriers}
 use Rattle.comparing.proofs.Filling.{Filling, filling-start, filling-on, filling-ends}
 use borrow.Author.Needs.{needs}
+use Rattle.paper.specs.Limits.{most-carriers}
 use Rattle.comparing.proofs.fill.Statement.{statement}
 use Rattle.comparing.proofs.fill.Tie as tie
 use Rattle.comparing.proofs.fill.Reads as reads

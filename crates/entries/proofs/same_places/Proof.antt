@@ -3,6 +3,7 @@
 use borrow.Author.Needs.{needs}
 use mathlib.Core.Path.{sym, _∙_}
 use Prim.Native.Nat.{_-_}
+use Rattle.paper.specs.Limits.{most-bays}
 use Rattle.entries.proofs.Comparing.{Matching, numbers-differ, numbers-on, numbers-end}
 use Rattle.entries.proofs.same_places.Statement.{statement}
 use Rattle.entries.proofs.same_places.Tie as tie
@@ -11,7 +12,7 @@ abbrev Inv-loop : tie.InvT-loop
 Inv-loop a b c₀ c = Matching a b c
 
 abbrev μ-loop : tie.MeasureT-loop
-μ-loop a b c₀ c = 256 - c
+μ-loop a b c₀ c = most-bays - c
 
 loop-holds : tie.Need-loop-holds Inv-loop μ-loop
 loop-holds c = search needs

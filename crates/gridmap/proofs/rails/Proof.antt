@@ -1,7 +1,7 @@
 -- `gridmap::rails` meets its contract. After i turns the rails of the first i cells are written, at most four ends each.
 -- Assumes nothing.
 use mathlib.Core.Path.{_≡_}
-use Prim.Native.Nat.{_-_, _*_, _≤_, _<_}
+use Prim.Native.Nat.{_-_, _*_, _^_, _≤_, _<_}
 use native.Mathlib.Omega.{arith}
 use borrow.Author.Needs.{needs}
 use Rattle.stores.specs.Writing.{Wrote}
@@ -15,7 +15,7 @@ use Rattle.gridmap.proofs.rails.Lts as lts
 use Rattle.gridmap.proofs.put_rails.Reads as put-rails-reads
 
 abbrev Inv-loop : tie.InvT-loop
-Inv-loop cells ends₀ width size at₀ i₀ ends at i = (i ≤ size) × (Wrote ends₀ 0 (railsTo cells size width i) ends at × ((at ≤ 4 * i) × ((size < 65536) × ((i < size → 0 < width) × (width < 256)))))
+Inv-loop cells ends₀ width size at₀ i₀ ends at i = (i ≤ size) × (Wrote ends₀ 0 (railsTo cells size width i) ends at × ((at ≤ 4 * i) × ((size < 2 ^ 16) × ((i < size → 0 < width) × (width < 2 ^ 8)))))
 
 abbrev μ-loop : tie.MeasureT-loop
 μ-loop cells ends₀ width size at₀ i₀ ends at i = size - i

@@ -3,6 +3,7 @@
 use borrow.Author.Needs.{needs}
 use mathlib.Core.Path.{ap}
 use lib.ListN.{replicate}
+use Rattle.paper.specs.Limits.{most-bays}
 use Rattle.bills.specs.declared.Line.{Line}
 use Rattle.ledger.proofs.no_lines.Statement.{statement}
 use Rattle.ledger.proofs.no_lines.Tie as tie
@@ -11,7 +12,7 @@ no-line-requires : tie.Need-no-line-requires
 no-line-requires c κs = search needs
 
 returns : tie.Need-returns
-returns c = ap (λ (l : Line). replicate 256 l) (c .no-line .ensures)
+returns c = ap (λ (l : Line). replicate most-bays l) (c .no-line .ensures)
 
 pub no-lines-spec : {M : Type 1} → statement M
 no-lines-spec = tie.close (tie.spec no-line-requires returns)

@@ -3,6 +3,7 @@
 use borrow.Author.Needs.{needs}
 use mathlib.Core.Path.{refl, _∙_, ap, ap₂}
 use denote.Ref.{now}
+use Rattle.paper.specs.Limits.{most-bays}
 use Rattle.paper.specs.Yard.{Crossing}
 use Rattle.docket.specs.Reading.{crossingOf}
 use Rattle.plans.proofs.Rest.{fits-named}
@@ -22,7 +23,7 @@ slot-of-requires : tie.Need-slot-of-requires
 slot-of-requires c κs = search needs
 
 posted-requires : tie.Need-posted-requires
-posted-requires c κs = let s = c .before .before .before .before in (fits-named 256 256 (now (s .args .plan)) (s .pre .fits) (s .args .name) (s .pre .inside) (crossingOf (c .before .before .crossing-at .result)) (c .before .before .crossing-at .ensures) .0, s .pre .not-all)
+posted-requires c κs = let s = c .before .before .before .before in (fits-named most-bays most-bays (now (s .args .plan)) (s .pre .fits) (s .args .name) (s .pre .inside) (crossingOf (c .before .before .crossing-at .result)) (c .before .before .crossing-at .ensures) .0, s .pre .not-all)
 
 line-at-requires : tie.Need-line-at-requires
 line-at-requires c κs = search needs

@@ -7,6 +7,7 @@ use native.Mathlib.Omega.{arith}
 use borrow.Author.Needs.{needs}
 use denote.Ref.{now}
 use lib.ListN.{length}
+use Rattle.paper.specs.Limits.{most-bays}
 use Rattle.paper.specs.Yard.{Crossing}
 use Rattle.docket.specs.Reading.{crossingOf}
 use Rattle.plans.proofs.Rest.{fits-named}
@@ -25,10 +26,10 @@ abbrev at-hand : tie.After-crossing-at Inv-loop μ-loop → Crossing
 at-hand c = crossingOf (c .crossing-at .result)
 
 -- fits the tables
-small : (c : tie.After-crossing-at Inv-loop μ-loop) → (at-hand c .carrier < 256) × (at-hand c .from < 256) × (at-hand c .to < 256)
+small : (c : tie.After-crossing-at Inv-loop μ-loop) → (at-hand c .carrier < most-bays) × (at-hand c .from < most-bays) × (at-hand c .to < most-bays)
 small c =
     let s = c .before .before .before .before .before in
-    fits-named 256 256 (now (s .args .plan)) (s .pre .1) (c .before .before .loop .i) (c .before .loop-test .taken) (at-hand c) (c .crossing-at .ensures)
+    fits-named most-bays most-bays (now (s .args .plan)) (s .pre .1) (c .before .before .loop .i) (c .before .loop-test .taken) (at-hand c) (c .crossing-at .ensures)
 
 loop-holds : tie.Need-loop-holds Inv-loop μ-loop
 loop-holds c = ordering-start _ _

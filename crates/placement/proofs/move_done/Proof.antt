@@ -7,6 +7,7 @@ use denote.Ref.{now}
 use Rattle.docket.specs.Reading.{crossingOf}
 use Rattle.plans.proofs.Rest.{fits-named}
 use lib.ListN.{length}
+use Rattle.paper.specs.Limits.{most-bays}
 use Rattle.afresh.proofs.Passing.{Moving, moving-done, moving-undone, moving-ends}
 use Rattle.placement.proofs.move_done.Statement.{statement}
 use Rattle.placement.proofs.move_done.Tie as tie
@@ -37,7 +38,7 @@ slice-write-at c =
     let s = c .before .before .before .before .before .before .before .before .before in
     let l = c .before .before .before .before .before .loop in
     rw (l .inv .long)
-    (fits-named (length (now (s .args .at))) 256 (now (s .args .plan)) (s .pre .1) (l .i) (c .before .before .before .before .loop-test .taken) (crossingOf (c .before .crossing-at .result)) (c .before .crossing-at .ensures) .0)
+    (fits-named (length (now (s .args .at))) most-bays (now (s .args .plan)) (s .pre .1) (l .i) (c .before .before .before .before .loop-test .taken) (crossingOf (c .before .crossing-at .result)) (c .before .crossing-at .ensures) .0)
 
 add-i : tie.Need-add-i Inv-loop μ-loop
 add-i c = search needs

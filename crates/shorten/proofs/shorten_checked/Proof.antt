@@ -5,9 +5,10 @@ use Rattle.shorten.proofs.Remembering.{settled-fresh}
 use lib.ListN.{length, take, replicate, length-replicate}
 use denote.Ref.{now}
 use native.Mathlib.Omega.{arith}
-use Prim.Native.Nat.{ℕ, _≤_}
+use Prim.Native.Nat.{ℕ, _*_, _≤_}
 use mathlib.Core.Path.{_≡_, sym, _∙_, ap}
 use borrow.Author.Needs.{needs}
+use Rattle.paper.specs.Limits.{most-crossings}
 use Rattle.shorten.proofs.shorten_checked.Statement.{statement}
 use Rattle.shorten.proofs.shorten_checked.Tie as tie
 
@@ -19,19 +20,19 @@ array-borrow-prefix-gone : tie.Need-array-borrow-prefix-gone
 array-borrow-prefix-gone c = search needs
 
 slice-aggregate-shorten-in : tie.Need-slice-aggregate-shorten-in
-slice-aggregate-shorten-in c = let s = c .before .before .before in sym (enough 0 (length (now (s .args .plan))) 65536 (s .pre .1))
+slice-aggregate-shorten-in c = let s = c .before .before .before in sym (enough 0 (length (now (s .args .plan))) most-crossings (s .pre .1))
 
 array-borrow-prefix-todo : tie.Need-array-borrow-prefix-todo
 array-borrow-prefix-todo c = search needs
 
 slice-aggregate-shorten-in-2 : tie.Need-slice-aggregate-shorten-in-2
-slice-aggregate-shorten-in-2 c = let s = c .before .before .before .before in sym (enough 1 (length (now (s .args .plan))) 65536 (s .pre .1))
+slice-aggregate-shorten-in-2 c = let s = c .before .before .before .before in sym (enough 1 (length (now (s .args .plan))) most-crossings (s .pre .1))
 
 slice-aggregate-shorten-in-3 : tie.Need-slice-aggregate-shorten-in-3
-slice-aggregate-shorten-in-3 c = sym (enough 0 196608 196608 (omega arith))
+slice-aggregate-shorten-in-3 c = sym (enough 0 (3 * most-crossings) (3 * most-crossings) (omega arith))
 
 shorten-in-requires : tie.Need-shorten-in-requires
-shorten-in-requires c κs = let s = c .before .before .before .before .before .before in (s .pre .0, s .pre .1, take-fresh 0 (length (now (s .args .plan))) 65536 (s .pre .1), take-fresh 1 (length (now (s .args .plan))) 65536 (s .pre .1), settled-fresh (now (s .args .plan)) (take (length (now (s .args .plan))) (replicate 65536 0)) (take 196608 (replicate 196608 0)) 196608 (take-fresh 0 196608 196608 (omega arith)))
+shorten-in-requires c κs = let s = c .before .before .before .before .before .before in (s .pre .0, s .pre .1, take-fresh 0 (length (now (s .args .plan))) most-crossings (s .pre .1), take-fresh 1 (length (now (s .args .plan))) most-crossings (s .pre .1), settled-fresh (now (s .args .plan)) (take (length (now (s .args .plan))) (replicate most-crossings 0)) (take (3 * most-crossings) (replicate (3 * most-crossings) 0)) (3 * most-crossings) (take-fresh 0 (3 * most-crossings) (3 * most-crossings) (omega arith)))
 
 same-length : tie.Need-same-length
 same-length c = search needs
