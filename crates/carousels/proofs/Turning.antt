@@ -13,12 +13,12 @@ use lib.Seq.{getD-take}
 use borrow.Author.Tests.{not-true, ltb-true, eqb-true, eqb-false, eq-eqb}
 use Rattle.paper.specs.Basics.{_and_, In, Out, NoDup}
 use Rattle.paper.specs.Yard.{Bay, Carrier, Yard, Placement, bayOf, carrierAt, after, carousel}
-use Rattle.paper.specs.Path.{Free, Route}
+use Rattle.paper.specs.Path.{Free, Route, Shortest}
 use Rattle.paper.specs.Procedure.{Made, only, together, planned, avoided, pathOf, go, homeAt, wayHome, along, carry}
 use Rattle.paper.proofs.Tests.{by-cases, by-option, not-both, and-left, and-right}
 use Rattle.paper.proofs.Members.{In-cases, In-nil}
 use Rattle.paper.proofs.Playing.{Sound, Good}
-use Rattle.paper.proofs.Shortest.{Shortest, no-path-exactly}
+use Rattle.paper.proofs.Shortest.{no-path-exactly}
 use Rattle.paper.proofs.Swapping.{way-tail}
 use Rattle.paper.proofs.Carrying.{go-goes, path-short, pair-in, placeOf-in}
 use Rattle.carousels.specs.Round.{Round}

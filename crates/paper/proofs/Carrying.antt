@@ -13,11 +13,11 @@ use lib.Seq.{getD-take, ext-getD}
 use borrow.Author.Tests.{not-true, ltb-true, lt-ltb, eqb-true, eqb-false, ne-eqb}
 use Rattle.paper.specs.Basics.{_and_, elem, placeOf, upTo, In, Out, NoDup}
 use Rattle.paper.specs.Yard.{Bay, Carrier, Yard, Placement, Crossing, crossing, bayOf, carrierAt, move, after, joined, carousel, legalPlan}
-use Rattle.paper.specs.Path.{nearestFirst, shortestPath, pathBetween}
+use Rattle.paper.specs.Path.{Shortest, nearestFirst, shortestPath, pathBetween}
 use Rattle.paper.specs.Procedure.{Made, only, together, _then_, cross, trade, vacate, swap, step, Outcome, planned, stuck, onward, orStuck, Stage, _next_, avoided, pathOf, go, homeAt, wayHome, along, carry, carryFrom, procedure, holding}
 use Rattle.paper.proofs.Tests.{by-cases, by-option, not-both, never-some, some-when, and-left, and-right, and-both}
 use Rattle.paper.proofs.Members.{In-head, In-tail, In-append-right, out-cons, nothing-in-nil, Out-head, Out-tail}
-use Rattle.paper.proofs.Shortest.{Shortest, shortest-path}
+use Rattle.paper.proofs.Shortest.{shortest-path}
 use Rattle.paper.proofs.Playing.{Apart, Legal, legal-facts, legal-of, after-append, after-length, plan-head, plan-tail, plan-cons, plan-append, bay-in, placeOf-bay, placeOf-there, move-self, move-other, move-apart, Sound, Good}
 use Rattle.paper.proofs.Vacating.{vacate-vacates, vacate-empty}
 use Rattle.paper.proofs.Trading.{traded-bay, trade-first, trade-second, trade-other}
@@ -166,7 +166,7 @@ module _ (Y : Yard) (sound : Sound Y) (goals : Placement) where
       moved c a b (inr k) (inr l) =
           not-both (pair-in x ahead _ u (rw (k .1 ∙ at-u) at l)) (Out-tail u x ahead (n .0))
 
-pair-joined : (Y : Yard) (u : Bay) (l : List Bay) (v a b : Bay) → Chain Y u l v → Pair u l a b → joined Y a b ≡ true
+pub pair-joined : (Y : Yard) (u : Bay) (l : List Bay) (v a b : Bay) → Chain Y u l v → Pair u l a b → joined Y a b ≡ true
 pair-joined Y u [] v a b ch h = absurd h
 pair-joined Y u (x ∷ xs) v a b ch h = ⊎-elim (λ k. rw (k .0, k .1) (ch .0)) (λ k. pair-joined Y x xs v a b (ch .1) k) h
 
@@ -278,7 +278,7 @@ module _ (Y : Yard) (sound : Sound Y) (goals : Placement) (goals-apart : Apart g
       rw q (plan-append Y p a b (r .0) (t .0), λ c k. rw after-append (t .1 c k)))
 
 -- the last bay of a path is where it leads
-chain-last : (Y : Yard) (u : Bay) (l : List Bay) (v : Bay) → Chain Y u l v → ((l ≡ []) × (u ≡ v)) ⊎ (l ≡ dropLast l ++ (v ∷ []))
+pub chain-last : (Y : Yard) (u : Bay) (l : List Bay) (v : Bay) → Chain Y u l v → ((l ≡ []) × (u ≡ v)) ⊎ (l ≡ dropLast l ++ (v ∷ []))
 chain-last Y u [] v ch = inl (refl, ch)
 chain-last Y u (x ∷ []) v ch = inr (ap (λ z. z ∷ []) (ch .1))
 chain-last Y u (x ∷ y ∷ l) v ch =
@@ -313,6 +313,16 @@ module _ (Y : Yard) (sound : Sound Y) (goals : Placement) (goals-apart : Apart g
           out-cons (bayOf goals c) (bayOf goals r) [] (λ d. eqb-false c r e (goals-apart c r (omega arith) (omega arith) d)) (nothing-in-nil (bayOf goals c)),
         ))
         (gone .others c k))
+
+    -- Part of the way home, from the last bay but one backwards, is legal, and leaves each of them at home or one bay back.
+    pub back-or-home : (pre l : List Bay) (later : Made) (ahead : List Bay) → ahead ≡ pre ++ (l ++ (bayOf goals r ∷ [])) → Chain Y u ahead (bayOf goals r) → NoDup (u ∷ ahead)
+        → Gone Y sound goals r u ahead (bayOf goals r) p a → wayHome Y goals (suc r) l (after p a) ≡ planned later
+        → (legalPlan Y (after p a) (later .moves) ≡ true)
+        × ((c : Carrier) → c < suc r → let b = bayOf (after (after p a) (later .moves)) c in (b ≡ bayOf goals c) ⊎ Pair u ahead b (bayOf goals c))
+    back-or-home pre l later ahead split chain n gone h =
+        let t = home-homes Y sound goals goals-apart (suc r) (omega arith) u ahead (bayOf goals r) chain n l pre (bayOf goals r) (after p a) later split
+        (plan-good Y sound p a good (gone .legal)) (after-length p a ∙ len) (come ahead gone chain n) h in
+        (t .0, λ c k. ⊎-elim (λ i. inl i) (λ i. inr (i .0)) (t .1 c k))
 
     came : (ahead : List Bay) (later : Made) → Chain Y u ahead (bayOf goals r) → NoDup (u ∷ ahead) → Gone Y sound goals r u ahead (bayOf goals r) p a
         → wayHome Y goals (suc r) (dropLast ahead) (after p a) ≡ planned later → (legalPlan Y p (a ++ later .moves) ≡ true) × Home (suc r) (after p (a ++ later .moves))
@@ -379,9 +389,10 @@ module _ (Y : Yard) (sound : Sound Y) (goals : Placement) (goals-apart : Apart g
       rw q (came r p good len hr at-home (bayOf p r) (first .moves) ahead later (way-tail Y held (bayOf p r) path (bayOf goals r) way) n
       (go-goes Y sound goals r ahead (bayOf p r) (bayOf goals r) p first good hr refl (way-tail Y held (bayOf p r) path (bayOf goals r) way) n d) h1)))
 
-  all-carried : ((c : Carrier) → c < length goals → In (bayOf goals c) (upTo (Y .bays))) → (k : ℕ) (r : Carrier) (p : Placement) (m : Made)
-      → Good Y p → length p ≡ length goals → r + k ≡ length goals → Home r p → carryFrom Y goals r k p ≡ planned m
-      → (legalPlan Y p (m .moves) ≡ true) × Home (length goals) (after p (m .moves))
+  -- k carriers from r on: all below r + k are home.
+  pub all-carried : ((c : Carrier) → c < length goals → In (bayOf goals c) (upTo (Y .bays))) → (k : ℕ) (r : Carrier) (p : Placement) (m : Made)
+      → Good Y p → length p ≡ length goals → r + k ≤ length goals → Home r p → carryFrom Y goals r k p ≡ planned m
+      → (legalPlan Y p (m .moves) ≡ true) × Home (r + k) (after p (m .moves))
   unfolding carryFrom after legalPlan
   all-carried inside zero r p m good len e at-home h =
       let z : only [] ≡ m = cc in
@@ -394,7 +405,7 @@ module _ (Y : Yard) (sound : Sound Y) (goals : Placement) (goals-apart : Apart g
       let hr : r < length p = omega arith in
       let t = carry-carries r p first good len hr (inside r (omega arith)) at-home d in
       let s = all-carried inside k (suc r) (after p a) later (plan-good Y sound p a good (t .0)) (after-length p a ∙ len) (omega arith) (t .1) h1 in
-      rw q (plan-append Y p a b (t .0) (s .0), λ c i. rw after-append (s .1 c i)))
+      rw q (plan-append Y p a b (t .0) (s .0), λ c i. rw after-append (s .1 c (omega arith))))
 
   -- THE THEOREM: a plan of the procedure is legal, and ends at the goals.
   pub procedure-right : Good Y goals → (p : Placement) (m : Made) → Good Y p → length p ≡ length goals

@@ -1,15 +1,11 @@
--- Any two answers that a statement allows are equal: a statement says `answer ≡ definition` and `end contents ≡ definition`, and
--- where the answer is an enum, a definition reads it as the paper's and tells any two of them apart.
+-- Any two answers of the code that a statement allows are equal: it says which definition the answer reads as, and the reading tells any two answers apart. The
+-- crates above cite this for their functions. A refusal is told by its number and what it carries.
 use mathlib.Core.Path.{_≡_, refl, sym, _∙_, ap, ap₂}
-use mathlib.Core.List.{List}
-use mathlib.Core.Option.{Option, Option·getD}
+use mathlib.Core.Option.{Option·getD}
 use Prim.Native.Nat.{ℕ}
 use lib.Dec.{eqb}
-use lib.ListN.{length}
 use Rattle.paper.specs.Basics.{if_then_else_}
-use Rattle.paper.specs.Yard.{Bay, Placement}
 use Rattle.paper.specs.Docket.{Refusal, size, rail, apart, crowd, start, goal, stopped, room, illegal, missed, mismarked, unknown, early, badMap, badScenario, badSurvey, ended, longPiece, edition, badPlan, badReports, number, carried}
-use Rattle.paper.specs.Answers.{Answer, plan, planEnd, check, slotsRefusal, slotsEnd, Report, report, marksEnd}
 
 -- a statement of an answer and of what a lent list holds at the end allows one of each
 abbrev pub Determined : {A B : Type 0} → (A → B → Type 0) → Type 0
@@ -23,29 +19,8 @@ Telling {A} {A′} read = (a a′ : A) → read a ≡ read a′ → a ≡ a′
 pub telling-by : {A A′ : Type 0} (read : A → A′) (back : A′ → A) → ((a : A) → back (read a) ≡ a) → Telling read
 telling-by read back h a a′ e = sym (h a) ∙ ap back e ∙ h a′
 
-pub determined : {A B : Type 0} (x : A) (y : B) → Determined (λ (a : A) (b : B). (a ≡ x) × (b ≡ y))
-determined x y a a′ b b′ s t = (s .0 ∙ sym (t .0), s .1 ∙ sym (t .1))
-
 pub determined-by : {A A′ B : Type 0} (read : A → A′) → Telling read → (x : A′) (y : B) → Determined (λ (a : A) (b : B). (read a ≡ x) × (b ≡ y))
 determined-by read tells x y a a′ b b′ s t = (tells a a′ (s .0 ∙ sym (t .0)), s .1 ∙ sym (t .1))
-
--- the statements of planning, check, slots and report
-module _ (n : ℕ) (ends : List Bay) (starts goals : Placement) where
-  pub plan-determined : (lent : List ℕ)
-      → Determined (λ (a : Answer) (l : List ℕ). (a ≡ plan n ends starts goals (length lent)) × (l ≡ planEnd n ends starts goals lent))
-  plan-determined lent = determined (plan n ends starts goals (length lent)) (planEnd n ends starts goals lent)
-
-  pub check-determined : (crossed : List ℕ)
-      → Determined (λ (a : Option Refusal) (l : List ℕ). (a ≡ check n ends starts goals crossed) × (l ≡ crossed))
-  check-determined crossed = determined (check n ends starts goals crossed) crossed
-
-  pub slots-determined : (crossed lent : List ℕ)
-      → Determined (λ (a : Option Refusal) (l : List ℕ). (a ≡ slotsRefusal n ends starts goals crossed (length lent)) × (l ≡ slotsEnd n ends starts goals crossed lent))
-  slots-determined crossed lent = determined (slotsRefusal n ends starts goals crossed (length lent)) (slotsEnd n ends starts goals crossed lent)
-
-  pub report-determined : (crossed marks : List ℕ) (name : ℕ)
-      → Determined (λ (a : Report) (l : List ℕ). (a ≡ report n ends starts goals crossed marks name) × (l ≡ marksEnd n ends starts goals crossed marks name))
-  report-determined crossed marks name = determined (report n ends starts goals crossed marks name) (marksEnd n ends starts goals crossed marks name)
 
 -- the refusal of a number and what it carries
 from : ℕ → ℕ → Refusal

@@ -16,6 +16,7 @@ pub mod Trading
 pub mod Swapping
 pub mod Carrying
 pub mod Admitted
+pub mod WayHome
 pub mod Planning
 pub mod Commuting
 pub mod Slotting

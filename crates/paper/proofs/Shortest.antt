@@ -12,7 +12,7 @@ use lib.ListN.{length, getD}
 use borrow.Author.Tests.{ltb-true, ltb-false}
 use Rattle.paper.specs.Basics.{elem, without, filter, find, countFrom, In, Out, NoDup, lowestOf}
 use Rattle.paper.specs.Yard.{Bay, Yard, joined}
-use Rattle.paper.specs.Path.{Free, Route, Way, NotAbove, nextRing, ringsFrom, rings, nearestFirst, ringOf, inward, shortestPath, pathBetween}
+use Rattle.paper.specs.Path.{Free, Route, Way, NotAbove, Shortest, nextRing, ringsFrom, rings, nearestFirst, ringOf, inward, shortestPath, pathBetween}
 use Rattle.paper.proofs.Tests.{by-cases, not-both, some-when, none-when}
 use Rattle.paper.proofs.Members.{In-nil, In-one, In-cases, lowest-passes, lowest-in, lowest-some, lowest-least, nothing-in-nil, count-low, filter-in}
 use Rattle.paper.proofs.Rings.{joined-sym, distance-in, distance-least, Walk, here, on, walk-cons, walk-back, walk-free, ring-walk, walk-ring, ring-free, rings-apart, ringsFrom-length, in-ring, ring-step, ring-zero}
@@ -129,16 +129,6 @@ module _ (Y : Yard) (held : List Bay) where
         rw (n .goes-on) (inr (refl, rest))
 
 -- ## In the document's words
-
--- "Shortest path: fewest rails; among equals, the lowest list of bays compared from the first bay on."
-pub record Shortest (Y : Yard) (held : List Bay) (u v : Bay) (l : List Bay) : Type 0 where
-  -- joined bays from u to v, none held, none twice
-  pub way : Way Y held u l v
-  pub once : NoDup l
-  -- no such list has fewer rails
-  pub fewest : (m : List Bay) → Way Y held u m v → length l ≤ length m
-  -- and none with as many is lower
-  pub lowest : (m : List Bay) → Way Y held u m v → length m ≡ length l → NotAbove l m
 
 both-not-above : (l m : List Bay) → length l ≡ length m → NotAbove l m → NotAbove m l → l ≡ m
 both-not-above [] [] e h k = refl

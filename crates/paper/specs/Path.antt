@@ -1,5 +1,5 @@
 -- Ways between bays: what can be reached, what is nearest, and the shortest path.
--- Each of them is computed here by rings; proofs/Shortest, Nearest and Reach say it in the document's words.
+-- They stand here twice: in the document's words, and as they are computed, by rings. proofs/Shortest, Nearest and Reach show that both say the same.
 -- Assumes nothing.
 use mathlib.Core.Bool.{Bool, true}
 use mathlib.Core.List.{List, [], _∷_, _++_}
@@ -9,7 +9,7 @@ use mathlib.Core.Path.{_≡_}
 use Prim.Native.Nat.{ℕ, zero, suc, min, _<_, _≤_}
 use lib.Dec.{eqb, ltb}
 use lib.ListN.{length, getD}
-use Rattle.paper.specs.Basics.{if_then_else_, if-some_then_else_, _and_, when, filter, any, firstOf, lowestOf, concat, elem, without, upTo, In, Out}
+use Rattle.paper.specs.Basics.{if_then_else_, if-some_then_else_, _and_, when, filter, any, firstOf, lowestOf, concat, elem, without, upTo, In, Out, NoDup}
 use Rattle.paper.specs.Yard.{Bay, Rail, Yard, Placement, joined, railsAt}
 
 -- ## In words
@@ -57,6 +57,16 @@ abbrev pub NotAbove : List Bay → List Bay → Type 0
 NotAbove [] t = Unit {0}
 NotAbove (a ∷ s) [] = Unit {0}
 NotAbove (a ∷ s) (b ∷ t) = (a < b) ⊎ ((a ≡ b) × NotAbove s t)
+
+-- "Shortest path: fewest rails; among equals, the lowest list of bays compared from the first bay on."
+pub record Shortest (Y : Yard) (held : List Bay) (u v : Bay) (l : List Bay) : Type 0 where
+  -- joined bays from u to v, none held, none twice
+  pub way : Way Y held u l v
+  pub once : NoDup l
+  -- no such list has fewer rails
+  pub fewest : (m : List Bay) → Way Y held u m v → length l ≤ length m
+  -- and none with as many is lower
+  pub lowest : (m : List Bay) → Way Y held u m v → length m ≡ length l → NotAbove l m
 
 -- a is taken rather than b, by the number of rails that each bay has: fewer, or as many and the lower number
 abbrev pub Rather : (Bay → ℕ) → Bay → Bay → Type 0

@@ -3,6 +3,7 @@
 use mathlib.Core.Bool.{not}
 use mathlib.Core.List.{List, [], _∷_, _++_, map, dropLast}
 use mathlib.Core.Option.{Option, none, some}
+use mathlib.Core.Path.{_≡_}
 use Prim.Native.Nat.{ℕ, zero, suc, min, max, _+_}
 use lib.Dec.{eqb, ltb, leb}
 use lib.ListN.{length, getD, set, take, drop}
@@ -264,3 +265,19 @@ module _ (Y : Yard) (goals : Placement) where
   -- the whole procedure
   unfoldable pub procedure : Stage
   procedure p = carryFrom 0 (length goals) p
+
+  -- ## Where a turn has come to
+
+  -- It is r's turn: those below r are planned, and the carriers stand at p.
+  pub record TurnOf (starts : Placement) (r : Carrier) (p : Placement) : Type 0 where
+    pub before : Made
+    pub planned-before : carryFrom 0 r starts ≡ planned before
+    pub stand : after starts (before .moves) ≡ p
+
+  -- The way home comes to vi: r has gone its path v0..vm, v(m−1) down to v(i+1) are looked after, and the carriers stand at q.
+  pub record ComesTo (r : Carrier) (path : List Bay) (i : ℕ) (p q : Placement) : Type 0 where
+    pub gone : Made
+    pub goes : go r (drop 1 path) p ≡ planned gone
+    pub home : Made
+    pub homes : wayHome (suc r) (drop i (dropLast (drop 1 path))) (after p (gone .moves)) ≡ planned home
+    pub stand : after (after p (gone .moves)) (home .moves) ≡ q

@@ -14,13 +14,14 @@ use Rattle.paper.specs.Basics.{if_then_else_, _or_, elem}
 use Rattle.paper.specs.Yard.{Bay, most-crossings}
 use Rattle.paper.specs.Docket.{Refusal, size, room, badMap, badScenario, badSurvey, ended, badPlan, badReports, number, carried, Verdict, granted, denied, unlessDenied}
 use Rattle.paper.specs.Text.{Text, Read, good, badLine}
-use Rattle.paper.specs.Map.{Grid, railEnds}
+use Rattle.paper.specs.Map.{Grid, bayIn, railEnds}
+use Rattle.paper.specs.Scenario.{readScenario}
 use Rattle.paper.proofs.Tests.{by-cases, not-both, never, or-left, or-right, or-cases}
 use Rattle.exactly.specs.First.{Given, numbersOf}
 use Rattle.exactly.proofs.First.{given-number}
 use Rattle.handing.specs.Handing.{handed}
 use Rattle.readback.specs.Files.{planVerdict, reportsVerdict}
-use Rattle.readers.specs.Reading.{laying, laidVerdict}
+use Rattle.readers.specs.Reading.{laying, laidVerdict, Listing, listed, listingIn, listing, short, listVerdict}
 use Rattle.survey.specs.Survey.{readSurvey, readRefusal}
 use Rattle.survey.proofs.Broken.{BreaksAfter, broken-exactly}
 use Rattle.surveying.specs.Says.{readAnswer}
@@ -120,6 +121,73 @@ map-file-8 lent (good G) m = (
       let e : ltb lent (length (railEnds G)) ≡ true = lt-ltb _ _ l in
       rw e (ap (λ j. denied (room j)) (rw z (sym (k .2)))),
 )
+
+-- ## A scenario on its map: 14, 15, 8
+
+-- the carriers are more than one of the two lists has room for
+abbrev pub NoRoomFor : List ℕ → List ℕ → List (Bay × Bay) → Type 0
+NoRoomFor starts goals cs = (length starts < length cs) ⊎ (length goals < length cs)
+
+short-words : (starts goals : List ℕ) (cs : List (Bay × Bay)) → (short starts goals cs ≡ true) ↔ NoRoomFor starts goals cs
+short-words starts goals cs = (
+  λ h. or-cases _ _ h (λ e. inl (ltb-true _ _ e)) (λ e. inr (ltb-true _ _ e)),
+  λ h. ⊎-elim (λ l. or-left _ _ (lt-ltb _ _ l)) (λ l. or-right _ _ (lt-ltb _ _ l)) h,
+)
+
+module _ (starts goals : List ℕ) where
+  never-listed : {P : Type 0} (cs : List (Bay × Bay)) (r : Refusal) → (r ≡ room (length cs) → P) → listVerdict starts goals (listed cs) ≡ denied r → P
+  never-listed cs r f h =
+      by-cases (short starts goals cs)
+      (λ e. let k : denied (room (length cs)) ≡ denied r = rw e at h in f (let z : room (length cs) ≡ r = cc in sym z))
+      (λ e. let k : granted (length cs) ≡ denied r = rw e at h in never (cc))
+
+  -- of what the scenario reads as
+  in-15 : (s : Read (List (Bay × Bay))) (n : ℕ) → (listVerdict starts goals (listingIn s) ≡ denied (badScenario n)) ↔ (s ≡ badLine n)
+  in-15 (badLine k) n = (λ h. let z : k ≡ n = cc in ap badLine z, λ h. let z : k ≡ n = cc in ap (λ j. denied (badScenario j)) z)
+  in-15 (good cs) n = (never-listed cs (badScenario n) (λ q. never (cc)), λ h. never (cc))
+
+  in-8 : (s : Read (List (Bay × Bay))) (m : ℕ) → (listVerdict starts goals (listingIn s) ≡ denied (room m))
+      ↔ ((cs : List (Bay × Bay)) × (s ≡ good cs) × (m ≡ length cs) × NoRoomFor starts goals cs)
+  in-8 (badLine k) m = (λ h. never (cc), λ h. let q = h .1 in never (cc))
+  in-8 (good cs) m = (
+    λ h. by-cases (short starts goals cs)
+        (λ e. let k : denied (room (length cs)) ≡ denied (room m) = rw e at h in (cs, refl, sym (room-same k), short-words starts goals cs .0 e))
+        (λ e. let k : granted (length cs) ≡ denied (room m) = rw e at h in never (cc)),
+    λ k.
+        let z : cs ≡ k .0 = let q = k .1 in cc in
+        let e : short starts goals cs ≡ true = short-words starts goals cs .1 (rw z (k .3)) in
+        rw e (ap (λ j. denied (room j)) (rw z (sym (k .2)))),
+  )
+
+  in-not-14 : (s : Read (List (Bay × Bay))) (n : ℕ) → listVerdict starts goals (listingIn s) ≡ denied (badMap n) → ⊥
+  in-not-14 (badLine k) n h = never (cc)
+  in-not-14 (good cs) n h = never-listed cs (badMap n) (λ q. never (cc)) h
+
+  module _ (file : Text) where
+    -- 14 before the scenario is looked at
+    pub scenario-file-14 : (r : Read Grid) (n : ℕ) → (listVerdict starts goals (listing r file) ≡ denied (badMap n)) ↔ (r ≡ badLine n)
+    scenario-file-14 (badLine k) n = (λ h. let z : k ≡ n = cc in ap badLine z, λ h. let z : k ≡ n = cc in ap (λ j. denied (badMap j)) z)
+    scenario-file-14 (good G) n = (λ h. absurd (in-not-14 (readScenario (G .width) (G .height) (bayIn G) file) n h), λ h. never (cc))
+
+    -- 15 on a map that keeps its layout
+    pub scenario-file-15 : (r : Read Grid) (n : ℕ) → (listVerdict starts goals (listing r file) ≡ denied (badScenario n))
+        ↔ ((G : Grid) × (r ≡ good G) × (readScenario (G .width) (G .height) (bayIn G) file ≡ badLine n))
+    scenario-file-15 (badLine k) n = (λ h. never (cc), λ h. let q = h .1 in never (cc))
+    scenario-file-15 (good G) n =
+        let e = in-15 (readScenario (G .width) (G .height) (bayIn G) file) n in (
+          λ h. (G, refl, e .0 h),
+          λ k. let z : G ≡ k .0 = let q = k .1 in cc in e .1 (rw z (k .2)),
+        )
+
+    -- 8 where both files keep their layouts, with the number of carriers
+    pub scenario-file-8 : (r : Read Grid) (m : ℕ) → (listVerdict starts goals (listing r file) ≡ denied (room m))
+        ↔ ((G : Grid) × (cs : List (Bay × Bay)) × (r ≡ good G) × (readScenario (G .width) (G .height) (bayIn G) file ≡ good cs) × (m ≡ length cs) × NoRoomFor starts goals cs)
+    scenario-file-8 (badLine k) m = (λ h. never (cc), λ h. let q = h .2 in never (cc))
+    scenario-file-8 (good G) m =
+        let e = in-8 (readScenario (G .width) (G .height) (bayIn G) file) m in (
+          λ h. let k = e .0 h in (G, k .0, refl, k .1, k .2, k .3),
+          λ k. let z : G ≡ k .0 = let q = k .2 in cc in e .1 (k .1, rw z (k .3), k .4, k .5),
+        )
 
 -- ## A surveyors' file: 16, then 1 to 3, then 8
 

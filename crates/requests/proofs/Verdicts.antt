@@ -1,5 +1,5 @@
--- Functions that answer a verdict: where the carriers stand, slots by an edition, playing backwards, and surveyors' files. Each is denied
--- exactly by the first of its rows that applies, and granted exactly if none does.
+-- Functions that answer a verdict: where the carriers stand, slots by an edition, playing backwards, the print of a plan, and surveyors' files. Each
+-- is denied exactly by the first of its rows that applies, and granted exactly if none does.
 use mathlib.Core.Path.{_≡_, refl, sym, _∙_, ap}
 use mathlib.Core.Bool.{Bool, true, false, not}
 use mathlib.Core.List.{List, [], _∷_}
@@ -7,14 +7,15 @@ use mathlib.Core.Logic.{_↔_}
 use mathlib.Core.Option.{Option, none, some}
 use Prim.Native.Nat.{ℕ, _<_}
 use native.Mathlib.Omega.{arith}
-use lib.Dec.{eqb, ltb}
+use lib.Dec.{eqb, ltb, leb}
 use lib.ListN.{length}
-use borrow.Author.Tests.{not-true, ltb-true, lt-ltb, eqb-false, ne-eqb}
+use borrow.Author.Tests.{not-true, ltb-true, lt-ltb, le-ltb, leb-true, leb-false, eqb-false, ne-eqb}
 use Rattle.paper.specs.Basics.{orElse, when, elem, _and_, _or_}
 use Rattle.paper.specs.Yard.{Bay, Placement, crossings, most-crossings}
 use Rattle.paper.specs.Docket.{Refusal, size, room, edition, number, carried, no-11, no-1, Verdict, granted, denied, unlessDenied}
 use Rattle.paper.specs.Answers.{check}
-use Rattle.paper.proofs.Tests.{by-option, never, none-both, or-none, or-neither}
+use Rattle.paper.specs.Print.{printPlan}
+use Rattle.paper.proofs.Tests.{by-cases, by-option, never, none-both, or-none, or-neither}
 use Rattle.paper.proofs.Determined.{docket-tells}
 use Rattle.exactly.specs.First.{Row, plain, carrying, NoneOf, Given, numbersOf, distinct}
 use Rattle.exactly.proofs.First.{Reads, after-it, exactly, nothing-exactly, plain-test, known-test}
@@ -22,11 +23,13 @@ use Rattle.exactly.proofs.Six.{Refuses, reads-1, reads-2, reads-3, some-bay}
 use Rattle.exactly.proofs.Plans.{reads-8}
 use Rattle.exactly.proofs.Marks.{reads-11}
 use Rattle.exactly.proofs.Checking.{check-reads, slots-reads}
+use Rattle.handing.specs.Handing.{handed}
+use Rattle.handing.specs.Plans.{planPrinted}
 use Rattle.placement.specs.Standing.{refusal, standing}
 use Rattle.editions.specs.Editions.{isKnown, slotsOfRefusal, slotsOf}
 use Rattle.reversing.specs.Reversing.{reverseRefusal, reversing}
 use Rattle.survey.specs.Survey.{surveyOf, firstThree, readRefusal, writeRefusal}
-use Rattle.requests.specs.Rows.{standingRows, editionRows, reverseRows, threeRows, surveyRows, writingRows}
+use Rattle.requests.specs.Rows.{standingRows, editionRows, reverseRows, printRows, threeRows, surveyRows, writingRows}
 
 -- a verdict is denied exactly by its tests
 denied-exactly : (t : Option Refusal) (m : ℕ) (r : Refusal) → (unlessDenied t m ≡ denied r) ↔ (t ≡ some r)
@@ -123,6 +126,50 @@ module _ (list : List ℕ) (lent : ℕ) where
   pub reverse-grants : (reversing list lent ≡ granted (length list)) ↔ NoneOf (reverseRows list lent)
   unfolding reversing
   reverse-grants = verdict-grants (length list) reverse-reads
+
+-- ## The print of a plan
+
+module _ (list : List ℕ) (lent : ℕ) where
+  abbrev bytes : ℕ
+  bytes = length (printPlan (crossings list))
+
+  -- its two tests, one after the other
+  abbrev printRefusal : Option Refusal
+  printRefusal = orElse (when (ltb most-crossings (length list)) size) (when (ltb lent bytes) (room bytes))
+
+  handed-as : handed bytes lent ≡ unlessDenied (when (ltb lent bytes) (room bytes)) bytes
+  unfolding handed
+  handed-as =
+      by-cases (leb bytes lent)
+      (λ e. let f : ltb lent bytes ≡ false = le-ltb lent bytes (leb-true bytes lent e) in rw (e, f))
+      (λ e. let f : ltb lent bytes ≡ true = lt-ltb lent bytes (leb-false bytes lent e) in rw (e, f))
+
+  print-as : planPrinted list lent ≡ unlessDenied printRefusal bytes
+  unfolding planPrinted
+  print-as =
+      by-cases (leb (length list) most-crossings)
+      (λ e. let f : ltb most-crossings (length list) ≡ false = le-ltb most-crossings (length list) (leb-true (length list) most-crossings e) in rw (e, f) handed-as)
+      (λ e. let f : ltb most-crossings (length list) ≡ true = lt-ltb most-crossings (length list) (leb-false (length list) most-crossings e) in rw (e, f))
+
+  print-reads : Refuses printRefusal (printRows list lent)
+  print-reads =
+      after-it number carried
+      (plain-test number carried (most-crossings < length list) (ltb most-crossings (length list)) size (docket-tells size) refl
+      (ltb-true most-crossings (length list), lt-ltb most-crossings (length list))) (λ _.
+      known-test number carried (λ v. (v ≡ bytes) × (lent < bytes)) (ltb lent bytes) room bytes 8 (docket-tells (room bytes)) refl refl
+      (λ h. (refl, ltb-true _ _ h))
+      (λ v w. (lt-ltb _ _ (w .1), w .0)))
+
+  pub print-denies : (r : Refusal) → (planPrinted list lent ≡ denied r) ↔ Given (printRows list lent) (number r) (carried r)
+  unfolding distinct elem _and_
+  print-denies r =
+      let f = verdict-denies bytes print-reads refl r in
+      (λ h. f .0 (sym print-as ∙ h), λ g. print-as ∙ f .1 g)
+
+  pub print-grants : (planPrinted list lent ≡ granted (length (printPlan (crossings list)))) ↔ NoneOf (printRows list lent)
+  print-grants =
+      let f = verdict-grants bytes print-reads in
+      (λ h. f .0 (sym print-as ∙ h), λ g. print-as ∙ f .1 g)
 
 -- ## Surveyors' files, once the layout is kept
 

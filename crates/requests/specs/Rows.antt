@@ -10,6 +10,7 @@ use lib.ListN.{length, getD}
 use Rattle.paper.specs.Limits.{most-carriers}
 use Rattle.paper.specs.Yard.{Bay, Carrier, Placement, Crossing, most-crossings, crossings}
 use Rattle.paper.specs.Docket.{number, carried}
+use Rattle.paper.specs.Print.{printPlan}
 use Rattle.exactly.specs.First.{Row, plain, carrying, FirstOf}
 use Rattle.exactly.specs.Words.{WrongSize, FirstBadRail, LowestApart, mark, NotInPlan, LowestUndone}
 use Rattle.exactly.specs.Rows.{no-room, already-number, reportNumber, reportValue, slotsRows, markRows}
@@ -89,6 +90,12 @@ editionRows n ends starts goals plan e lent = plain 20 ((e ≡ 1 → ⊥) × (e 
 -- playing backwards: 1 and 8
 abbrev pub reverseRows : List ℕ → ℕ → List Row
 reverseRows list lent = plain 1 (most-crossings < length list) ∷ no-room lent (length list) ∷ []
+
+-- the print of any list of crossings: 1, then 8 with the bytes that the print takes
+abbrev pub printRows : List ℕ → ℕ → List Row
+printRows list lent =
+    let needed = length (printPlan (crossings list)) in
+    plain 1 (most-crossings < length list) ∷ carrying 8 (λ v. (v ≡ needed) × (lent < needed)) ∷ []
 
 -- "the first carrier number above 253" of a list
 abbrev pub FirstAbove : List ℕ → Carrier → Type 0

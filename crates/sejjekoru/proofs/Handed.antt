@@ -11,9 +11,10 @@ use Rattle.paper.specs.Text.{Text}
 use Rattle.paper.specs.Print.{printed}
 use Rattle.printing.specs.Parts.{handed as lent}
 use Rattle.handing.specs.Handing.{fitted, Hands, handed}
+use Rattle.handing.specs.Plans.{planPrinted, planPrintEnd}
 use Rattle.numbers.specs.Tells.{Tells}
 use Rattle.numbers.specs.Numbers.{verdictNumber, verdictValue}
-use Rattle.sejjekoru.specs.Whole.{TextTells, planPrinted, planPrintEnd, PrintPlanTells}
+use Rattle.sejjekoru.specs.Whole.{TextTells, PrintPlanTells}
 use Rattle.sejjekoru.proofs.Saying.{told-as}
 
 pub text-tells : {t : Text} {out out′ : List ℕ} {needed number value : ℕ} {a : Verdict} → Hands t out out′ needed → a ≡ handed needed (length out) → Tells (verdictNumber a) (verdictValue a) number value → TextTells t out number value out′

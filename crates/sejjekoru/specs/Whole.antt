@@ -4,15 +4,12 @@
 use mathlib.Core.Bool.{Bool, true, false, not}
 use mathlib.Core.List.{List}
 use Prim.Native.Nat.{ℕ}
-use lib.Dec.{eqb, leb}
+use lib.Dec.{eqb}
 use lib.ListN.{length}
-use Rattle.paper.specs.Basics.{if_then_else_}
-use Rattle.paper.specs.Yard.{crossings, most-crossings}
-use Rattle.paper.specs.Docket.{Verdict, denied, size}
 use Rattle.paper.specs.Text.{Text}
-use Rattle.paper.specs.Print.{printPlan}
 use Rattle.filing.specs.Filing.{fileOf}
 use Rattle.handing.specs.Handing.{fitted, handed}
+use Rattle.handing.specs.Plans.{planPrinted, planPrintEnd}
 use Rattle.printout.specs.Whole.{printFor}
 use Rattle.readback.specs.Entries.{readEntries}
 use Rattle.readback.specs.Files.{planVerdict, planEnd, reportsVerdict, reportsEnd}
@@ -34,13 +31,7 @@ abbrev pub ProgramTells : Text → ℕ → Text → ℕ → ℕ → List ℕ →
 ProgramTells map map-read scenario scenario-read short out =
     TextTells (printFor (isSet short) (fileOf (isSet map-read) map) (fileOf (isSet scenario-read) scenario)) out
 
--- "a lent plan over 65,536 crossings" is 1
-unfoldable pub planPrinted : List ℕ → ℕ → Verdict
-planPrinted plan has = if leb (length plan) most-crossings then handed (length (printPlan (crossings plan))) has else denied size
-
-unfoldable pub planPrintEnd : List ℕ → List ℕ → List ℕ
-planPrintEnd plan out = if leb (length plan) most-crossings then fitted (printPlan (crossings plan)) out else out
-
+-- the print of a plan, into a list that is lent
 abbrev pub PrintPlanTells : List ℕ → List ℕ → ℕ → ℕ → List ℕ → Type 0
 PrintPlanTells plan out =
     let answer = planPrinted plan (length out) in

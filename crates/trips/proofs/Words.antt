@@ -1,33 +1,21 @@
--- The request's own words, by names: a cut takes the lowest name at which a trip begins, and of its returns the last. So it says exactly what
--- the request says, and there is no cut exactly if there is no trip.
-use mathlib.Core.Path.{_≡_, sym, _∙_, ap}
+-- A cut is the request's own, which specs/Trips says by names: it takes the lowest name at which a trip begins, and of its returns the last. There is no cut exactly
+-- if there is no trip.
+use mathlib.Core.Path.{_≡_, sym, _∙_, ap, ap₂}
 use mathlib.Core.Bool.{true, false}
 use mathlib.Core.List.{List, [], _∷_, _++_}
+use mathlib.Core.Logic.{_↔_}
 use mathlib.Core.Option.{none, some}
 use Prim.Native.Nat.{ℕ, zero, suc, _<_, _-_}
 use native.Mathlib.Omega.{arith}
+use lib.Dec.{ltb}
 use lib.ListN.{length, take, drop}
-use borrow.Author.Tests.{eqb-true, eqb-false, eq-eqb}
+use borrow.Author.Tests.{eqb-true, eqb-false, eq-eqb, ltb-true, ltb-false}
 use Rattle.paper.specs.Basics.{if_then_else_}
 use Rattle.paper.specs.Yard.{Bay, Carrier, Crossing, named}
 use Rattle.paper.proofs.Tests.{by-cases, by-option, never-some, none-from}
-use Rattle.trips.specs.Trips.{enters, isOf, lastReturn, kept, cut}
+use Rattle.trips.specs.Trips.{enters, isOf, lastReturn, kept, cut, Trip, LowestTrip, CutAt}
 use Rattle.trips.proofs.Dropping.{by-return, no-return}
 use Rattle.trips.proofs.Shortened.{by-cut, no-cut}
-
--- "carrier c leaves a bay a", at the name i, "and later stands at a again", at the name j, "with no other carrier having entered a between"
-pub record Trip (xs : List Crossing) (i j : ℕ) : Type 0 where
-  pub later : i < j
-  pub there : j < length xs
-  pub same : named xs j .carrier ≡ named xs i .carrier
-  pub again : named xs j .to ≡ named xs i .from
-  pub unused : (m : ℕ) → i < m → m < j → named xs m .to ≡ named xs i .from → named xs m .carrier ≡ named xs i .carrier
-
--- "the lowest name", "the last such return"
-pub record LowestTrip (xs : List Crossing) (i j : ℕ) : Type 0 where
-  pub trip : Trip xs i j
-  pub lowest : (i′ j′ : ℕ) → i′ < i → Trip xs i′ j′ → ⊥
-  pub last : (j′ : ℕ) → j < j′ → Trip xs i j′ → ⊥
 
 -- the same of the crossings after the leaving
 record Return (c : Carrier) (a : Bay) (xs : List Crossing) (j : ℕ) : Type 0 where
@@ -152,13 +140,6 @@ trip-back x xs i j t = record {
     between zero k l e = absurd (omega arith)
     between (suc m) k l e = t .unused m (omega arith) (omega arith) e
 
--- What a cut leaves: all before the leaving, and after it what is kept up to the last return and everything that follows.
-pub record CutAt (xs ys : List Crossing) : Type 0 where
-  pub name : ℕ
-  pub return : ℕ
-  pub is-lowest : LowestTrip xs name return
-  pub leaves : ys ≡ take name xs ++ kept (named xs name .carrier) (return - name) (drop (suc name) xs)
-
 cut-first : (x : Crossing) (xs ys : List Crossing) (n : ℕ) → LastReturn (x .carrier) (x .from) xs n → kept (x .carrier) n xs ≡ ys → CutAt (x ∷ xs) ys
 cut-first x xs ys n r e = record {
   name = 0;
@@ -203,3 +184,45 @@ cut-is (x ∷ xs) ys h =
     by-cut x xs ys h
     (λ n r e. cut-first x xs ys n (last-return-is (x .carrier) (x .from) xs n r) e)
     (λ r zs z e. cut-later x xs ys zs r (cut-is xs zs z) e)
+
+-- ## Exactly, from the words alone
+
+-- there is one lowest trip at most, and one list that a cut of it leaves
+lowest-one : (xs : List Crossing) (i j i′ j′ : ℕ) → LowestTrip xs i j → LowestTrip xs i′ j′ → (i ≡ i′) × (j ≡ j′)
+lowest-one xs i j i′ j′ a b =
+    by-cases (ltb i i′)
+    (λ l. absurd (b .lowest i j (ltb-true i i′ l) (a .trip)))
+    (λ l. by-cases (ltb i′ i)
+    (λ k. absurd (a .lowest i′ j′ (ltb-true i′ i k) (b .trip)))
+    (λ k.
+    let e : i ≡ i′ = let g = ltb-false i i′ l in let h = ltb-false i′ i k in omega arith in
+    let t : Trip xs i j′ = rw e (b .trip) in
+    let u : Trip xs i′ j = rw (← e) (a .trip) in (
+      e,
+      by-cases (ltb j j′)
+          (λ m. absurd (a .last j′ (ltb-true j j′ m) t))
+          (λ m. by-cases (ltb j′ j)
+          (λ o. absurd (b .last j (ltb-true j′ j o) u))
+          (λ o. let g = ltb-false j j′ m in let h = ltb-false j′ j o in omega arith)),
+    )))
+
+pub cut-one : (xs ys zs : List Crossing) → CutAt xs ys → CutAt xs zs → ys ≡ zs
+cut-one xs ys zs a b =
+    let e = lowest-one xs (a .name) (a .return) (b .name) (b .return) (a .is-lowest) (b .is-lowest) in
+    a .leaves ∙ ap₂ (λ i j. take i xs ++ kept (named xs i .carrier) (j - i) (drop (suc i) xs)) (e .0) (e .1) ∙ sym (b .leaves)
+
+-- "Take the lowest name": a cut leaves exactly what the request says.
+pub cut-exactly : (xs ys : List Crossing) → (cut xs ≡ some ys) ↔ CutAt xs ys
+cut-exactly xs ys = (
+  cut-is xs ys,
+  λ a. by-option (cut xs)
+      (λ h. absurd (no-trip xs h (a .name) (a .return) (a .is-lowest .trip)))
+      (λ zs h. h ∙ ap some (cut-one xs zs ys (cut-is xs zs h) a)),
+)
+
+-- "Repeat until there is none": there is no cut exactly if there is no trip.
+pub no-trip-exactly : (xs : List Crossing) → (cut xs ≡ none) ↔ ((i j : ℕ) → Trip xs i j → ⊥)
+no-trip-exactly xs = (
+  no-trip xs,
+  λ f. by-option (cut xs) (λ h. h) (λ ys h. let a = cut-is xs ys h in absurd (f (a .name) (a .return) (a .is-lowest .trip))),
+)

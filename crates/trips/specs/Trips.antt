@@ -4,11 +4,12 @@
 use mathlib.Core.Bool.{Bool, not}
 use mathlib.Core.List.{List, [], _∷_, _++_}
 use mathlib.Core.Option.{Option, none, some}
-use Prim.Native.Nat.{ℕ, zero, suc}
+use mathlib.Core.Path.{_≡_}
+use Prim.Native.Nat.{ℕ, zero, suc, _<_, _-_}
 use lib.Dec.{eqb}
 use lib.ListN.{length, take, drop}
 use Rattle.paper.specs.Basics.{if_then_else_, if-some_then_else_, _>>=_, orElse, filter}
-use Rattle.paper.specs.Yard.{Bay, Carrier, Crossing}
+use Rattle.paper.specs.Yard.{Bay, Carrier, Crossing, named}
 
 -- a crossing into bay a; a crossing of carrier c
 abbrev pub enters : Bay → Crossing → Bool
@@ -52,3 +53,26 @@ pub data LeftOf {A : Type 0} : List A → List A → Type 0 where
   nothing : LeftOf [] []
   keeping : {x : A} {ys xs : List A} → LeftOf ys xs → LeftOf (x ∷ ys) (x ∷ xs)
   taking : {x : A} {ys xs : List A} → LeftOf ys xs → LeftOf ys (x ∷ xs)
+
+-- ## In the request's words, by names
+
+-- "carrier c leaves a bay a", at the name i, "and later stands at a again", at the name j, "with no other carrier having entered a between"
+pub record Trip (xs : List Crossing) (i j : ℕ) : Type 0 where
+  pub later : i < j
+  pub there : j < length xs
+  pub same : named xs j .carrier ≡ named xs i .carrier
+  pub again : named xs j .to ≡ named xs i .from
+  pub unused : (m : ℕ) → i < m → m < j → named xs m .to ≡ named xs i .from → named xs m .carrier ≡ named xs i .carrier
+
+-- "the lowest name", "the last such return"
+pub record LowestTrip (xs : List Crossing) (i j : ℕ) : Type 0 where
+  pub trip : Trip xs i j
+  pub lowest : (i′ j′ : ℕ) → i′ < i → Trip xs i′ j′ → ⊥
+  pub last : (j′ : ℕ) → j < j′ → Trip xs i j′ → ⊥
+
+-- What a cut leaves: all before the leaving, and after it what is kept up to the last return and everything that follows.
+pub record CutAt (xs ys : List Crossing) : Type 0 where
+  pub name : ℕ
+  pub return : ℕ
+  pub is-lowest : LowestTrip xs name return
+  pub leaves : ys ≡ take name xs ++ kept (named xs name .carrier) (return - name) (drop (suc name) xs)

@@ -10,11 +10,11 @@ use native.Mathlib.Omega.{arith}
 use lib.ListN.{length}
 use Rattle.paper.specs.Basics.{In, Out}
 use Rattle.paper.specs.Yard.{Bay, Yard, Placement, joined, railsAt}
-use Rattle.paper.specs.Path.{Free, Route, Way, Rather, shortestPath}
+use Rattle.paper.specs.Path.{Free, Route, Way, Shortest, Rather, shortestPath}
 use Rattle.paper.specs.Procedure.{nearestEmpty}
 use Rattle.paper.proofs.Members.{out-cons, nothing-in-nil}
 use Rattle.paper.proofs.Nearest.{nearest-exactly}
-use Rattle.paper.proofs.Shortest.{Shortest, shortest-one, shortest-path, way-reached}
+use Rattle.paper.proofs.Shortest.{shortest-one, shortest-path, way-reached}
 use Rattle.paper.proofs.Tests.{not-both}
 
 module _ (Y : Yard) (held : List Bay) (x : Bay) where
