@@ -1,5 +1,5 @@
--- Demand 3 over record, lines and marks together, for any sequence of reports on a plan that passes the check. A report that answers 19 changes nothing,
--- and every other answer is the paper's, so the run is the paper's run of the reports that did not answer 19.
+-- Demand 3 over record, lines and marks together, for any sequence of reports on a plan that passes the check. A report that is accepted
+-- is one that the paper's report accepts, and any other changes nothing: so the run is the paper's run of the reports that were accepted.
 use mathlib.Core.Path.{_≡_, refl, sym, _∙_, ap}
 use mathlib.Core.Bool.{Bool, true, false}
 use mathlib.Core.Logic.{_↔_}
@@ -12,9 +12,9 @@ use Rattle.paper.specs.Basics.{if_then_else_, In, NoDup}
 use Rattle.paper.specs.Yard.{Bay, Carrier, Placement, Crossing, after, legalPlan, pack, unpack, crossings, named}
 use Rattle.paper.specs.Dependence.{isDone, doneOf, countOf, placementBy}
 use Rattle.paper.specs.Docket.{yardOf}
-use Rattle.paper.specs.Answers.{Report, accept, already, refuse, accepts, check, marksAfter, accepted, plan as planned}
+use Rattle.paper.specs.Answers.{accept, accepts, check, marksAfter, accepted, plan as planned}
 use Rattle.paper.specs.Log.{Request, answerTo, marksBy, marksFrom, namesFrom}
-use Rattle.paper.proofs.Tests.{not-both}
+use Rattle.paper.proofs.Tests.{by-cases, not-both}
 use Rattle.paper.proofs.Commuting.{done-set}
 use Rattle.paper.proofs.Marking.{closed-of}
 use Rattle.paper.proofs.Checking.{check-passed}
@@ -22,23 +22,18 @@ use Rattle.paper.proofs.Reporting.{tell-facts, done-already, facts-accept}
 use Rattle.paper.proofs.Logging.{Kept, fine, some-ready, all-done, plan-lawful, kept-from-fresh}
 use Rattle.paper.proofs.Handing.{handed-passes}
 use Rattle.bills.specs.Billing.{places, untouched, noLine}
-use Rattle.bills.specs.Answering.{Billed, told, disagrees, changes, marksThen}
+use Rattle.bills.specs.Answering.{marksThen}
 use Rattle.bills.specs.Keeping.{Books, answerOn, booksBy, freshBooks, booksFrom, billedFrom}
 pub use Rattle.bills.specs.Demand.{booksEnd, namesBilled, crossingsBilled, asked, AllBilled, Demand3Billed}
 use Rattle.bills.specs.declared.Record.{Record}
 use Rattle.bills.specs.declared.Line.{Line}
 use Rattle.bills.proofs.Stepping.{line-at, carrier-there}
 use Rattle.bills.proofs.Same.{Afresh}
-use Rattle.bills.proofs.Keeping.{nothing-changed, told-or-19, accepts-exactly, billing-told, kept-afresh}
+use Rattle.bills.proofs.Keeping.{accepts-accept, nothing-changed, accepted-too, accepts-exactly, billing-told, kept-afresh}
 use Rattle.bills.proofs.Last.{lastOf, last-run, last-fresh}
 use Rattle.bills.proofs.Summing.{allBilled, billed-is-done}
 
 -- ## The paper's run
-
--- an answer other than 19
-heeded : Billed → Bool
-heeded (told r) = true
-heeded disagrees = false
 
 books-parts : (a b : Books) → a .marks ≡ b .marks → a .running ≡ b .running → a .lines ≡ b .lines → a ≡ b
 books-parts a b e f g = go (a .marks) (b .marks) (a .running) (b .running) (a .lines) (b .lines) e f g
@@ -47,46 +42,44 @@ books-parts a b e f g = go (a .marks) (b .marks) (a .running) (b .running) (a .l
         → _≡_ {A = Books} (record { marks = m; running = r; lines = l }) (record { marks = n; running = s; lines = k })
     go m n r s l k e f g = rw (e, f, g)
 
-marked-by : (ms : List ℕ) (i : ℕ) (r : Report) → (if accepts r then set ms i 1 else ms) ≡ marksAfter ms i r
-unfolding accepts marksAfter
-marked-by ms i accept = refl
-marked-by ms i already = refl
-marked-by ms i (refuse x) = refl
-
 module _ (plan : List ℕ) where
-  -- the requests that did not answer 19
+  -- the requests that were accepted
   heard : Books → List Request → List Request
   heard b [] = []
-  heard b (q ∷ qs) = let rest = heard (booksBy plan b q) qs in if heeded (answerOn plan b q) then q ∷ rest else rest
-
-  by-answer : {P : Type 0} (b : Books) (q : Request) → (answerOn plan b q ≡ told (answerTo plan (b .marks) q) → P) → (answerOn plan b q ≡ disagrees → P) → P
-  by-answer b q f g = told-or-19 (q .bays) (q .ends) (q .starts) (q .goals) plan (b .marks) (b .running) (b .lines) (q .name) f g
+  heard b (q ∷ qs) = let rest = heard (booksBy plan b q) qs in if accepts (answerOn plan b q) then q ∷ rest else rest
 
   -- Whatever is not accepted changes nothing, on any books.
-  pub unaccepted : (b : Books) (q : Request) → (answerOn plan b q ≡ told accept → ⊥) → booksBy plan b q ≡ b
+  pub unaccepted : (b : Books) (q : Request) → (answerOn plan b q ≡ accept → ⊥) → booksBy plan b q ≡ b
   unaccepted b q h =
       let e = nothing-changed (q .bays) (q .ends) (q .starts) (q .goals) plan (b .marks) (b .running) (b .lines) (q .name) h in
       books-parts (booksBy plan b q) b (e .0) (e .1) (e .2)
 
-  -- where it did not answer 19 the marks are the paper's
-  paper-marks : (b : Books) (q : Request) → answerOn plan b q ≡ told (answerTo plan (b .marks) q) → booksBy plan b q .marks ≡ marksBy plan (b .marks) q
-  unfolding marksThen changes
-  paper-marks b q e = rw e (marked-by (b .marks) (q .name) (answerTo plan (b .marks) q))
+  -- a report that is accepted leaves the marks that the paper's does, and any other leaves them as they were
+  pub by-acceptance : {P : Type 0} (b : Books) (q : Request)
+      → (accepts (answerOn plan b q) ≡ true → accepts (answerTo plan (b .marks) q) ≡ true → booksBy plan b q .marks ≡ marksBy plan (b .marks) q → P)
+      → (accepts (answerOn plan b q) ≡ false → booksBy plan b q .marks ≡ b .marks → P)
+      → P
+  unfolding marksThen marksAfter
+  by-acceptance b q f g =
+      by-cases (accepts (answerOn plan b q))
+      (λ e.
+      let a : answerTo plan (b .marks) q ≡ accept =
+      accepted-too (q .bays) (q .ends) (q .starts) (q .goals) plan (b .marks) (b .running) (b .lines) (q .name) (accepts-accept (answerOn plan b q) .0 e) in
+      f e (accepts-accept (answerTo plan (b .marks) q) .1 a) (rw e (ap (marksAfter (b .marks) (q .name)) (sym a))))
+      (λ e. g e (rw e))
 
   run-is : (b : Books) (qs : List Request)
       → (booksFrom plan b qs .marks ≡ marksFrom plan (b .marks) (heard b qs)) × (billedFrom plan b qs ≡ namesFrom plan (b .marks) (heard b qs))
-  unfolding heard heeded booksFrom billedFrom marksFrom namesFrom changes
+  unfolding heard booksFrom billedFrom marksFrom namesFrom
   run-is b [] = (refl, refl)
   run-is b (q ∷ qs) =
       let ih = run-is (booksBy plan b q) qs in
-      by-answer b q
-      (λ e.
-      let s : booksBy plan b q .marks ≡ marksBy plan (b .marks) q = paper-marks b q e in (
+      by-acceptance b q
+      (λ e a s. (
         rw e (ih .0 ∙ ap (λ ms. marksFrom plan ms (heard (booksBy plan b q) qs)) s),
-        rw e (ap (λ l. if accepts (answerTo plan (b .marks) q) then q .name ∷ l else l) (ih .1 ∙ ap (λ ms. namesFrom plan ms (heard (booksBy plan b q) qs)) s)),
+        rw (e, a) (ap (λ l. q .name ∷ l) (ih .1 ∙ ap (λ ms. namesFrom plan ms (heard (booksBy plan b q) qs)) s)),
       ))
-      (λ e.
-      let s : booksBy plan b q .marks ≡ b .marks = ap (λ c. c .marks) (unaccepted b q (λ a. let z : _≡_ {A = ℕ} 0 1 = cc in absurd (omega arith))) in (
+      (λ e s. (
         rw e (ih .0 ∙ ap (λ ms. marksFrom plan ms (heard (booksBy plan b q) qs)) s),
         rw e (ih .1 ∙ ap (λ ms. namesFrom plan ms (heard (booksBy plan b q) qs)) s),
       ))
@@ -122,7 +115,7 @@ module _ (n : ℕ) (ends : List Bay) (starts goals : Placement) (plan : List ℕ
       λ c h. ap (λ l. getD l c noLine .billed) (f .1) ∙ ap (λ l. l .billed) (line-at (length starts) xs (b .marks) c noLine h) in
       let sum : allBilled (b .lines) ≡ length (doneOf xs (b .marks)) =
       ap allBilled (f .1) ∙ billed-is-done (length starts) xs (b .marks) (λ i h. carrier-there Y starts (doneOf xs (b .marks)) i first h) in
-      let same-answer : (i : ℕ) → answerOn plan b (asked n ends starts goals i) ≡ told (answerTo plan (b .marks) (asked n ends starts goals i)) =
+      let same-answer : (i : ℕ) → answerOn plan b (asked n ends starts goals i) ≡ answerTo plan (b .marks) (asked n ends starts goals i) =
       λ i. billing-told n ends starts goals plan (b .marks) (b .running) (b .lines) i passes ok f in
       record {
         afresh = f;
@@ -139,11 +132,11 @@ module _ (n : ℕ) (ends : List Bay) (starts goals : Placement) (plan : List ℕ
             (λ a. not-both (k .names (q .name) m .1)
             (tell-facts xs (b .marks) (q .name) (((accepts-exactly (q .bays) (q .ends) (q .starts) (q .goals) plan (b .marks) (b .running) (b .lines) (q .name)) .0 a) .2) .2));
         answered = λ i m.
-            let d = k .names i m in same-answer i ∙ ap told (done-already n ends starts goals plan (b .marks) passes ok i (d .0) (d .1));
+            let d = k .names i m in same-answer i ∙ done-already n ends starts goals plan (b .marks) passes ok i (d .0) (d .1);
         unchanged = λ q h. unaccepted plan b q h;
         goes-on = λ i h d.
             let r = some-ready Y starts xs legal (b .marks) (suc i) i (omega arith) (rw len h) d in
-            (r .0, same-answer (r .0) ∙ ap told (facts-accept n ends starts goals plan (b .marks) passes ok (r .0) (r .1) (r .2) (r .3)));
+            (r .0, same-answer (r .0) ∙ facts-accept n ends starts goals plan (b .marks) passes ok (r .0) (r .1) (r .2) (r .3));
         all-home = λ g.
             let whole = all-done xs (b .marks) (k .long) (λ i h. g i (rw len at h)) in
             record {

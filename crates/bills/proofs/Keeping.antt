@@ -8,17 +8,19 @@ use mathlib.Core.Option.{none, some}
 use Prim.Native.Nat.{ℕ, _<_}
 use lib.ListN.{length, getD, set}
 use borrow.Author.Tests.{not-false, eqb-true, ne-eqb}
+use Rattle.paper.specs.Basics.{elem}
 use Rattle.paper.specs.Yard.{Bay, Placement, Yard, Crossing, legalPlan, crossings, named}
 use Rattle.paper.specs.Dependence.{isDone, slots}
-use Rattle.paper.specs.Docket.{Refusal, room, yardOf, badMarks, mismarked}
-use Rattle.paper.specs.Answers.{accept, already, refuse, accepts, tell, check, report}
+use Rattle.paper.specs.Docket.{Refusal, room, disagrees, yardOf, badMarks, mismarked}
+use Rattle.paper.specs.Answers.{Report, accept, already, refuse, accepts, tell, check, report}
 use Rattle.paper.specs.Log.{Request}
 use Rattle.paper.proofs.Tests.{by-cases, by-option, not-both, never, never-some, or-none, none-both, none-when}
 use Rattle.paper.proofs.Marking.{InOrder, in-order}
 use Rattle.paper.proofs.Checking.{check-passed}
 use Rattle.paper.proofs.Reporting.{Ready, marks-long, tell-facts, facts-accept}
+use Rattle.exactly.proofs.Reporting.{report-never}
 use Rattle.bills.specs.Billing.{posted, entered}
-use Rattle.bills.specs.Answering.{agrees, differs, Billed, told, disagrees, changes, upToEleven, opening, openedRecord, openedLines, agree, agreement, billing, marksThen, recordThen, linesThen}
+use Rattle.bills.specs.Answering.{agrees, differs, upToEleven, opening, openedRecord, openedLines, agree, agreement, billing, marksThen, recordThen, linesThen}
 use Rattle.bills.specs.Keeping.{Books, answerOn, booksBy}
 use Rattle.bills.specs.declared.Record.{Record}
 use Rattle.bills.specs.declared.Line.{Line}
@@ -30,19 +32,18 @@ pub order-of : (xs : List Crossing) (ms : List ℕ) → badMarks xs ms ≡ false
 unfolding badMarks
 order-of xs ms h = in-order xs ms ((or-none _ _ h) .1)
 
--- only acceptance changes anything
-pub changes-exactly : (b : Billed) → (changes b ≡ true) ↔ (b ≡ told accept)
-unfolding changes accepts
-changes-exactly b = (to b, λ e. ap changes e)
+-- only acceptance accepts
+pub accepts-accept : (r : Report) → (accepts r ≡ true) ↔ (r ≡ accept)
+unfolding accepts
+accepts-accept r = (to r, λ e. ap accepts e)
   where
-    to : (b : Billed) → changes b ≡ true → b ≡ told accept
-    to (told accept) h = refl
-    to (told already) h = not-both h refl
-    to (told (refuse r)) h = not-both h refl
-    to disagrees h = not-both h refl
+    to : (r : Report) → accepts r ≡ true → r ≡ accept
+    to accept h = refl
+    to already h = not-both h refl
+    to (refuse x) h = not-both h refl
 
-pub unchanging : (b : Billed) → (b ≡ told accept → ⊥) → changes b ≡ false
-unchanging b h = by-cases (changes b) (λ e. absurd (h ((changes-exactly b) .0 e))) (λ e. e)
+unaccepting : (r : Report) → (r ≡ accept → ⊥) → accepts r ≡ false
+unaccepting r h = by-cases (accepts r) (λ e. absurd (h ((accepts-accept r) .0 e))) (λ e. e)
 
 module _ (n : ℕ) (ends : List Bay) (starts goals : Placement) (plan marks : List ℕ) where
   -- "the refusals up to 11" pass exactly if the check does and the marks are in order
@@ -68,6 +69,11 @@ module _ (n : ℕ) (ends : List Bay) (starts goals : Placement) (plan marks : Li
       → report n ends starts goals plan marks name ≡ tell (crossings plan) marks name
   unfolding report
   report-goes-on name u = rw ((eleven-exactly .0 u) .0)
+
+  -- and answers 19 to no name
+  never-19 : (name : ℕ) → report n ends starts goals plan marks name ≡ refuse disagrees → ⊥
+  unfolding elem
+  never-19 name h = report-never n ends starts goals plan marks name disagrees refl h
 
   -- ## Opening
 
@@ -130,11 +136,11 @@ module _ (n : ℕ) (ends : List Bay) (starts goals : Placement) (plan marks : Li
     module _ (name : ℕ) where
       -- every way in which a report's answer comes about
       pub by-billing : {P : Type 0}
-          → ((r : Refusal) → upToEleven n ends starts goals plan marks ≡ some r → billing n ends starts goals plan marks rec lines name ≡ told (refuse r) → P)
+          → ((r : Refusal) → upToEleven n ends starts goals plan marks ≡ some r → billing n ends starts goals plan marks rec lines name ≡ refuse r → P)
           → (upToEleven n ends starts goals plan marks ≡ none → agree n ends starts goals plan marks rec lines ≡ false
-          → billing n ends starts goals plan marks rec lines name ≡ disagrees → P)
+          → billing n ends starts goals plan marks rec lines name ≡ refuse disagrees → P)
           → (upToEleven n ends starts goals plan marks ≡ none → agree n ends starts goals plan marks rec lines ≡ true
-          → billing n ends starts goals plan marks rec lines name ≡ told (tell (crossings plan) marks name) → P)
+          → billing n ends starts goals plan marks rec lines name ≡ tell (crossings plan) marks name → P)
           → P
       unfolding billing
       by-billing f g h =
@@ -143,13 +149,19 @@ module _ (n : ℕ) (ends : List Bay) (starts goals : Placement) (plan marks : Li
           (λ r u. f r u (rw u))
 
       -- "19, record disagrees, after 11 and before 12"
-      pub disagrees-exactly : (billing n ends starts goals plan marks rec lines name ≡ disagrees)
+      pub disagrees-exactly : (billing n ends starts goals plan marks rec lines name ≡ refuse disagrees)
           ↔ ((upToEleven n ends starts goals plan marks ≡ none) × (agree n ends starts goals plan marks rec lines ≡ false))
       unfolding billing
-      disagrees-exactly = (λ h. by-billing (λ r u e. never (cc)) (λ u a e. (u, a)) (λ u a e. never (cc)), λ f. rw (f .0, f .1))
+      disagrees-exactly = (
+        λ h. by-billing
+            (λ r u e. absurd (never-19 name (report-refused name r u ∙ sym e ∙ h)))
+            (λ u a e. (u, a))
+            (λ u a e. absurd (never-19 name (report-goes-on name u ∙ sym e ∙ h))),
+        λ f. rw (f .0, f .1),
+      )
 
       -- "Demand 2's rule for accepting a name then asks for a record and lines that agree, besides plan and marks in order."
-      pub accepts-exactly : (billing n ends starts goals plan marks rec lines name ≡ told accept)
+      pub accepts-exactly : (billing n ends starts goals plan marks rec lines name ≡ accept)
           ↔ ((upToEleven n ends starts goals plan marks ≡ none) × (agree n ends starts goals plan marks rec lines ≡ true)
           × (tell (crossings plan) marks name ≡ accept))
       unfolding billing
@@ -159,27 +171,31 @@ module _ (n : ℕ) (ends : List Bay) (starts goals : Placement) (plan marks : Li
       )
 
       -- where it is not 19 it is the paper's answer
-      pub told-or-19 : {P : Type 0} → (billing n ends starts goals plan marks rec lines name ≡ told (report n ends starts goals plan marks name) → P)
-          → (billing n ends starts goals plan marks rec lines name ≡ disagrees → P) → P
+      pub told-or-19 : {P : Type 0} → (billing n ends starts goals plan marks rec lines name ≡ report n ends starts goals plan marks name → P)
+          → (billing n ends starts goals plan marks rec lines name ≡ refuse disagrees → P) → P
       told-or-19 f g =
           by-billing
-          (λ r u e. f (e ∙ ap told (sym (report-refused name r u))))
+          (λ r u e. f (e ∙ sym (report-refused name r u)))
           (λ u a e. g e)
-          (λ u a e. f (e ∙ ap told (sym (report-goes-on name u))))
+          (λ u a e. f (e ∙ sym (report-goes-on name u)))
+
+      -- what it accepts the paper's report accepts
+      pub accepted-too : billing n ends starts goals plan marks rec lines name ≡ accept → report n ends starts goals plan marks name ≡ accept
+      accepted-too h = told-or-19 (λ e. sym e ∙ h) (λ e. never (cc))
 
       -- with all in order it is the paper's answer
       pub billing-told : check n ends starts goals plan ≡ none → badMarks (crossings plan) marks ≡ false → Afresh starts plan marks rec lines
-          → billing n ends starts goals plan marks rec lines name ≡ told (report n ends starts goals plan marks name)
+          → billing n ends starts goals plan marks rec lines name ≡ report n ends starts goals plan marks name
       billing-told passes fine f =
           told-or-19 (λ e. e) (λ e. not-both ((agree-exactly n ends starts goals plan marks rec lines) .1 f) ((disagrees-exactly .0 e) .1))
 
       -- "refusals and "already" change none of them", for any record and lines at all
-      pub nothing-changed : (billing n ends starts goals plan marks rec lines name ≡ told accept → ⊥)
+      pub nothing-changed : (billing n ends starts goals plan marks rec lines name ≡ accept → ⊥)
           → (marksThen n ends starts goals plan marks rec lines name ≡ marks)
           × (recordThen n ends starts goals plan marks rec lines name ≡ rec)
           × (linesThen n ends starts goals plan marks rec lines name ≡ lines)
       unfolding marksThen recordThen linesThen
-      nothing-changed h = let e = unchanging (billing n ends starts goals plan marks rec lines name) h in (rw e, rw e, rw e)
+      nothing-changed h = let e = unaccepting (billing n ends starts goals plan marks rec lines name) h in (rw e, rw e, rw e)
 
 -- ## Kept afresh
 
@@ -204,10 +220,10 @@ module _ (Y : Yard) (first : Placement) (plan : List ℕ) (lawful : legalPlan Y 
       → Afresh first plan (booksBy plan b q .marks) (booksBy plan b q .running) (booksBy plan b q .lines)
   unfolding marksThen recordThen linesThen
   kept-afresh b q f =
-      by-cases (changes (answerOn plan b q))
+      by-cases (accepts (answerOn plan b q))
       (λ e.
       let a = (accepts-exactly (q .bays) (q .ends) (q .starts) (q .goals) plan (b .marks) (b .running) (b .lines) (q .name)) .0
-      ((changes-exactly (answerOn plan b q)) .0 e) in
+      ((accepts-accept (answerOn plan b q)) .0 e) in
       rw e (step-afresh (b .marks) (b .running) (b .lines) (q .name) (a .2) f))
       (λ e. rw e f)
 
@@ -218,9 +234,9 @@ pub reported-afresh : (n : ℕ) (ends : List Bay) (starts goals : Placement) (pl
     (recordThen n ends starts goals plan marks rec lines name) (linesThen n ends starts goals plan marks rec lines name)
 unfolding marksThen recordThen linesThen
 reported-afresh n ends starts goals plan marks rec lines name f =
-    by-cases (changes (billing n ends starts goals plan marks rec lines name))
+    by-cases (accepts (billing n ends starts goals plan marks rec lines name))
     (λ e.
-    let a = (accepts-exactly n ends starts goals plan marks rec lines name) .0 ((changes-exactly (billing n ends starts goals plan marks rec lines name)) .0 e) in
+    let a = (accepts-exactly n ends starts goals plan marks rec lines name) .0 ((accepts-accept (billing n ends starts goals plan marks rec lines name)) .0 e) in
     let passes = ((eleven-exactly n ends starts goals plan marks) .0 (a .0)) .0 in
     rw e (step-afresh (yardOf n ends) starts plan (check-passed n ends starts goals plan passes .lawful) marks rec lines name (a .2) f))
     (λ e. rw e f)
@@ -229,10 +245,10 @@ reported-afresh n ends starts goals plan marks rec lines name f =
 -- crossing it depends on is done.
 pub accepts-ready : (n : ℕ) (ends : List Bay) (starts goals : Placement) (plan marks : List ℕ) (rec : Record) (lines : List Line) (name : ℕ)
     → check n ends starts goals plan ≡ none → badMarks (crossings plan) marks ≡ false → Afresh starts plan marks rec lines
-    → (billing n ends starts goals plan marks rec lines name ≡ told accept)
+    → (billing n ends starts goals plan marks rec lines name ≡ accept)
     ↔ ((name < length (crossings plan)) × (isDone marks name ≡ false) × Ready (crossings plan) marks name)
 accepts-ready n ends starts goals plan marks rec lines name passes fine f = (
   λ h. let t = tell-facts (crossings plan) marks name (((accepts-exactly n ends starts goals plan marks rec lines name) .0 h) .2) in (t .1, t .2, t .3),
   λ t. let e = billing-told n ends starts goals plan marks rec lines name passes fine f in
-      e ∙ ap told (facts-accept n ends starts goals plan marks passes fine name (t .0) (t .1) (t .2)),
+      e ∙ facts-accept n ends starts goals plan marks passes fine name (t .0) (t .1) (t .2),
 )

@@ -12,16 +12,17 @@ use borrow.Author.Tests.{eqb-true, eqb-false, eq-eqb}
 use Rattle.paper.specs.Basics.{if_then_else_, _and_}
 use Rattle.paper.specs.Yard.{Carrier, Crossing, crossings, named, most-crossings}
 use Rattle.paper.specs.Dependence.{done, isDone}
+use Rattle.paper.specs.Answers.{accepts}
 use Rattle.paper.specs.Log.{Request}
 use Rattle.paper.proofs.Tests.{by-cases, not-both, and-left, and-right, and-both}
 use Rattle.paper.proofs.Marking.{InOrder, closed-of}
 use Rattle.paper.proofs.Reporting.{marks-long, tell-facts}
 use Rattle.bills.specs.Billing.{untouched, lastDone}
-use Rattle.bills.specs.Answering.{changes, marksThen}
+use Rattle.bills.specs.Answering.{marksThen}
 use Rattle.bills.specs.Keeping.{Books, answerOn, booksBy, booksFrom, billedFrom}
 unfoldable pub use Rattle.bills.specs.Demand.{lastOf}
 use Rattle.bills.proofs.Stepping.{last-is, last-other}
-use Rattle.bills.proofs.Keeping.{order-of, changes-exactly, accepts-exactly}
+use Rattle.bills.proofs.Keeping.{order-of, accepts-accept, accepts-exactly}
 
 -- i names a done crossing of carrier c
 pub record DoneBy (c : Carrier) (xs : List Crossing) (ms : List ℕ) (i : ℕ) : Type 0 where
@@ -104,7 +105,7 @@ module _ (xs : List Crossing) (ms : List ℕ) (i : ℕ) (len : length ms ≡ len
       (λ e. rw e (rw (← eqb-true (named xs i .carrier) c e) (last-is untouched 0 xs ms i h len d (closed-of xs ms order) ∙ omega arith)))
       (λ e. rw e (last-other c untouched 0 xs ms i h len d (eqb-false (named xs i .carrier) c e)))
 
-marks-then : (plan : List ℕ) (b : Books) (q : Request) → booksBy plan b q .marks ≡ (if changes (answerOn plan b q) then set (b .marks) (q .name) 1 else b .marks)
+marks-then : (plan : List ℕ) (b : Books) (q : Request) → booksBy plan b q .marks ≡ (if accepts (answerOn plan b q) then set (b .marks) (q .name) 1 else b .marks)
 unfolding marksThen
 marks-then plan b q = refl
 
@@ -117,10 +118,10 @@ last-run plan c b [] = refl
 last-run plan c b (q ∷ qs) =
     let xs = crossings plan in
     let ih = last-run plan c (booksBy plan b q) qs in
-    by-cases (changes (answerOn plan b q))
+    by-cases (accepts (answerOn plan b q))
     (λ e.
     let a = (accepts-exactly (q .bays) (q .ends) (q .starts) (q .goals) plan (b .marks) (b .running) (b .lines) (q .name)) .0
-    ((changes-exactly (answerOn plan b q)) .0 e) in
+    ((accepts-accept (answerOn plan b q)) .0 e) in
     let t = tell-facts xs (b .marks) (q .name) (a .2) in
     let s = last-accepted xs (b .marks) (q .name) (marks-long xs (b .marks) (t .0)) (order-of xs (b .marks) (t .0)) (t .1) (t .2) c in
     let m : booksBy plan b q .marks ≡ set (b .marks) (q .name) 1 = marks-then plan b q ∙ rw e in

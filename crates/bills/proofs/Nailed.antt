@@ -12,7 +12,6 @@ use Rattle.paper.specs.Docket.{yardOf}
 use Rattle.paper.specs.Answers.{accept, already}
 use Rattle.paper.specs.Log.{Request}
 use Rattle.bills.specs.Billing.{places, untouched, noLine, recordOf}
-use Rattle.bills.specs.Answering.{told}
 use Rattle.bills.specs.Keeping.{answerOn, booksBy}
 use Rattle.bills.specs.Demand.{Afresh, allBilled, lastOf, booksEnd, namesBilled, crossingsBilled, asked, AllBilled, Demand3Billed}
 
@@ -34,17 +33,17 @@ module _ (n : ℕ) (ends : List Bay) (starts goals : Placement) (plan : List ℕ
 
   -- an order sent again after a lost acknowledgement is answered "already" and billed to nobody
   pub lost-acknowledgement : (i : ℕ) → In i (namesBilled starts plan qs) → (q : Request) → q .name ≡ i
-      → (answerOn plan (booksEnd starts plan qs) (asked n ends starts goals i) ≡ told already) × (booksBy plan (booksEnd starts plan qs) q ≡ booksEnd starts plan qs)
+      → (answerOn plan (booksEnd starts plan qs) (asked n ends starts goals i) ≡ already) × (booksBy plan (booksEnd starts plan qs) q ≡ booksEnd starts plan qs)
   lost-acknowledgement i m q e = (d .answered i m, d .repeats q (rw e m))
 
   -- what is not accepted is billed to nobody
-  pub unaccepted-unbilled : (q : Request) → (answerOn plan (booksEnd starts plan qs) q ≡ told accept → ⊥)
+  pub unaccepted-unbilled : (q : Request) → (answerOn plan (booksEnd starts plan qs) q ≡ accept → ⊥)
       → allBilled (booksBy plan (booksEnd starts plan qs) q .lines) ≡ booksEnd starts plan qs .running .done
   unaccepted-unbilled q h = ap (λ b. allBilled (b .lines)) (d .unchanged q h) ∙ d .all-billed
 
   -- the log never freezes, and with all done the plan is billed, no more and no less, and every carrier is home
   pub goes-on-to-the-end : (i : ℕ) → i < length plan → isDone (booksEnd starts plan qs .marks) i ≡ false
-      → (j : ℕ) × (answerOn plan (booksEnd starts plan qs) (asked n ends starts goals j) ≡ told accept)
+      → (j : ℕ) × (answerOn plan (booksEnd starts plan qs) (asked n ends starts goals j) ≡ accept)
   goes-on-to-the-end i l u = d .goes-on i l u
 
   pub the-plan-is-billed : ((i : ℕ) → i < length plan → isDone (booksEnd starts plan qs .marks) i ≡ true)

@@ -8,14 +8,14 @@ use lib.ListN.{replicate}
 use Rattle.paper.specs.Limits.{most-bays}
 use Rattle.paper.specs.Yard.{Bay, Placement, Crossing, crossing, pack}
 use Rattle.paper.specs.Dependence.{slots, fresh}
-use Rattle.paper.specs.Docket.{mismarked, unknown, early, room, missed}
-use Rattle.paper.specs.Answers.{accept, already, refuse, check}
+use Rattle.paper.specs.Docket.{mismarked, unknown, early, disagrees, room, missed}
+use Rattle.paper.specs.Answers.{Report, accept, already, refuse, check}
 use Rattle.paper.specs.Log.{Request}
 use Rattle.paper.proofs.Worked.{computing}
 use Rattle.bills.specs.Billing
 use Rattle.bills.specs.Billing.{untouched, recordOf, linesOf, posted, entered}
 use Rattle.bills.specs.Answering
-use Rattle.bills.specs.Answering.{agrees, differs, refused, Billed, told, disagrees, opening, agreement, billing}
+use Rattle.bills.specs.Answering.{agrees, differs, refused, opening, agreement, billing}
 use Rattle.bills.specs.Keeping
 use Rattle.bills.specs.Keeping.{freshBooks, booksFrom, billedFrom}
 use Rattle.bills.specs.declared.Record.{Record}
@@ -23,7 +23,7 @@ use Rattle.bills.specs.declared.Line.{Line}
 
 -- every definition of the request opened, so that the checker computes with them
 unfoldable pub computing-bills : Unit {0}
-unfolding computing Billing.highestDone Billing.lastDone Answering.sameNumbers Answering.sameLines Answering.changes Answering.upToEleven Answering.opening Answering.openedRecord Answering.openedLines Answering.agree Answering.agreement Answering.billing Answering.marksThen Answering.recordThen Answering.linesThen Keeping.booksFrom Keeping.billedFrom
+unfolding computing Billing.highestDone Billing.lastDone Answering.sameNumbers Answering.sameLines Answering.upToEleven Answering.opening Answering.openedRecord Answering.openedLines Answering.agree Answering.agreement Answering.billing Answering.marksThen Answering.recordThen Answering.linesThen Keeping.booksFrom Keeping.billedFrom
 computing-bills = tt
 
 -- A line of seven bays, carriers at 0, 3 and 6. Carrier 0 steps aside and back, then carrier 1 comes up behind it; carrier 2 is alone.
@@ -85,7 +85,7 @@ rec = standing 1 2 6 2 1
 abbrev lines : List Line
 lines = line 0 1 0 ∷ line 1 1 2 ∷ line 2 0 untouched ∷ []
 
-abbrev reported : Placement → List ℕ → Record → List Line → ℕ → Billed
+abbrev reported : Placement → List ℕ → Record → List Line → ℕ → Report
 reported goals marks rec lines name = billing 7 line-7 starts goals plan marks rec lines name
 
 -- 10 and 11 come before 19, and 19 before 12, "already" and 13; a place, the number done, the highest slot, a count, a last name or a length that is wrong is 19
@@ -103,19 +103,19 @@ pub all-answered : (reported goals marks rec lines 3
     ∷ reported goals (0 ∷ 0 ∷ 1 ∷ 1 ∷ 0 ∷ []) rec [] 3
     ∷ reported (0 ∷ 1 ∷ 6 ∷ []) (0 ∷ 0 ∷ 1 ∷ 1 ∷ 0 ∷ []) rec [] 3
     ∷ [])
-    ≡ told accept
-    ∷ told accept
-    ∷ told already
-    ∷ told (refuse (early 3))
-    ∷ told (refuse unknown)
-    ∷ disagrees
-    ∷ disagrees
-    ∷ disagrees
-    ∷ disagrees
-    ∷ disagrees
-    ∷ disagrees
-    ∷ told (refuse mismarked)
-    ∷ told (refuse (missed 2))
+    ≡ accept
+    ∷ accept
+    ∷ already
+    ∷ refuse (early 3)
+    ∷ refuse unknown
+    ∷ refuse disagrees
+    ∷ refuse disagrees
+    ∷ refuse disagrees
+    ∷ refuse disagrees
+    ∷ refuse disagrees
+    ∷ refuse disagrees
+    ∷ refuse mismarked
+    ∷ refuse (missed 2)
     ∷ []
 unfolding computing-bills
 all-answered = refl

@@ -1,5 +1,5 @@
--- What opening, the agreement test and a report on record and lines answer, in which order they test, and what they leave. Refusal 19 is this request's
--- own: it joins the table of refusals here, so that the table stays as it is.
+-- What opening, the agreement test and a report on record and lines answer, in which order they test, and what they leave. A report on record and
+-- lines answers what a report does.
 -- Assumes nothing.
 use mathlib.Core.Bool.{Bool, true, false, not}
 use mathlib.Core.List.{List, [], _∷_}
@@ -10,7 +10,7 @@ use lib.ListN.{length, getD, set}
 use Rattle.paper.specs.Basics.{if_then_else_, if-some_then_else_, _and_, orElse, when}
 use Rattle.paper.specs.Yard.{Bay, Placement, crossings, named}
 use Rattle.paper.specs.Dependence.{slots}
-use Rattle.paper.specs.Docket.{Refusal, room, no-11}
+use Rattle.paper.specs.Docket.{Refusal, room, disagrees, no-11}
 use Rattle.paper.specs.Answers.{Report, refuse, accepts, tell, check}
 use Rattle.bills.specs.Billing.{recordOf, linesOf, posted, entered}
 use Rattle.bills.specs.declared.Record.{Record}
@@ -42,20 +42,6 @@ sameLines (a ∷ as′) (b ∷ bs) = sameLine a b and sameLines as′ bs
 pub data Agreement : Type 0 where
   agrees differs : Agreement
   refused : Refusal → Agreement
-
--- a report: what it tells, or 19, record disagrees
-pub data Billed : Type 0 where
-  told : Report → Billed
-  disagrees : Billed
-
--- 19 is the change request's number, which the table does not have
-abbrev pub disagrees-number : ℕ
-disagrees-number = 19
-
--- only acceptance changes anything
-unfoldable pub changes : Billed → Bool
-changes (told r) = accepts r
-changes disagrees = false
 
 module _ (n : ℕ) (ends : List Bay) (starts goals : Placement) (plan : List ℕ) where
   abbrev freshRecord : List ℕ → Record
@@ -90,21 +76,23 @@ module _ (n : ℕ) (ends : List Bay) (starts goals : Placement) (plan : List ℕ
       if-some upToEleven marks then refused else yes
 
   -- "19, record disagrees, after 11 and before 12"
-  unfoldable pub billing : List ℕ → Record → List Line → ℕ → Billed
-  billing marks rec lines name =
-      let rest = told (tell (crossings plan) marks name) in
-      let agreed = if agree marks rec lines then rest else disagrees in
-      if-some upToEleven marks then (λ r. told (refuse r)) else agreed
+  abbrev pub no-19 : List ℕ → Record → List Line → Option Refusal
+  no-19 marks rec lines = when (not (agree marks rec lines)) disagrees
 
-  -- "refusals and "already" change none of them"
+  unfoldable pub billing : List ℕ → Record → List Line → ℕ → Report
+  billing marks rec lines name =
+      let rest = tell (crossings plan) marks name in
+      if-some orElse (upToEleven marks) (no-19 marks rec lines) then refuse else rest
+
+  -- Only acceptance changes anything: "refusals and "already" change none of them".
   unfoldable pub marksThen : List ℕ → Record → List Line → ℕ → List ℕ
-  marksThen marks rec lines name = if changes (billing marks rec lines name) then set marks name 1 else marks
+  marksThen marks rec lines name = if accepts (billing marks rec lines name) then set marks name 1 else marks
 
   unfoldable pub recordThen : List ℕ → Record → List Line → ℕ → Record
   recordThen marks rec lines name =
       let slot = getD (slots (crossings plan)) name 0 in
-      if changes (billing marks rec lines name) then posted rec (named (crossings plan) name) slot else rec
+      if accepts (billing marks rec lines name) then posted rec (named (crossings plan) name) slot else rec
 
   unfoldable pub linesThen : List ℕ → Record → List Line → ℕ → List Line
   linesThen marks rec lines name =
-      if changes (billing marks rec lines name) then entered lines (named (crossings plan) name) name else lines
+      if accepts (billing marks rec lines name) then entered lines (named (crossings plan) name) name else lines

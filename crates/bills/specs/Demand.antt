@@ -15,7 +15,6 @@ use Rattle.paper.specs.Docket.{yardOf}
 use Rattle.paper.specs.Answers.{accept, already}
 use Rattle.paper.specs.Log.{Request}
 use Rattle.bills.specs.Billing.{places, untouched, noLine, recordOf, linesOf}
-use Rattle.bills.specs.Answering.{told}
 use Rattle.bills.specs.Keeping.{Books, answerOn, booksBy, freshBooks, booksFrom, billedFrom}
 use Rattle.bills.specs.declared.Record.{Record}
 use Rattle.bills.specs.declared.Line.{Line}
@@ -76,11 +75,11 @@ pub record Demand3Billed (n : ℕ) (ends : List Bay) (starts goals : Placement) 
       → getD (booksEnd starts plan qs .lines) c noLine .last ≡ lastOf c (crossings plan) untouched (namesBilled starts plan qs)
   -- A repeat changes nothing, whatever it comes with, and with that check's yard, start and goal it answers "already".
   pub repeats : (q : Request) → In (q .name) (namesBilled starts plan qs) → booksBy plan (booksEnd starts plan qs) q ≡ booksEnd starts plan qs
-  pub answered : (i : ℕ) → In i (namesBilled starts plan qs) → answerOn plan (booksEnd starts plan qs) (asked n ends starts goals i) ≡ told already
+  pub answered : (i : ℕ) → In i (namesBilled starts plan qs) → answerOn plan (booksEnd starts plan qs) (asked n ends starts goals i) ≡ already
   -- Whatever is not accepted changes neither marks nor record nor lines.
-  pub unchanged : (q : Request) → (answerOn plan (booksEnd starts plan qs) q ≡ told accept → ⊥) → booksBy plan (booksEnd starts plan qs) q ≡ booksEnd starts plan qs
+  pub unchanged : (q : Request) → (answerOn plan (booksEnd starts plan qs) q ≡ accept → ⊥) → booksBy plan (booksEnd starts plan qs) q ≡ booksEnd starts plan qs
   -- While one is undone, some name would be accepted in a report with that check's yard, start and goal.
   pub goes-on : (i : ℕ) → i < length plan → isDone (booksEnd starts plan qs .marks) i ≡ false
-      → (j : ℕ) × (answerOn plan (booksEnd starts plan qs) (asked n ends starts goals j) ≡ told accept)
+      → (j : ℕ) × (answerOn plan (booksEnd starts plan qs) (asked n ends starts goals j) ≡ accept)
   -- With all done, every carrier is home and has been billed its plan's count of crossings.
   pub all-home : ((i : ℕ) → i < length plan → isDone (booksEnd starts plan qs .marks) i ≡ true) → AllBilled starts goals plan (booksEnd starts plan qs)

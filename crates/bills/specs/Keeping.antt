@@ -6,9 +6,10 @@ use lib.ListN.{length}
 use Rattle.paper.specs.Basics.{if_then_else_}
 use Rattle.paper.specs.Yard.{Placement, crossings}
 use Rattle.paper.specs.Dependence.{fresh}
+use Rattle.paper.specs.Answers.{Report, accepts}
 use Rattle.paper.specs.Log.{Request}
 use Rattle.bills.specs.Billing.{recordOf, linesOf}
-use Rattle.bills.specs.Answering.{Billed, changes, billing, marksThen, recordThen, linesThen}
+use Rattle.bills.specs.Answering.{billing, marksThen, recordThen, linesThen}
 use Rattle.bills.specs.declared.Record.{Record}
 use Rattle.bills.specs.declared.Line.{Line}
 
@@ -19,7 +20,7 @@ pub record Books : Type 0 where
   pub lines : List Line
 
 module _ (plan : List ℕ) where
-  abbrev pub answerOn : Books → Request → Billed
+  abbrev pub answerOn : Books → Request → Report
   answerOn b q = billing (q .bays) (q .ends) (q .starts) (q .goals) plan (b .marks) (b .running) (b .lines) (q .name)
 
   abbrev pub booksBy : Books → Request → Books
@@ -44,4 +45,4 @@ module _ (plan : List ℕ) where
 
   unfoldable pub billedFrom : Books → List Request → List ℕ
   billedFrom b [] = []
-  billedFrom b (q ∷ qs) = let rest = billedFrom (booksBy b q) qs in if changes (answerOn b q) then q .name ∷ rest else rest
+  billedFrom b (q ∷ qs) = let rest = billedFrom (booksBy b q) qs in if accepts (answerOn b q) then q .name ∷ rest else rest

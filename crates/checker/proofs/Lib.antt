@@ -1,2 +1,3 @@
 pub mod NineTen
 pub mod Six
+pub mod Back

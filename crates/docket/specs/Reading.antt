@@ -2,61 +2,49 @@
 -- Assumes nothing.
 use mathlib.Core.Bool.{Bool, true, false}
 use mathlib.Core.Option.{Option, none, some}
+use Prim.Native.Nat.{ℕ}
 use Rattle.paper.specs.Yard.{Crossing, crossing}
 use Rattle.paper.specs.Docket as paper
 use Rattle.docket.specs.declared.Crossing.{Crossing as Held}
 use Rattle.docket.specs.declared.Refusal.{Refusal}
 use Rattle.docket.specs.declared.Verdict.{Verdict}
 use Rattle.docket.specs.declared.Verdict.the-variants.{Granted, Denied}
-use Rattle.docket.specs.declared.Refusal.the-variants.{
-  Size,
-  Rail,
-  Apart,
-  Crowd,
-  Start,
-  Goal,
-  Stopped,
-  Room,
-  Illegal,
-  Missed,
-  Mismarked,
-  Unknown,
-  Early,
-  BadMap,
-  BadScenario,
-  BadSurvey,
-  Ended,
-  LongPiece,
-  Edition,
-  BadPlan,
-  BadReports,
-}
+use Rattle.docket.specs.declared.Refusal.the-variants as code
+use Rattle.docket.specs.declared.Row.{Row}
+use Rattle.docket.specs.declared.Row.the-variants.{Plain, Carrying}
 
 abbrev pub crossingOf : Held → Crossing
 crossingOf x = crossing (x .carrier .0) (x .from .0) (x .to .0)
 
 abbrev pub refusalOf : Refusal → paper.Refusal
-refusalOf Size = paper.size
-refusalOf (Rail i) = paper.rail i
-refusalOf (Apart b) = paper.apart (b .0)
-refusalOf Crowd = paper.crowd
-refusalOf (Start c) = paper.start (c .0)
-refusalOf (Goal c) = paper.goal (c .0)
-refusalOf (Stopped c) = paper.stopped (c .0)
-refusalOf (Room l) = paper.room l
-refusalOf (Illegal i) = paper.illegal i
-refusalOf (Missed c) = paper.missed (c .0)
-refusalOf Mismarked = paper.mismarked
-refusalOf Unknown = paper.unknown
-refusalOf (Early e) = paper.early e
-refusalOf (BadMap l) = paper.badMap l
-refusalOf (BadScenario l) = paper.badScenario l
-refusalOf (BadSurvey l) = paper.badSurvey l
-refusalOf Ended = paper.ended
-refusalOf LongPiece = paper.longPiece
-refusalOf Edition = paper.edition
-refusalOf (BadPlan l) = paper.badPlan l
-refusalOf (BadReports l) = paper.badReports l
+refusalOf code.Size = paper.size
+refusalOf (code.Rail i) = paper.rail i
+refusalOf (code.Apart b) = paper.apart (b .0)
+refusalOf code.Crowd = paper.crowd
+refusalOf (code.Start c) = paper.start (c .0)
+refusalOf (code.Goal c) = paper.goal (c .0)
+refusalOf (code.Stopped c) = paper.stopped (c .0)
+refusalOf (code.Room l) = paper.room l
+refusalOf (code.Illegal i) = paper.illegal i
+refusalOf (code.Missed c) = paper.missed (c .0)
+refusalOf code.Mismarked = paper.mismarked
+refusalOf code.Unknown = paper.unknown
+refusalOf (code.Early e) = paper.early e
+refusalOf (code.BadMap l) = paper.badMap l
+refusalOf (code.BadScenario l) = paper.badScenario l
+refusalOf (code.BadSurvey l) = paper.badSurvey l
+refusalOf code.Ended = paper.ended
+refusalOf code.LongPiece = paper.longPiece
+refusalOf code.Disagrees = paper.disagrees
+refusalOf code.Edition = paper.edition
+refusalOf code.Begun = paper.begun
+refusalOf (code.BadPlan l) = paper.badPlan l
+refusalOf (code.BadReports l) = paper.badReports l
+
+-- a row is its number, and what is carried
+abbrev pub rowOf : Row → ℕ × Option ℕ
+rowOf (Plain n) = (n, none)
+rowOf (Carrying n v) = (n, some v)
 
 abbrev pub verdictOf : Verdict → paper.Verdict
 verdictOf (Granted n) = paper.granted n

@@ -3,8 +3,8 @@
 ghost use mathlib.Core.Path.{_≡_};
 ghost use mathlib.Core.Option.{Option·getD};
 ghost use Rattle.paper.specs.Yard.{pack as packed, unpack as unpacked};
-ghost use Rattle.paper.specs.Docket.{number as numberOf, carried as carriedBy};
-ghost use Rattle.docket.specs.Reading.{crossingOf, refusalOf, isSome};
+ghost use Rattle.paper.specs.Docket.{row, number as numberOf, carried as carriedBy};
+ghost use Rattle.docket.specs.Reading.{crossingOf, refusalOf, rowOf, isSome};
 
 pub struct Bay(pub u16);
 
@@ -60,7 +60,9 @@ pub enum Refusal {
     BadSurvey(u64),
     Ended,
     LongPiece,
+    Disagrees,
     Edition,
+    Begun,
     BadPlan(u64),
     BadReports(u64),
 }
@@ -71,32 +73,51 @@ pub enum Verdict {
     Denied(Refusal),
 }
 
+// A row of the table: its number alone, or its number and what the refusal carries.
+enum Row {
+    Plain(u64),
+    Carrying(u64, u64),
+}
+
+// The table.
+fn row_of(r: Refusal) -> Row
+    ensures { λ x. ⌜ rowOf x ≡ row (refusalOf r) ⌝ }
+{
+    match r {
+        Refusal::Size => Row::Plain(1),
+        Refusal::Rail(i) => Row::Carrying(2, i),
+        Refusal::Apart(b) => Row::Carrying(3, b.0 as u64),
+        Refusal::Crowd => Row::Plain(4),
+        Refusal::Start(c) => Row::Carrying(5, c.0 as u64),
+        Refusal::Goal(c) => Row::Carrying(6, c.0 as u64),
+        Refusal::Stopped(c) => Row::Carrying(7, c.0 as u64),
+        Refusal::Room(l) => Row::Carrying(8, l),
+        Refusal::Illegal(i) => Row::Carrying(9, i),
+        Refusal::Missed(c) => Row::Carrying(10, c.0 as u64),
+        Refusal::Mismarked => Row::Plain(11),
+        Refusal::Unknown => Row::Plain(12),
+        Refusal::Early(e) => Row::Carrying(13, e),
+        Refusal::BadMap(l) => Row::Carrying(14, l),
+        Refusal::BadScenario(l) => Row::Carrying(15, l),
+        Refusal::BadSurvey(l) => Row::Carrying(16, l),
+        Refusal::Ended => Row::Plain(17),
+        Refusal::LongPiece => Row::Plain(18),
+        Refusal::Disagrees => Row::Plain(19),
+        Refusal::Edition => Row::Plain(20),
+        Refusal::Begun => Row::Plain(25),
+        Refusal::BadPlan(l) => Row::Carrying(26, l),
+        Refusal::BadReports(l) => Row::Carrying(27, l),
+    }
+}
+
 // The number in the table's first column.
 pub fn number(r: Refusal) -> u64
     ensures { λ n. ⌜ n ≡ numberOf (refusalOf r) ⌝ }
 {
-    match r {
-        Refusal::Size => 1,
-        Refusal::Rail(_) => 2,
-        Refusal::Apart(_) => 3,
-        Refusal::Crowd => 4,
-        Refusal::Start(_) => 5,
-        Refusal::Goal(_) => 6,
-        Refusal::Stopped(_) => 7,
-        Refusal::Room(_) => 8,
-        Refusal::Illegal(_) => 9,
-        Refusal::Missed(_) => 10,
-        Refusal::Mismarked => 11,
-        Refusal::Unknown => 12,
-        Refusal::Early(_) => 13,
-        Refusal::BadMap(_) => 14,
-        Refusal::BadScenario(_) => 15,
-        Refusal::BadSurvey(_) => 16,
-        Refusal::Ended => 17,
-        Refusal::LongPiece => 18,
-        Refusal::Edition => 20,
-        Refusal::BadPlan(_) => 26,
-        Refusal::BadReports(_) => 27,
+    let row = row_of(r);
+    match row {
+        Row::Plain(n) => n,
+        Row::Carrying(n, _) => n,
     }
 }
 
@@ -104,28 +125,10 @@ pub fn number(r: Refusal) -> u64
 pub fn carried(r: Refusal) -> u64
     ensures { λ v. ⌜ v ≡ Option·getD (carriedBy (refusalOf r)) 0 ⌝ }
 {
-    match r {
-        Refusal::Size => 0,
-        Refusal::Rail(i) => i,
-        Refusal::Apart(b) => b.0 as u64,
-        Refusal::Crowd => 0,
-        Refusal::Start(c) => c.0 as u64,
-        Refusal::Goal(c) => c.0 as u64,
-        Refusal::Stopped(c) => c.0 as u64,
-        Refusal::Room(l) => l,
-        Refusal::Illegal(i) => i,
-        Refusal::Missed(c) => c.0 as u64,
-        Refusal::Mismarked => 0,
-        Refusal::Unknown => 0,
-        Refusal::Early(e) => e,
-        Refusal::BadMap(l) => l,
-        Refusal::BadScenario(l) => l,
-        Refusal::BadSurvey(l) => l,
-        Refusal::Ended => 0,
-        Refusal::LongPiece => 0,
-        Refusal::Edition => 0,
-        Refusal::BadPlan(l) => l,
-        Refusal::BadReports(l) => l,
+    let row = row_of(r);
+    match row {
+        Row::Plain(_) => 0,
+        Row::Carrying(_, v) => v,
     }
 }
 
@@ -133,27 +136,9 @@ pub fn carried(r: Refusal) -> u64
 pub fn carries(r: Refusal) -> bool
     ensures { λ b. ⌜ b ≡ isSome (carriedBy (refusalOf r)) ⌝ }
 {
-    match r {
-        Refusal::Size => false,
-        Refusal::Rail(_) => true,
-        Refusal::Apart(_) => true,
-        Refusal::Crowd => false,
-        Refusal::Start(_) => true,
-        Refusal::Goal(_) => true,
-        Refusal::Stopped(_) => true,
-        Refusal::Room(_) => true,
-        Refusal::Illegal(_) => true,
-        Refusal::Missed(_) => true,
-        Refusal::Mismarked => false,
-        Refusal::Unknown => false,
-        Refusal::Early(_) => true,
-        Refusal::BadMap(_) => true,
-        Refusal::BadScenario(_) => true,
-        Refusal::BadSurvey(_) => true,
-        Refusal::Ended => false,
-        Refusal::LongPiece => false,
-        Refusal::Edition => false,
-        Refusal::BadPlan(_) => true,
-        Refusal::BadReports(_) => true,
+    let row = row_of(r);
+    match row {
+        Row::Plain(_) => false,
+        Row::Carrying(_, _) => true,
     }
 }

@@ -1,6 +1,5 @@
 pub mod First
 pub mod Lists
-pub mod Numbers
 pub mod Six
 pub mod Plans
 pub mod Marks

@@ -19,7 +19,7 @@ use Rattle.exactly.specs.First.{Row, plain, carrying, NoneOf, Given, num
 use Rattle.exactly.specs.Words.{mark, NotInPlan, LowestUndone}
 use Rattle.exactly.specs.Rows.{already-number, reportNumber, reportValue, markRows, reportRows}
 use Rattle.exactly.proofs.First.{Reads, Told, after-it, exactly, nothing-exactly, never-given, plain-test, retold, otherwise, otherwise-exactly, other-exactly}
-use Rattle.exactly.proofs.Numbers.{not-in-table}
+use Rattle.paper.proofs.Determined.{not-in-table}
 use Rattle.exactly.proofs.Six.{Refuses}
 use Rattle.exactly.proofs.Marks.{reads-12, reads-13}
 use Rattle.exactly.proofs.Checking.{marks-read}
@@ -105,6 +105,11 @@ module _ (n : ℕ) (ends : List Bay) (starts goals : Placement) (crossed marks :
   -- A report refuses exactly by the first of 1 to 6, 9, 10, 11, 12, "already", 13 that applies.
   pub report-refuses : (r : Refusal) → (report n ends starts goals crossed marks name ≡ refuse r) ↔ Given Rows (number r) (carried r)
   report-refuses r = report-gives (refuse r) (λ h. never (cc))
+
+  -- what none of these has the number of it never answers
+  pub report-never : (r : Refusal) → elem (number r) (numbersOf Rows) ≡ false → report n ends starts goals crossed marks name ≡ refuse r → ⊥
+  report-never r h e =
+      never-given reportNumber reportValue report-reads (refuse r) h (otherwise-exactly tests accept (refuse r) (λ k. never (cc)) .0 (sym report-is ∙ e))
 
   -- A done name answers "already" exactly if none of those before 13 applies.
   pub report-already : (report n ends starts goals crossed marks name ≡ already) ↔ Given Rows already-number none

@@ -7,12 +7,13 @@ use lib.ListN.{set}
 use Rattle.paper.specs.Yard.{Bay, Placement}
 use Rattle.paper.specs.Answers.{report}
 use Rattle.paper.proofs.Tests.{none-both}
-use Rattle.bills.specs.Answering.{told, agrees, upToEleven, opening, agreement}
+use Rattle.marks.specs.Reading.{reportOf}
+use Rattle.bills.specs.Answering.{agrees, upToEleven, opening, agreement}
 use Rattle.bills.specs.declared.Record.{Record}
 use Rattle.bills.proofs.Same.{Afresh}
 use Rattle.bills.proofs.Keeping.{eleven-exactly, agrees-exactly, billing-told, reported-afresh}
 use Rattle.ledger.specs.Lines.{linesHeld}
-use Rattle.ledger.specs.Statements.{agreementOf, billedOf, OpenSays, BillingSays}
+use Rattle.ledger.specs.Statements.{agreementOf, OpenSays, BillingSays}
 use Rattle.ledger.specs.declared.Held.{Held}
 use Rattle.ledger.specs.declared.Agreement.{Agreement}
 use Rattle.ledger.specs.declared.Opening.{Opening}
@@ -32,7 +33,7 @@ module _ (n : ℕ) (ends : List Bay) (starts goals : Placement) (plan marks : Li
   module _ (passes : upToEleven n ends starts goals plan marks ≡ none) (rec : Record) (held : Held) (f : Afresh starts plan marks rec (linesHeld held)) where
     module _ (name : ℕ) (r : Told) (marks′ : List ℕ) (s : BillingSays n ends starts goals plan marks name rec held r marks′) where
       -- a report on it is never 19: it answers what the report without a record does,
-      pub told-as-report : billedOf (r .answer) ≡ told (report n ends starts goals plan marks name)
+      pub told-as-report : reportOf (r .answer) ≡ report n ends starts goals plan marks name
       told-as-report =
           let e = eleven-exactly n ends starts goals plan marks .0 passes in
           s .answers ∙ billing-told n ends starts goals plan marks rec (linesHeld held) name (e .0) (e .1) f

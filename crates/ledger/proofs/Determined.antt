@@ -1,40 +1,27 @@
 -- Any two answers that a statement of this crate allows are equal, with all that they leave, for whatever record and lines are handed in.
 use mathlib.Core.Path.{_≡_, refl, sym, _∙_, ap}
 use mathlib.Core.List.{List}
-use mathlib.Core.Option.{Option, none, some}
 use Prim.Native.Nat.{ℕ}
 use Rattle.paper.specs.Yard.{Bay, Placement}
-use Rattle.paper.specs.Docket as paper
-use Rattle.paper.specs.Answers.{accept, already, refuse}
-use Rattle.paper.proofs.Determined.{Determined, Telling, telling-by}
+use Rattle.paper.proofs.Determined.{Determined, telling-by}
 use Rattle.docket.proofs.Telling.{refusalFor, refusal-back}
-use Rattle.checker.specs.Reading.{checkedOf}
 use Rattle.checker.specs.declared.Checked.{Checked}
-use Rattle.checker.specs.declared.Checked.the-variants as checked
+use Rattle.checker.proofs.Back.{checks-told-apart}
+use Rattle.marks.specs.declared.Reported.{Reported}
+use Rattle.marks.proofs.Back.{reports-told-apart}
 use Rattle.bills.specs.Answering.{agreement}
 use Rattle.bills.specs.Answering as told
 use Rattle.bills.specs.declared.Line.{Line}
 use Rattle.bills.specs.declared.Record.{Record}
 use Rattle.ledger.specs.Lines.{linesHeld}
-use Rattle.ledger.specs.Statements.{agreementOf, billedOf, OpenSays, BillingSays}
+use Rattle.ledger.specs.Statements.{agreementOf, OpenSays, BillingSays}
 use Rattle.ledger.specs.declared.Held.{Held}
 use Rattle.ledger.specs.declared.Agreement.{Agreement}
 use Rattle.ledger.specs.declared.Agreement.the-variants as test
-use Rattle.ledger.specs.declared.Billed.{Billed}
-use Rattle.ledger.specs.declared.Billed.the-variants as bill
 use Rattle.ledger.specs.declared.Opening.{Opening}
 use Rattle.ledger.specs.declared.Told.{Told}
 
--- ## Each answer is read in one way only, since it can be read back
-
-checkedFor : Option paper.Refusal → Checked
-checkedFor none = checked.Passed
-checkedFor (some r) = checked.Refused (refusalFor r)
-
-checked-back : (a : Checked) → checkedFor (checkedOf a) ≡ a
-unfolding checkedFor
-checked-back checked.Passed = refl
-checked-back (checked.Refused r) = ap checked.Refused (refusal-back r)
+-- ## The agreement test's answer is read in one way only, since it can be read back
 
 agreementFor : told.Agreement → Agreement
 agreementFor told.agrees = test.Agrees
@@ -46,19 +33,6 @@ unfolding agreementFor
 agreement-back test.Agrees = refl
 agreement-back test.Differs = refl
 agreement-back (test.Refused r) = ap test.Refused (refusal-back r)
-
-billedFor : told.Billed → Billed
-billedFor (told.told accept) = bill.Accepted
-billedFor (told.told already) = bill.Already
-billedFor (told.told (refuse r)) = bill.Refused (refusalFor r)
-billedFor told.disagrees = bill.Disagrees
-
-billed-back : (a : Billed) → billedFor (billedOf a) ≡ a
-unfolding billedFor
-billed-back bill.Accepted = refl
-billed-back bill.Already = refl
-billed-back bill.Disagrees = refl
-billed-back (bill.Refused r) = ap bill.Refused (refusal-back r)
 
 -- ## Equal part by part
 
@@ -72,7 +46,7 @@ opening-parts a b e f g = go (a .answer) (b .answer) (a .running) (b .running) (
 told-parts : (a b : Told) → a .answer ≡ b .answer → a .running ≡ b .running → a .at ≡ b .at → a .line ≡ b .line → a ≡ b
 told-parts a b e f g l = go (a .answer) (b .answer) (a .running) (b .running) (a .at) (b .at) (a .line) (b .line) e f g l
   where
-    go : (p q : Billed) (m n : Record) (h k : ℕ) (x y : Line) → p ≡ q → m ≡ n → h ≡ k → x ≡ y
+    go : (p q : Reported) (m n : Record) (h k : ℕ) (x y : Line) → p ≡ q → m ≡ n → h ≡ k → x ≡ y
         → _≡_ {A = Told} (record { answer = p; running = m; at = h; line = x }) (record { answer = q; running = n; at = k; line = y })
     go p q m n h k x y e f g l = rw (e, f, g, l)
 
@@ -81,7 +55,7 @@ told-parts a b e f g l = go (a .answer) (b .answer) (a .running) (b .running) (a
 module _ (n : ℕ) (ends : List Bay) (starts goals : Placement) (plan marks : List ℕ) (rec : Record) where
   pub open-determined : (count : ℕ) (a a′ : Opening) → OpenSays n ends starts goals plan marks rec count a → OpenSays n ends starts goals plan marks rec count a′ → a ≡ a′
   open-determined count a a′ s t =
-      opening-parts a a′ (telling-by checkedOf checkedFor checked-back (a .answer) (a′ .answer) (s .answers ∙ sym (t .answers))) (s .leaves ∙ sym (t .leaves)) (s .holds ∙ sym (t .holds))
+      opening-parts a a′ (checks-told-apart (a .answer) (a′ .answer) (s .answers ∙ sym (t .answers))) (s .leaves ∙ sym (t .leaves)) (s .holds ∙ sym (t .holds))
 
   pub compare-determined : (held : Held) (a a′ : Agreement) → agreementOf a ≡ agreement n ends starts goals plan marks rec (linesHeld held)
       → agreementOf a′ ≡ agreement n ends starts goals plan marks rec (linesHeld held) → a ≡ a′
@@ -89,7 +63,7 @@ module _ (n : ℕ) (ends : List Bay) (starts goals : Placement) (plan marks : Li
 
   pub report-determined : (held : Held) (name : ℕ) → Determined (BillingSays n ends starts goals plan marks name rec held)
   report-determined held name a a′ m m′ s t = (
-    told-parts a a′ (telling-by billedOf billedFor billed-back (a .answer) (a′ .answer) (s .answers ∙ sym (t .answers))) (s .leaves ∙ sym (t .leaves))
+    told-parts a a′ (reports-told-apart (a .answer) (a′ .answer) (s .answers ∙ sym (t .answers))) (s .leaves ∙ sym (t .leaves))
         (s .place ∙ sym (t .place)) (s .line-then ∙ sym (t .line-then)),
     s .marks-then ∙ sym (t .marks-then),
   )

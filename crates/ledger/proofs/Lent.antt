@@ -12,18 +12,20 @@ use lib.ListN.{length, getD, set, length-map, length-take}
 use lib.Seq.{take-all, set-out, getD-take}
 use Rattle.paper.specs.Limits.{most-bays}
 use Rattle.paper.specs.Yard.{Bay, Placement, crossings, named}
+use Rattle.paper.specs.Answers.{accepts}
 use Rattle.paper.proofs.Tests.{by-cases, by-option}
 use Rattle.paper.proofs.Packing.{named-is}
 use Rattle.paper.proofs.Reporting.{tell-facts}
+use Rattle.marks.specs.Reading.{reportOf}
 use Rattle.bills.specs.Billing.{charged, noLine}
-use Rattle.bills.specs.Answering.{Agreement, changes, upToEleven, agree, agreement, billing, marksThen, recordThen, linesThen}
+use Rattle.bills.specs.Answering.{Agreement, upToEleven, agree, agreement, billing, marksThen, recordThen, linesThen}
 use Rattle.bills.specs.declared.Line.{Line}
 use Rattle.bills.specs.declared.Record.{Record}
 use Rattle.bills.proofs.Stepping.{lines-long}
 use Rattle.bills.proofs.Same.{agree-exactly, other-length}
-use Rattle.bills.proofs.Keeping.{changes-exactly, accepts-exactly}
+use Rattle.bills.proofs.Keeping.{accepts-accept, accepts-exactly}
 use Rattle.ledger.specs.Lines.{gathered, linesHeld}
-use Rattle.ledger.specs.Statements.{billedOf, BillingSays}
+use Rattle.ledger.specs.Statements.{BillingSays}
 use Rattle.ledger.specs.declared.Held.{Held}
 use Rattle.ledger.specs.declared.Told.{Told}
 use Rattle.ledger.proofs.Laid.{held-at, held-long, held-taken}
@@ -51,10 +53,10 @@ module _ (n : ℕ) (ends : List Bay) (starts goals : Placement) (plan marks : Li
   billing-lent name = by-option (upToEleven n ends starts goals plan marks) (λ u. rw (u, agree-lent (sym u))) (λ x u. rw u)
 
   -- where a report changes a line, all lines are there, and the name's carrier among them
-  accepted-there : (name : ℕ) → changes (billing n ends starts goals plan marks rec lines name) ≡ true
+  accepted-there : (name : ℕ) → accepts (billing n ends starts goals plan marks rec lines name) ≡ true
       → (length lines ≡ length starts) × (named (crossings plan) name .carrier < length starts) × (length starts < most-bays)
   accepted-there name y =
-      let a = accepts-exactly n ends starts goals plan marks rec lines name .0 (changes-exactly (billing n ends starts goals plan marks rec lines name) .0 y) in
+      let a = accepts-exactly n ends starts goals plan marks rec lines name .0 (accepts-accept (billing n ends starts goals plan marks rec lines name) .0 y) in
       let fit = fit-of n ends starts goals plan marks (sym (a .0)) in
       let inside : name < length plan = rw length-map at (tell-facts (crossings plan) marks name (a .2) .1) in (
         ap length (agree-exactly n ends starts goals plan marks rec lines .0 (a .1) .1) ∙ lines-long (length starts) (crossings plan) marks,
@@ -64,7 +66,7 @@ module _ (n : ℕ) (ends : List Bay) (starts goals : Placement) (plan marks : Li
 
   -- what a report says of lines that are lent
   pub record Settled (name : ℕ) (r : Told) (marks′ : List ℕ) : Type 0 where
-    pub answers : billedOf (r .answer) ≡ billing n ends starts goals plan marks rec lines name
+    pub answers : reportOf (r .answer) ≡ billing n ends starts goals plan marks rec lines name
     pub marks-then : marks′ ≡ marksThen n ends starts goals plan marks rec lines name
     pub leaves : r .running ≡ recordThen n ends starts goals plan marks rec lines name
     pub lines-then : set lines (r .at) (r .line) ≡ linesThen n ends starts goals plan marks rec lines name
@@ -80,7 +82,7 @@ module _ (n : ℕ) (ends : List Bay) (starts goals : Placement) (plan marks : Li
           answers = s .answers ∙ b;
           marks-then = s .marks-then ∙ rw b;
           leaves = s .leaves ∙ rw b;
-          lines-then = by-cases (changes now)
+          lines-then = by-cases (accepts now)
               (λ y.
               let t = accepted-there name y in
               let there = held-at lines c (omega (arith, t .0, t .1)) (omega (arith, t .1, t .2)) in
@@ -107,7 +109,7 @@ module _ (n : ℕ) (ends : List Bay) (starts goals : Placement) (plan marks : Li
   settled-held s =
       let c = named (crossings plan) name .carrier in
       let short : length (linesHeld held) ≤ held .count = omega (arith, length-take (held .count) (held .lines)) in
-      by-cases (changes (billing n ends starts goals plan marks rec (linesHeld held) name))
+      by-cases (accepts (billing n ends starts goals plan marks rec (linesHeld held) name))
       (λ y.
       let t = accepted-there n ends starts goals plan marks rec (linesHeld held) name y in
       let there = getD-take (held .count) (held .lines) c noLine (omega (arith, short, t .0, t .1)) in

@@ -11,16 +11,16 @@ use Rattle.paper.specs.Yard.{Bay, Placement, Crossing, crossings}
 use Rattle.paper.specs.Docket as paper
 use Rattle.paper.specs.Answers.{Report, accept, already, refuse, accepts, marksAfter}
 use Rattle.paper.proofs.Tests.{by-cases, by-option, not-both}
-use Rattle.marks.specs.Reading.{toldInOrder}
+use Rattle.marks.specs.Reading.{reportOf, toldInOrder}
 use Rattle.marks.proofs.Telling.{told-on, told-unknown}
 use Rattle.bills.specs.Billing.{noLine}
-use Rattle.bills.specs.Answering.{Billed, told, disagrees, agrees, differs, refused, changes, upToEleven, agree, agreement, billing, marksThen, recordThen}
+use Rattle.bills.specs.Answering.{agrees, differs, refused, upToEleven, agree, agreement, billing, marksThen, recordThen}
 use Rattle.bills.specs.declared.Line.{Line}
 use Rattle.bills.specs.declared.Record.{Record}
 use Rattle.bills.proofs.Same.{agree-exactly, differ-exactly}
-use Rattle.bills.proofs.Keeping.{eleven-exactly, agrees-exactly, differs-exactly}
+use Rattle.bills.proofs.Keeping.{accepts-accept, eleven-exactly, agrees-exactly, differs-exactly}
 use Rattle.ledger.specs.Lines.{linesHeld}
-use Rattle.ledger.specs.Statements.{billedOf, PostSays, SettleSays, BillingSays}
+use Rattle.ledger.specs.Statements.{PostSays, SettleSays, BillingSays}
 use Rattle.ledger.specs.declared.Held.{Held}
 use Rattle.ledger.specs.declared.Told.{Told}
 
@@ -36,12 +36,6 @@ pub told-named : (xs : List Crossing) (marks : List ℕ) (name : ℕ) → toldIn
 unfolding accepts
 told-named xs marks name e = told-inside xs marks name (ap accepts e)
 
-accepted-is : (a : Report) → accepts a ≡ true → accept ≡ a
-unfolding accepts
-accepted-is accept y = refl
-accepted-is already y = not-both y refl
-accepted-is (refuse r) y = not-both y refl
-
 marks-by : (marks : List ℕ) (name : ℕ) (a : Report) → marksAfter marks name a ≡ (if accepts a then set marks name 1 else marks)
 unfolding marksAfter accepts
 marks-by marks name accept = refl
@@ -51,16 +45,16 @@ marks-by marks name (refuse r) = refl
 module _ (plan marks : List ℕ) (name : ℕ) (rec : Record) (held : Held) (r : Told) (marks′ : List ℕ) (m : marks′ ≡ marksAfter marks name (toldInOrder (crossings plan) marks name)) where
   pub settle-posted : accepts (toldInOrder (crossings plan) marks name) ≡ true → PostSays plan name rec held r → SettleSays plan marks name rec held r marks′
   settle-posted y p = record {
-    answers = ap billedOf (p .answers) ∙ ap told (accepted-is (toldInOrder (crossings plan) marks name) y);
+    answers = ap reportOf (p .answers) ∙ sym (accepts-accept (toldInOrder (crossings plan) marks name) .0 y);
     marks-then = m;
     changed = λ a. (p .leaves, p .place, p .line-then);
     unchanged = λ a. not-both y a;
   }
 
-  pub settle-left : (a : Report) → a ≡ toldInOrder (crossings plan) marks name → accepts a ≡ false → billedOf (r .answer) ≡ told a
+  pub settle-left : (a : Report) → a ≡ toldInOrder (crossings plan) marks name → accepts a ≡ false → reportOf (r .answer) ≡ a
       → r .running ≡ rec → r .at ≡ held .count → r .line ≡ noLine → SettleSays plan marks name rec held r marks′
   settle-left a e not-so b k i l = record {
-    answers = b ∙ ap told e;
+    answers = b ∙ e;
     marks-then = m;
     changed = λ y. not-both y (ap accepts (sym e) ∙ not-so);
     unchanged = λ y. (k, i, l);
@@ -71,28 +65,28 @@ module _ (n : ℕ) (ends : List Bay) (starts goals : Placement) (plan marks : Li
   lines = linesHeld held
 
   -- nothing changes
-  pub billing-left : (b : Billed) → b ≡ billing n ends starts goals plan marks rec lines name → changes b ≡ false → billedOf (r .answer) ≡ b
+  pub billing-left : (b : Report) → b ≡ billing n ends starts goals plan marks rec lines name → accepts b ≡ false → reportOf (r .answer) ≡ b
       → r .running ≡ rec → r .at ≡ held .count → r .line ≡ noLine → marks′ ≡ marks → BillingSays n ends starts goals plan marks name rec held r marks′
   unfolding marksThen recordThen
   billing-left b is not-so a k i l m =
-      let same : changes (billing n ends starts goals plan marks rec lines name) ≡ false = ap changes (sym is) ∙ not-so in
+      let same : accepts (billing n ends starts goals plan marks rec lines name) ≡ false = ap accepts (sym is) ∙ not-so in
       record { answers = a ∙ is; marks-then = m ∙ rw same; leaves = k ∙ rw same; place = i ∙ rw same; line-then = l ∙ rw same }
 
   -- the record disagrees
-  pub billing-differs : differs ≡ agreement n ends starts goals plan marks rec lines → disagrees ≡ billing n ends starts goals plan marks rec lines name
+  pub billing-differs : differs ≡ agreement n ends starts goals plan marks rec lines → refuse paper.disagrees ≡ billing n ends starts goals plan marks rec lines name
   unfolding billing
   billing-differs h =
       let d = differs-exactly n ends starts goals plan marks rec lines .0 (sym h) in
       sym (rw (d .0, differ-exactly n ends starts goals plan marks rec lines .1 (d .1)))
 
-  pub billing-refused : (x : paper.Refusal) → refused x ≡ agreement n ends starts goals plan marks rec lines → told (refuse x) ≡ billing n ends starts goals plan marks rec lines name
+  pub billing-refused : (x : paper.Refusal) → refused x ≡ agreement n ends starts goals plan marks rec lines → refuse x ≡ billing n ends starts goals plan marks rec lines name
   unfolding billing agreement
   billing-refused x h =
       by-option (upToEleven n ends starts goals plan marks)
       (λ u. by-cases (agree n ends starts goals plan marks rec lines)
       (λ a. let k = rw (u, a) at h in absurd (not-both refl (ap isRefused (sym k))))
       (λ a. let k = rw (u, a) at h in absurd (not-both refl (ap isRefused (sym k)))))
-      (λ y u. let k = rw u at h in rw u (ap (λ z. told (refuse z)) (refused-same k)))
+      (λ y u. let k = rw u at h in rw u (ap refuse (refused-same k)))
     where
       isRefused : Rattle.bills.specs.Answering.Agreement → Bool
       isRefused agrees = true
@@ -110,13 +104,13 @@ module _ (n : ℕ) (ends : List Bay) (starts goals : Placement) (plan marks : Li
   -- all agree: the rest tells
   pub billing-settled : agrees ≡ agreement n ends starts goals plan marks rec lines → SettleSays plan marks name rec held r marks′
       → BillingSays n ends starts goals plan marks name rec held r marks′
-  unfolding billing marksThen recordThen changes
+  unfolding billing marksThen recordThen
   billing-settled h s =
       let f = agrees-exactly n ends starts goals plan marks rec lines .0 (sym h) in
       let ok = eleven-exactly n ends starts goals plan marks .0 (f .0) in
       let xs = crossings plan in
       let yes = agree-exactly n ends starts goals plan marks rec lines .1 (f .1) in
-      let is : billing n ends starts goals plan marks rec lines name ≡ told (toldInOrder xs marks name) = rw (f .0, yes) (ap told (told-on xs marks name (ok .1))) in
+      let is : billing n ends starts goals plan marks rec lines name ≡ toldInOrder xs marks name = rw (f .0, yes) (told-on xs marks name (ok .1)) in
       record {
         answers = s .answers ∙ sym is;
         marks-then = s .marks-then ∙ marks-by marks name (toldInOrder xs marks name) ∙ rw is;

@@ -11,12 +11,13 @@ use Rattle.paper.specs.Limits.{most-bays}
 use Rattle.paper.specs.Yard.{Bay, Placement, crossings, named, most-crossings}
 use Rattle.paper.specs.Dependence.{slots}
 use Rattle.paper.specs.OnePass.{Fits}
-use Rattle.paper.specs.Answers.{accept, already, refuse, accepts, marksAfter}
+use Rattle.paper.specs.Answers.{Report, accepts, marksAfter}
 use Rattle.docket.specs.Reading.{refusalOf}
-use Rattle.marks.specs.Reading.{toldInOrder}
+use Rattle.marks.specs.Reading.{reportOf, toldInOrder}
+use Rattle.marks.specs.declared.Reported.the-variants.{Accepted}
 use Rattle.checker.specs.Reading.{checkedOf}
 use Rattle.bills.specs.Billing.{recordOf, linesOf, posted, charged, noLine}
-use Rattle.bills.specs.Answering.{sameRecord, sameLines, changes, opening, openedRecord, billing, marksThen, recordThen}
+use Rattle.bills.specs.Answering.{sameRecord, sameLines, opening, openedRecord, billing, marksThen, recordThen}
 use Rattle.bills.specs.Answering as told
 use Rattle.bills.specs.declared.Line.{Line}
 use Rattle.bills.specs.declared.Record.{Record}
@@ -24,8 +25,6 @@ use Rattle.ledger.specs.Lines.{gathered, lineAt, linesHeld}
 use Rattle.ledger.specs.declared.Held.{Held}
 use Rattle.ledger.specs.declared.Agreement.{Agreement}
 use Rattle.ledger.specs.declared.Agreement.the-variants as test
-use Rattle.ledger.specs.declared.Billed.{Billed}
-use Rattle.ledger.specs.declared.Billed.the-variants as bill
 use Rattle.ledger.specs.declared.Opening.{Opening}
 use Rattle.ledger.specs.declared.Told.{Told}
 
@@ -33,12 +32,6 @@ abbrev pub agreementOf : Agreement → told.Agreement
 agreementOf test.Agrees = told.agrees
 agreementOf test.Differs = told.differs
 agreementOf (test.Refused r) = told.refused (refusalOf r)
-
-abbrev pub billedOf : Billed → told.Billed
-billedOf bill.Accepted = told.told accept
-billedOf bill.Already = told.told already
-billedOf bill.Disagrees = told.disagrees
-billedOf (bill.Refused r) = told.told (refuse (refusalOf r))
 
 -- what is known once the check has passed and the marks are as many as the crossings
 pub record Fit (starts : Placement) (plan marks : List ℕ) : Type 0 where
@@ -61,7 +54,7 @@ pub record PostAsks (plan : List ℕ) (name : ℕ) (rec : Record) (held : Held) 
   pub not-full : lineAt held (named (crossings plan) name .carrier) .billed < 4294967295
 
 pub record PostSays (plan : List ℕ) (name : ℕ) (rec : Record) (held : Held) (r : Told) : Type 0 where
-  pub answers : r .answer ≡ bill.Accepted
+  pub answers : r .answer ≡ Accepted
   pub leaves : r .running ≡ posted rec (named (crossings plan) name) (getD (slots (crossings plan)) name 0)
   pub place : r .at ≡ named (crossings plan) name .carrier
   pub line-then : r .line ≡ charged (lineAt held (named (crossings plan) name .carrier)) name
@@ -75,7 +68,7 @@ pub record SettleAsks (plan marks : List ℕ) (rec : Record) (held : Held) : Typ
 
 -- from 12 on: acceptance changes the mark, the record and one line; any other answer changes nothing, the place is past the last line, and the line is empty
 pub record SettleSays (plan marks : List ℕ) (name : ℕ) (rec : Record) (held : Held) (r : Told) (marks′ : List ℕ) : Type 0 where
-  pub answers : billedOf (r .answer) ≡ told.told (toldInOrder (crossings plan) marks name)
+  pub answers : reportOf (r .answer) ≡ toldInOrder (crossings plan) marks name
   pub marks-then : marks′ ≡ marksAfter marks name (toldInOrder (crossings plan) marks name)
   pub changed : accepts (toldInOrder (crossings plan) marks name) ≡ true
       → (r .running ≡ posted rec (named (crossings plan) name) (getD (slots (crossings plan)) name 0))
@@ -94,18 +87,18 @@ module _ (n : ℕ) (ends : List Bay) (starts goals : Placement) (plan marks : Li
     pub holds : r .held ≡ gathered (built count)
 
   module _ (name : ℕ) (rec : Record) (held : Held) where
-    abbrev billed : told.Billed
+    abbrev billed : Report
     billed = billing n ends starts goals plan marks rec (linesHeld held) name
 
     -- the one line that changes, with its place: past the last line where none does, and then an empty one
     abbrev pub placeThen : ℕ
-    placeThen = if changes billed then named (crossings plan) name .carrier else held .count
+    placeThen = if accepts billed then named (crossings plan) name .carrier else held .count
 
     abbrev pub lineThen : Line
-    lineThen = if changes billed then charged (lineAt held (named (crossings plan) name .carrier)) name else noLine
+    lineThen = if accepts billed then charged (lineAt held (named (crossings plan) name .carrier)) name else noLine
 
     pub record BillingSays (r : Told) (marks′ : List ℕ) : Type 0 where
-      pub answers : billedOf (r .answer) ≡ billing n ends starts goals plan marks rec (linesHeld held) name
+      pub answers : reportOf (r .answer) ≡ billing n ends starts goals plan marks rec (linesHeld held) name
       pub marks-then : marks′ ≡ marksThen n ends starts goals plan marks rec (linesHeld held) name
       pub leaves : r .running ≡ recordThen n ends starts goals plan marks rec (linesHeld held) name
       pub place : r .at ≡ placeThen

@@ -11,9 +11,9 @@ ghost use Rattle.paper.specs.Answers.{accepts};
 ghost use Rattle.marks.specs.Reading.{reportOf};
 ghost use Rattle.checker.specs.Reading.{checkedOf};
 ghost use Rattle.bills.specs.Billing.{places, noLine, recordOf, linesOf};
-ghost use Rattle.bills.specs.Answering.{upToEleven, agreement, told};
+ghost use Rattle.bills.specs.Answering.{upToEleven, agreement};
 ghost use Rattle.ledger.specs.Lines.{noLines, heldOf, topOf, lineAt, gathered, linesHeld, listed};
-ghost use Rattle.ledger.specs.Statements.{agreementOf, billedOf, Fit, allSame, OpenSays, PostAsks, PostSays, SettleAsks, SettleSays, BillingSays};
+ghost use Rattle.ledger.specs.Statements.{agreementOf, Fit, allSame, OpenSays, PostAsks, PostSays, SettleAsks, SettleSays, BillingSays};
 use bills::Line;
 use bills::Record;
 use bills::UNTOUCHED;
@@ -226,24 +226,16 @@ pub fn open(
     }
 }
 
-// What a report answers.
-pub enum Billed {
-    Accepted,
-    Already,
-    Disagrees,
-    Refused(Refusal),
-}
-
 // What a report answers and leaves: the record, and one line with its place. Where none changes the place is past the last line, and the line is empty.
 pub struct Told {
-    pub answer: Billed,
+    pub answer: Reported,
     pub running: Record,
     pub at: usize,
     pub line: Line,
 }
 
 // Nothing changes.
-fn unchanged(answer: Billed, running: Record, held: Held) -> Told
+fn unchanged(answer: Reported, running: Record, held: Held) -> Told
     ensures { λ r. ⌜ (r .answer ≡ answer) × (r .running ≡ running) × (r .at ≡ held .count) × (r .line ≡ noLine) ⌝ }
 {
     Told {
@@ -263,7 +255,7 @@ fn post(plan: &[u64], name: usize, running: Record, held: Held) -> Told
     let carrier = x.carrier.0 as usize;
     let slot = slots::slot_of(plan, name);
     Told {
-        answer: Billed::Accepted,
+        answer: Reported::Accepted,
         running: entries::posted(running, x, slot),
         at: carrier,
         line: entries::charged(line_at(held, carrier), name as u32),
@@ -281,17 +273,6 @@ fn is_billed(answer: Reported) -> bool
     }
 }
 
-// A report's answer among those that may also be 19.
-fn told_as(answer: Reported) -> Billed
-    ensures { λ r. ⌜ billedOf r ≡ told (reportOf answer) ⌝ }
-{
-    match answer {
-        Reported::Accepted => Billed::Accepted,
-        Reported::Already => Billed::Already,
-        Reported::Refused(r) => Billed::Refused(r),
-    }
-}
-
 // Once all agree: 12, "already", 13 or the step.
 fn settle(plan: &[u64], marks: &mut [u8], name: u64, running: Record, held: Held) -> Told
     requires { ⌜ SettleAsks (now plan) (now marks) running held ⌝ }
@@ -302,7 +283,7 @@ fn settle(plan: &[u64], marks: &mut [u8], name: u64, running: Record, held: Held
     if is_billed(answer) {
         return post(plan, name as usize, running, held);
     }
-    unchanged(told_as(answer), running, held)
+    unchanged(answer, running, held)
 }
 
 // A report of a name on record and lines: the refusals up to 11, then 19, then 12, "already", 13 or acceptance.
@@ -322,7 +303,7 @@ pub fn report(
     let agreed = compare(bays, rails, start, goal, plan, marks, running, held);
     match agreed {
         Agreement::Agrees => settle(plan, marks, name, running, held),
-        Agreement::Differs => unchanged(Billed::Disagrees, running, held),
-        Agreement::Refused(r) => unchanged(Billed::Refused(r), running, held),
+        Agreement::Differs => unchanged(Reported::Refused(Refusal::Disagrees), running, held),
+        Agreement::Refused(r) => unchanged(Reported::Refused(r), running, held),
     }
 }

@@ -8,7 +8,6 @@ use checker::Checked;
 use docket::Refusal;
 use libc::STDOUT_FILENO;
 use marks::Reported;
-use reports::Slotted;
 
 // An answer in the vectors' numbers: the refusal's and what it carries, 99 for "already", 0 for what is no refusal.
 struct Code(u64, u64);
@@ -36,13 +35,6 @@ fn of_checked(a: Checked) -> Code {
     match a {
         Checked::Passed => Code(0, 0),
         Checked::Refused(r) => of_refusal(r),
-    }
-}
-
-fn of_slotted(a: Slotted) -> Code {
-    match a {
-        Slotted::Written => Code(0, 0),
-        Slotted::Refused(r) => of_refusal(r),
     }
 }
 
@@ -143,7 +135,7 @@ fn slots_into(
     plan: &[u64],
     out: &mut [u32],
     room: usize,
-) -> Slotted {
+) -> Checked {
     if room <= out.len() {
         reports::slots(bays, rails, start, goal, plan, &mut out[..room])
     } else {
@@ -176,7 +168,7 @@ fn slots_case(text: &[u8], at: usize) -> Outcome {
         &mut out,
         room.value as usize,
     );
-    let o = answers(text, room.next, of_slotted(a));
+    let o = answers(text, room.next, of_checked(a));
     let w = slots_are(text, o.next, &out);
     Outcome {
         agrees: o.agrees && w.agrees,

@@ -7,11 +7,12 @@ use cases::first8;
 use cases::first16;
 use cases::first64;
 use docket::Crossing;
+use docket::Refusal;
 use ledger::Agreement;
-use ledger::Billed;
 use ledger::Held;
 use ledger::Told;
 use libc::STDOUT_FILENO;
+use marks::Reported;
 use plans::Named;
 use std::num::wrapping_add_u64;
 use yard::Yard;
@@ -63,7 +64,7 @@ fn lowest_open(known: &[u8; 1024], at: usize) -> usize {
 }
 
 // The answer of a done name comes back, or is lost: then the name is reported again.
-fn hear(known: &mut [u8; 1024], name: usize, answer: Billed, dice: u64) {
+fn hear(known: &mut [u8; 1024], name: usize, answer: Reported, dice: u64) {
     if !is_done(answer) {
         return;
     }
@@ -86,9 +87,9 @@ fn keep(got: &mut [u64], at: usize, name: usize) -> usize {
 }
 
 // What an answer does to the line.
-fn after(line: Line, answer: Billed, name: usize, got: &mut [u64]) -> Line {
+fn after(line: Line, answer: Reported, name: usize, got: &mut [u64]) -> Line {
     match answer {
-        Billed::Accepted => Line {
+        Reported::Accepted => Line {
             dice: line.dice,
             lowest: line.lowest,
             accepted: keep(got, line.accepted, name),
@@ -96,7 +97,7 @@ fn after(line: Line, answer: Billed, name: usize, got: &mut [u64]) -> Line {
             early: line.early,
             repeated: line.repeated,
         },
-        Billed::Already => Line {
+        Reported::Already => Line {
             dice: line.dice,
             lowest: line.lowest,
             accepted: line.accepted,
@@ -104,8 +105,7 @@ fn after(line: Line, answer: Billed, name: usize, got: &mut [u64]) -> Line {
             early: line.early,
             repeated: more(line.repeated),
         },
-        Billed::Disagrees => line,
-        Billed::Refused(_) => Line {
+        Reported::Refused(_) => Line {
             dice: line.dice,
             lowest: line.lowest,
             accepted: line.accepted,
@@ -116,12 +116,11 @@ fn after(line: Line, answer: Billed, name: usize, got: &mut [u64]) -> Line {
     }
 }
 
-fn is_done(answer: Billed) -> bool {
+fn is_done(answer: Reported) -> bool {
     match answer {
-        Billed::Accepted => true,
-        Billed::Already => true,
-        Billed::Disagrees => false,
-        Billed::Refused(_) => false,
+        Reported::Accepted => true,
+        Reported::Already => true,
+        Reported::Refused(_) => false,
     }
 }
 
@@ -286,8 +285,11 @@ fn tampered(running: Record, done: u32) -> Record {
     }
 }
 
-fn show_tampered(answer: Billed, done: u32, agreed: Agreement) {
-    let Billed::Disagrees = answer else {
+fn show_tampered(answer: Reported, done: u32, agreed: Agreement) {
+    let Reported::Refused(r) = answer else {
+        return;
+    };
+    let Refusal::Disagrees = r else {
         return;
     };
     if done == 1 && is_agreed(agreed) {

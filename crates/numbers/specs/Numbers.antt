@@ -4,9 +4,8 @@ use mathlib.Core.Option.{Option, none, some, Option·getD}
 use Prim.Native.Nat.{ℕ}
 use Rattle.paper.specs.Docket.{Refusal, number, carried, Verdict, granted, denied as verdictDenied}
 use Rattle.paper.specs.Answers.{Report, accept, already, refuse}
-use Rattle.bills.specs.Answering.{Agreement, agrees, differs, refused, Billed, told, disagrees, disagrees-number}
+use Rattle.bills.specs.Answering.{Agreement, agrees, differs, refused}
 use Rattle.planner.specs.Statement.{Told, long, denied}
-use Rattle.shorten.specs.Statements.{Told as ToldShort, wrote, refuses, has-begun}
 
 -- the refusal's number in the table, 0 where there is none
 abbrev pub numberOf : Option Refusal → ℕ
@@ -28,13 +27,15 @@ verdictValue (granted n) = valueOf n none
 verdictValue (verdictDenied r) = valueOf 0 (some r)
 
 -- of planning, whose acceptance is known by the plan's length
+abbrev pub verdictFor : Told → Verdict
+verdictFor (long written) = granted written
+verdictFor (denied r) = verdictDenied r
+
 abbrev pub planNumber : Told → ℕ
-planNumber (long written) = numberOf none
-planNumber (denied r) = numberOf (some r)
+planNumber t = verdictNumber (verdictFor t)
 
 abbrev pub planValue : Told → ℕ
-planValue (long written) = valueOf written none
-planValue (denied r) = valueOf 0 (some r)
+planValue t = verdictValue (verdictFor t)
 
 -- "already" is no refusal and has no number in the table
 abbrev pub already-number : ℕ
@@ -51,20 +52,6 @@ reportValue accept = valueOf 0 none
 reportValue already = valueOf 0 none
 reportValue (refuse r) = valueOf 0 (some r)
 
--- "then 25 if any mark is 1": the change request's number, which the table does not have
-abbrev pub begun-number : ℕ
-begun-number = 25
-
-abbrev pub shortenNumber : ToldShort → ℕ
-shortenNumber (wrote written) = numberOf none
-shortenNumber (refuses r) = numberOf (some r)
-shortenNumber has-begun = begun-number
-
-abbrev pub shortenValue : ToldShort → ℕ
-shortenValue (wrote written) = valueOf written none
-shortenValue (refuses r) = valueOf 0 (some r)
-shortenValue has-begun = valueOf 0 none
-
 -- the agreement test's yes is told by the value 1, its no by 0
 abbrev pub agreementNumber : Agreement → ℕ
 agreementNumber agrees = numberOf none
@@ -75,12 +62,3 @@ abbrev pub agreementValue : Agreement → ℕ
 agreementValue agrees = valueOf 1 none
 agreementValue differs = valueOf 0 none
 agreementValue (refused r) = valueOf 0 (some r)
-
--- "19, record disagrees", which carries nothing
-abbrev pub billedNumber : Billed → ℕ
-billedNumber (told r) = reportNumber r
-billedNumber disagrees = disagrees-number
-
-abbrev pub billedValue : Billed → ℕ
-billedValue (told r) = reportValue r
-billedValue disagrees = valueOf 0 none

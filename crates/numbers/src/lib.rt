@@ -4,30 +4,19 @@ ghost use mathlib.Core.Option.{none, some};
 ghost use Rattle.docket.specs.Reading.{refusalOf, verdictOf};
 ghost use Rattle.checker.specs.Reading.{checkedOf};
 ghost use Rattle.marks.specs.Reading.{reportOf};
-ghost use Rattle.reports.specs.Statements.{slottedOf};
 ghost use Rattle.planner.specs.Statement.{plannedOf, uncounted, parkedBy};
-ghost use Rattle.shorten.specs.Statements.{toldOf};
-ghost use Rattle.ledger.specs.Statements.{agreementOf, billedOf};
-ghost use Rattle.numbers.specs.Numbers.{numberOf, valueOf, verdictNumber, verdictValue, planNumber, planValue, reportNumber, reportValue, shortenNumber, shortenValue, agreementNumber, agreementValue, billedNumber, billedValue};
+ghost use Rattle.ledger.specs.Statements.{agreementOf};
+ghost use Rattle.numbers.specs.Numbers.{numberOf, valueOf, verdictNumber, verdictValue, verdictFor, planNumber, planValue, reportNumber, reportValue, agreementNumber, agreementValue};
 ghost use Rattle.numbers.specs.Tells.{Tells};
 use checker::Checked;
 use docket::Refusal;
 use docket::Verdict;
 use ledger::Agreement;
-use ledger::Billed;
 use marks::Reported;
 use planner::Counted;
-use reports::Slotted;
-use shorten::Shortened;
 
 // "already" is no refusal, so the table has no number for it.
 const ALREADY: u64 = 100;
-
-// 25, some crossing is done already, is shortening's own refusal, so the table has no row for it.
-const BEGUN: u64 = 25;
-
-// "record disagrees" is the refusal of a report on a running record, which the table does not have either.
-const DISAGREES: u64 = 19;
 
 // Acceptance, with the length written.
 fn accepted(written: u64, value: &mut u64) -> u64
@@ -65,37 +54,35 @@ fn parked_in(answer: Counted) -> u64
     }
 }
 
+// The plan's length, or why there is none.
+fn length_in(answer: Counted) -> Verdict
+    ensures { λ r. ⌜ verdictOf r ≡ verdictFor (plannedOf (uncounted answer)) ⌝ }
+{
+    match answer {
+        Counted::Accepted(written, _) => Verdict::Granted(written),
+        Counted::Refused(r) => Verdict::Denied(r),
+    }
+}
+
 // Beside the two numbers of planning stands that count.
 pub fn told_planned(answer: Counted, parked: &mut u64, value: &mut u64) -> u64
     ensures { λ r. ⌜ Tells (planNumber (plannedOf (uncounted answer))) (planValue (plannedOf (uncounted answer))) r (now (value .exit)) × (now (parked .exit) ≡ parkedBy answer) ⌝ }
 {
     *parked = parked_in(answer);
-    match answer {
-        Counted::Accepted(written, _) => accepted(written, value),
-        Counted::Refused(r) => refused(r, value),
-    }
+    told(length_in(answer), value)
 }
 
-// The check, and opening.
-pub fn told_checked(answer: Checked, value: &mut u64) -> u64
-    ensures { λ r. ⌜ Tells (numberOf (checkedOf answer)) (valueOf 0 (checkedOf answer)) r (now (value .exit)) ⌝ }
+// The check, opening and slots, of which so many are written: none but by slots.
+pub fn told_checked(answer: Checked, written: u64, value: &mut u64) -> u64
+    ensures { λ r. ⌜ Tells (numberOf (checkedOf answer)) (valueOf written (checkedOf answer)) r (now (value .exit)) ⌝ }
 {
     match answer {
-        Checked::Passed => accepted(0, value),
+        Checked::Passed => accepted(written, value),
         Checked::Refused(r) => refused(r, value),
     }
 }
 
-// Slots, of which so many are written.
-pub fn told_slotted(answer: Slotted, written: u64, value: &mut u64) -> u64
-    ensures { λ r. ⌜ Tells (numberOf (slottedOf answer)) (valueOf written (slottedOf answer)) r (now (value .exit)) ⌝ }
-{
-    match answer {
-        Slotted::Written => accepted(written, value),
-        Slotted::Refused(r) => refused(r, value),
-    }
-}
-
+// A report, on a running record or without one.
 pub fn told_reported(answer: Reported, value: &mut u64) -> u64
     ensures { λ r. ⌜ Tells (reportNumber (reportOf answer)) (reportValue (reportOf answer)) r (now (value .exit)) ⌝ }
 {
@@ -109,19 +96,6 @@ pub fn told_reported(answer: Reported, value: &mut u64) -> u64
     }
 }
 
-pub fn told_shortened(answer: Shortened, value: &mut u64) -> u64
-    ensures { λ r. ⌜ Tells (shortenNumber (toldOf answer)) (shortenValue (toldOf answer)) r (now (value .exit)) ⌝ }
-{
-    match answer {
-        Shortened::Written(length) => accepted(length, value),
-        Shortened::Begun => {
-            *value = 0;
-            BEGUN
-        }
-        Shortened::Refused(r) => refused(r, value),
-    }
-}
-
 // The agreement test: yes is told by the value 1, no by 0.
 pub fn told_agreement(answer: Agreement, value: &mut u64) -> u64
     ensures { λ r. ⌜ Tells (agreementNumber (agreementOf answer)) (agreementValue (agreementOf answer)) r (now (value .exit)) ⌝ }
@@ -130,23 +104,5 @@ pub fn told_agreement(answer: Agreement, value: &mut u64) -> u64
         Agreement::Agrees => accepted(1, value),
         Agreement::Differs => accepted(0, value),
         Agreement::Refused(r) => refused(r, value),
-    }
-}
-
-// A report on a running record.
-pub fn told_billed(answer: Billed, value: &mut u64) -> u64
-    ensures { λ r. ⌜ Tells (billedNumber (billedOf answer)) (billedValue (billedOf answer)) r (now (value .exit)) ⌝ }
-{
-    match answer {
-        Billed::Accepted => accepted(0, value),
-        Billed::Already => {
-            *value = 0;
-            ALREADY
-        }
-        Billed::Disagrees => {
-            *value = 0;
-            DISAGREES
-        }
-        Billed::Refused(r) => refused(r, value),
     }
 }

@@ -1,11 +1,14 @@
 -- Any two answers of the code that a statement allows are equal: it says which definition the answer reads as, and the reading tells any two answers apart. The
 -- crates above cite this for their functions. A refusal is told by its number and what it carries.
 use mathlib.Core.Path.{_≡_, refl, sym, _∙_, ap, ap₂}
-use mathlib.Core.Option.{Option·getD}
+use mathlib.Core.Bool.{true, false}
+use mathlib.Core.List.{List, [], _∷_}
+use mathlib.Core.Option.{Option, Option·getD}
 use Prim.Native.Nat.{ℕ}
 use lib.Dec.{eqb}
-use Rattle.paper.specs.Basics.{if_then_else_}
-use Rattle.paper.specs.Docket.{Refusal, size, rail, apart, crowd, start, goal, stopped, room, illegal, missed, mismarked, unknown, early, badMap, badScenario, badSurvey, ended, longPiece, edition, badPlan, badReports, number, carried}
+use Rattle.paper.specs.Basics.{if_then_else_, elem}
+use Rattle.paper.specs.Docket.{Refusal, size, rail, apart, crowd, start, goal, stopped, room, illegal, missed, mismarked, unknown, early, badMap, badScenario, badSurvey, ended, longPiece, disagrees, edition, begun, badPlan, badReports, number, carried}
+use Rattle.paper.proofs.Tests.{not-both}
 
 -- a statement of an answer and of what a lent list holds at the end allows one of each
 abbrev pub Determined : {A B : Type 0} → (A → B → Type 0) → Type 0
@@ -43,34 +46,49 @@ from n v =
     else if eqb n 16 then badSurvey v
     else if eqb n 17 then ended
     else if eqb n 18 then longPiece
+    else if eqb n 19 then disagrees
     else if eqb n 20 then edition
+    else if eqb n 25 then begun
     else if eqb n 26 then badPlan v
     else badReports v
 
-had-back : (r : Refusal) → from (number r) (Option·getD (carried r) 0) ≡ r
-unfolding from
-had-back size = refl
-had-back (rail i) = refl
-had-back (apart b) = refl
-had-back crowd = refl
-had-back (start c) = refl
-had-back (goal c) = refl
-had-back (stopped c) = refl
-had-back (room l) = refl
-had-back (illegal i) = refl
-had-back (missed c) = refl
-had-back mismarked = refl
-had-back unknown = refl
-had-back (early e) = refl
-had-back (badMap l) = refl
-had-back (badScenario l) = refl
-had-back (badSurvey l) = refl
-had-back ended = refl
-had-back longPiece = refl
-had-back edition = refl
-had-back (badPlan l) = refl
-had-back (badReports l) = refl
+-- the numbers of answers that are no refusals: 0 for acceptance, 100 for "already"
+abbrev own : List ℕ
+own = 0 ∷ 100 ∷ []
 
--- A refusal is known by its number and what it carries.
+-- the table row by row: a refusal is had back from its number and what it carries, and no answer of another kind has its number
+rows : (r : Refusal) → (from (number r) (Option·getD (carried r) 0) ≡ r) × (elem (number r) own ≡ false)
+unfolding from elem
+rows size = (refl, refl)
+rows (rail i) = (refl, refl)
+rows (apart b) = (refl, refl)
+rows crowd = (refl, refl)
+rows (start c) = (refl, refl)
+rows (goal c) = (refl, refl)
+rows (stopped c) = (refl, refl)
+rows (room l) = (refl, refl)
+rows (illegal i) = (refl, refl)
+rows (missed c) = (refl, refl)
+rows mismarked = (refl, refl)
+rows unknown = (refl, refl)
+rows (early e) = (refl, refl)
+rows (badMap l) = (refl, refl)
+rows (badScenario l) = (refl, refl)
+rows (badSurvey l) = (refl, refl)
+rows ended = (refl, refl)
+rows longPiece = (refl, refl)
+rows disagrees = (refl, refl)
+rows edition = (refl, refl)
+rows begun = (refl, refl)
+rows (badPlan l) = (refl, refl)
+rows (badReports l) = (refl, refl)
+
+-- A refusal is known by its number and what it carries, told as 0 where that is nothing.
+pub refusals-told-apart : (r q : Refusal) → number r ≡ number q → Option·getD (carried r) 0 ≡ Option·getD (carried q) 0 → r ≡ q
+refusals-told-apart r q e f = sym (rows r .0) ∙ ap₂ from e f ∙ rows q .0
+
 pub docket-tells : (r q : Refusal) → number r ≡ number q → carried r ≡ carried q → r ≡ q
-docket-tells r q e f = sym (had-back r) ∙ ap₂ (λ n c. from n (Option·getD c 0)) e f ∙ had-back q
+docket-tells r q e f = refusals-told-apart r q e (ap (λ c. Option·getD c 0) f)
+
+pub not-in-table : (k : ℕ) → elem k own ≡ true → (r : Refusal) → number r ≡ k → ⊥
+not-in-table k h r e = not-both (ap (λ j. elem j own) e ∙ h) (rows r .1)

@@ -9,7 +9,7 @@ use Rattle.paper.specs.Basics.{if_then_else_, if-some_then_else_, orElse
 use Rattle.paper.specs.Yard.{Bay, Placement, Crossing, pack, crossings, after}
 use Rattle.paper.specs.Procedure.{Outcome, planned, stuck, procedure}
 use Rattle.paper.specs.Dependence.{slots, isDone}
-use Rattle.paper.specs.Docket.{Refusal, yardOf, no-1, no-2, no-3, no-4, no-5, no-6, no-7, no-8, no-9, no-10, no-11, no-12, no-13}
+use Rattle.paper.specs.Docket.{Refusal, Verdict, granted, denied, yardOf, no-1, no-2, no-3, no-4, no-5, no-6, no-7, no-8, no-9, no-10, no-11, no-12, no-13}
 
 -- the first of 1 to 6, by number; `lent` is the lent plan's crossings, 0 where none is lent
 unfoldable pub firstSix : ℕ → List Bay → Placement → Placement → ℕ → Option Refusal
@@ -26,6 +26,11 @@ firstSix n ends starts goals lent =
 pub data Answer : Type 0 where
   accepted : List Crossing → Answer
   refused : Refusal → Answer
+
+-- an answer as it is told: a plan by its length, for the plan itself is in the lent list
+abbrev pub told : Answer → Verdict
+told (accepted xs) = granted (length xs)
+told (refused r) = denied r
 
 unfoldable pub crossingsOf : Outcome → List Crossing
 crossingsOf (planned m) = m .moves

@@ -1,6 +1,5 @@
 -- Numbers on a refused docket: the table. Rows 1 to 15 are document 01's, one definition each: row N is `no-N`, the refusal with what it
--- carries, or none. Rows 16 to 20 are document 02's, 26 and 27 are of files that we added; what each is given for stands with its request.
--- 19 and 25 are cases of their own requests' answers (crates/bills, crates/trips).
+-- carries, or none. Rows 16 to 20 and 25 are document 02's, 26 and 27 are of files that we added; what each is given for stands with its request.
 -- Assumes nothing.
 use mathlib.Core.Bool.{Bool, not}
 use mathlib.Core.List.{List, [], _∷_}
@@ -22,54 +21,40 @@ pub data Refusal : Type 0 where
   start goal stopped room illegal missed : ℕ → Refusal
   mismarked unknown : Refusal
   early badMap badScenario badSurvey : ℕ → Refusal
-  ended longPiece edition : Refusal
+  ended longPiece disagrees edition begun : Refusal
   badPlan badReports : ℕ → Refusal
 
+-- a row's number, and what it carries
+abbrev pub row : Refusal → ℕ × Option ℕ
+row size = (1, none)
+row (rail i) = (2, some i)
+row (apart b) = (3, some b)
+row crowd = (4, none)
+row (start c) = (5, some c)
+row (goal c) = (6, some c)
+row (stopped c) = (7, some c)
+row (room l) = (8, some l)
+row (illegal i) = (9, some i)
+row (missed c) = (10, some c)
+row mismarked = (11, none)
+row unknown = (12, none)
+row (early e) = (13, some e)
+row (badMap l) = (14, some l)
+row (badScenario l) = (15, some l)
+row (badSurvey l) = (16, some l)
+row ended = (17, none)
+row longPiece = (18, none)
+row disagrees = (19, none)
+row edition = (20, none)
+row begun = (25, none)
+row (badPlan l) = (26, some l)
+row (badReports l) = (27, some l)
+
 abbrev pub number : Refusal → ℕ
-number size = 1
-number (rail i) = 2
-number (apart b) = 3
-number crowd = 4
-number (start c) = 5
-number (goal c) = 6
-number (stopped c) = 7
-number (room l) = 8
-number (illegal i) = 9
-number (missed c) = 10
-number mismarked = 11
-number unknown = 12
-number (early e) = 13
-number (badMap l) = 14
-number (badScenario l) = 15
-number (badSurvey l) = 16
-number ended = 17
-number longPiece = 18
-number edition = 20
-number (badPlan l) = 26
-number (badReports l) = 27
+number r = row r .0
 
 abbrev pub carried : Refusal → Option ℕ
-carried size = none
-carried (rail i) = some i
-carried (apart b) = some b
-carried crowd = none
-carried (start c) = some c
-carried (goal c) = some c
-carried (stopped c) = some c
-carried (room l) = some l
-carried (illegal i) = some i
-carried (missed c) = some c
-carried mismarked = none
-carried unknown = none
-carried (early e) = some e
-carried (badMap l) = some l
-carried (badScenario l) = some l
-carried (badSurvey l) = some l
-carried ended = none
-carried longPiece = none
-carried edition = none
-carried (badPlan l) = some l
-carried (badReports l) = some l
+carried r = row r .1
 
 -- What a function answers that hands back a number: granted, with that number (a length, a count), or denied.
 pub data Verdict : Type 0 where

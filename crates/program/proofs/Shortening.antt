@@ -11,8 +11,8 @@ use lib.ListN.{length, take, drop, replicate, length-map, length-append, length-
 use lib.Seq.{take-at, length-take-le}
 use Rattle.paper.specs.Basics.{_or_, any}
 use Rattle.paper.specs.Yard.{Bay, Placement, pack, unpack, crossings, most-crossings}
-use Rattle.paper.specs.Docket.{yardOf, badMarks}
-use Rattle.paper.specs.Answers.{accepted, refused, plan, check}
+use Rattle.paper.specs.Docket.{granted, yardOf, badMarks}
+use Rattle.paper.specs.Answers.{accepted, refused, told, unless, written, plan, check}
 use Rattle.paper.specs.Log.{marksFrom}
 use Rattle.paper.specs.Program.{program-room}
 use Rattle.paper.proofs.Tests.{never, or-neither}
@@ -21,13 +21,14 @@ use Rattle.paper.proofs.Logging.{fine, kept-from-fresh}
 use Rattle.docket.specs.declared.Refusal.{Refusal}
 use Rattle.planner.specs.declared.Planned.{Planned}
 use Rattle.planner.specs.declared.Planned.the-variants as planner
-use Rattle.planner.specs.Statement.{long, told, plannedOf, PlanSays}
-use Rattle.shorten.specs.declared.Shortened.{Shortened}
-use Rattle.shorten.specs.declared.Shortened.the-variants as short
-use Rattle.shorten.specs.Statements.{wrote, toldOf, tells, ShortenSays}
+use Rattle.planner.specs.Statement.{long, told as toldLong, plannedOf, PlanSays}
+use Rattle.docket.specs.Reading.{verdictOf}
+use Rattle.docket.specs.declared.Verdict.{Verdict}
+use Rattle.docket.specs.declared.Verdict.the-variants as short
+use Rattle.shorten.specs.Statements.{ShortenSays}
 use Rattle.shorten.proofs.Looking.{take-fresh}
 use Rattle.trips.specs.Trips.{shorten}
-use Rattle.trips.specs.Shortening.{shortened, anyDone, intoRoom, leaves, shortening}
+use Rattle.trips.specs.Shortening.{anyDone, shortenRefusal, shortening}
 use Rattle.trips.proofs.Shortened.{shorten-shortens, shortened-passes}
 use Rattle.program.specs.Short.{PlannedIn, ShortIn}
 use Rattle.program.proofs.Telling.{by-answer, handed-in, within-by}
@@ -46,8 +47,8 @@ module _ (n : ℕ) (ends : List Bay) (s g : Placement) (crossed : List ℕ) (pas
   left-fewer = omega (arith, shorten-shortens (yardOf n ends) s (crossings crossed) (check-passed n ends s g crossed passes .lawful) .no-longer, length-map crossed unpack)
 
   pub accepted-shortens : (lent : ℕ) → length crossed ≤ lent → lent ≤ most-crossings
-      → shortening n ends s g crossed (replicate (length crossed) 0) lent ≡ shortened (shorten (crossings crossed))
-  unfolding shortening intoRoom
+      → shortening n ends s g crossed (replicate (length crossed) 0) lent ≡ accepted (shorten (crossings crossed))
+  unfolding shortening shortenRefusal unless
   accepted-shortens lent h k =
       let few = left-fewer in
       let ys = shorten (crossings crossed) in
@@ -70,7 +71,7 @@ module _ {n : ℕ} {ends : List Bay} {s g : Placement} {r : Planned} {list : Lis
   pub refusal-stays : (f : Refusal) → r ≡ planner.Refused f → {lent : List ℕ} → length lent ≡ program-room → ShortIn n ends s g (planner.Refused f) lent
   refusal-stays f e {lent} h =
       by-answer (plan n ends s g program-room)
-      (λ xs q. let y : plannedOf (planner.Refused f) ≡ told (accepted xs) = rw (e, q) at (p .handed .tells) in never (cc))
+      (λ xs q. let y : plannedOf (planner.Refused f) ≡ toldLong (accepted xs) = rw (e, q) at (p .handed .tells) in never (cc))
       (λ d q. record {
         handed = record { tells = rw q (rw (e, q) at (p .handed .tells)); stands = λ zs z. let y : refused d ≡ accepted zs = rw q at z in never (cc) };
         within = record { inside = λ m y. never (cc); few = omega arith };
@@ -85,27 +86,24 @@ module _ {n : ℕ} {ends : List Bay} {s g : Placement} {r : Planned} {list : Lis
     inside : length (take m list) ≤ length lent
     inside = omega (arith, length-take-le m list (p .within .inside m e), p .within .inside m e, p .sized)
 
-    whole : shortening n ends s g (take m list) marks (length lent) ≡ shortened (shorten (crossings (take m list)))
+    whole : shortening n ends s g (take m list) marks (length lent) ≡ accepted (shorten (crossings (take m list)))
     whole = rw fresh (accepted-shortens n ends s g (take m list) (p .passes m e) (length lent) inside (omega arith))
 
-    module _ {a : Shortened} {after : List ℕ} (says : ShortenSays n ends s g (take m list) marks lent a after) where
-      told-short : toldOf a ≡ wrote (length (shorten (crossings (take m list))))
-      told-short = says .answers ∙ ap tells whole
+    module _ {a : Verdict} {after : List ℕ} (says : ShortenSays n ends s g (take m list) marks lent a after) where
+      told-short : verdictOf a ≡ granted (length (shorten (crossings (take m list))))
+      told-short = says .answers ∙ ap told whole
 
-      pub not-begun : {P : Type 0} → a ≡ short.Begun → P
-      not-begun q = let y : toldOf short.Begun ≡ wrote (length (shorten (crossings (take m list)))) = rw q at told-short in never (cc)
-
-      pub not-refused : {P : Type 0} (f : Refusal) → a ≡ short.Refused f → P
-      not-refused f q = let y : toldOf (short.Refused f) ≡ wrote (length (shorten (crossings (take m list)))) = rw q at told-short in never (cc)
+      pub not-refused : {P : Type 0} (f : Refusal) → a ≡ short.Denied f → P
+      not-refused f q = let y : verdictOf (short.Denied f) ≡ granted (length (shorten (crossings (take m list)))) = rw q at told-short in never (cc)
 
       ended-short : after ≡ map pack (shorten (crossings (take m list))) ++ drop (length (shorten (crossings (take m list)))) lent
-      unfolding leaves
-      ended-short = says .ends-as ∙ ap (λ z. leaves z lent) whole
+      unfolding written
+      ended-short = says .ends-as ∙ ap (λ z. written z lent) whole
 
-      pub written-short : (left : ℕ) → a ≡ short.Written left → ShortIn n ends s g (planner.Accepted left) after
+      pub written-short : (left : ℕ) → a ≡ short.Granted left → ShortIn n ends s g (planner.Accepted left) after
       written-short left q =
           let ys = shorten (crossings (take m list)) in
-          let y : wrote left ≡ wrote (length ys) = rw q at told-short in
+          let y : granted left ≡ granted (length ys) = rw q at told-short in
           let k : left ≡ length ys = cc in
           let size : length after ≡ length (map pack ys) + length (drop (length ys) lent) = ap length ended-short ∙ length-append (map pack ys) (drop (length ys) lent) in
           let fewer = left-fewer n ends s g (take m list) (p .passes m e) in
@@ -131,4 +129,4 @@ module _ {n : ℕ} {ends : List Bay} {s g : Placement} {r : Planned} {list : Lis
               few = omega (arith, size, length-map ys pack, length-drop (length ys) lent, inside, fewer);
             };
           })
-          (λ f z. let w : long m ≡ told (refused f) = rw (e, z) at (p .handed .tells) in never (cc))
+          (λ f z. let w : long m ≡ toldLong (refused f) = rw (e, z) at (p .handed .tells) in never (cc))

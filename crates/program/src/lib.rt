@@ -1,8 +1,8 @@
 // The program on bytes: from the two files to all that is printed.
+use docket::Verdict;
 use filing::Order;
 use filing::Ordered;
 use planner::Planned;
-use shorten::Shortened;
 use yard::Yard;
 ghost use mathlib.Core.Path.{_≡_};
 ghost use Prim.Native.Nat.{_≤_};
@@ -104,9 +104,8 @@ pub fn shorten_planned(
                 short,
             );
             match shorter {
-                Shortened::Written(left) => Planned::Accepted(left),
-                Shortened::Begun => Planned::Accepted(0),
-                Shortened::Refused(r) => Planned::Refused(r),
+                Verdict::Granted(left) => Planned::Accepted(left),
+                Verdict::Denied(r) => Planned::Refused(r),
             }
         }
         Planned::Refused(r) => Planned::Refused(r),

@@ -17,8 +17,8 @@ use Rattle.paper.proofs.Demands.{Demand3, demand-3}
 use Rattle.marks.specs.Reading.{reportOf}
 use Rattle.marks.specs.declared.Reported.{Reported}
 use Rattle.marks.specs.declared.Reported.the-variants.{Accepted, Already, Refused}
+use Rattle.marks.proofs.Back.{reports-told-apart}
 use Rattle.reports.specs.Statements.{ReportSays}
-use Rattle.reports.proofs.Determined.{reports-told-apart}
 
 -- one report on a plan, as the statement of `report` has it
 abbrev pub Says : List ℕ → List ℕ → Request → Reported → List ℕ → Type 0

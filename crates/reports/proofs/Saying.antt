@@ -26,7 +26,7 @@ use Rattle.marks.specs.Reading.{reportOf}
 use Rattle.marks.specs.declared.Reported.{Reported}
 use Rattle.marks.specs.declared.Reported.the-variants as told
 use Rattle.reports.specs.Statements.{SlotsSay, ReportSays}
-use Rattle.reports.specs.declared.Slotted.the-variants as slotted
+use Rattle.checker.specs.declared.Checked.the-variants as checked
 
 -- an accepted name has a mark
 pub has-mark : (plan marks : List ℕ) (name : ℕ) → tell (crossings plan) marks name ≡ accept → name < length marks
@@ -35,7 +35,7 @@ has-mark plan marks name h =
     rw (marks-long (crossings plan) marks (f .0)) (f .1)
 
 module _ (n : ℕ) (ends : List Bay) (starts goals : Placement) (plan : List ℕ) where
-  pub slots-refused : (out : List ℕ) (r : Refusal) → some (refusalOf r) ≡ check n ends starts goals plan → SlotsSay n ends starts goals plan out (slotted.Refused r) out
+  pub slots-refused : (out : List ℕ) (r : Refusal) → some (refusalOf r) ≡ check n ends starts goals plan → SlotsSay n ends starts goals plan out (checked.Refused r) out
   unfolding slotsRefusal slotsEnd
   slots-refused out r h = record { answers = rw (← h); leaves = rw (← h) }
 
@@ -51,14 +51,14 @@ module _ (n : ℕ) (ends : List Bay) (starts goals : Placement) (plan : List ℕ
     pub short : length plan ≤ most-crossings
     short = clean-of n ends starts goals (length plan) (check-passed n ends starts goals plan (sym passes) .sound) .sizes .short-plan
 
-    pub slots-room : (out : List ℕ) → length out < length plan → SlotsSay n ends starts goals plan out (slotted.Refused (Room (length plan))) out
+    pub slots-room : (out : List ℕ) → length out < length plan → SlotsSay n ends starts goals plan out (checked.Refused (Room (length plan))) out
     unfolding slotsRefusal slotsEnd
     slots-room out h =
         let over : (ltb (length out) (length plan) or ltb most-crossings (length plan)) ≡ true = or-left _ _ (lt-ltb (length out) (length plan) h) in
         record { answers = rw (← passes, over); leaves = rw (← passes, over) }
 
     pub slots-written : (out out′ : List ℕ) → length plan ≤ length out → out′ ≡ slotsOf (crossings plan) ++ drop (length plan) out
-        → SlotsSay n ends starts goals plan out slotted.Written out′
+        → SlotsSay n ends starts goals plan out checked.Passed out′
     unfolding slotsRefusal slotsEnd
     slots-written out out′ h e =
         let room : (ltb (length out) (length plan) or ltb most-crossings (length plan)) ≡ false =

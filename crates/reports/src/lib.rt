@@ -4,12 +4,6 @@ use checker::Checked;
 use docket::Refusal;
 use marks::Reported;
 
-// What slots answer.
-pub enum Slotted {
-    Written,
-    Refused(Refusal),
-}
-
 // The slots of a plan that passes the check, into the first places of `out`. A refusal changes nothing.
 pub fn slots(
     bays: u64,
@@ -18,18 +12,18 @@ pub fn slots(
     goal: &[u16],
     plan: &[u64],
     out: &mut [u32],
-) -> Slotted
+) -> Checked
     ensures { λ r. ⌜ SlotsSay bays (now (rails .entry)) (now (start .entry)) (now (goal .entry)) (now (plan .entry)) (now (out .entry)) r (now (out .exit)) ⌝ }
 {
     let checked = checker::check(bays, rails, start, goal, plan);
     if let Checked::Refused(r) = checked {
-        return Slotted::Refused(r);
+        return Checked::Refused(r);
     }
     if out.len() < plan.len() {
-        return Slotted::Refused(Refusal::Room(plan.len() as u64));
+        return Checked::Refused(Refusal::Room(plan.len() as u64));
     }
     slots::slot_pass(plan, out);
-    Slotted::Written
+    Checked::Passed
 }
 
 // A report of a name, on a plan that passes the check and marks that are in order. Acceptance changes the mark of that name; nothing else changes any.

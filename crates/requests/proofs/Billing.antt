@@ -5,29 +5,27 @@ use mathlib.Core.List.{List, [], _∷_}
 use mathlib.Core.Logic.{_↔_}
 use mathlib.Core.Option.{Option, none, some}
 use Prim.Native.Nat.{ℕ}
-use native.Mathlib.Omega.{arith}
 use lib.Dec.{eqb}
 use lib.ListN.{length}
 use borrow.Author.Tests.{not-true, eqb-false, ne-eqb}
 use Rattle.paper.specs.Basics.{if_then_else_, if-some_then_else_, _>>=_, orElse, when, elem, _and_}
 use Rattle.paper.specs.Yard.{Bay, Placement, crossings}
-use Rattle.paper.specs.Docket.{Refusal, room, number, carried, badMarks, no-11}
+use Rattle.paper.specs.Docket.{Refusal, room, disagrees, number, carried, no-11}
 use Rattle.paper.specs.Answers.{check, Report, accept, already, refuse, tell}
-use Rattle.paper.proofs.Tests.{by-option, by-cases, never, not-both}
+use Rattle.paper.proofs.Tests.{by-option, by-cases, never}
 use Rattle.paper.proofs.Determined.{docket-tells}
 use Rattle.exactly.specs.First.{Row, plain, carrying, NoneOf, Given, numbersOf, distinct}
 use Rattle.exactly.specs.Rows.{already-number, reportNumber, reportValue, markRows}
-use Rattle.exactly.proofs.First.{Reads, Told, after-it, exactly, nothing-exactly, never-given, plain-test, known-test, retold, otherwise, otherwise-exactly, other-exactly}
-use Rattle.exactly.proofs.Numbers.{not-in-table}
+use Rattle.exactly.proofs.First.{after-it, exactly, nothing-exactly, never-given, plain-test, known-test, otherwise, otherwise-exactly, other-exactly}
 use Rattle.exactly.proofs.Six.{Refuses}
 use Rattle.exactly.proofs.Checking.{marks-read}
 use Rattle.exactly.proofs.Reporting.{Reports, refusing, known, known-reads, tell-is}
-use Rattle.bills.specs.Answering.{Agreement, agrees, differs, refused, Billed, told, disagrees, upToEleven, opening, agree, agreement, billing}
+use Rattle.bills.specs.Answering.{Agreement, agrees, differs, refused, upToEleven, opening, agree, agreement, no-19, billing}
 use Rattle.bills.specs.declared.Record.{Record}
 use Rattle.bills.specs.declared.Line.{Line}
 use Rattle.bills.proofs.Same.{differ-exactly}
 use Rattle.bills.proofs.Keeping.{eleven-exactly, agrees-exactly, differs-exactly}
-use Rattle.requests.specs.Rows.{billedNumber, billedValue, openRows, Afresh, billedRows}
+use Rattle.requests.specs.Rows.{openRows, Afresh, billedRows}
 
 module _ (n : ℕ) (ends : List Bay) (starts goals : Placement) (plan marks : List ℕ) where
   eleven-reads : Refuses (upToEleven n ends starts goals plan marks) (markRows n ends starts goals plan marks)
@@ -87,77 +85,55 @@ module _ (n : ℕ) (ends : List Bay) (starts goals : Placement) (plan marks : Li
 
 -- ## A report on record and lines
 
-disagrees-told : Told billedNumber billedValue disagrees
-unfolding elem
-disagrees-told (told accept) n v = absurd (omega arith)
-disagrees-told (told already) n v = absurd (omega arith)
-disagrees-told (told (refuse r)) n v = absurd (not-in-table 19 refl r (sym n))
-disagrees-told disagrees n v = refl
-
--- what a report tells, told of a billed one
-telling : {t : Option Report} {rows : List Row} → Reports t rows → elem 19 (numbersOf rows) ≡ false
-    → Reads billedNumber billedValue (t >>= λ r. some (told r)) rows
-telling {t} {rows} reads own = retold reportNumber reportValue billedNumber billedValue told (λ r. refl) (λ r. refl) reads comes
-  where
-    comes : (b : Billed) → elem (billedNumber b) (numbersOf rows) ≡ true → (r : Report) × (told r ≡ b)
-    comes (told r) h = (r, refl)
-    comes disagrees h = not-both h own
-
 module _ (n : ℕ) (ends : List Bay) (starts goals : Placement) (plan marks : List ℕ) (rec : Record) (lines : List Line) (name : ℕ) where
-  abbrev tests : Option Billed
+  abbrev tests : Option Report
   tests =
-      orElse ((upToEleven n ends starts goals plan marks >>= λ r. some (refuse r)) >>= λ r. some (told r))
-      (orElse (when (not (agree n ends starts goals plan marks rec lines)) disagrees)
-      (known (crossings plan) marks name >>= λ r. some (told r)))
+      orElse (upToEleven n ends starts goals plan marks >>= λ r. some (refuse r))
+      (orElse (no-19 n ends starts goals plan marks rec lines >>= λ r. some (refuse r))
+      (known (crossings plan) marks name))
 
-  told-otherwise : (t : Option Report) → told (otherwise t accept) ≡ otherwise (t >>= λ r. some (told r)) (told accept)
-  told-otherwise none = refl
-  told-otherwise (some r) = refl
-
-  billing-is : billing n ends starts goals plan marks rec lines name ≡ otherwise tests (told accept)
+  billing-is : billing n ends starts goals plan marks rec lines name ≡ otherwise tests accept
   unfolding billing
   billing-is =
       by-option (upToEleven n ends starts goals plan marks)
       (λ u. by-cases (agree n ends starts goals plan marks rec lines)
       (λ a.
       let fine = (eleven-exactly n ends starts goals plan marks .0 u) .1 in
-      rw (u, a) (ap told (tell-is (crossings plan) marks name fine) ∙ told-otherwise (known (crossings plan) marks name)))
+      rw (u, a) (tell-is (crossings plan) marks name fine))
       (λ a. rw (u, a)))
       (λ r u. rw u)
 
   abbrev Rows : List Row
   Rows = billedRows n ends starts goals plan marks rec lines name
 
-  billing-reads : Reads billedNumber billedValue tests Rows
+  billing-reads : Reports tests Rows
   unfolding elem
   billing-reads =
       let d = differ-exactly n ends starts goals plan marks rec lines in
-      after-it billedNumber billedValue (telling (refusing (eleven-reads n ends starts goals plan marks) refl refl) refl) (λ _.
-      after-it billedNumber billedValue
-      (plain-test billedNumber billedValue (Afresh n ends starts goals plan marks rec lines → ⊥) (not (agree n ends starts goals plan marks rec lines)) disagrees disagrees-told refl
-      (λ h. d .0 (not-true _ h), λ f. ap not (d .1 f))) (λ _.
-      telling (known-reads (crossings plan) marks name) refl))
+      after-it reportNumber reportValue (refusing (eleven-reads n ends starts goals plan marks) refl refl) (λ _.
+      after-it reportNumber reportValue
+      (refusing
+      (plain-test number carried (Afresh n ends starts goals plan marks rec lines → ⊥) (not (agree n ends starts goals plan marks rec lines)) disagrees (docket-tells disagrees) refl
+      (λ h. d .0 (not-true _ h), λ f. ap not (d .1 f))) refl refl) (λ _.
+      known-reads (crossings plan) marks name))
 
-  gives : (a : Billed) → (a ≡ told accept → ⊥) → (billing n ends starts goals plan marks rec lines name ≡ a) ↔ Given Rows (billedNumber a) (billedValue a)
+  gives : (a : Report) → (a ≡ accept → ⊥) → (billing n ends starts goals plan marks rec lines name ≡ a) ↔ Given Rows (reportNumber a) (reportValue a)
   unfolding distinct elem _and_
   gives a other =
-      let e = exactly billedNumber billedValue billing-reads refl a in
-      let f = otherwise-exactly tests (told accept) a other in
+      let e = exactly reportNumber reportValue billing-reads refl a in
+      let f = otherwise-exactly tests accept a other in
       (λ h. e .0 (f .0 (sym billing-is ∙ h)), λ g. billing-is ∙ f .1 (e .1 g))
 
   -- It refuses exactly by the first of 1 to 6, 9, 10, 11, 19, 12, "already", 13 that applies, and accepts exactly if none does.
-  pub billing-refuses : (r : Refusal) → (billing n ends starts goals plan marks rec lines name ≡ told (refuse r)) ↔ Given Rows (number r) (carried r)
-  billing-refuses r = gives (told (refuse r)) (λ h. never (cc))
+  pub billing-refuses : (r : Refusal) → (billing n ends starts goals plan marks rec lines name ≡ refuse r) ↔ Given Rows (number r) (carried r)
+  billing-refuses r = gives (refuse r) (λ h. never (cc))
 
-  pub billing-19 : (billing n ends starts goals plan marks rec lines name ≡ disagrees) ↔ Given Rows 19 none
-  billing-19 = gives disagrees (λ h. never (cc))
+  pub billing-already : (billing n ends starts goals plan marks rec lines name ≡ already) ↔ Given Rows already-number none
+  billing-already = gives already (λ h. never (cc))
 
-  pub billing-already : (billing n ends starts goals plan marks rec lines name ≡ told already) ↔ Given Rows already-number none
-  billing-already = gives (told already) (λ h. never (cc))
-
-  pub billing-accepts : (billing n ends starts goals plan marks rec lines name ≡ told accept) ↔ NoneOf Rows
+  pub billing-accepts : (billing n ends starts goals plan marks rec lines name ≡ accept) ↔ NoneOf Rows
   unfolding elem
   billing-accepts =
-      let e = nothing-exactly billedNumber billedValue billing-reads in
-      let f = other-exactly tests (told accept) (never-given billedNumber billedValue billing-reads (told accept) refl) in
+      let e = nothing-exactly reportNumber reportValue billing-reads in
+      let f = other-exactly tests accept (never-given reportNumber reportValue billing-reads accept refl) in
       (λ h. e .0 (f .0 (sym billing-is ∙ h)), λ g. billing-is ∙ f .1 (e .1 g))

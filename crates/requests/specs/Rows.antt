@@ -3,21 +3,17 @@
 -- Assumes nothing.
 use mathlib.Core.List.{List, [], _∷_, _++_}
 use mathlib.Core.Logic.{_⊎_}
-use mathlib.Core.Option.{Option, none, some}
 use mathlib.Core.Path.{_≡_}
 use Prim.Native.Nat.{ℕ, _<_, _≤_}
 use lib.ListN.{length, getD}
 use Rattle.paper.specs.Limits.{most-carriers}
 use Rattle.paper.specs.Yard.{Bay, Carrier, Placement, Crossing, most-crossings, crossings}
-use Rattle.paper.specs.Docket.{number, carried}
 use Rattle.paper.specs.Print.{printPlan}
 use Rattle.exactly.specs.First.{Row, plain, carrying, FirstOf}
 use Rattle.exactly.specs.Words.{WrongSize, FirstBadRail, LowestApart, mark, NotInPlan, LowestUndone}
-use Rattle.exactly.specs.Rows.{no-room, already-number, reportNumber, reportValue, slotsRows, markRows}
+use Rattle.exactly.specs.Rows.{no-room, already-number, slotsRows, markRows}
 use Rattle.trips.specs.Trips.{shorten}
-use Rattle.trips.specs.Shortening.{Shortening, shortened, denied, begun}
 use Rattle.bills.specs.Billing.{recordOf, linesOf}
-use Rattle.bills.specs.Answering.{Billed, told, disagrees}
 use Rattle.bills.specs.declared.Record.{Record}
 use Rattle.bills.specs.declared.Line.{Line}
 use Rattle.comparing.specs.Comparing.{carrierOf}
@@ -25,26 +21,6 @@ use Rattle.survey.specs.Survey.{surveyOf}
 use Rattle.paper.specs.Text.{Text}
 use Rattle.link.specs.Link.{piece-bytes}
 use Rattle.link.specs.declared.Link.{Link}
-
--- ## Numbers of answers that are none of the table's
-
-abbrev pub shortenNumber : Shortening → ℕ
-shortenNumber (shortened xs) = 0
-shortenNumber (denied r) = number r
-shortenNumber begun = 25
-
-abbrev pub shortenValue : Shortening → Option ℕ
-shortenValue (shortened xs) = none
-shortenValue (denied r) = carried r
-shortenValue begun = none
-
-abbrev pub billedNumber : Billed → ℕ
-billedNumber (told r) = reportNumber r
-billedNumber disagrees = 19
-
-abbrev pub billedValue : Billed → Option ℕ
-billedValue (told r) = reportValue r
-billedValue disagrees = none
 
 -- ## On a plan and marks
 

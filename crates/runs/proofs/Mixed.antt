@@ -1,5 +1,5 @@
--- Demand 3 over any mix of calls. A billed report that answers 19 changes nothing, every other one answers what the paper's report does, and openings and agreement tests touch no
--- mark: so the marks and names are those of the paper's run of the reports that were heard.
+-- Demand 3 over any mix of calls. A billed report that is accepted is one that the paper's report accepts, any other changes nothing, and openings and agreement tests
+-- touch no mark: so the marks and names are those of the paper's run of the plain reports and of the billed ones that were accepted.
 use mathlib.Core.Path.{_≡_, refl, sym, _∙_, ap}
 use mathlib.Core.Bool.{Bool, true, false}
 use mathlib.Core.Logic.{_↔_}
@@ -21,29 +21,19 @@ use Rattle.paper.proofs.Demands.{Demand3, demand-3}
 use Rattle.paper.proofs.Handing.{handed-passes}
 use Rattle.trips.specs.Trips.{shorten}
 use Rattle.trips.proofs.Shortened.{shortened-passes}
-use Rattle.bills.specs.Answering.{Billed, told, disagrees, changes, opening, marksThen}
+use Rattle.bills.specs.Answering.{opening, marksThen}
 use Rattle.bills.specs.Keeping.{Books, answerOn, booksBy}
-use Rattle.bills.proofs.Keeping.{told-or-19, nothing-changed, opened as opened-afresh, eleven-exactly, agrees-exactly, billing-told, kept-afresh}
+use Rattle.bills.proofs.Keeping.{opened as opened-afresh, eleven-exactly, agrees-exactly, billing-told, kept-afresh}
+use Rattle.bills.proofs.Demand3.{by-acceptance}
 use Rattle.runs.specs.Runs.{Call, reported, billed, opened, compared, requestOf, booksAfter, accepting, booksThen, namesThen, LogDemand, Agreed, asking, Demand3Mixed}
 
 -- ## The paper's run
 
--- an answer other than 19
-heeded : Billed → Bool
-heeded (told r) = true
-heeded disagrees = false
-
-marked-by : (ms : List ℕ) (i : ℕ) (r : Report) → (if accepts r then set ms i 1 else ms) ≡ marksAfter ms i r
-unfolding accepts marksAfter
-marked-by ms i accept = refl
-marked-by ms i already = refl
-marked-by ms i (refuse x) = refl
-
 module _ (plan : List ℕ) where
-  -- the reports that were heard: all plain ones, and the billed ones that did not answer 19
+  -- the reports that were heard: all plain ones, and the billed ones that were accepted
   heardNow : Books → Call → List Request → List Request
   heardNow b (reported q) rest = q ∷ rest
-  heardNow b (billed q) rest = if heeded (answerOn plan b q) then q ∷ rest else rest
+  heardNow b (billed q) rest = if accepts (answerOn plan b q) then q ∷ rest else rest
   heardNow b (opened q) rest = rest
   heardNow b (compared q) rest = rest
 
@@ -51,36 +41,21 @@ module _ (plan : List ℕ) where
   heard b [] = []
   heard b (c ∷ cs) = heardNow b c (heard (booksAfter plan b c) cs)
 
-  by-billing : {P : Type 0} (b : Books) (q : Request) → (answerOn plan b q ≡ told (answerTo plan (b .marks) q) → P) → (answerOn plan b q ≡ disagrees → P) → P
-  by-billing b q f g = told-or-19 (q .bays) (q .ends) (q .starts) (q .goals) plan (b .marks) (b .running) (b .lines) (q .name) f g
-
-  -- where it did not answer 19 the marks are the paper's
-  paper-marks : (b : Books) (q : Request) → answerOn plan b q ≡ told (answerTo plan (b .marks) q) → booksBy plan b q .marks ≡ marksBy plan (b .marks) q
-  unfolding marksThen changes
-  paper-marks b q e = rw e (marked-by (b .marks) (q .name) (answerTo plan (b .marks) q))
-
-  -- where it did they stay
-  marks-stay : (b : Books) (q : Request) → answerOn plan b q ≡ disagrees → booksBy plan b q .marks ≡ b .marks
-  unfolding marksThen changes
-  marks-stay b q e = rw e
-
   run-is : (b : Books) (cs : List Call)
       → (booksThen plan b cs .marks ≡ marksFrom plan (b .marks) (heard b cs)) × (namesThen plan b cs ≡ namesFrom plan (b .marks) (heard b cs))
-  unfolding heard heardNow heeded booksThen namesThen marksFrom namesFrom changes
+  unfolding heard heardNow booksThen namesThen marksFrom namesFrom
   run-is b [] = (refl, refl)
   run-is b (reported q ∷ cs) =
       let ih = run-is (booksAfter plan b (reported q)) cs in
       (ih .0, ap (λ l. if accepts (answerTo plan (b .marks) q) then q .name ∷ l else l) (ih .1))
   run-is b (billed q ∷ cs) =
       let ih = run-is (booksBy plan b q) cs in
-      by-billing b q
-      (λ e.
-      let s : booksBy plan b q .marks ≡ marksBy plan (b .marks) q = paper-marks b q e in (
+      by-acceptance plan b q
+      (λ e a s. (
         rw e (ih .0 ∙ ap (λ ms. marksFrom plan ms (heard (booksBy plan b q) cs)) s),
-        rw e (ap (λ l. if accepts (answerTo plan (b .marks) q) then q .name ∷ l else l) (ih .1 ∙ ap (λ ms. namesFrom plan ms (heard (booksBy plan b q) cs)) s)),
+        rw (e, a) (ap (λ l. q .name ∷ l) (ih .1 ∙ ap (λ ms. namesFrom plan ms (heard (booksBy plan b q) cs)) s)),
       ))
-      (λ e.
-      let s : booksBy plan b q .marks ≡ b .marks = marks-stay b q e in (
+      (λ e s. (
         rw e (ih .0 ∙ ap (λ ms. marksFrom plan ms (heard (booksBy plan b q) cs)) s),
         rw e (ih .1 ∙ ap (λ ms. namesFrom plan ms (heard (booksBy plan b q) cs)) s),
       ))

@@ -13,7 +13,7 @@ use Rattle.paper.specs.Docket.{yardOf}
 use Rattle.paper.specs.Answers.{accept, already, report, accepts}
 use Rattle.paper.specs.Log.{Request, answerTo, marksBy}
 use Rattle.bills.specs.Billing.{recordOf, linesOf}
-use Rattle.bills.specs.Answering.{told, agrees, changes, openedRecord, openedLines, agreement}
+use Rattle.bills.specs.Answering.{agrees, openedRecord, openedLines, agreement}
 use Rattle.bills.specs.Keeping.{Books, answerOn, booksBy}
 
 -- each with a yard, a start and a goal of its own; the name is a report's
@@ -45,7 +45,7 @@ module _ (plan : List ℕ) where
   -- whether the call accepts its name
   abbrev pub accepting : Books → Call → Bool
   accepting b (reported q) = accepts (answerTo plan (b .marks) q)
-  accepting b (billed q) = changes (answerOn plan b q)
+  accepting b (billed q) = accepts (answerOn plan b q)
   accepting b (opened q) = false
   accepting b (compared q) = false
 
@@ -98,4 +98,4 @@ pub record Demand3Mixed (n : ℕ) (ends : List Bay) (starts goals : Placement) (
   pub agreeing : Agreed starts plan (booksThen plan b cs)
       → agreement n ends starts goals plan (booksThen plan b cs .marks) (booksThen plan b cs .running) (booksThen plan b cs .lines) ≡ agrees
   pub alike : (i : ℕ) → Agreed starts plan (booksThen plan b cs)
-      → answerOn plan (booksThen plan b cs) (asking n ends starts goals i) ≡ told (report n ends starts goals plan (booksThen plan b cs .marks) i)
+      → answerOn plan (booksThen plan b cs) (asking n ends starts goals i) ≡ report n ends starts goals plan (booksThen plan b cs .marks) i

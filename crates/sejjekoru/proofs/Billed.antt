@@ -7,20 +7,21 @@ use mathlib.Core.Option.{Option, none, some}
 use Prim.Native.Nat.{ℕ}
 use lib.Dec.{eqb}
 use lib.ListN.{length}
-use Rattle.paper.specs.Basics.{if_then_else_}
+use borrow.Author.Tests.{ne-eqb}
+use Rattle.paper.specs.Basics.{if_then_else_, elem}
 use Rattle.paper.specs.Yard.{Bay, Placement}
 use Rattle.paper.specs.Dependence.{fresh}
-use Rattle.paper.specs.Docket.{Refusal, size, rail, apart, crowd, start, goal, stopped, room, illegal, missed, mismarked, unknown, early, badMap, badScenario, badSurvey, ended as noMore, longPiece, edition, badPlan, badReports}
-use Rattle.paper.specs.Answers.{check, accept, already, refuse, accepts}
+use Rattle.paper.specs.Docket.{Refusal, number}
+use Rattle.paper.specs.Answers.{check, Report, accept, already, refuse, accepts}
 use Rattle.paper.specs.Log.{Request}
-use Rattle.paper.proofs.Tests.{not-both}
-use Rattle.bills.specs.Answering.{Billed, told, disagrees, changes, opening}
+use Rattle.paper.proofs.Determined.{not-in-table}
+use Rattle.bills.specs.Answering.{opening}
 use Rattle.bills.specs.Keeping.{Books, answerOn, booksBy, booksFrom, billedFrom, freshBooks}
 use Rattle.bills.specs.declared.Line.{Line}
 use Rattle.bills.specs.declared.Record.{Record}
 use Rattle.bills.proofs.Keeping.{opened}
 use Rattle.bills.proofs.Demand3.{Demand3Billed, demand-3-billed}
-use Rattle.numbers.specs.Numbers.{numberOf, billedNumber}
+use Rattle.numbers.specs.Numbers.{numberOf, reportNumber}
 use Rattle.sejjekoru.specs.Bills.{OpenTells, ReportBilledTells}
 
 -- one report on a plan, as the statement of `sejjekoru_report_billed` has it
@@ -41,38 +42,17 @@ acceptedIn (q ∷ qs) [] = []
 acceptedIn (q ∷ qs) (number ∷ numbers) = let rest = acceptedIn qs numbers in if eqb number 0 then q .name ∷ rest else rest
 
 -- only acceptance is told by 0
-zero-accepts : (a : Billed) → eqb (billedNumber a) 0 ≡ changes a
-unfolding changes accepts
-zero-accepts (told accept) = refl
-zero-accepts (told already) = refl
-zero-accepts (told (refuse size)) = refl
-zero-accepts (told (refuse (rail i))) = refl
-zero-accepts (told (refuse (apart b))) = refl
-zero-accepts (told (refuse crowd)) = refl
-zero-accepts (told (refuse (start c))) = refl
-zero-accepts (told (refuse (goal c))) = refl
-zero-accepts (told (refuse (stopped c))) = refl
-zero-accepts (told (refuse (room l))) = refl
-zero-accepts (told (refuse (illegal i))) = refl
-zero-accepts (told (refuse (missed c))) = refl
-zero-accepts (told (refuse mismarked)) = refl
-zero-accepts (told (refuse unknown)) = refl
-zero-accepts (told (refuse (early e))) = refl
-zero-accepts (told (refuse (badMap l))) = refl
-zero-accepts (told (refuse (badScenario l))) = refl
-zero-accepts (told (refuse (badSurvey l))) = refl
-zero-accepts (told (refuse noMore)) = refl
-zero-accepts (told (refuse longPiece)) = refl
-zero-accepts (told (refuse edition)) = refl
-zero-accepts (told (refuse (badPlan l))) = refl
-zero-accepts (told (refuse (badReports l))) = refl
-zero-accepts disagrees = refl
+zero-accepts : (a : Report) → eqb (reportNumber a) 0 ≡ accepts a
+unfolding accepts elem
+zero-accepts accept = refl
+zero-accepts already = refl
+zero-accepts (refuse r) = ne-eqb (number r) 0 (λ e. not-in-table 0 refl r e)
 
 -- nor is a refusal to open
 open-none : (a : Option Refusal) → 0 ≡ numberOf a → a ≡ none
-unfolding changes accepts
+unfolding elem
 open-none none e = refl
-open-none (some r) e = not-both (ap (λ k. eqb k 0) (sym e)) (zero-accepts (told (refuse r)))
+open-none (some r) e = absurd (not-in-table 0 refl r (sym e))
 
 books-are : (plan : List ℕ) (b b′ : Books) (q : Request) (number value : ℕ) → Says plan b q number value b′ → b′ ≡ booksBy plan b q
 books-are plan b b′ q number value s = λ i. record { marks = s .marks-then i; running = s .record-then i; lines = s .lines-then i }
@@ -87,7 +67,7 @@ run-is {plan} {b} (reported {b′ = b′} {q = q} {qs = qs} {number = number} {v
     let e = books-are plan b b′ q number value s in (
       ih .0 ∙ ap (λ x. booksFrom plan x qs) e,
       ap (λ y. if y then q .name ∷ acceptedIn qs numbers else acceptedIn qs numbers) (ap (λ k. eqb k 0) (s .tells .numbered) ∙ zero-accepts (answerOn plan b q))
-          ∙ ap (λ l. if changes (answerOn plan b q) then q .name ∷ l else l) (ih .1 ∙ ap (λ x. billedFrom plan x qs) e),
+          ∙ ap (λ l. if accepts (answerOn plan b q) then q .name ∷ l else l) (ih .1 ∙ ap (λ x. billedFrom plan x qs) e),
     )
 
 module _ (n : ℕ) (ends : List Bay) (starts goals : Placement) (plan : List ℕ) (passes : check n ends starts goals plan ≡ none) where

@@ -11,7 +11,7 @@ use Rattle.bills.specs.declared.Line.{Line}
 use Rattle.bills.specs.declared.Record.{Record}
 use Rattle.ledger.specs.Lines.{gathered}
 use Rattle.ledger.specs.declared.Held.{Held}
-use Rattle.numbers.specs.Numbers.{numberOf, valueOf, agreementNumber, agreementValue, billedNumber, billedValue}
+use Rattle.numbers.specs.Numbers.{numberOf, valueOf, agreementNumber, agreementValue, reportNumber, reportValue}
 use Rattle.numbers.specs.Tells.{Tells}
 use Rattle.sejjekoru.specs.declared.Opening.{Opening}
 use Rattle.sejjekoru.specs.declared.Told.{Told}
@@ -30,7 +30,7 @@ module _ (n : ℕ) (ends : List Bay) (starts goals : Placement) (plan marks : Li
       Tells (agreementNumber answer) (agreementValue answer)
 
   pub record ReportBilledTells (name : ℕ) (rec : Record) (lines : List Line) (number value : ℕ) (marks′ : List ℕ) (rec′ : Record) (lines′ : List Line) : Type 0 where
-    pub tells : Tells (billedNumber (billing n ends starts goals plan marks rec lines name)) (billedValue (billing n ends starts goals plan marks rec lines name)) number value
+    pub tells : Tells (reportNumber (billing n ends starts goals plan marks rec lines name)) (reportValue (billing n ends starts goals plan marks rec lines name)) number value
     pub marks-then : marks′ ≡ marksThen n ends starts goals plan marks rec lines name
     pub record-then : rec′ ≡ recordThen n ends starts goals plan marks rec lines name
     pub lines-then : lines′ ≡ linesThen n ends starts goals plan marks rec lines name

@@ -5,12 +5,11 @@ use mathlib.Core.List.{List}
 use Prim.Native.Nat.{ℕ}
 use lib.ListN.{length}
 use Rattle.paper.specs.Yard.{Bay, Placement}
-use Rattle.paper.specs.Answers.{plan, planParked, planEnd, check, slotsRefusal, slotsEnd, report, marksEnd}
+use Rattle.paper.specs.Answers.{plan, planParked, planEnd, check, slotsRefusal, slotsEnd, report, marksEnd, told as verdict}
 use Rattle.planner.specs.Statement.{told}
 use Rattle.trips.specs.Shortening.{shortening, shorteningEnd}
-use Rattle.shorten.specs.Statements.{tells as toldShort}
 use Rattle.numbers.specs.Tells.{Tells}
-use Rattle.numbers.specs.Numbers.{numberOf, valueOf, planNumber, planValue, reportNumber, reportValue, shortenNumber, shortenValue}
+use Rattle.numbers.specs.Numbers.{numberOf, valueOf, planNumber, planValue, verdictNumber, verdictValue, reportNumber, reportValue}
 
 -- the two numbers are the due ones, and so is what stands in the lent list
 pub record TellsAndLeaves (due due-value : ℕ) (due-list : List ℕ) (number value : ℕ) (list : List ℕ) : Type 0 where
@@ -42,5 +41,5 @@ module _ (n : ℕ) (ends : List Bay) (starts goals : Placement) where
 
   abbrev pub ShortenTells : List ℕ → List ℕ → List ℕ → ℕ → ℕ → List ℕ → Type 0
   ShortenTells crossed marks out =
-      let answer = toldShort (shortening n ends starts goals crossed marks (length out)) in
-      TellsAndLeaves (shortenNumber answer) (shortenValue answer) (shorteningEnd n ends starts goals crossed marks out)
+      let answer = verdict (shortening n ends starts goals crossed marks (length out)) in
+      TellsAndLeaves (verdictNumber answer) (verdictValue answer) (shorteningEnd n ends starts goals crossed marks out)

@@ -43,7 +43,7 @@ pub extern "C" fn sejjekoru_check(
     ensures { λ r. ⌜ CheckTells bays (now (rails .entry)) (now (start .entry)) (now (goal .entry)) (now (plan .entry)) r (now (value .exit)) ⌝ }
 {
     let answer = checker::check(bays, rails, start, goal, plan);
-    numbers::told_checked(answer, value)
+    numbers::told_checked(answer, 0, value)
 }
 
 #[no_mangle]
@@ -59,7 +59,7 @@ pub extern "C" fn sejjekoru_slots(
     ensures { λ r. ⌜ SlotsTell bays (now (rails .entry)) (now (start .entry)) (now (goal .entry)) (now (plan .entry)) (now (slots .entry)) r (now (value .exit)) (now (slots .exit)) ⌝ }
 {
     let answer = reports::slots(bays, rails, start, goal, plan, slots);
-    numbers::told_slotted(answer, plan.len() as u64, value)
+    numbers::told_checked(answer, plan.len() as u64, value)
 }
 
 #[no_mangle]
@@ -93,7 +93,7 @@ pub extern "C" fn sejjekoru_shorten(
     ensures { λ r. ⌜ ShortenTells bays (now (rails .entry)) (now (start .entry)) (now (goal .entry)) (now (plan .entry)) (now (marks .entry)) (now (out .entry)) r (now (value .exit)) (now (out .exit)) ⌝ }
 {
     let answer = shorten::shorten(bays, rails, start, goal, plan, marks, out);
-    numbers::told_shortened(answer, value)
+    numbers::told(answer, value)
 }
 
 // What opening answers and leaves.
@@ -122,7 +122,7 @@ fn open_on(
     let running = opening.running;
     let held = opening.held;
     Opening {
-        number: numbers::told_checked(answer, value),
+        number: numbers::told_checked(answer, 0, value),
         record: running,
         held: held,
     }
@@ -223,7 +223,7 @@ fn report_on(
     let at = told.at;
     let line = told.line;
     Told {
-        number: numbers::told_billed(answer, value),
+        number: numbers::told_reported(answer, value),
         record: running,
         at: at,
         line: line,

@@ -12,7 +12,7 @@ use Rattle.paper.specs.Basics.{_or_}
 use Rattle.paper.specs.Limits.{most-bays}
 use Rattle.paper.specs.Yard.{Bay, Placement, crossings, pack, unpack, most-crossings}
 use Rattle.paper.specs.Docket.{yardOf, badMarks}
-use Rattle.paper.specs.Answers.{check}
+use Rattle.paper.specs.Answers.{unless, written, check}
 use Rattle.paper.specs.OnePass.{Fits}
 use Rattle.paper.proofs.Tests.{or-left, or-neither}
 use Rattle.paper.proofs.Admitted.{clean-of, good-of}
@@ -21,17 +21,17 @@ use Rattle.paper.proofs.Handing.{check-fits}
 use Rattle.paper.proofs.Packing.{pack-unpack}
 use Rattle.docket.specs.Reading.{refusalOf}
 use Rattle.docket.specs.declared.Refusal.{Refusal}
-use Rattle.docket.specs.declared.Refusal.the-variants.{Room, Mismarked}
+use Rattle.docket.specs.declared.Refusal.the-variants.{Room, Mismarked, Begun}
+use Rattle.docket.specs.declared.Verdict.{Verdict}
+use Rattle.docket.specs.declared.Verdict.the-variants.{Granted, Denied}
 use Rattle.trips.specs.Trips.{shorten}
 use Rattle.trips.specs.Names.{left}
-use Rattle.trips.specs.Shortening.{anyDone, intoRoom, leaves, shortening}
+use Rattle.trips.specs.Shortening.{anyDone, intoRoom, shortenRefusal, shortening}
 use Rattle.trips.proofs.Leaving.{left-length}
 use Rattle.trips.proofs.Shortened.{cuts-left}
 use Rattle.trips.proofs.Naming.{left-map}
 use Rattle.shorten.specs.Going.{Lawful}
 use Rattle.shorten.specs.Statements.{RoomSays, ShortenSays}
-use Rattle.shorten.specs.declared.Shortened.{Shortened}
-use Rattle.shorten.specs.declared.Shortened.the-variants.{Written, Begun, Refused}
 
 packed-back : (plan : List ℕ) → map pack (crossings plan) ≡ plan
 packed-back [] = refl
@@ -45,8 +45,8 @@ module _ (plan gone out : List ℕ) (done : left gone (crossings plan) ≡ short
   count : length (left gone plan) ≡ length (shorten (crossings plan))
   count = ap length numbers ∙ length-map (shorten (crossings plan)) pack
 
-  pub room-refused : (n : ℕ) → n ≡ length (left gone plan) → length out < n → RoomSays plan out (Refused (Room n)) out
-  unfolding intoRoom leaves
+  pub room-refused : (n : ℕ) → n ≡ length (left gone plan) → length out < n → RoomSays plan out (Denied (Room n)) out
+  unfolding intoRoom unless written
   room-refused n e h =
       let is : n ≡ length (shorten (crossings plan)) = e ∙ count in
       let over : (ltb (length out) (length (shorten (crossings plan))) or ltb most-crossings (length (shorten (crossings plan)))) ≡ true =
@@ -54,8 +54,8 @@ module _ (plan gone out : List ℕ) (done : left gone (crossings plan) ≡ short
       record { answers = rw (over, is); ends = rw over }
 
   pub room-written : (n : ℕ) (out′ : List ℕ) → length plan ≤ most-crossings → n ≡ length (left gone plan) → n ≤ length out
-      → out′ ≡ left gone plan ++ drop (length (left gone plan)) out → RoomSays plan out (Written n) out′
-  unfolding intoRoom leaves
+      → out′ ≡ left gone plan ++ drop (length (left gone plan)) out → RoomSays plan out (Granted n) out′
+  unfolding intoRoom unless written
   room-written n out′ small e h w =
       let ys = shorten (crossings plan) in
       let is : n ≡ length ys = e ∙ count in
@@ -65,8 +65,8 @@ module _ (plan gone out : List ℕ) (done : left gone (crossings plan) ≡ short
       record { answers = rw (room, is); ends = rw room (w ∙ ap₂ (λ a k. a ++ drop k out) numbers count) }
 
 module _ (n : ℕ) (ends : List Bay) (starts goals : Placement) (plan marks out : List ℕ) where
-  pub says-refused : (r : Refusal) → some (refusalOf r) ≡ check n ends starts goals plan → ShortenSays n ends starts goals plan marks out (Refused r) out
-  unfolding shortening leaves
+  pub says-refused : (r : Refusal) → some (refusalOf r) ≡ check n ends starts goals plan → ShortenSays n ends starts goals plan marks out (Denied r) out
+  unfolding shortening shortenRefusal unless written
   says-refused r h = record { answers = rw (← h); ends-as = rw (← h) }
 
   module _ (passes : none ≡ check n ends starts goals plan) where
@@ -82,16 +82,16 @@ module _ (n : ℕ) (ends : List Bay) (starts goals : Placement) (plan marks out 
         let c = clean-of n ends starts goals (length plan) (p .sound) in
         record { yard = yardOf n ends; start = starts; apart = good-of n ends starts (c .starts) .apart; lawful = p .lawful }
 
-    pub says-mismarked : badMarks (crossings plan) marks ≡ true → ShortenSays n ends starts goals plan marks out (Refused Mismarked) out
-    unfolding shortening leaves
+    pub says-mismarked : badMarks (crossings plan) marks ≡ true → ShortenSays n ends starts goals plan marks out (Denied Mismarked) out
+    unfolding shortening shortenRefusal unless written
     says-mismarked b = record { answers = rw (← passes, b); ends-as = rw (← passes, b) }
 
     module _ (b : badMarks (crossings plan) marks ≡ false) where
-      pub says-begun : anyDone marks ≡ true → ShortenSays n ends starts goals plan marks out Begun out
-      unfolding shortening leaves
+      pub says-begun : anyDone marks ≡ true → ShortenSays n ends starts goals plan marks out (Denied Begun) out
+      unfolding shortening shortenRefusal unless written
       says-begun d = record { answers = rw (← passes, b, d); ends-as = rw (← passes, b, d) }
 
-      pub says-room : anyDone marks ≡ false → (answer : Shortened) (out′ : List ℕ) → RoomSays plan out answer out′
+      pub says-room : anyDone marks ≡ false → (answer : Verdict) (out′ : List ℕ) → RoomSays plan out answer out′
           → ShortenSays n ends starts goals plan marks out answer out′
-      unfolding shortening
+      unfolding shortening shortenRefusal intoRoom
       says-room d answer out′ r = record { answers = rw (← passes, b, d) (r .answers); ends-as = rw (← passes, b, d) (r .ends) }

@@ -19,17 +19,11 @@ use checker::Checked;
 use docket::Bay;
 use docket::Carrier;
 use docket::Refusal;
+use docket::Verdict;
 use yard::Yard;
 
 // Room to remember: for each block of 256 names, three kinds of 256 keys.
 const KNOWN: usize = 3 * Yard::CROSSINGS;
-
-// What shortening answers.
-pub enum Shortened {
-    Written(u64),
-    Begun,
-    Refused(Refusal),
-}
 
 // The crossing is still in the plan and leads to the bay.
 fn enters_bay(plan: &[u64], gone: &[u8], name: usize, bay: Bay) -> bool
@@ -412,16 +406,16 @@ fn write_left(plan: &[u64], gone: &[u8], out: &mut [u64])
 }
 
 // 8 where the shorter plan is longer than the lent list; else it is written.
-fn finish(plan: &[u64], gone: &[u8], out: &mut [u64]) -> Shortened
+fn finish(plan: &[u64], gone: &[u8], out: &mut [u64]) -> Verdict
     requires { ⌜ (length (now gone) ≡ length (now plan)) × (left (now gone) (crossings (now plan)) ≡ shortenOf (crossings (now plan))) × (length (now plan) ≤ most-crossings) ⌝ }
     ensures { λ r. ⌜ RoomSays (now (plan .entry)) (now (out .entry)) r (now (out .exit)) ⌝ }
 {
     let count = count_left(plan, gone);
     if out.len() < count {
-        return Shortened::Refused(Refusal::Room(count as u64));
+        return Verdict::Denied(Refusal::Room(count as u64));
     }
     write_left(plan, gone, out);
-    Shortened::Written(count as u64)
+    Verdict::Granted(count as u64)
 }
 
 // The whole work, in three lists of bytes that are lent: nothing is dropped yet, every name is to be looked at, and nothing is remembered.
@@ -431,7 +425,7 @@ fn shorten_in(
     todo: &mut [u8],
     known: &mut [u8],
     out: &mut [u64],
-) -> Shortened
+) -> Verdict
     requires { ⌜ Lawful (crossings (now plan)) × (length (now plan) ≤ most-crossings) × (now gone ≡ replicate (length (now plan)) 0) × (now todo ≡ replicate (length (now plan)) 1) × Settled (now plan) (now gone) (now known) ⌝ }
     ensures { λ r. ⌜ RoomSays (now (plan .entry)) (now (out .entry)) r (now (out .exit)) ⌝ }
 {
@@ -440,7 +434,7 @@ fn shorten_in(
 }
 
 // The same, with working room of its own.
-fn shorten_checked(plan: &[u64], out: &mut [u64]) -> Shortened
+fn shorten_checked(plan: &[u64], out: &mut [u64]) -> Verdict
     requires { ⌜ Lawful (crossings (now plan)) × (length (now plan) ≤ most-crossings) ⌝ }
     ensures { λ r. ⌜ RoomSays (now (plan .entry)) (now (out .entry)) r (now (out .exit)) ⌝ }
 {
@@ -480,18 +474,18 @@ pub fn shorten(
     plan: &[u64],
     marks: &[u8],
     out: &mut [u64],
-) -> Shortened
+) -> Verdict
     ensures { λ r. ⌜ ShortenSays bays (now (rails .entry)) (now (start .entry)) (now (goal .entry)) (now (plan .entry)) (now (marks .entry)) (now (out .entry)) r (now (out .exit)) ⌝ }
 {
     let checked = checker::check(bays, rails, start, goal, plan);
     if let Checked::Refused(r) = checked {
-        return Shortened::Refused(r);
+        return Verdict::Denied(r);
     }
     if marks::bad_marks(plan, marks) {
-        return Shortened::Refused(Refusal::Mismarked);
+        return Verdict::Denied(Refusal::Mismarked);
     }
     if any_done(marks) {
-        return Shortened::Begun;
+        return Verdict::Denied(Refusal::Begun);
     }
     shorten_checked(plan, out)
 }

@@ -5,16 +5,17 @@ use mathlib.Core.List.{List, [], _∷_, map}
 use mathlib.Core.Option.{none, some}
 use Prim.Native.Nat.{ℕ}
 use Rattle.paper.specs.Yard.{Bay, Crossing, crossing, pack}
-use Rattle.paper.specs.Docket.{room, mismarked, missed}
+use Rattle.paper.specs.Docket.{room, mismarked, missed, begun}
+use Rattle.paper.specs.Answers.{Answer, accepted, refused}
 use Rattle.paper.proofs.Worked.{computing, T, Y1-plan}
 use Rattle.trips.specs.Trips.{cut, shorten}
-use Rattle.trips.specs.Shortening.{Shortening, shortened, denied, begun, shortening, shorteningEnd, refusalNumber}
+use Rattle.trips.specs.Shortening.{shortening, shorteningEnd}
 use Rattle.trips.specs.Trips
 use Rattle.trips.specs.Shortening
 
 -- every definition of the request opened, so that the checker computes with them
 unfoldable pub computing-trips : Unit {0}
-unfolding computing Trips.lastReturn Trips.kept Trips.cut Trips.cuts Shortening.anyDone Shortening.intoRoom Shortening.leaves Shortening.shortening
+unfolding computing Trips.lastReturn Trips.kept Trips.cut Trips.cuts Shortening.anyDone Shortening.shortenRefusal Shortening.shortening
 computing-trips = tt
 
 -- there, back, and there again: the lower name goes first, so the crossing kept is the last
@@ -52,7 +53,7 @@ unfolding computing-trips
 all-cut = refl
 
 -- yard "T" with one carrier, from bay 0 to bay 1 by the first plan: the order of the tests
-abbrev asked : Bay → List ℕ → ℕ → Shortening
+abbrev asked : Bay → List ℕ → ℕ → Answer
 asked goal marks lent = shortening 4 T (0 ∷ []) (goal ∷ []) (map pack thrice) marks lent
 
 pub all-answered : (asked 1 (0 ∷ 0 ∷ 0 ∷ []) 1
@@ -63,12 +64,16 @@ pub all-answered : (asked 1 (0 ∷ 0 ∷ 0 ∷ []) 1
     ∷ asked 1 (1 ∷ 1 ∷ []) 1
     ∷ asked 2 (1 ∷ 1 ∷ []) 1
     ∷ [])
-    ≡ shortened (crossing 0 0 1 ∷ []) ∷ denied (room 1) ∷ begun ∷ denied mismarked ∷ denied mismarked ∷ denied mismarked ∷ denied (missed 0) ∷ []
+    ≡ accepted (crossing 0 0 1 ∷ [])
+    ∷ refused (room 1)
+    ∷ refused begun
+    ∷ refused mismarked
+    ∷ refused mismarked
+    ∷ refused mismarked
+    ∷ refused (missed 0)
+    ∷ []
 unfolding computing-trips
 all-answered = refl
-
-pub all-numbered : map refusalNumber (begun ∷ denied (room 1) ∷ shortened [] ∷ []) ≡ some 25 ∷ some 8 ∷ none ∷ []
-all-numbered = refl
 
 -- what stands in a lent list of three places at the end
 abbrev ends-as : List ℕ → List ℕ

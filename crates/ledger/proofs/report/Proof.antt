@@ -7,19 +7,15 @@ use denote.Ref.{now}
 use Rattle.paper.specs.Docket as paper
 use Rattle.paper.specs.Answers.{refuse, accepts}
 use Rattle.docket.specs.Reading.{refusalOf}
-use Rattle.bills.specs.Answering.{told, disagrees, changes}
-use Rattle.ledger.specs.Statements.{agreementOf, billedOf}
+use Rattle.marks.specs.Reading.{reportOf}
+use Rattle.ledger.specs.Statements.{agreementOf}
 use Rattle.ledger.proofs.Agreeing.{may-settle}
 use Rattle.ledger.proofs.Settling.{billing-left, billing-differs, billing-refused, billing-settled}
 use Rattle.ledger.proofs.report.Statement.{statement}
 use Rattle.ledger.proofs.report.Tie as tie
 
-no-19 : changes disagrees ≡ false
-unfolding changes
-no-19 = refl
-
-no-refusal : (r : paper.Refusal) → changes (told (refuse r)) ≡ false
-unfolding changes accepts
+no-refusal : (r : paper.Refusal) → accepts (refuse r) ≡ false
+unfolding accepts
 no-refusal r = refl
 
 compare-requires : tie.Need-compare-requires
@@ -60,7 +56,7 @@ returns-2 : tie.Need-returns-2
 returns-2 c =
     let s = c .before .before .before .before .before .before .before .before .before .before in
     let u = c .unchanged .ensures in
-    billing-left (s .args .bays) (now (s .args .rails)) (now (s .args .start)) (now (s .args .goal)) (now (s .args .plan)) (now (s .args .marks)) (s .args .running) (s .args .held) (s .args .name) (c .unchanged .result) (now (s .args .marks)) disagrees (billing-differs (s .args .bays) (now (s .args .rails)) (now (s .args .start)) (now (s .args .goal)) (now (s .args .plan)) (now (s .args .marks)) (s .args .running) (s .args .held) (s .args .name) (c .unchanged .result) (now (s .args .marks)) (ap agreementOf (sym (c .before .enum-told2 .given .1)) ∙ c .before .before .before .compare .ensures)) no-19 (ap billedOf (u .0)) (u .1) (u .2) (u .3) refl
+    billing-left (s .args .bays) (now (s .args .rails)) (now (s .args .start)) (now (s .args .goal)) (now (s .args .plan)) (now (s .args .marks)) (s .args .running) (s .args .held) (s .args .name) (c .unchanged .result) (now (s .args .marks)) (refuse paper.disagrees) (billing-differs (s .args .bays) (now (s .args .rails)) (now (s .args .start)) (now (s .args .goal)) (now (s .args .plan)) (now (s .args .marks)) (s .args .running) (s .args .held) (s .args .name) (c .unchanged .result) (now (s .args .marks)) (ap agreementOf (sym (c .before .enum-told2 .given .1)) ∙ c .before .before .before .compare .ensures)) (no-refusal _) (ap reportOf (u .0)) (u .1) (u .2) (u .3) refl
 
 same-length-3 : tie.Need-same-length-3
 same-length-3 c = search needs
@@ -69,7 +65,7 @@ returns-3 : tie.Need-returns-3
 returns-3 c =
     let s = c .before .before .before .before .before .before .before .before .before .before .before in
     let u = c .unchanged2 .ensures in
-    billing-left (s .args .bays) (now (s .args .rails)) (now (s .args .start)) (now (s .args .goal)) (now (s .args .plan)) (now (s .args .marks)) (s .args .running) (s .args .held) (s .args .name) (c .unchanged2 .result) (now (s .args .marks)) (told (refuse (refusalOf (c .before .before .agreed .given .0 .0)))) (billing-refused (s .args .bays) (now (s .args .rails)) (now (s .args .start)) (now (s .args .goal)) (now (s .args .plan)) (now (s .args .marks)) (s .args .running) (s .args .held) (s .args .name) (c .unchanged2 .result) (now (s .args .marks)) _ (ap agreementOf (sym (c .before .before .agreed .given .1)) ∙ c .before .before .before .before .compare .ensures)) (no-refusal _) (ap billedOf (u .0)) (u .1) (u .2) (u .3) refl
+    billing-left (s .args .bays) (now (s .args .rails)) (now (s .args .start)) (now (s .args .goal)) (now (s .args .plan)) (now (s .args .marks)) (s .args .running) (s .args .held) (s .args .name) (c .unchanged2 .result) (now (s .args .marks)) (refuse (refusalOf (c .before .before .agreed .given .0 .0))) (billing-refused (s .args .bays) (now (s .args .rails)) (now (s .args .start)) (now (s .args .goal)) (now (s .args .plan)) (now (s .args .marks)) (s .args .running) (s .args .held) (s .args .name) (c .unchanged2 .result) (now (s .args .marks)) _ (ap agreementOf (sym (c .before .before .agreed .given .1)) ∙ c .before .before .before .before .compare .ensures)) (no-refusal _) (ap reportOf (u .0)) (u .1) (u .2) (u .3) refl
 
 pub report-spec : {M : Type 1} → statement M
 report-spec =

@@ -6,7 +6,6 @@ use lib.ListN.{length-map}
 use Rattle.paper.specs.Yard.{crossings}
 use Rattle.paper.specs.Answers.{accepts, marksAfter}
 use Rattle.marks.specs.Reading.{reportOf}
-use Rattle.ledger.specs.Statements.{billedOf}
 use Rattle.ledger.proofs.Settling.{told-named, told-inside, settle-posted, settle-left}
 use borrow.Author.Needs.{needs}
 use Rattle.ledger.proofs.settle.Statement.{statement}
@@ -41,9 +40,6 @@ returns c =
     (c .before .before .before .before .before .mark-accepted .ensures ∙ ap (marksAfter (now (s .args .marks)) (s .args .name)) (t .ensures))
     (ap accepts (sym (t .ensures)) ∙ sym (c .before .before .is-billed .ensures) ∙ c .before .if1 .taken) (c .post .ensures)
 
-told-as-requires : tie.Need-told-as-requires
-told-as-requires c κs = search needs
-
 unchanged-requires : tie.Need-unchanged-requires
 unchanged-requires c κs = search needs
 
@@ -52,12 +48,12 @@ same-length-2 c = search needs
 
 returns-2 : tie.Need-returns-2
 returns-2 c =
-    let s = c .before .before .before .before .before .before .before .before .before .before .before .before in
-    let t = c .before .before .before .before .before .before .before .before .tell-in-order in
+    let s = c .before .before .before .before .before .before .before .before .before .before .before in
+    let t = c .before .before .before .before .before .before .before .tell-in-order in
     let u = c .unchanged .ensures in
     settle-left (now (s .args .plan)) (now (s .args .marks)) (s .args .name) (s .args .running) (s .args .held) (c .unchanged .result) _
-    (c .before .before .before .before .before .before .mark-accepted .ensures ∙ ap (marksAfter (now (s .args .marks)) (s .args .name)) (t .ensures))
-    (reportOf (t .result)) (t .ensures) (sym (c .before .before .before .is-billed .ensures) ∙ c .before .before .if1 .left) (ap billedOf (u .0) ∙ c .before .told-as .ensures) (u .1) (u .2) (u .3)
+    (c .before .before .before .before .before .mark-accepted .ensures ∙ ap (marksAfter (now (s .args .marks)) (s .args .name)) (t .ensures))
+    (reportOf (t .result)) (t .ensures) (sym (c .before .before .is-billed .ensures) ∙ c .before .if1 .left) (ap reportOf (u .0)) (u .1) (u .2) (u .3)
 
 pub settle-spec : {M : Type 1} → statement M
 settle-spec =
@@ -69,7 +65,6 @@ settle-spec =
     post-requires
     same-length
     returns
-    told-as-requires
     unchanged-requires
     same-length-2
     returns-2)

@@ -22,7 +22,7 @@ returns : tie.Need-returns
 returns c = search needs
 
 returns-2 : tie.Need-returns-2
-returns-2 c = told-as (λ x. numberOf (checkedOf x)) (λ x. valueOf 0 (checkedOf x)) (c .before .before .before .answer .given .1) (c .refused .ensures)
+returns-2 c = told-as (λ x. numberOf (checkedOf x)) (λ x. valueOf (c .before .before .before .before .before .args .written) (checkedOf x)) (c .before .before .before .answer .given .1) (c .refused .ensures)
 
 pub told-checked-spec : {M : Type 1} → statement M
 told-checked-spec =

@@ -3,7 +3,7 @@
 use mathlib.Core.Path.{sym}
 use native.Mathlib.Omega.{arith}
 use lib.Seq.{length-take-le}
-use Rattle.program.proofs.Shortening.{enough, marked, written-short, not-begun, not-refused, refusal-stays}
+use Rattle.program.proofs.Shortening.{enough, marked, written-short, not-refused, refusal-stays}
 use borrow.Author.Needs.{needs}
 use Rattle.program.proofs.shorten_planned.Statement.{statement}
 use Rattle.program.proofs.shorten_planned.Tie as tie
@@ -29,9 +29,6 @@ shorten-requires c κs = search needs
 enum-known-shorter : tie.Need-enum-known-shorter
 enum-known-shorter c = search needs
 
-enum-told : tie.Need-enum-told
-enum-told c = search needs
-
 enum-known-shorter-2 : tie.Need-enum-known-shorter-2
 enum-known-shorter-2 c = search needs
 
@@ -48,16 +45,10 @@ same-length-2 : tie.Need-same-length-2
 same-length-2 c = search needs
 
 returns-2 : tie.Need-returns-2
-returns-2 c = not-begun (c .before .before .before .before .before .before .before .before .before .before .before .before .before .before .before .before .pre .0) _ (c .before .before .before .before .before .before .before .before .before .answer .given .1) _ (marked (c .before .before .before .before .before .before .before .before .before .before .before .before .before .before .before .before .pre .0) _ (c .before .before .before .before .before .before .before .before .before .answer .given .1)) _ (c .before .before .before .before .before .before .before .before .before .before .before .before .before .before .before .before .pre .1) (c .before .before .before .before .shorten .ensures) (c .enum-told .given .1)
-
-same-length-3 : tie.Need-same-length-3
-same-length-3 c = search needs
+returns-2 c = not-refused (c .before .before .before .before .before .before .before .before .before .before .before .before .before .before .before .before .before .pre .0) _ (c .before .before .before .before .before .before .before .before .before .before .answer .given .1) _ (marked (c .before .before .before .before .before .before .before .before .before .before .before .before .before .before .before .before .before .pre .0) _ (c .before .before .before .before .before .before .before .before .before .before .answer .given .1)) _ (c .before .before .before .before .before .before .before .before .before .before .before .before .before .before .before .before .before .pre .1) (c .before .before .before .before .before .shorten .ensures) _ (c .before .shorter2 .given .1)
 
 returns-3 : tie.Need-returns-3
-returns-3 c = not-refused (c .before .before .before .before .before .before .before .before .before .before .before .before .before .before .before .before .before .pre .0) _ (c .before .before .before .before .before .before .before .before .before .before .answer .given .1) _ (marked (c .before .before .before .before .before .before .before .before .before .before .before .before .before .before .before .before .before .pre .0) _ (c .before .before .before .before .before .before .before .before .before .before .answer .given .1)) _ (c .before .before .before .before .before .before .before .before .before .before .before .before .before .before .before .before .before .pre .1) (c .before .before .before .before .before .shorten .ensures) _ (c .before .shorter2 .given .1)
-
-returns-4 : tie.Need-returns-4
-returns-4 c = refusal-stays (c .before .before .before .before .before .before .before .before .pre .0) _ (c .before .answer2 .given .1) (c .before .before .before .before .before .before .before .before .pre .1)
+returns-3 c = refusal-stays (c .before .before .before .before .before .before .before .before .pre .0) _ (c .before .answer2 .given .1) (c .before .before .before .before .before .before .before .before .pre .1)
 
 pub shorten-planned-spec : {M : Type 1} → statement M
 shorten-planned-spec =
@@ -69,13 +60,10 @@ shorten-planned-spec =
     slice-aggregate-shorten-2
     shorten-requires
     enum-known-shorter
-    enum-told
     enum-known-shorter-2
     enum-known-answer-2
     same-length
     returns
     same-length-2
     returns-2
-    same-length-3
-    returns-3
-    returns-4)
+    returns-3)

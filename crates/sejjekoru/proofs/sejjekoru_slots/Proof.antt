@@ -11,8 +11,8 @@ use Rattle.sejjekoru.proofs.sejjekoru_slots.Tie as tie
 slots-requires : tie.Need-slots-requires
 slots-requires c κs = search needs
 
-told-slotted-requires : tie.Need-told-slotted-requires
-told-slotted-requires c κs = search needs
+told-checked-requires : tie.Need-told-checked-requires
+told-checked-requires c κs = search needs
 
 same-length : tie.Need-same-length
 same-length c = search needs
@@ -21,8 +21,8 @@ returns : tie.Need-returns
 returns c =
     let s = c .before .before .before .before .before .before .before .before .before .before .before in
     let says = c .before .before .before .before .slots .ensures in
-    record { tells = told-as numberOf (valueOf (length (now (s .args .plan)))) (says .answers) (c .told-slotted .ensures); leaves = says .leaves }
+    record { tells = told-as numberOf (valueOf (length (now (s .args .plan)))) (says .answers) (c .told-checked .ensures); leaves = says .leaves }
 
 pub sejjekoru-slots-spec : {M : Type 1} → statement M
 sejjekoru-slots-spec =
-    tie.close (tie.spec slots-requires told-slotted-requires same-length returns)
+    tie.close (tie.spec slots-requires told-checked-requires same-length returns)
