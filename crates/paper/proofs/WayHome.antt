@@ -2,28 +2,28 @@
 -- stood before; and what the way home has done since moved no other finished carrier.
 use mathlib.Core.Path.{_≡_, refl, sym, _∙_, ap, subst}
 use mathlib.Core.Bool.{true, false, not}
-use mathlib.Core.Logic.{_⊎_, inl, inr, ⊎-elim}
+use mathlib.Core.Logic.{_⊎_, ⊎-elim}
 use mathlib.Core.List.{List, [], _∷_, _++_, append-assoc, dropLast}
 use mathlib.Core.Option.{none, some}
-use Prim.Native.Nat.{ℕ, zero, suc, _<_, _≤_, _+_}
+use Prim.Native.Nat.{ℕ, zero, suc, _<_, _≤_}
 use native.Mathlib.Omega.{arith}
 use lib.Dec.{eqb, ltb}
 use lib.ListN.{length, getD, take, drop, length-take, take-append-drop}
 use lib.Seq.{getD-take}
 use borrow.Author.Tests.{lt-ltb, ne-eqb}
-use Rattle.paper.specs.Basics.{_and_, orElse, In, NoDup}
-use Rattle.paper.specs.Yard.{Bay, Carrier, Yard, Placement, Crossing, crossing, bayOf, carrierAt, after, joined}
+use Rattle.paper.specs.Basics.{_and_, In, NoDup}
+use Rattle.paper.specs.Yard.{Bay, Carrier, Yard, Placement, crossing, bayOf, carrierAt, after, joined}
 use Rattle.paper.specs.Path.{Shortest}
-use Rattle.paper.specs.Procedure.{Made, only, together, _then_, cross, vacate, swap, step, Outcome, planned, orStuck, holding, avoided, pathOf, homeAt, TurnOf, ComesTo}
+use Rattle.paper.specs.Procedure.{Made, only, together, cross, vacate, step, planned, orStuck, holding, avoided, pathOf, go, homeAt, wayHome, along, TurnOf, ComesTo}
 use Rattle.paper.specs.Docket.{yardOf}
 use Rattle.paper.specs.Answers.{firstSix}
 use Rattle.paper.proofs.Tests.{not-both, and-both}
-use Rattle.paper.proofs.Members.{In-head, In-tail}
-use Rattle.paper.proofs.Playing.{Apart, after-length, bay-in, placeOf-bay, placeOf-there, Sound, Good}
+use Rattle.paper.proofs.Members.{In-head}
+use Rattle.paper.proofs.Playing.{after-length, bay-in, placeOf-bay, placeOf-there, Sound, Good}
 use Rattle.paper.proofs.Vacating.{vacate-vacates}
 use Rattle.paper.proofs.Actions.{then-runs}
 use Rattle.paper.proofs.Swapping.{Chain, way-tail}
-use Rattle.paper.proofs.Carrying.{plan-good, Pair, pair-in, pair-joined, chain-last, Home, Gone, go-goes, step-steps, back-or-home, path-short, all-carried}
+use Rattle.paper.proofs.Carrying.{plan-good, next-split, Pair, pair-in, pair-joined, chain-last, Home, Gone, go-goes, step-steps, back-or-home, path-short, all-carried}
 use Rattle.paper.proofs.Admitted.{clean-of, sound-of, good-of}
 
 -- in a list with no bay twice, the one before the bay at a place is the bay one place before
@@ -36,6 +36,24 @@ pair-at u (x ∷ l) a b n h (suc i) k e =
     (λ j. not-both (rw (sym e ∙ j .1) at (bay-in l i (omega arith))) (n .0))
     (λ j. pair-at x l a b (n .1) j i (omega arith) e)
     h
+
+home-suffix : (Y : Yard) (goals : Placement) (finished : ℕ) (i : ℕ) (l : List Bay) (p : Placement) (m : Made) → wayHome Y goals finished l p ≡ planned m
+    → (b : Made) × (wayHome Y goals finished (drop i l) p ≡ planned b)
+unfolding wayHome
+home-suffix Y goals finished zero l p m h = (m, h)
+home-suffix Y goals finished (suc i) [] p m h = (m, h)
+home-suffix Y goals finished (suc i) (v ∷ l) p m h =
+    next-split (wayHome Y goals finished l) (homeAt Y goals finished v) p m h (λ a b d e z. home-suffix Y goals finished i l p a d)
+
+-- A turn that is planned comes to each vi on its way home.
+pub comes-to-each : (Y : Yard) (goals : Placement) (r : Carrier) (path : List Bay) (p : Placement) (m : Made) → along Y goals r (drop 1 path) p ≡ planned m
+    → (i : ℕ) → (q : Placement) × ComesTo Y goals r path i p q
+unfolding along
+comes-to-each Y goals r path p m h i =
+    next-split (go Y goals r (drop 1 path)) (wayHome Y goals (suc r) (dropLast (drop 1 path))) p m h
+    (λ gone home d e z.
+    let s = home-suffix Y goals (suc r) i (dropLast (drop 1 path)) (after p (gone .moves)) home e in
+    (after (after p (gone .moves)) (s .0 .moves), record { gone = gone; goes = d; home = s .0; homes = s .1; stand = refl }))
 
 module _ (n : ℕ) (ends : List Bay) (starts goals : Placement) (passes : firstSix n ends starts goals 0 ≡ none) (r : Carrier) (hr : r < length goals) where
   abbrev Y : Yard
@@ -75,14 +93,14 @@ module _ (n : ℕ) (ends : List Bay) (starts goals : Placement) (passes : firstS
     abbrev u : Bay
     u = bayOf p r
 
-    record Along : Type 0 where
+    record Going : Type 0 where
       starts-at : path ≡ u ∷ ahead
       chain : Chain Y u ahead (bayOf goals r)
       once : NoDup (u ∷ ahead)
       gone-there : Gone Y sound goals r u ahead (bayOf goals r) p (comes .gone .moves)
 
-    along : Along
-    along =
+    going : Going
+    going =
         let b = begun p turn in
         let held = avoided Y goals r p in
         let long : r < length p = omega (arith, b .len) in
@@ -102,7 +120,7 @@ module _ (n : ℕ) (ends : List Bay) (starts goals : Placement) (passes : firstS
     -- the path, cut behind vi
     cut : ahead ≡ take (suc i) (dropLast ahead) ++ (drop (suc i) (dropLast ahead) ++ (bayOf goals r ∷ []))
     cut =
-        let a = along in
+        let a = going in
         let len : length path ≡ suc (length ahead) = ap length (a .starts-at) in
         ⊎-elim
         (λ k. let z : length ahead ≡ 0 = ap length (k .0) in absurd (omega arith))
@@ -119,7 +137,7 @@ module _ (n : ℕ) (ends : List Bay) (starts goals : Placement) (passes : firstS
     come-to : Coming (after (after p (comes .gone .moves)) (comes .home .moves))
     come-to =
         let b = begun p turn in
-        let a = along in
+        let a = going in
         let xs = comes .gone .moves in
         let ys = comes .home .moves in
         let long : r < length p = omega (arith, b .len) in
@@ -142,14 +160,14 @@ module _ (n : ℕ) (ends : List Bay) (starts goals : Placement) (passes : firstS
       -- It stands at v(i−1).
       pub one-bay-back : bayOf q c ≡ getD path i 0
       one-bay-back =
-          let a = along in
+          let a = going in
           let len : length path ≡ suc (length ahead) = ap length (a .starts-at) in
           pair-at u ahead (bayOf q c) (getD path (suc i) 0) (a .once .1) pair i (omega arith) (ap (λ l. getD l (suc i) 0) (a .starts-at))
           ∙ ap (λ l. getD l i 0) (sym (a .starts-at))
 
       -- A rail joins v(i−1) and vi.
       pub rail-home : joined Y (getD path i 0) (getD path (suc i) 0) ≡ true
-      rail-home = rw one-bay-back at (pair-joined Y u ahead (bayOf goals r) (bayOf q c) (getD path (suc i) 0) (along .chain) pair)
+      rail-home = rw one-bay-back at (pair-joined Y u ahead (bayOf goals r) (bayOf q c) (getD path (suc i) 0) (going .chain) pair)
 
       -- It is the one that steps, "by the same rule; a failure is 7 for that carrier".
       pub steps-home : homeAt Y goals (suc r) (getD path (suc i) 0) q ≡ orStuck c (step Y (suc r) c (getD path (suc i) 0) q)
