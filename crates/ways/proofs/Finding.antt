@@ -9,7 +9,7 @@ use Prim.Native.Nat.{ℕ, zero, suc, _+_, _-_, _*_, _≤_, _<_}
 use native.Mathlib.Decide.{ℕ-discrete, decLt}
 use native.Mathlib.Omega.{arith}
 use lib.Dec.{eqb}
-use lib.ListN.{length, take}
+use lib.ListN.{length, getD, take, replicate}
 use lib.Seq.{take-take, length-take-le}
 use borrow.Author.Tests.{eqb-true, eq-eqb, not-true}
 use Rattle.paper.specs.Basics.{_and_, _or_, elem, In}
@@ -34,11 +34,20 @@ use Rattle.rings.proofs.Searching.{elem-one, ring-first, in-yard}
 use Rattle.rings.proofs.Reading.{way-none}
 use Rattle.rings.proofs.Between.{shortest-far}
 use Rattle.ways.specs.Meeting.{back}
-use Rattle.ways.specs.Queue.{Met, Passed}
+use Rattle.ways.specs.Queue.{Low, Met, Passed}
 use Rattle.ways.proofs.Passing.{Within, next-holds, next-within}
 use Rattle.ways.proofs.Tracing.{free-of, path-back}
 
 -- ## Where the search stands
+
+zeros : (k y : ℕ) → getD (replicate k 0) y 0 ≤ 0
+zeros zero y = omega arith
+zeros (suc k) zero = omega arith
+zeros (suc k) (suc y) = zeros k y
+
+-- before the search no bay was met from any but bay 0
+pub zeros-low : Low (replicate span 0)
+zeros-low y = let z = zeros span y in omega arith
 
 -- at ring d, and no ring up to it has a wanted bay
 pub record Stage {n : ℕ} {table held : List ℕ} (s : Shown n table held) (x : Bay) (wanted : List ℕ) (d : ℕ) (seen met before : List ℕ) (done count : ℕ) : Type 0 where
@@ -51,8 +60,8 @@ module _ {n : ℕ} {table held : List ℕ} (s : Shown n table held) (most : n �
   first-ring : ringOn s x 0 ≡ x ∷ []
   first-ring = ring-first (s .yard) (s .bays) x (rw (s .joins .bays) (omega arith))
 
-  start-met : (seen before : List ℕ) → ((b : ℕ) → b < span → mem seen b ≡ mem held b or eqb b x) → Met n table held x seen (x ∷ []) before 0
-  start-met seen before f = record {
+  start-met : (seen before : List ℕ) → Low before → ((b : ℕ) → b < span → mem seen b ≡ mem held b or eqb b x) → Met n table held x seen (x ∷ []) before 0
+  start-met seen before low f = record {
     rails = λ a b h k e. s .joins .inside a b (sym (s .joins .same a b h k) ∙ e) .1;
     starts = refl;
     inside = λ b i. rw (In-one b x i) hx;
@@ -60,6 +69,7 @@ module _ {n : ℕ} {table held : List ℕ} (s : Shown n table held) (most : n �
     once = (nothing-in-nil x, tt);
     seeing = λ b h. f b h ∙ rw (elem-one b x);
     parent = λ j p h. absurd (omega arith);
+    low = low;
     looked = λ l z h. absurd (omega arith);
   }
 
@@ -67,10 +77,10 @@ module _ {n : ℕ} {table held : List ℕ} (s : Shown n table held) (most : n �
   of-first : (i b : ℕ) → i ≤ 0 → In b (ringOn s x i) → In b (x ∷ [])
   of-first i b l y = let e : i ≡ 0 = omega arith in rw (e, first-ring) at y
 
-  pub stage-first : (wanted seen₀ seen₁ seen met before : List ℕ) → mem wanted x ≡ false → Kept seen₀ 0 held seen₁ → ((y : ℕ) → mem seen y ≡ mem seen₁ y or eqb y x)
+  pub stage-first : (wanted seen₀ seen₁ seen met before : List ℕ) → Low before → mem wanted x ≡ false → Kept seen₀ 0 held seen₁ → ((y : ℕ) → mem seen y ≡ mem seen₁ y or eqb y x)
       → take 1 met ≡ x ∷ [] → Stage s x wanted 0 seen met before 0 1
-  stage-first wanted seen₀ seen₁ seen met before miss k f first = record {
-    queue = rw first (start-met seen before (λ b l. f b ∙ rw (sym (row-zero seen₁ b) ∙ k .row b l)));
+  stage-first wanted seen₀ seen₁ seen met before low miss k f first = record {
+    queue = rw first (start-met seen before low (λ b l. f b ∙ rw (sym (row-zero seen₁ b) ∙ k .row b l)));
     within = rw first (record { holds = of-first; only = λ b i. (0, omega arith, rw first-ring i) });
     missed = λ i b l y. rw (In-one b x (of-first i b l y)) miss;
     near = omega arith;

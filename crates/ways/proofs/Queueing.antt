@@ -125,6 +125,7 @@ module _ {n : ℕ} {table held : List ℕ} {x : ℕ} {seen queue before : List �
             let e : length queue + i ≡ j = omega arith in
             rw e at (new-parent i (omega (arith, length-append queue found)))
       ];
+      low = λ y. by-cases (elem y found) (λ i. let e = parents y i in omega (arith, e, here-inside)) (λ o. rw (others y o) (m .low y));
       looked = λ l z k s r. elim (ℕ-discrete l done) [
         | yes e ↦
             let r′ : Leads table held queue done z = rw (e, List·getD-append queue found 0 done h) at r in

@@ -23,6 +23,10 @@ pub record Parent (table held queue before : List ℕ) (done j : ℕ) : Type 0 w
   pub rail : memRow table (getD queue place 0) (getD queue j 0) ≡ true
   pub first : (l z : ℕ) → z < span → (l < place) ⊎ ((l ≡ place) × (z < getD queue j 0)) → Leads table held queue l z → In z (take j queue)
 
+-- every number in the list is a bay's
+abbrev pub Low : List ℕ → Type 0
+Low before = (y : ℕ) → getD before y 0 < span
+
 -- the bays below `done` of the queue have been passed
 pub record Met (n : ℕ) (table held : List ℕ) (x : ℕ) (seen queue before : List ℕ) (done : ℕ) : Type 0 where
   pub rails : (a b : ℕ) → a < n → b < span → memRow table a b ≡ true → b < n
@@ -32,6 +36,7 @@ pub record Met (n : ℕ) (table held : List ℕ) (x : ℕ) (seen queue before : 
   pub once : NoDup queue
   pub seeing : (b : ℕ) → b < span → mem seen b ≡ mem held b or elem b queue
   pub parent : (j : ℕ) → 0 < j → j < length queue → Parent table held queue before done j
+  pub low : Low before
   pub looked : (l z : ℕ) → l < done → z < span → Leads table held queue l z → In z queue
 
 -- the first `count` bays of the room are the queue of some search

@@ -13,7 +13,7 @@ ghost use Rattle.words.specs.Sets.{mem, words, span};
 ghost use Rattle.rings.specs.Search.{Shown};
 ghost use Rattle.rings.specs.Ways.{PathFound, WayFound};
 ghost use Rattle.ways.specs.Meeting.{few, inWord, newIn, new, Queued, Meets, back};
-ghost use Rattle.ways.specs.Queue.{Met, Standing, Passed};
+ghost use Rattle.ways.specs.Queue.{Low, Met, Standing, Passed};
 
 // Whether fewer than four rails lead to the bay: then a queue is faster than rings.
 fn few_rails(table: &[u64], a: usize) -> bool
@@ -24,7 +24,7 @@ fn few_rails(table: &[u64], a: usize) -> bool
 }
 
 // The bays of word i go to the queue's end, rising, as met from a.
-fn enqueue(i: usize, word: u64, a: u8, met: &mut [u16], before: &mut [u8], count: usize) -> usize
+fn enqueue(i: usize, word: u64, a: u16, met: &mut [u16], before: &mut [u16], count: usize) -> usize
     requires { ⌜ (i < words) × (length (now before) ≡ span) × (count + length (inWord i word) ≤ length (now met)) ⌝ }
     ensures { λ r. ⌜ Queued (inWord i word) a count (now (met .entry)) (now (before .entry)) (now (met .exit)) (now (before .exit)) r ⌝ }
 {
@@ -43,11 +43,11 @@ fn enqueue(i: usize, word: u64, a: u8, met: &mut [u16], before: &mut [u8], count
 // The new bays of word i that a leads to.
 fn meet_word(
     table: &[u64],
-    a: u8,
+    a: u16,
     i: usize,
     seen: &mut [u64],
     met: &mut [u16],
-    before: &mut [u8],
+    before: &mut [u16],
     count: usize,
 ) -> usize
     requires { ⌜ (i < words) × (a * words + words ≤ length (now table)) × (length (now seen) ≡ words) × (length (now before) ≡ span) × (count + length (newIn (now table) (now seen) a i) ≤ length (now met)) ⌝ }
@@ -64,10 +64,10 @@ fn meet_word(
 // All new bays that a leads to.
 fn meet(
     table: &[u64],
-    a: u8,
+    a: u16,
     seen: &mut [u64],
     met: &mut [u16],
-    before: &mut [u8],
+    before: &mut [u16],
     count: usize,
 ) -> usize
     requires { ⌜ (a * words + words ≤ length (now table)) × (length (now seen) ≡ words) × (length (now before) ≡ span) × (count + length (new (now table) (now seen) a) ≤ length (now met)) ⌝ }
@@ -90,7 +90,7 @@ fn pass(
     count: usize,
     seen: &mut [u64],
     met: &mut [u16],
-    before: &mut [u8],
+    before: &mut [u16],
 ) -> usize
     requires { ⌜ (n ≤ span) × (n * words ≤ length (now table)) × (start < count) × (count ≤ n) × (length (now seen) ≡ words) × (n ≤ length (now met)) × (length (now before) ≡ span) × Standing n (now table) (now seen) (now met) (now before) start count ⌝ }
     ensures { λ r. ⌜ ((held : List ℕ) (x : ℕ) → Met n (now (table .entry)) held x (now (seen .entry)) (take count (now (met .entry))) (now (before .entry)) start → Passed n (now (table .entry)) held x (now (met .entry)) count (now (seen .exit)) (now (met .exit)) (now (before .exit)) count r) ⌝ }
@@ -98,15 +98,15 @@ fn pass(
     let mut done = start;
     let mut c = count;
     while done < count {
-        c = meet(table, met[done] as u8, seen, met, before, c);
+        c = meet(table, met[done], seen, met, before, c);
         done += 1;
     }
     c
 }
 
 // The path to e, d rails long, is read from its end.
-fn trace(before: &[u8], e: usize, d: usize, path: &mut [u16])
-    requires { ⌜ (length (now before) ≡ span) × (e < span) × (d < length (now path)) ⌝ }
+fn trace(before: &[u16], e: usize, d: usize, path: &mut [u16])
+    requires { ⌜ (length (now before) ≡ span) × (e < span) × (d < length (now path)) × Low (now before) ⌝ }
     ensures { λ _. ⌜ take (d + 1) (now (path .exit)) ≡ back (now (before .entry)) d e [] ⌝ }
 {
     let mut i = d;
@@ -139,7 +139,7 @@ fn one_by_one(
     }
     let mut seen = [0u64; words::WORDS];
     let mut free = [0u64; words::WORDS];
-    let mut before = [0u8; words::SPAN];
+    let mut before = [0u16; words::SPAN];
     words::keep(&mut seen, 0, held);
     words::join(&mut seen, middle);
     words::keep(&mut free, 0, wanted);

@@ -31,6 +31,9 @@ add-y c = let l = c .before .loop in omega (arith, trailing-le 64 (l .left))
 sub-left : tie.Need-sub-left Inv-loop μ-loop
 sub-left c = search needs
 
+mul-before : tie.Need-mul-before Inv-loop μ-loop
+mul-before c = let l = c .before .loop in let h = lowest-low (c .before .before .args .i) (l .left) (omega arith) (l .inv .2 .fits) in omega arith
+
 slice-write-before : tie.Need-slice-write-before Inv-loop μ-loop
 slice-write-before c = let l = c .before .loop in let h = lowest-low (c .before .before .args .i) (l .left) (omega arith) (l .inv .2 .fits) in omega arith
 
@@ -72,6 +75,7 @@ enqueue-spec =
     cast-y
     add-y
     sub-left
+    mul-before
     slice-write-before
     cast-met
     mul-met

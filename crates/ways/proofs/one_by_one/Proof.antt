@@ -7,7 +7,7 @@ use lib.ListN.{length, length-set}
 use lib.Seq.{take-suc-set}
 use Rattle.words.specs.Sets.{words, span}
 use Rattle.rings.specs.Search.{Shown}
-use Rattle.ways.proofs.Finding.{Stage, stage-first, stage-more, free-rowed, way-nowhere, way-found, way-here}
+use Rattle.ways.proofs.Finding.{Stage, zeros-low, stage-first, stage-more, free-rowed, way-nowhere, way-found, way-here}
 use borrow.Author.Needs.{needs}
 use Rattle.ways.proofs.one_by_one.Statement.{statement}
 use Rattle.ways.proofs.one_by_one.Tie as tie
@@ -70,7 +70,7 @@ loop-holds c =
     let p = c .before .before .before .before .before .before .before .before .before .before .before .before .before .before .before .before .before .before .before .pre in
     let a = c .before .before .before .before .before .before .before .before .before .before .before .before .before .before .before .before .before .before .before .args in
     let miss = sym (c .before .before .before .before .before .before .before .before .before .before .before .before .before .is-in .ensures) ∙ c .before .before .before .before .before .before .before .before .before .before .before .before .if1 .left in
-    (omega arith, omega arith, omega arith, refl, simp length-set (p .5), search needs, search needs, λ s. stage-first s (p .0) _ (p .1) (p .6) _ _ _ _ _ _ miss (c .before .before .before .before .before .before .before .before .before .before .keep .ensures) (c .before .before .before .before .before .before .before .join .ensures) (take-suc-set (a .path .now) 0 (a .x .0) (omega arith)))
+    (omega arith, omega arith, omega arith, refl, simp length-set (p .5), search needs, search needs, λ s. stage-first s (p .0) _ (p .1) (p .6) _ _ _ _ _ _ zeros-low miss (c .before .before .before .before .before .before .before .before .before .before .keep .ensures) (c .before .before .before .before .before .before .before .join .ensures) (take-suc-set (a .path .now) 0 (a .x .0) (omega arith)))
 
 slice-aggregate-pass : tie.Need-slice-aggregate-pass Inv-loop μ-loop
 slice-aggregate-pass c = search needs
@@ -122,7 +122,7 @@ trace-requires c κs =
     let l = c .before .before .before .before .before .before .before .before .before .before .before .before .before .before .before .loop in
     let w = c .before .before .before .before .before .before .before .before .before .before .before .pass in
     let g = w .ensures _ _ (l .inv .7 (p .7) .queue) in
-    (search needs, c .before .before .if3 .taken, omega (arith, l .inv .0, l .inv .2, l .inv .4, w .kept .1 .1 .1 .1 .1 .0, g .more, g .most, c .before .before .before .before .before .before .if2 .left))
+    (search needs, c .before .before .if3 .taken, omega (arith, l .inv .0, l .inv .2, l .inv .4, w .kept .1 .1 .1 .1 .1 .0, g .more, g .most, c .before .before .before .before .before .before .if2 .left), g .queue .low)
 
 cast-t44 : tie.Need-cast-t44 Inv-loop μ-loop
 cast-t44 c = search needs

@@ -31,13 +31,6 @@ slice-read-meet c =
     let g = l .inv .4 (p .7 .0) (p .7 .1) (p .7 .2) in
     omega (arith, l .inv .2, p .5, g .more, g .most)
 
-cast-meet : tie.Need-cast-meet Inv-loop μ-loop
-cast-meet c =
-    let p = c .before .before .before .before .before .before .before .pre in
-    let l = c .before .before .loop in
-    let g = l .inv .4 (p .7 .0) (p .7 .1) (p .7 .2) in
-    omega (arith, passed-inside g (p .0) (omega (arith, l .inv .2, p .5)) (omega (arith, g .more)))
-
 meet-requires : tie.Need-meet-requires Inv-loop μ-loop
 meet-requires c κs =
     let p = c .before .before .before .before .before .before .before .before .before .before .pre in
@@ -89,7 +82,6 @@ pass-spec =
     loop-holds
     mul-meet
     slice-read-meet
-    cast-meet
     meet-requires
     add-done
     loop-less

@@ -30,6 +30,9 @@ mul-path c = search needs
 slice-write-path : tie.Need-slice-write-path Inv-loop μ-loop
 slice-write-path c = search needs
 
+mul-u : tie.Need-mul-u Inv-loop μ-loop
+mul-u c = search needs
+
 shared-slice-read-u : tie.Need-shared-slice-read-u Inv-loop μ-loop
 shared-slice-read-u c = search needs
 
@@ -43,7 +46,10 @@ loop-less : tie.Need-loop-less Inv-loop μ-loop
 loop-less c = search needs
 
 loop-again : tie.Need-loop-again Inv-loop μ-loop
-loop-again c = let l = c .before .before .loop in (omega arith, omega (arith, c .shared-slice-known .given (l .u)), simp length-set (omega arith), l .inv .3 ∙ read-more _ _ _ _ _ (omega arith) (omega arith) (omega arith))
+loop-again c =
+    let l = c .before .before .loop in
+    let low = c .before .before .before .pre .3 in
+    (omega arith, low (l .u), simp length-set (omega arith), l .inv .3 ∙ read-more _ _ _ _ _ (omega arith) (omega arith) (omega arith))
 
 cast-path-2 : tie.Need-cast-path-2 Inv-loop μ-loop
 cast-path-2 c = search needs
@@ -67,6 +73,7 @@ trace-spec =
     cast-path
     mul-path
     slice-write-path
+    mul-u
     shared-slice-read-u
     cast-u
     sub-i
