@@ -25,11 +25,12 @@ use Rattle.vacate.specs.Placed.{Placed}
 use Rattle.rings.specs.Search.{Shown}
 use Rattle.vacate.proofs.Playing.{carrier-is}
 use Rattle.paper.proofs.Making.{same-made, together-assoc, together-none, none-together}
-use Rattle.bring.specs.Acting.{Tabled, Tallied, Acts, Tries, entering}
-use Rattle.bring.specs.declared.Tally.{Tally}
-use Rattle.bring.proofs.Acting.{tallied-none, tallied-then, tries-some, tried-done, tried-failed, acts-some, acted-done}
-use Rattle.bring.specs.declared.Tried.the-variants.{Done}
-use Rattle.bring.specs.declared.Tried.the-variants.{Failed}
+use Rattle.acting.specs.Acting.{Tabled, Tallied, Acts, Tries}
+use Rattle.bring.specs.Bringing.{entering}
+use Rattle.acting.specs.declared.Tally.{Tally}
+use Rattle.acting.proofs.Acting.{tallied-none, tallied-then, tries-some, tried-done, tried-failed, acts-some, acted-done}
+use Rattle.acting.specs.declared.Tried.the-variants.{Done}
+use Rattle.acting.specs.declared.Tried.the-variants.{Failed}
 
 -- what is made, and then what the rest answers
 abbrev ahead : Made → Option Made → Option Made

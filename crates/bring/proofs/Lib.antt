@@ -1,4 +1,2 @@
-pub mod Acting
-pub mod Junctions
 pub mod Bringing
 pub mod Undoing

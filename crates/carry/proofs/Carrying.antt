@@ -32,9 +32,9 @@ use Rattle.rings.proofs.Searching.{elem-append, elem-one}
 use Rattle.home.specs.Homing.{Settled, AtMost, Stages, Homeward}
 use Rattle.paper.proofs.Making.{together-assoc, together-none, none-together}
 use Rattle.vacate.specs.Placed.{Placed}
-use Rattle.bring.specs.Acting.{Tabled, Tallied, nothing}
-use Rattle.bring.specs.declared.Tally.{Tally}
-use Rattle.bring.proofs.Acting.{tallied-none, tallied-then}
+use Rattle.acting.specs.Acting.{Tabled, Tallied, nothing}
+use Rattle.acting.specs.declared.Tally.{Tally}
+use Rattle.acting.proofs.Acting.{tallied-none, tallied-then}
 use Rattle.clear_on.proofs.Attempting.{in-bays}
 use Rattle.trial.proofs.Copying.{part}
 use Rattle.step.specs.Asking.{Loopless, BaysBelow}

@@ -1,9 +1,9 @@
--- What carrying asks: distinct goals among the bays, one for each carrier; the finished ones at home; a path.
+-- What carrying asks and says: distinct goals among the bays, one for each carrier; the finished ones at home; a path.
 -- Assumes nothing.
 use mathlib.Core.Path.{_≡_}
 use mathlib.Core.List.{List, [], _∷_}
-use mathlib.Core.Option.{Option}
-use Prim.Native.Nat.{ℕ, _≤_, _<_}
+use mathlib.Core.Option.{some}
+use Prim.Native.Nat.{ℕ, _+_, _≤_, _<_}
 use lib.ListN.{length}
 use Rattle.paper.specs.Basics.{if_then_else_, In, NoDup}
 use Rattle.paper.specs.Path.{nearestFirst, pathBetween}
@@ -13,12 +13,14 @@ use Rattle.paper.proofs.Playing.{Apart}
 use Rattle.rings.specs.Search.{Shown}
 use Rattle.rings.specs.Ways.{pathOf, pathLength}
 use Rattle.rings.specs.declared.Path.{Path}
-use Rattle.bring.specs.Acting.{Tabled}
-use Rattle.bring.specs.declared.Tally.{Tally}
+use Rattle.vacate.specs.Bounds.{carrier-most}
+use Rattle.acting.specs.Acting.{Tabled, nothing}
+use Rattle.acting.specs.declared.Tally.{Tally}
 use Rattle.step.specs.Asking.{BaysBelow}
 use Rattle.go.specs.Going.{Linked}
-use Rattle.home.specs.declared.Staged.the-variants.{Planned}
+use Rattle.home.specs.Homing.{AtMost, Stages, StagesAs}
 use Rattle.home.specs.declared.Staged.{Staged}
+use Rattle.home.specs.declared.Staged.the-variants.{Planned}
 
 pub record Goals (n : ℕ) (goals p : List ℕ) : Type 0 where
   pub many : length goals ≡ length p
@@ -56,12 +58,31 @@ pub record PathPast {n : ℕ} {table held : List ℕ} (s : Shown n table held) (
 pub record Settles (finished : ℕ) (p settled : List ℕ) (z : Staged) : Type 0 where
   pub below : (m : Tally) → z ≡ Planned m → BaysBelow finished p settled
 
--- (the code's functions have the same names)
-abbrev pub paths : Yard → Placement → Carrier → Placement → Option (List Bay)
-paths Y goals r p = way Y goals r p
-
-abbrev pub carries : Yard → Placement → Carrier → Placement → Outcome
-carries Y goals r p = carry Y goals r p
-
+-- (the code's function has the same name)
 abbrev pub procedures : Yard → Placement → Placement → Outcome
 procedures Y goals p = procedure Y goals p
+
+-- ## What is said
+
+-- the paper's turn of carrier r, if the path is the one that it takes; where it is planned, r is finished
+abbrev pub CarryAlongSays : Placement → Carrier → List Bay → (table p standing out : List ℕ) → Tally
+    → (p′ standing′ empty′ settled′ out′ : List ℕ) → Staged → Type 0
+CarryAlongSays goals r path table p standing out at p′ standing′ empty′ settled′ out′ z =
+    AtMost at carrier-most z
+    × ((t : Tabled (length standing) table)
+    → some path ≡ way (t .yard) goals r p
+    → Stages (carry (t .yard) goals r p) (length standing) p out at p′ standing′ empty′ out′ z)
+    × Settles (r + 1) p′ settled′ z
+
+-- the paper's turn of carrier r
+abbrev pub CarrySays : Placement → Carrier → (table p standing out : List ℕ) → Tally → (p′ standing′ empty′ settled′ out′ : List ℕ) → Staged → Type 0
+CarrySays goals r table p standing out at p′ standing′ empty′ settled′ out′ z =
+    AtMost at carrier-most z
+    × StagesAs (λ Y. carry Y goals r) table p standing out at p′ standing′ empty′ out′ z
+    × Settles (r + 1) p′ settled′ z
+
+-- the paper's procedure, counted from nothing
+abbrev pub CarryAllSays : Placement → (table p standing out p′ standing′ empty′ settled′ out′ : List ℕ) → Staged → Type 0
+CarryAllSays goals table p standing out p′ standing′ empty′ settled′ out′ z =
+    StagesAs (λ Y. procedure Y goals) table p standing out nothing p′ standing′ empty′ out′ z
+    × Settles (length goals) p′ settled′ z

@@ -1,20 +1,20 @@
 // Carriers by rising number: each goes its shortest path, in a carousel past the finished ones, and then those that it displaced go home.
-use bring::Tally;
-use bring::Tried;
+use acting::Tally;
+use acting::Tried;
 use docket::Bay;
 use docket::Carrier;
 use home::Staged;
 use rings::Path;
 ghost use mathlib.Core.Path.{_≡_};
-ghost use mathlib.Core.Option.{some};
-ghost use Prim.Native.Nat.{_+_, _*_, _^_, _≤_, _<_};
+ghost use Prim.Native.Nat.{_*_, _≤_, _<_};
 ghost use lib.ListN.{length, getD};
 ghost use Rattle.words.specs.Sets.{words, span};
 ghost use Rattle.rings.specs.Search.{Shown};
-ghost use Rattle.bring.specs.Acting.{Tabled, Ready, nothing};
+ghost use Rattle.vacate.specs.Bounds.{room-carrier};
+ghost use Rattle.acting.specs.Acting.{Ready};
 ghost use Rattle.step.specs.Asking.{Loopless, BaysBelow};
-ghost use Rattle.home.specs.Homing.{Owners, AtMost, Stages};
-ghost use Rattle.carry.specs.Carrying.{Goals, OnPath, Reaching, HomeBelow, Settles, PathPast, paths, carries, procedures};
+ghost use Rattle.home.specs.Homing.{Owners};
+ghost use Rattle.carry.specs.Carrying.{Goals, OnPath, Reaching, HomeBelow, PathPast, CarryAlongSays, CarrySays, CarryAllSays};
 
 // Carrier r goes the path, whose first bay is its own, then those that it displaced go home. At its goal r is finished, and its bay settled.
 fn carry_along(
@@ -31,8 +31,22 @@ fn carry_along(
     at: Tally,
 ) -> Staged
     requires { ⌜ Ready (now table) (now placement) (now standing) (now empty) ⌝ }
-    requires { ⌜ (r .0 < length (now placement)) × Goals (length (now standing)) (now goals) (now placement) × Loopless (length (now standing)) (now table) × HomeBelow (r .0) (now goals) (now placement) × (length (now path) ≤ 256) × OnPath (length (now standing)) (now table) (getD (now placement) (r .0) 0) (getD (now goals) (r .0) 0) (now path) × (at .crossings < 2 ^ 59) × Owners (length (now standing)) (now goals) (now owner) × BaysBelow (r .0) (now placement) (now settled) ⌝ }
-    ensures { λ z. ⌜ (AtMost at 80000000 z) × ((t : Tabled (length (now (standing .entry))) (now (table .entry))) → some (now (path .entry)) ≡ paths (t .yard) (now (goals .entry)) (r .0) (now (placement .entry)) → Stages (carries (t .yard) (now (goals .entry)) (r .0) (now (placement .entry))) (length (now (standing .entry))) (now (placement .entry)) (now (out .entry)) at (now (placement .exit)) (now (standing .exit)) (now (empty .exit)) (now (out .exit)) z) × Settles (r .0 + 1) (now (placement .exit)) (now (settled .exit)) z ⌝ }
+    requires { ⌜
+        (r .0 < length (now placement))
+        × Goals (length (now standing)) (now goals) (now placement)
+        × Loopless (length (now standing)) (now table)
+        × HomeBelow (r .0) (now goals) (now placement)
+        × (length (now path) ≤ span)
+        × OnPath (length (now standing)) (now table) (getD (now placement) (r .0) 0) (getD (now goals) (r .0) 0) (now path)
+        × (at .crossings < room-carrier)
+        × Owners (length (now standing)) (now goals) (now owner)
+        × BaysBelow (r .0) (now placement) (now settled)
+        ⌝ }
+    ensures { λ z. ⌜
+        CarryAlongSays (now (goals .entry)) (r .0) (now (path .entry))
+        (now (table .entry)) (now (placement .entry)) (now (standing .entry)) (now (out .entry)) at
+        (now (placement .exit)) (now (standing .exit)) (now (empty .exit)) (now (settled .exit)) (now (out .exit)) z
+        ⌝ }
 {
     if path.len() < 1 {
         return Staged::Stuck(r);
@@ -76,8 +90,18 @@ fn carry_along(
 // The shortest path from u to v past the bays avoided: in a carousel the settled ones, elsewhere none. Asking what the yard is takes no longer than
 // the search in a carousel, and elsewhere a few bays tell.
 fn path_past(table: &[u64], n: usize, settled: &[u64], u: Bay, v: Bay, path: &mut [u16]) -> Path
-    requires { ⌜ (n ≤ span) × (u .0 < n) × (v .0 < n) × (n * words ≤ length (now table)) × (length (now settled) ≡ words) × (n ≤ length (now path)) × Shown n (now table) (now settled) ⌝ }
-    ensures { λ r. ⌜ ((s : Shown n (now (table .entry)) (now (settled .entry))) → PathPast s (u .0) (v .0) (now (path .exit)) r) ⌝ }
+    requires { ⌜
+        (n ≤ span)
+        × (u .0 < n)
+        × (v .0 < n)
+        × (n * words ≤ length (now table))
+        × (length (now settled) ≡ words)
+        × (n ≤ length (now path))
+        × Shown n (now table) (now settled)
+        ⌝ }
+    ensures { λ r. ⌜
+        ((s : Shown n (now (table .entry)) (now (settled .entry))) → PathPast s (u .0) (v .0) (now (path .exit)) r)
+        ⌝ }
 {
     let none = [0u64; words::WORDS];
     if kinds::is_carousel(table, n) {
@@ -100,8 +124,21 @@ fn carry(
     at: Tally,
 ) -> Staged
     requires { ⌜ Ready (now table) (now placement) (now standing) (now empty) ⌝ }
-    requires { ⌜ (r .0 < length (now placement)) × Goals (length (now standing)) (now goals) (now placement) × Loopless (length (now standing)) (now table) × HomeBelow (r .0) (now goals) (now placement) × Reaching (length (now standing)) (now table) × (at .crossings < 2 ^ 59) × Owners (length (now standing)) (now goals) (now owner) × BaysBelow (r .0) (now placement) (now settled) ⌝ }
-    ensures { λ z. ⌜ (AtMost at 80000000 z) × ((t : Tabled (length (now (standing .entry))) (now (table .entry))) → Stages (carries (t .yard) (now (goals .entry)) (r .0) (now (placement .entry))) (length (now (standing .entry))) (now (placement .entry)) (now (out .entry)) at (now (placement .exit)) (now (standing .exit)) (now (empty .exit)) (now (out .exit)) z) × Settles (r .0 + 1) (now (placement .exit)) (now (settled .exit)) z ⌝ }
+    requires { ⌜
+        (r .0 < length (now placement))
+        × Goals (length (now standing)) (now goals) (now placement)
+        × Loopless (length (now standing)) (now table)
+        × HomeBelow (r .0) (now goals) (now placement)
+        × Reaching (length (now standing)) (now table)
+        × (at .crossings < room-carrier)
+        × Owners (length (now standing)) (now goals) (now owner)
+        × BaysBelow (r .0) (now placement) (now settled)
+        ⌝ }
+    ensures { λ z. ⌜
+        CarrySays (now (goals .entry)) (r .0)
+        (now (table .entry)) (now (placement .entry)) (now (standing .entry)) (now (out .entry)) at
+        (now (placement .exit)) (now (standing .exit)) (now (empty .exit)) (now (settled .exit)) (now (out .exit)) z
+        ⌝ }
 {
     let own = r.0 as usize;
     let n = standing.len();
@@ -138,8 +175,18 @@ pub fn carry_all(
     out: &mut [u64],
 ) -> Staged
     requires { ⌜ Ready (now table) (now placement) (now standing) (now empty) ⌝ }
-    requires { ⌜ Goals (length (now standing)) (now goals) (now placement) × Loopless (length (now standing)) (now table) × Reaching (length (now standing)) (now table) × Owners (length (now standing)) (now goals) (now owner) × BaysBelow 0 (now placement) (now settled) ⌝ }
-    ensures { λ z. ⌜ ((t : Tabled (length (now (standing .entry))) (now (table .entry))) → Stages (procedures (t .yard) (now (goals .entry)) (now (placement .entry))) (length (now (standing .entry))) (now (placement .entry)) (now (out .entry)) nothing (now (placement .exit)) (now (standing .exit)) (now (empty .exit)) (now (out .exit)) z) × Settles (length (now (goals .entry))) (now (placement .exit)) (now (settled .exit)) z ⌝ }
+    requires { ⌜
+        Goals (length (now standing)) (now goals) (now placement)
+        × Loopless (length (now standing)) (now table)
+        × Reaching (length (now standing)) (now table)
+        × Owners (length (now standing)) (now goals) (now owner)
+        × BaysBelow 0 (now placement) (now settled)
+        ⌝ }
+    ensures { λ z. ⌜
+        CarryAllSays (now (goals .entry))
+        (now (table .entry)) (now (placement .entry)) (now (standing .entry)) (now (out .entry))
+        (now (placement .exit)) (now (standing .exit)) (now (empty .exit)) (now (settled .exit)) (now (out .exit)) z
+        ⌝ }
 {
     let mut count = Tally {
         crossings: 0,

@@ -14,8 +14,8 @@ use borrow.Author.Tests.{eq-eqb, ne-eqb, lt-leb, not-true}
 use Rattle.paper.specs.Basics.{if_then_else_, _and_, _or_, filter, elem, without, countFrom, upTo, Out}
 use Rattle.paper.specs.Procedure.{Made, only, together, _then_, vacate, clearingHeld, Cleared, following, clearing, clearOnce}
 use Rattle.paper.specs.Yard.{Bay, Yard, Placement, isEmpty, Crossing, after, joined, neighbours}
-use Rattle.bring.specs.Acting.{Ready, Tabled, Tallied, Acts}
-use Rattle.bring.specs.declared.Tally.{Tally}
+use Rattle.acting.specs.Acting.{Ready, Tabled, Tallied, Acts}
+use Rattle.acting.specs.declared.Tally.{Tally}
 use Rattle.paper.proofs.Making.{together-none}
 use Rattle.paper.proofs.Members.{in-count}
 use Rattle.paper.proofs.Vacating.{vacate-vacates}
@@ -24,12 +24,12 @@ use Rattle.words.specs.Sets.{mem, words, span, memRow, Lowest}
 use Rattle.words.proofs.Sets.{zeros, mem-zeros, row-zero}
 use Rattle.vacate.specs.Placed.{Placed, Unchanged}
 use Rattle.rings.specs.Search.{Shown}
-use Rattle.bring.proofs.Acting.{tallied-none, tallied-then, acted-done, acted-failed}
+use Rattle.acting.proofs.Acting.{tallied-none, tallied-then, acted-done, acted-failed}
 use Rattle.bring.proofs.Bringing.{pair-view}
 use Rattle.clear.specs.Keeping.{Among, Stuck, KeepsOne, KeepsNone, TwoBy, KeptAlone, Clears, from, HoldsTwo}
 use Rattle.clear.specs.declared.Two.the-variants.{Both, Single}
-use Rattle.bring.specs.declared.Tried.the-variants.{Done}
-use Rattle.bring.specs.declared.Tried.the-variants.{Failed}
+use Rattle.acting.specs.declared.Tried.the-variants.{Done}
+use Rattle.acting.specs.declared.Tried.the-variants.{Failed}
 use Rattle.clear.specs.declared.Two.the-variants.{Short}
 use Rattle.clear.specs.declared.Two.{Two}
 use Rattle.docket.specs.declared.Bay.{Bay as Numbered}

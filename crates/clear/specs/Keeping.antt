@@ -10,14 +10,14 @@ use Rattle.paper.specs.Basics.{filter, elem, countFrom, Out}
 use Rattle.paper.specs.Procedure.{Made, only, vacate, Cleared, clearing, clearOnce}
 use Rattle.paper.specs.Yard.{Bay, Yard, Placement}
 use Rattle.words.specs.Sets.{mem, span}
-use Rattle.bring.specs.Acting.{Tallied}
-use Rattle.bring.specs.declared.Tally.{Tally}
-use Rattle.clear.specs.declared.Two.the-variants.{Both, Single}
+use Rattle.rings.specs.Search.{Shown}
+use Rattle.vacate.specs.Bounds.{vacate-most, clear-once-most}
+use Rattle.acting.specs.Acting.{Tabled, Tallied}
+use Rattle.acting.specs.declared.Tally.{Tally}
 use Rattle.clear.specs.declared.Kept.{Kept}
-use Rattle.clear.specs.declared.Kept.the-variants.{Nothing}
-use Rattle.clear.specs.declared.Kept.the-variants.{One}
-use Rattle.clear.specs.declared.Two.the-variants.{Short}
+use Rattle.clear.specs.declared.Kept.the-variants.{One, Nothing}
 use Rattle.clear.specs.declared.Two.{Two}
+use Rattle.clear.specs.declared.Two.the-variants.{Both, Single, Short}
 use Rattle.docket.specs.declared.Bay.{Bay as Numbered}
 
 -- the members are among the n bays
@@ -35,7 +35,8 @@ abbrev pub Stuck : Yard → List Bay → List ℕ → ℕ → ℕ → Placement 
 Stuck Y held others a x p = (y : ℕ) → a ≤ y → y < x → mem others y ≡ true → vacate Y held y p ≡ none
 
 -- x is the first of the others from a on that can be vacated, and it was
-pub record KeepsOne (Y : Yard) (held : List Bay) (others : List ℕ) (a n : ℕ) (p out : List ℕ) (at : Tally) (p′ standing′ empty′ out′ : List ℕ) (x : ℕ) (m : Tally) : Type 0 where
+pub record KeepsOne (Y : Yard) (held : List Bay) (others : List ℕ) (a n : ℕ) (p out : List ℕ) (at : Tally)
+    (p′ standing′ empty′ out′ : List ℕ) (x : ℕ) (m : Tally) : Type 0 where
   pub above : a ≤ x
   pub low : x < n
   pub other : mem others x ≡ true
@@ -73,12 +74,6 @@ pub record Clears (c : Cleared) (n : ℕ) (p out : List ℕ) (at : Tally) (p′ 
   pub single : (x : Numbered) (m : Tally) → r ≡ Single x m → KeptAlone c n p out at p′ standing′ empty′ out′ (x .0) m
   pub short : r ≡ Short → c .kept ≡ []
 
-abbrev pub clears : Yard → Bay → Bay → Placement → Cleared
-clears Y v b p = clearOnce Y v b p
-
-abbrev pub clearingFrom : Yard → Bay → Bay → List Bay → List Bay → Placement → Cleared
-clearingFrom Y v b kept xs p = clearing Y v b kept xs p
-
 -- the members of a set of bays from a on and below n, rising
 abbrev pub from : (ℕ → Bool) → ℕ → ℕ → List Bay
 from q a n = filter q (countFrom a (n - a))
@@ -88,3 +83,28 @@ pub record HoldsTwo (held : List ℕ) : Type 0 where
   pub one : Bay
   pub two : Bay
   pub holds : (y : ℕ) → y < span → mem held y ≡ elem y (one ∷ two ∷ [])
+
+-- ## What is said
+
+-- the first of the others from a on that can be vacated is kept
+abbrev pub KeepSays : (table others : List ℕ) (a : ℕ) (held p standing out : List ℕ) → Tally → (p′ standing′ empty′ out′ : List ℕ) → Kept → Type 0
+KeepSays table others a held p standing out at p′ standing′ empty′ out′ r =
+    KeptBy at r
+    × ((s : Shown (length standing) table held)
+    → Keeps (s .yard) (s .bays) others a (length standing) p out at p′ standing′ empty′ out′ r)
+
+-- the paper's clearing goes on through the others from a on, with x kept and two bays held
+abbrev pub KeepSecondSays : (table others : List ℕ) (a : ℕ) (held : List ℕ) → Bay → (p standing out : List ℕ) → Tally
+    → (p′ standing′ empty′ out′ : List ℕ) → Two → Type 0
+KeepSecondSays table others a held x p standing out at p′ standing′ empty′ out′ r =
+    TwoBy at vacate-most r
+    × ((t : Tabled (length standing) table) (h : HoldsTwo held)
+    → Clears (clearing (t .yard) (h .one) (h .two) (x ∷ []) (from (mem others) a (length standing)) p)
+    (length standing) p out at p′ standing′ empty′ out′ r)
+
+-- the paper's clearing at v, once through its neighbours other than b
+abbrev pub ClearSays : Bay → Bay → (table p standing out : List ℕ) → Tally → (p′ standing′ empty′ out′ : List ℕ) → Two → Type 0
+ClearSays v b table p standing out at p′ standing′ empty′ out′ r =
+    TwoBy at clear-once-most r
+    × ((t : Tabled (length standing) table)
+    → Clears (clearOnce (t .yard) v b p) (length standing) p out at p′ standing′ empty′ out′ r)

@@ -1,17 +1,17 @@
 // Clear, once through the neighbours of the junction other than the follower's bay: two of them are kept empty, the empty ones first,
 // then those that can be vacated, in rising order.
-use bring::Tally;
-use bring::Tried;
+use acting::Tally;
+use acting::Tried;
 use docket::Bay;
 ghost use mathlib.Core.Path.{_≡_};
-ghost use mathlib.Core.List.{[], _∷_};
-ghost use Prim.Native.Nat.{_+_, _^_, _≤_, _<_};
+ghost use Prim.Native.Nat.{_≤_, _<_};
 ghost use lib.ListN.{length};
 ghost use Rattle.paper.specs.Basics.{Out};
-ghost use Rattle.words.specs.Sets.{mem, words, span};
+ghost use Rattle.words.specs.Sets.{words, span};
 ghost use Rattle.rings.specs.Search.{Shown};
-ghost use Rattle.bring.specs.Acting.{Tabled, Ready};
-ghost use Rattle.clear.specs.Keeping.{Among, KeptBy, Keeps, TwoBy, Clears, clears, clearingFrom, from, HoldsTwo};
+ghost use Rattle.vacate.specs.Bounds.{room-vacate, room-clear};
+ghost use Rattle.acting.specs.Acting.{Ready};
+ghost use Rattle.clear.specs.Keeping.{Among, HoldsTwo, KeepSays, KeepSecondSays, ClearSays};
 
 // One more bay that is kept, with the tally afterwards.
 pub enum Kept {
@@ -39,13 +39,24 @@ fn keep_one(
     at: Tally,
 ) -> Kept
     requires { ⌜ Ready (now table) (now placement) (now standing) (now empty) ⌝ }
-    requires { ⌜ (length (now others) ≡ words) × (length (now held) ≡ words) × (a ≤ span) × Among (length (now standing)) (now others) × (at .crossings < 2 ^ 62) × Shown (length (now standing)) (now table) (now held) ⌝ }
-    ensures { λ r. ⌜ (KeptBy at r) × ((s : Shown (length (now (standing .entry))) (now (table .entry)) (now (held .entry))) → Keeps (s .yard) (s .bays) (now (others .entry)) a (length (now (standing .entry))) (now (placement .entry)) (now (out .entry)) at (now (placement .exit)) (now (standing .exit)) (now (empty .exit)) (now (out .exit)) r) ⌝ }
+    requires { ⌜
+        (length (now others) ≡ words)
+        × (length (now held) ≡ words)
+        × (a ≤ span)
+        × Among (length (now standing)) (now others)
+        × (at .crossings < room-vacate)
+        × Shown (length (now standing)) (now table) (now held)
+        ⌝ }
+    ensures { λ r. ⌜
+        KeepSays (now (table .entry)) (now (others .entry)) a (now (held .entry))
+        (now (placement .entry)) (now (standing .entry)) (now (out .entry)) at
+        (now (placement .exit)) (now (standing .exit)) (now (empty .exit)) (now (out .exit)) r
+        ⌝ }
 {
     let mut x = words::next_from(others, a);
     while x < words::SPAN {
         let bay = Bay(x as u16);
-        let vacated = bring::make_room(table, held, bay, placement, standing, empty, out, at);
+        let vacated = acting::make_room(table, held, bay, placement, standing, empty, out, at);
         if let Tried::Done(m) = vacated {
             return Kept::One(bay, m);
         }
@@ -68,8 +79,21 @@ fn keep_second(
     at: Tally,
 ) -> Two
     requires { ⌜ Ready (now table) (now placement) (now standing) (now empty) ⌝ }
-    requires { ⌜ (length (now others) ≡ words) × (length (now held) ≡ words) × (a ≤ length (now standing)) × (x .0 < length (now standing)) × Among (length (now standing)) (now others) × (at .crossings < 2 ^ 62) × HoldsTwo (now held) × Out (x .0) (now placement) ⌝ }
-    ensures { λ r. ⌜ (TwoBy at span r) × ((t : Tabled (length (now (standing .entry))) (now (table .entry))) (h : HoldsTwo (now (held .entry))) → Clears (clearingFrom (t .yard) (h .one) (h .two) (x .0 ∷ []) (from (mem (now (others .entry))) a (length (now (standing .entry)))) (now (placement .entry))) (length (now (standing .entry))) (now (placement .entry)) (now (out .entry)) at (now (placement .exit)) (now (standing .exit)) (now (empty .exit)) (now (out .exit)) r) ⌝ }
+    requires { ⌜
+        (length (now others) ≡ words)
+        × (length (now held) ≡ words)
+        × (a ≤ length (now standing))
+        × (x .0 < length (now standing))
+        × Among (length (now standing)) (now others)
+        × (at .crossings < room-vacate)
+        × HoldsTwo (now held)
+        × Out (x .0) (now placement)
+        ⌝ }
+    ensures { λ r. ⌜
+        KeepSecondSays (now (table .entry)) (now (others .entry)) a (now (held .entry)) (x .0)
+        (now (placement .entry)) (now (standing .entry)) (now (out .entry)) at
+        (now (placement .exit)) (now (standing .exit)) (now (empty .exit)) (now (out .exit)) r
+        ⌝ }
 {
     words::join(held, x.0 as usize);
     let second = keep_one(table, others, a, held, placement, standing, empty, out, at);
@@ -91,8 +115,12 @@ pub fn clear(
     at: Tally,
 ) -> Two
     requires { ⌜ Ready (now table) (now placement) (now standing) (now empty) ⌝ }
-    requires { ⌜ (v .0 < length (now standing)) × (b .0 < length (now standing)) × (at .crossings < 2 ^ 61) ⌝ }
-    ensures { λ r. ⌜ (TwoBy at 512 r) × ((t : Tabled (length (now (standing .entry))) (now (table .entry))) → Clears (clears (t .yard) (v .0) (b .0) (now (placement .entry))) (length (now (standing .entry))) (now (placement .entry)) (now (out .entry)) at (now (placement .exit)) (now (standing .exit)) (now (empty .exit)) (now (out .exit)) r) ⌝ }
+    requires { ⌜ (v .0 < length (now standing)) × (b .0 < length (now standing)) × (at .crossings < room-clear) ⌝ }
+    ensures { λ r. ⌜
+        ClearSays (v .0) (b .0)
+        (now (table .entry)) (now (placement .entry)) (now (standing .entry)) (now (out .entry)) at
+        (now (placement .exit)) (now (standing .exit)) (now (empty .exit)) (now (out .exit)) r
+        ⌝ }
 {
     let mut others = [0u64; words::WORDS];
     let mut held = [0u64; words::WORDS];

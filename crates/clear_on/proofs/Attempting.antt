@@ -27,11 +27,12 @@ use Rattle.words.proofs.Sets.{zeros, mem-zeros}
 use Rattle.paper.proofs.Making.{same-made}
 use Rattle.vacate.specs.Placed.{Placed, Stored}
 use Rattle.vacate.proofs.Playing.{stored-then}
-use Rattle.bring.specs.Acting.{Ready, Tabled, nothing, Tallied, Within, Tries, Acts, entering}
-use Rattle.bring.specs.declared.Tally.{Tally}
-use Rattle.bring.proofs.Acting.{as-far-then, tallied-then, tries-none, tries-some, tried-done, tried-failed, acts-tries}
-use Rattle.bring.specs.declared.Tried.{Tried}
-use Rattle.bring.specs.declared.Tried.the-variants.{Done, Failed}
+use Rattle.acting.specs.Acting.{Ready, Tabled, nothing, Tallied, Within, Tries, Acts}
+use Rattle.bring.specs.Bringing.{entering}
+use Rattle.acting.specs.declared.Tally.{Tally}
+use Rattle.acting.proofs.Acting.{as-far-then, tallied-then, tries-none, tries-some, tried-done, tried-failed, acts-tries}
+use Rattle.acting.specs.declared.Tried.{Tried}
+use Rattle.acting.specs.declared.Tried.the-variants.{Done, Failed}
 use Rattle.clear.specs.Keeping.{Among, KeptAlone, from}
 use Rattle.clear.specs.declared.Kept.{Kept}
 use Rattle.clear.specs.declared.Kept.the-variants.{One, Nothing}

@@ -9,12 +9,12 @@ use lib.ListN.{length, take}
 use Rattle.paper.specs.Basics.{without}
 use Rattle.paper.specs.Yard.{Bay, Carrier, Yard, Placement, bayOf, pack, after, neighbours}
 use Rattle.paper.specs.Procedure.{Made, Action, Cleared, clearOnce, aside, around, clear}
-use Rattle.words.specs.Sets.{mem, span}
+use Rattle.words.specs.Sets.{mem}
 use Rattle.vacate.specs.Placed.{Stored}
-use Rattle.bring.specs.Acting.{AsFar}
-use Rattle.bring.specs.declared.Tally.{Tally}
-use Rattle.bring.specs.declared.Tried.{Tried}
-use Rattle.bring.specs.declared.Tried.the-variants.{Done, Failed}
+use Rattle.acting.specs.Acting.{AsFar}
+use Rattle.acting.specs.declared.Tally.{Tally}
+use Rattle.acting.specs.declared.Tried.{Tried}
+use Rattle.acting.specs.declared.Tried.the-variants.{Done, Failed}
 use Rattle.clear.specs.Keeping.{from}
 use Rattle.clear.specs.declared.Kept.{Kept}
 use Rattle.clear.specs.declared.Kept.the-variants.{One, Nothing}
@@ -74,7 +74,8 @@ pub record PairBy (at : Tally) (k : ℕ) (r : Pair) : Type 0 where
 
 -- as the paper's going on: two bays are kept and its crossings were listed, or there are not two
 pub record GoesOn (o : Option Cleared) (out : List ℕ) (at : Tally) (out′ : List ℕ) (r : Pair) : Type 0 where
-  pub both : (x y : Numbered) (m : Tally) → r ≡ Both x y m → (made : Made) × (o ≡ some (record { made = made; kept = x .0 ∷ y .0 ∷ [] })) × Listed made out at out′ m
+  pub both : (x y : Numbered) (m : Tally) → r ≡ Both x y m
+      → (made : Made) × (o ≡ some (record { made = made; kept = x .0 ∷ y .0 ∷ [] })) × Listed made out at out′ m
   pub missing : r ≡ Missing → o ≡ none
 
 -- ## The whole of clearing

@@ -1,21 +1,18 @@
 // Clearing goes on where it ended with one kept bay e: another neighbour x of the junction is emptied beside it, in one of two ways. Each
 // attempt is played on copies and logged from the log's start, so that one that fails is forgotten.
-use bring::Tally;
-use bring::Tried;
+use acting::Tally;
+use acting::Tried;
 use clear::Kept;
 use clear::Two;
 use docket::Bay;
 use docket::Carrier;
 ghost use mathlib.Core.Path.{_≡_};
-ghost use Prim.Native.Nat.{min, _+_, _^_, _≤_, _<_};
+ghost use Prim.Native.Nat.{min, _≤_, _<_};
 ghost use lib.ListN.{length, take};
 ghost use Rattle.paper.specs.Basics.{Out};
-ghost use Rattle.paper.specs.Procedure.{aside, around, firstKept, goOn};
-ghost use Rattle.paper.proofs.Playing.{Sound};
-ghost use Rattle.words.specs.Sets.{mem, words, span};
-ghost use Rattle.bring.specs.Acting.{Tabled, Ready, nothing, Within, Tries};
-ghost use Rattle.clear.specs.Keeping.{Among, from};
-ghost use Rattle.clear_on.specs.Going.{AtJunction, wayOf, Attempts, KeptWithin, FirstKept, Others, PairBy, GoesOn, ClearsTwo};
+ghost use Rattle.vacate.specs.Bounds.{room-vacate, room-clear, room-step};
+ghost use Rattle.acting.specs.Acting.{Ready};
+ghost use Rattle.clear_on.specs.Asking.{OthersAsk, AsideSays, AroundSays, AttemptSays, FirstKeptSays, EitherSays, GoOnSays, ClearTwoSays};
 
 // The two bays that are kept, with the tally afterwards, or that there are not two.
 pub enum Pair {
@@ -37,18 +34,28 @@ fn vacate_both(
     at: Tally,
 ) -> Tried
     requires { ⌜ Ready (now table) (now placement) (now standing) (now empty) ⌝ }
-    requires { ⌜ (v .0 < length (now standing)) × (b .0 < length (now standing)) × (e .0 < length (now standing)) × (x .0 < length (now standing)) × (at .crossings < 2 ^ 61) ⌝ }
-    ensures { λ r. ⌜ (Within at 512 r) × ((t : Tabled (length (now (standing .entry))) (now (table .entry))) → Tries (aside (t .yard) (v .0) (b .0) (e .0) (x .0) (now (placement .entry))) (length (now (standing .entry))) (now (placement .entry)) (now (out .entry)) at (now (placement .exit)) (now (standing .exit)) (now (empty .exit)) (now (out .exit)) r) ⌝ }
+    requires { ⌜
+        (v .0 < length (now standing))
+        × (b .0 < length (now standing))
+        × (e .0 < length (now standing))
+        × (x .0 < length (now standing))
+        × (at .crossings < room-clear)
+        ⌝ }
+    ensures { λ r. ⌜
+        AsideSays (v .0) (b .0) (e .0) (x .0)
+        (now (table .entry)) (now (placement .entry)) (now (standing .entry)) (now (out .entry)) at
+        (now (placement .exit)) (now (standing .exit)) (now (empty .exit)) (now (out .exit)) r
+        ⌝ }
 {
     let mut held = [0u64; words::WORDS];
     words::alone(&mut held, v.0 as usize);
     words::join(&mut held, b.0 as usize);
-    let vacated = bring::make_room(table, &held, x, placement, standing, empty, out, at);
+    let vacated = acting::make_room(table, &held, x, placement, standing, empty, out, at);
     let Tried::Done(m) = vacated else {
         return Tried::Failed;
     };
     words::join(&mut held, x.0 as usize);
-    bring::make_room(table, &held, e, placement, standing, empty, out, m)
+    acting::make_room(table, &held, e, placement, standing, empty, out, m)
 }
 
 // The second way, on a placement that is used up: leader and follower go forth to e and v, what is vacated is as in the first way with b and e
@@ -68,8 +75,22 @@ fn go_round(
     at: Tally,
 ) -> Tried
     requires { ⌜ Ready (now table) (now placement) (now standing) (now empty) ⌝ }
-    requires { ⌜ (l .0 < length (now placement)) × (m .0 < length (now placement)) × (m .0 ≡ l .0 → ⊥) × (v .0 < length (now standing)) × (b .0 < length (now standing)) × (e .0 < length (now standing)) × (x .0 < length (now standing)) × (at .crossings < 2 ^ 60) × Out (e .0) (now placement) ⌝ }
-    ensures { λ r. ⌜ (Within at 516 r) × ((t : Tabled (length (now (standing .entry))) (now (table .entry))) → AtJunction (l .0) (m .0) (v .0) (b .0) (now (placement .entry)) → Tries (around (t .yard) (l .0) (m .0) (v .0) (b .0) (e .0) (x .0) (now (placement .entry))) (length (now (standing .entry))) (now (placement .entry)) (now (out .entry)) at (now (placement .exit)) (now (standing .exit)) (now (empty .exit)) (now (out .exit)) r) ⌝ }
+    requires { ⌜
+        (l .0 < length (now placement))
+        × (m .0 < length (now placement))
+        × (m .0 ≡ l .0 → ⊥)
+        × (v .0 < length (now standing))
+        × (b .0 < length (now standing))
+        × (e .0 < length (now standing))
+        × (x .0 < length (now standing))
+        × (at .crossings < room-step)
+        × Out (e .0) (now placement)
+        ⌝ }
+    ensures { λ r. ⌜
+        AroundSays (l .0) (m .0) (v .0) (b .0) (e .0) (x .0)
+        (now (table .entry)) (now (placement .entry)) (now (standing .entry)) (now (out .entry)) at
+        (now (placement .exit)) (now (standing .exit)) (now (empty .exit)) (now (out .exit)) r
+        ⌝ }
 {
     let forth = bring::enter(l, m, e, placement, standing, empty, out, at);
     let vacated = vacate_both(table, v, e, b, x, placement, standing, empty, out, forth);
@@ -107,8 +128,20 @@ fn attempt(
     log: &mut [u64],
 ) -> Tried
     requires { ⌜ Ready (now table) (now placement) (now standing) (now empty) ⌝ }
-    requires { ⌜ (l .0 < length (now placement)) × (m .0 < length (now placement)) × (m .0 ≡ l .0 → ⊥) × (v .0 < length (now standing)) × (b .0 < length (now standing)) × (e .0 < length (now standing)) × (x .0 < length (now standing)) × Out (e .0) (now placement) ⌝ }
-    ensures { λ r. ⌜ (Within nothing 516 r) × ((t : Tabled (length (now (standing .entry))) (now (table .entry))) → AtJunction (l .0) (m .0) (v .0) (b .0) (now (placement .entry)) → Attempts (wayOf second (t .yard) (l .0) (m .0) (v .0) (b .0) (e .0) (x .0) (now (placement .entry))) (now (log .exit)) r) ⌝ }
+    requires { ⌜
+        (l .0 < length (now placement))
+        × (m .0 < length (now placement))
+        × (m .0 ≡ l .0 → ⊥)
+        × (v .0 < length (now standing))
+        × (b .0 < length (now standing))
+        × (e .0 < length (now standing))
+        × (x .0 < length (now standing))
+        × Out (e .0) (now placement)
+        ⌝ }
+    ensures { λ r. ⌜
+        AttemptSays second (l .0) (m .0) (v .0) (b .0) (e .0) (x .0)
+        (now (table .entry)) (now (placement .entry)) (now (standing .entry)) (now (log .exit)) r
+        ⌝ }
 {
     let mut bays = [0u16; words::SPAN];
     let mut carriers = [0u16; words::SPAN];
@@ -168,8 +201,11 @@ fn first_kept(
     log: &mut [u64],
 ) -> Kept
     requires { ⌜ Ready (now table) (now placement) (now standing) (now empty) ⌝ }
-    requires { ⌜ (l .0 < length (now placement)) × (m .0 < length (now placement)) × (m .0 ≡ l .0 → ⊥) × (v .0 < length (now standing)) × (b .0 < length (now standing)) × (e .0 < length (now standing)) × (length (now others) ≡ words) × Among (length (now standing)) (now others) × Out (e .0) (now placement) ⌝ }
-    ensures { λ r. ⌜ (KeptWithin 516 r) × ((t : Tabled (length (now (standing .entry))) (now (table .entry))) → AtJunction (l .0) (m .0) (v .0) (b .0) (now (placement .entry)) → FirstKept (firstKept (t .yard) (wayOf second (t .yard) (l .0) (m .0) (v .0) (b .0) (e .0)) (e .0) (from (mem (now (others .entry))) 0 (length (now (standing .entry)))) (now (placement .entry))) (e .0) (now (log .exit)) r) ⌝ }
+    requires { ⌜ OthersAsk (now others) (l .0) (m .0) (v .0) (b .0) (e .0) (now placement) (now standing) ⌝ }
+    ensures { λ r. ⌜
+        FirstKeptSays second (now (others .entry)) (l .0) (m .0) (v .0) (b .0) (e .0)
+        (now (table .entry)) (now (placement .entry)) (now (standing .entry)) (now (log .exit)) r
+        ⌝ }
 {
     let mut x = words::next_from(others, 0);
     while x < words::SPAN {
@@ -211,8 +247,11 @@ fn either_way(
     log: &mut [u64],
 ) -> Kept
     requires { ⌜ Ready (now table) (now placement) (now standing) (now empty) ⌝ }
-    requires { ⌜ (l .0 < length (now placement)) × (m .0 < length (now placement)) × (m .0 ≡ l .0 → ⊥) × (v .0 < length (now standing)) × (b .0 < length (now standing)) × (e .0 < length (now standing)) × (length (now others) ≡ words) × Among (length (now standing)) (now others) × Out (e .0) (now placement) ⌝ }
-    ensures { λ r. ⌜ (KeptWithin 516 r) × ((t : Tabled (length (now (standing .entry))) (now (table .entry))) → AtJunction (l .0) (m .0) (v .0) (b .0) (now (placement .entry)) → Others (t .yard) (v .0) (b .0) (e .0) (length (now (standing .entry))) (now (others .entry)) → FirstKept (goOn (t .yard) (l .0) (m .0) (v .0) (b .0) (e .0) (now (placement .entry))) (e .0) (now (log .exit)) r) ⌝ }
+    requires { ⌜ OthersAsk (now others) (l .0) (m .0) (v .0) (b .0) (e .0) (now placement) (now standing) ⌝ }
+    ensures { λ r. ⌜
+        EitherSays (now (others .entry)) (l .0) (m .0) (v .0) (b .0) (e .0)
+        (now (table .entry)) (now (placement .entry)) (now (standing .entry)) (now (log .exit)) r
+        ⌝ }
 {
     let first = first_kept(
         table,
@@ -272,8 +311,20 @@ pub fn go_on(
     at: Tally,
 ) -> Pair
     requires { ⌜ Ready (now table) (now placement) (now standing) (now empty) ⌝ }
-    requires { ⌜ (l .0 < length (now placement)) × (m .0 < length (now placement)) × (m .0 ≡ l .0 → ⊥) × (v .0 < length (now standing)) × (b .0 < length (now standing)) × (e .0 < length (now standing)) × (at .crossings < 2 ^ 62) × Out (e .0) (now placement) ⌝ }
-    ensures { λ r. ⌜ (PairBy at 516 r) × ((t : Tabled (length (now (standing .entry))) (now (table .entry))) → AtJunction (l .0) (m .0) (v .0) (b .0) (now (placement .entry)) → GoesOn (goOn (t .yard) (l .0) (m .0) (v .0) (b .0) (e .0) (now (placement .entry))) (now (out .entry)) at (now (out .exit)) r) ⌝ }
+    requires { ⌜
+        (l .0 < length (now placement))
+        × (m .0 < length (now placement))
+        × (m .0 ≡ l .0 → ⊥)
+        × (v .0 < length (now standing))
+        × (b .0 < length (now standing))
+        × (e .0 < length (now standing))
+        × (at .crossings < room-vacate)
+        × Out (e .0) (now placement)
+        ⌝ }
+    ensures { λ r. ⌜
+        GoOnSays (l .0) (m .0) (v .0) (b .0) (e .0)
+        (now (table .entry)) (now (placement .entry)) (now (standing .entry)) (now (out .entry)) at (now (out .exit)) r
+        ⌝ }
 {
     let mut others = [0u64; words::WORDS];
     words::join_row(&mut others, table, v.0 as usize);
@@ -296,7 +347,7 @@ pub fn go_on(
     let Kept::One(x, c) = found else {
         return Pair::Missing;
     };
-    Pair::Both(x, e, bring::add(at, c))
+    Pair::Both(x, e, acting::add(at, c))
 }
 
 // Clear, with leader l at the junction v and follower m at b: once through the neighbours, and on from there with one kept bay. The placement
@@ -314,8 +365,19 @@ pub fn clear_two(
     at: Tally,
 ) -> Pair
     requires { ⌜ Ready (now table) (now placement) (now standing) (now empty) ⌝ }
-    requires { ⌜ (l .0 < length (now placement)) × (m .0 < length (now placement)) × (m .0 ≡ l .0 → ⊥) × (v .0 < length (now standing)) × (b .0 < length (now standing)) × (at .crossings < 2 ^ 61) ⌝ }
-    ensures { λ r. ⌜ (PairBy at 1028 r) × ((t : Tabled (length (now (standing .entry))) (now (table .entry))) → Sound (t .yard) → AtJunction (l .0) (m .0) (v .0) (b .0) (now (placement .entry)) → ClearsTwo (t .yard) (l .0) (m .0) (v .0) (b .0) (now (placement .entry)) (now (out .entry)) at (now (placement .exit)) (now (out .exit)) r) ⌝ }
+    requires { ⌜
+        (l .0 < length (now placement))
+        × (m .0 < length (now placement))
+        × (m .0 ≡ l .0 → ⊥)
+        × (v .0 < length (now standing))
+        × (b .0 < length (now standing))
+        × (at .crossings < room-clear)
+        ⌝ }
+    ensures { λ r. ⌜
+        ClearTwoSays (l .0) (m .0) (v .0) (b .0)
+        (now (table .entry)) (now (placement .entry)) (now (standing .entry)) (now (out .entry)) at
+        (now (placement .exit)) (now (out .exit)) r
+        ⌝ }
 {
     let cleared = clear::clear(table, v, b, placement, standing, empty, out, at);
     match cleared {

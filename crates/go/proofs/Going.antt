@@ -16,12 +16,12 @@ use Rattle.go.specs.Going.{planOf, Linked}
 use Rattle.words.specs.Sets.{span, memRow}
 use Rattle.paper.proofs.Making.{together-assoc, together-none, none-together}
 use Rattle.vacate.specs.Placed.{Placed}
-use Rattle.bring.specs.Acting.{Tabled, Tallied, Proceeds, Tries}
-use Rattle.bring.specs.declared.Tally.{Tally}
-use Rattle.bring.proofs.Acting.{tallied-none, tallied-then, tries-some, tried-done, tried-failed}
+use Rattle.acting.specs.Acting.{Tabled, Tallied, Proceeds, Tries}
+use Rattle.acting.specs.declared.Tally.{Tally}
+use Rattle.acting.proofs.Acting.{tallied-none, tallied-then, tries-some, tried-done, tried-failed}
 use Rattle.step.specs.Asking.{Loopless}
-use Rattle.bring.specs.declared.Tried.the-variants.{Done}
-use Rattle.bring.specs.declared.Tried.the-variants.{Failed}
+use Rattle.acting.specs.declared.Tried.the-variants.{Done}
+use Rattle.acting.specs.declared.Tried.the-variants.{Failed}
 
 -- what is made, and then what the rest answers
 abbrev followedBy : Made → Option Made → Option Made

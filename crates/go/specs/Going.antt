@@ -1,13 +1,19 @@
--- What going a path asks of the table, and how the paper's outcome reads as what is made or none.
+-- What going a path asks of the table, how the paper's outcome reads as what is made or none, and what is said.
 -- Assumes nothing.
 use mathlib.Core.Path.{_≡_}
 use mathlib.Core.Bool.{true}
 use mathlib.Core.List.{List, [], _∷_}
 use mathlib.Core.Option.{Option, none, some}
-use Prim.Native.Nat.{ℕ, _<_}
+use Prim.Native.Nat.{ℕ, _*_, _<_}
+use lib.ListN.{length}
 use Rattle.paper.specs.Procedure.{Made, Outcome, planned, stuck, go}
-use Rattle.paper.specs.Yard.{Bay, Carrier, Yard, Placement}
+use Rattle.paper.specs.Yard.{Bay, Carrier}
 use Rattle.words.specs.Sets.{memRow}
+use Rattle.vacate.specs.Bounds.{swap-most}
+use Rattle.acting.specs.Acting.{Tabled, Within, Tries}
+use Rattle.acting.specs.declared.Tally.{Tally}
+use Rattle.acting.specs.declared.Tried.{Tried}
+use Rattle.step.specs.Asking.{BaysBelow}
 
 -- from u a rail leads to the first of the bays, and from each to the next; all of them are among the n
 abbrev pub Linked : ℕ → List ℕ → Bay → List Bay → Type 0
@@ -19,6 +25,10 @@ abbrev pub planOf : Outcome → Option Made
 planOf (planned m) = some m
 planOf (stuck c) = none
 
--- (the code's go has the same name)
-abbrev pub goes : Yard → Placement → Carrier → List Bay → Placement → Option Made
-goes Y goals r ahead p = planOf (go Y goals r ahead p)
+-- the paper's go, whatever the goals, and the set has the finished carriers' bays after it
+abbrev pub GoSays : Carrier → List Bay → (table p standing out : List ℕ) → Tally → (p′ standing′ empty′ settled′ out′ : List ℕ) → Tried → Type 0
+GoSays r ahead table p standing out at p′ standing′ empty′ settled′ out′ z =
+    Within at (swap-most * length ahead) z
+    × ((t : Tabled (length standing) table) (goals : List ℕ)
+    → Tries (planOf (go (t .yard) goals r ahead p)) (length standing) p out at p′ standing′ empty′ out′ z)
+    × BaysBelow r p′ settled′

@@ -17,14 +17,14 @@ use Rattle.paper.proofs.Playing.{Apart}
 use Rattle.paper.proofs.Tests.{never, by-cases}
 use Rattle.words.specs.Sets.{span}
 use Rattle.vacate.specs.Placed.{Placed}
-use Rattle.bring.specs.Acting.{Tabled, Tallied, Proceeds}
-use Rattle.bring.specs.declared.Tally.{Tally}
-use Rattle.bring.proofs.Acting.{tallied-none, tallied-then, tried-done, tried-failed}
+use Rattle.acting.specs.Acting.{Tabled, Tallied, Proceeds}
+use Rattle.acting.specs.declared.Tally.{Tally}
+use Rattle.acting.proofs.Acting.{tallied-none, tallied-then, tried-done, tried-failed}
 use Rattle.step.specs.Asking.{Loopless}
 use Rattle.go.specs.Going.{Linked}
 use Rattle.home.proofs.Settling.{due, homed}
-use Rattle.bring.specs.declared.Tried.the-variants.{Done}
-use Rattle.bring.specs.declared.Tried.the-variants.{Failed}
+use Rattle.acting.specs.declared.Tried.the-variants.{Done}
+use Rattle.acting.specs.declared.Tried.the-variants.{Failed}
 use Rattle.home.specs.declared.Staged.the-variants.{Planned}
 use Rattle.home.specs.declared.Staged.the-variants.{Stuck}
 use Rattle.docket.specs.declared.Carrier.{Carrier as Named}

@@ -1,16 +1,17 @@
 // The way home: the finished carriers that were displaced step back to their goals, the last bay of the path first.
-use bring::Tally;
-use bring::Tried;
+use acting::Tally;
+use acting::Tried;
 use docket::Bay;
 use docket::Carrier;
 ghost use mathlib.Core.Path.{_≡_};
-ghost use Prim.Native.Nat.{_+_, _*_, _^_, _≤_, _<_};
+ghost use Prim.Native.Nat.{_+_, _*_, _≤_, _<_};
 ghost use lib.ListN.{length, getD, take};
 ghost use Rattle.paper.specs.Yard.{carrierAt};
 ghost use Rattle.paper.proofs.Playing.{Apart};
-ghost use Rattle.bring.specs.Acting.{Tabled, Ready};
+ghost use Rattle.vacate.specs.Bounds.{swap-most, room-step};
+ghost use Rattle.acting.specs.Acting.{Ready};
 ghost use Rattle.step.specs.Asking.{Loopless, BaysBelow};
-ghost use Rattle.home.specs.Homing.{Owners, AtMost, Stages, Due, Homeward, homes, waysHome};
+ghost use Rattle.home.specs.Homing.{Owners, Due, Homeward, HomeSays, WayHomeSays};
 
 // The tally afterwards, or the carrier that could not step.
 pub enum Staged {
@@ -20,7 +21,11 @@ pub enum Staged {
 
 // The finished carrier whose goal is v, by the table of whose goal each bay is; `finished` where there is none.
 fn bound_for(goals: &[u16], owner: &[u16], finished: usize, v: Bay) -> usize
-    requires { ⌜ (finished ≤ length (now goals)) × (v .0 < length (now owner)) × (getD (now owner) (v .0) 0 ≡ carrierAt (now goals) (v .0)) ⌝ }
+    requires { ⌜
+        (finished ≤ length (now goals))
+        × (v .0 < length (now owner))
+        × (getD (now owner) (v .0) 0 ≡ carrierAt (now goals) (v .0))
+        ⌝ }
     ensures { λ r. ⌜ r ≡ carrierAt (take finished (now (goals .entry))) (v .0) ⌝ }
 {
     let c = owner[v.0 as usize] as usize;
@@ -45,8 +50,21 @@ fn home_at(
     at: Tally,
 ) -> Staged
     requires { ⌜ Ready (now table) (now placement) (now standing) (now empty) ⌝ }
-    requires { ⌜ (finished ≤ length (now goals)) × (length (now goals) ≡ length (now placement)) × (v .0 < length (now standing)) × Loopless (length (now standing)) (now table) × (at .crossings < 2 ^ 60) × Due (now table) (now goals) finished (v .0) (now placement) × Owners (length (now standing)) (now goals) (now owner) × BaysBelow finished (now placement) (now settled) ⌝ }
-    ensures { λ z. ⌜ (AtMost at 150000 z) × ((t : Tabled (length (now (standing .entry))) (now (table .entry))) → Stages (homes (t .yard) (now (goals .entry)) finished (v .0) (now (placement .entry))) (length (now (standing .entry))) (now (placement .entry)) (now (out .entry)) at (now (placement .exit)) (now (standing .exit)) (now (empty .exit)) (now (out .exit)) z) × BaysBelow finished (now (placement .exit)) (now (settled .exit)) ⌝ }
+    requires { ⌜
+        (finished ≤ length (now goals))
+        × (length (now goals) ≡ length (now placement))
+        × (v .0 < length (now standing))
+        × Loopless (length (now standing)) (now table)
+        × (at .crossings < room-step)
+        × Due (now table) (now goals) finished (v .0) (now placement)
+        × Owners (length (now standing)) (now goals) (now owner)
+        × BaysBelow finished (now placement) (now settled)
+        ⌝ }
+    ensures { λ z. ⌜
+        HomeSays (now (goals .entry)) finished (v .0)
+        (now (table .entry)) (now (placement .entry)) (now (standing .entry)) (now (out .entry)) at
+        (now (placement .exit)) (now (standing .exit)) (now (empty .exit)) (now (settled .exit)) (now (out .exit)) z
+        ⌝ }
 {
     let c = bound_for(goals, owner, finished, v);
     if finished <= c {
@@ -89,8 +107,21 @@ pub fn way_home(
     at: Tally,
 ) -> Staged
     requires { ⌜ Ready (now table) (now placement) (now standing) (now empty) ⌝ }
-    requires { ⌜ (finished ≤ length (now goals)) × (length (now goals) ≡ length (now placement)) × Apart (now goals) × Loopless (length (now standing)) (now table) × (at .crossings + 150000 * length (now bays) < 2 ^ 60) × Homeward (length (now standing)) (now table) (now goals) finished (now bays) (now placement) × Owners (length (now standing)) (now goals) (now owner) × BaysBelow finished (now placement) (now settled) ⌝ }
-    ensures { λ z. ⌜ (AtMost at (150000 * length (now (bays .entry))) z) × ((t : Tabled (length (now (standing .entry))) (now (table .entry))) → Stages (waysHome (t .yard) (now (goals .entry)) finished (now (bays .entry)) (now (placement .entry))) (length (now (standing .entry))) (now (placement .entry)) (now (out .entry)) at (now (placement .exit)) (now (standing .exit)) (now (empty .exit)) (now (out .exit)) z) × BaysBelow finished (now (placement .exit)) (now (settled .exit)) ⌝ }
+    requires { ⌜
+        (finished ≤ length (now goals))
+        × (length (now goals) ≡ length (now placement))
+        × Apart (now goals)
+        × Loopless (length (now standing)) (now table)
+        × (at .crossings + swap-most * length (now bays) < room-step)
+        × Homeward (length (now standing)) (now table) (now goals) finished (now bays) (now placement)
+        × Owners (length (now standing)) (now goals) (now owner)
+        × BaysBelow finished (now placement) (now settled)
+        ⌝ }
+    ensures { λ z. ⌜
+        WayHomeSays (now (goals .entry)) finished (now (bays .entry))
+        (now (table .entry)) (now (placement .entry)) (now (standing .entry)) (now (out .entry)) at
+        (now (placement .exit)) (now (standing .exit)) (now (empty .exit)) (now (settled .exit)) (now (out .exit)) z
+        ⌝ }
 {
     let mut count = at;
     let mut i = bays.len();

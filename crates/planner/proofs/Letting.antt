@@ -14,7 +14,7 @@ use Rattle.paper.proofs.Admitted.{clean-of, sound-of, good-of, all-reached}
 use Rattle.yard.specs.Table.{Table}
 use Rattle.yard.specs.declared.Yard.{Yard as Numbers}
 use Rattle.yard.specs.Opening.{Admits}
-use Rattle.bring.specs.Acting.{Tabled}
+use Rattle.acting.specs.Acting.{Tabled}
 use Rattle.play.specs.Playing.{Admitted}
 
 module _ (n : ℕ) (ends : List Bay) (s g : Placement) where

@@ -22,7 +22,7 @@ use Rattle.docket.specs.declared.Refusal.{Refusal as Docketed}
 use Rattle.home.specs.declared.Staged.the-variants.{Planned}
 use Rattle.home.specs.declared.Staged.{Staged}
 use Rattle.play.specs.Playing.{Plays}
-use Rattle.bring.specs.declared.Tally.{Tally}
+use Rattle.acting.specs.declared.Tally.{Tally}
 use Rattle.planner.specs.Statement.{long, told, plannedOf, uncounted, parkedBy, Kept, Hands, HandsIfKept, PlanSays, CountSays}
 use Rattle.planner.specs.declared.Handed.the-variants.{Done, Longer}
 use Rattle.planner.specs.declared.Counted.the-variants.{Accepted as Counts, Refused as Denies}

@@ -14,7 +14,7 @@ use Rattle.paper.specs.Answers.{Answer, accepted, refused, parkedOf, within, be
 use Rattle.docket.specs.Reading.{refusalOf}
 use Rattle.planner.specs.declared.Handed.{Handed}
 use Rattle.planner.specs.declared.Handed.the-variants.{Done, Longer}
-use Rattle.bring.specs.declared.Tally.{Tally}
+use Rattle.acting.specs.declared.Tally.{Tally}
 use Rattle.planner.specs.declared.Counted.{Counted}
 use Rattle.planner.specs.declared.Counted.the-variants.{Accepted as Counts, Refused as Denies}
 use Rattle.planner.specs.declared.Planned.{Planned}

@@ -9,7 +9,7 @@ ghost use mathlib.Core.Path.{_≡_};
 ghost use Prim.Native.Nat.{_<_};
 ghost use lib.ListN.{length};
 ghost use Rattle.paper.specs.Yard.{most-crossings};
-ghost use Rattle.bring.specs.Acting.{Tabled};
+ghost use Rattle.acting.specs.Acting.{Tabled};
 ghost use Rattle.carry.specs.Carrying.{procedures};
 ghost use Rattle.play.specs.Playing.{Admitted};
 ghost use Rattle.planner.specs.Statement.{Hands, HandsIfKept, CountSays, PlanSays};
@@ -86,7 +86,11 @@ fn hand_out_in(
     out: &mut [u64],
 ) -> Handed
     requires { ⌜ Admitted n (now table) (now start) (now goal) ⌝ }
-    ensures { λ r. ⌜ ((t : Tabled n (now (table .entry))) → HandsIfKept (procedures (t .yard) (now (goal .entry)) (now (start .entry))) (now (out .entry)) r (now (out .exit))) × (r ≡ Handed.Longer → length (now (kept .entry)) < most-crossings) ⌝ }
+    ensures { λ r. ⌜
+        ((t : Tabled n (now (table .entry)))
+        → HandsIfKept (procedures (t .yard) (now (goal .entry)) (now (start .entry))) (now (out .entry)) r (now (out .exit)))
+        × (r ≡ Handed.Longer → length (now (kept .entry)) < most-crossings)
+        ⌝ }
 {
     let played = play::play(table, n, ends, start, goal, kept);
     match played {
@@ -119,7 +123,10 @@ fn hand_out_least(
     out: &mut [u64],
 ) -> Handed
     requires { ⌜ Admitted n (now table) (now start) (now goal) ⌝ }
-    ensures { λ r. ⌜ ((t : Tabled n (now (table .entry))) → HandsIfKept (procedures (t .yard) (now (goal .entry)) (now (start .entry))) (now (out .entry)) r (now (out .exit))) ⌝ }
+    ensures { λ r. ⌜
+        ((t : Tabled n (now (table .entry)))
+        → HandsIfKept (procedures (t .yard) (now (goal .entry)) (now (start .entry))) (now (out .entry)) r (now (out .exit)))
+        ⌝ }
 {
     let mut kept = [0u64; LEAST];
     hand_out_in(table, n, ends, start, goal, &mut kept, out)
@@ -135,7 +142,10 @@ fn hand_out_less(
     out: &mut [u64],
 ) -> Handed
     requires { ⌜ Admitted n (now table) (now start) (now goal) ⌝ }
-    ensures { λ r. ⌜ ((t : Tabled n (now (table .entry))) → HandsIfKept (procedures (t .yard) (now (goal .entry)) (now (start .entry))) (now (out .entry)) r (now (out .exit))) ⌝ }
+    ensures { λ r. ⌜
+        ((t : Tabled n (now (table .entry)))
+        → HandsIfKept (procedures (t .yard) (now (goal .entry)) (now (start .entry))) (now (out .entry)) r (now (out .exit)))
+        ⌝ }
 {
     let mut kept = [0u64; LESS];
     hand_out_in(table, n, ends, start, goal, &mut kept, out)
@@ -151,7 +161,10 @@ fn hand_out_half(
     out: &mut [u64],
 ) -> Handed
     requires { ⌜ Admitted n (now table) (now start) (now goal) ⌝ }
-    ensures { λ r. ⌜ ((t : Tabled n (now (table .entry))) → HandsIfKept (procedures (t .yard) (now (goal .entry)) (now (start .entry))) (now (out .entry)) r (now (out .exit))) ⌝ }
+    ensures { λ r. ⌜
+        ((t : Tabled n (now (table .entry)))
+        → HandsIfKept (procedures (t .yard) (now (goal .entry)) (now (start .entry))) (now (out .entry)) r (now (out .exit)))
+        ⌝ }
 {
     let mut kept = [0u64; HALF];
     hand_out_in(table, n, ends, start, goal, &mut kept, out)
@@ -167,7 +180,10 @@ fn hand_out_more(
     out: &mut [u64],
 ) -> Handed
     requires { ⌜ Admitted n (now table) (now start) (now goal) ⌝ }
-    ensures { λ r. ⌜ ((t : Tabled n (now (table .entry))) → HandsIfKept (procedures (t .yard) (now (goal .entry)) (now (start .entry))) (now (out .entry)) r (now (out .exit))) ⌝ }
+    ensures { λ r. ⌜
+        ((t : Tabled n (now (table .entry)))
+        → HandsIfKept (procedures (t .yard) (now (goal .entry)) (now (start .entry))) (now (out .entry)) r (now (out .exit)))
+        ⌝ }
 {
     let mut kept = [0u64; MORE];
     hand_out_in(table, n, ends, start, goal, &mut kept, out)
@@ -183,7 +199,9 @@ fn hand_out_most(
     out: &mut [u64],
 ) -> Counted
     requires { ⌜ Admitted n (now table) (now start) (now goal) ⌝ }
-    ensures { λ r. ⌜ ((t : Tabled n (now (table .entry))) → Hands (procedures (t .yard) (now (goal .entry)) (now (start .entry))) (now (out .entry)) r (now (out .exit))) ⌝ }
+    ensures { λ r. ⌜
+        ((t : Tabled n (now (table .entry))) → Hands (procedures (t .yard) (now (goal .entry)) (now (start .entry))) (now (out .entry)) r (now (out .exit)))
+        ⌝ }
 {
     let mut kept = [0u64; Yard::CROSSINGS];
     let handed = hand_out_in(table, n, ends, start, goal, &mut kept, out);
@@ -275,7 +293,9 @@ fn hand_out(
     out: &mut [u64],
 ) -> Counted
     requires { ⌜ Admitted n (now table) (now start) (now goal) ⌝ }
-    ensures { λ r. ⌜ ((t : Tabled n (now (table .entry))) → Hands (procedures (t .yard) (now (goal .entry)) (now (start .entry))) (now (out .entry)) r (now (out .exit))) ⌝ }
+    ensures { λ r. ⌜
+        ((t : Tabled n (now (table .entry))) → Hands (procedures (t .yard) (now (goal .entry)) (now (start .entry))) (now (out .entry)) r (now (out .exit)))
+        ⌝ }
 {
     let handed = hand_out_likely(table, n, ends, start, goal, out);
     match handed {

@@ -13,7 +13,7 @@ use Rattle.words.proofs.Sets.{mem-row}
 use Rattle.levels.specs.Levels.{Levelled}
 use Rattle.levels.specs.Raising.{Rails}
 use Rattle.levels.proofs.Levels.{row-take, only-rails}
-use Rattle.bring.specs.Acting.{Tabled}
+use Rattle.acting.specs.Acting.{Tabled}
 use Rattle.play.specs.Playing.{Admitted}
 
 -- the rows of the n bays are as in the other table

@@ -12,7 +12,7 @@ use Rattle.words.specs.Sets.{words, span}
 use Rattle.words.proofs.Sets.{mem-zeros}
 use Rattle.levels.specs.Levels.{Levelled}
 use Rattle.vacate.specs.Placed.{Placed}
-use Rattle.bring.specs.Acting.{Ready, nothing}
+use Rattle.acting.specs.Acting.{Ready, nothing}
 use Rattle.step.specs.Asking.{BaysBelow}
 use Rattle.home.specs.Homing.{Owners, Stages}
 use Rattle.home.specs.declared.Staged.{Staged}

@@ -9,8 +9,8 @@ use Rattle.paper.specs.Yard.{Placement, pack, bayOf}
 use Rattle.paper.proofs.Playing.{Apart}
 use Rattle.words.specs.Sets.{span}
 use Rattle.vacate.specs.Placed.{Stored}
-use Rattle.bring.specs.Acting.{AsFar}
-use Rattle.bring.specs.declared.Tally.{Tally}
+use Rattle.acting.specs.Acting.{AsFar}
+use Rattle.acting.specs.declared.Tally.{Tally}
 use Rattle.step.specs.Asking.{Loopless}
 use Rattle.carry.specs.Carrying.{Goals, Reaching}
 use Rattle.docket.specs.declared.Carrier.{Carrier as Named}
@@ -29,5 +29,7 @@ pub record Admitted (n : ℕ) (table : List ℕ) (s g : Placement) : Type 0 wher
 
 -- the crossings of the procedure were counted, and stored where there was room; or the carrier that it names could not step
 pub record Plays (o : Outcome) (out out′ : List ℕ) (z : Staged) : Type 0 where
-  pub plans : (m : Tally) → z ≡ Planned m → (made : Made) × (o ≡ planned made) × Stored (map pack (made .moves)) out 0 out′ × (m .crossings ≡ length (made .moves)) × AsFar (m .parked) (made .parked) × (m .parked ≤ m .crossings)
+  pub plans : (m : Tally) → z ≡ Planned m
+      → (made : Made) × (o ≡ planned made) × Stored (map pack (made .moves)) out 0 out′
+      × (m .crossings ≡ length (made .moves)) × AsFar (m .parked) (made .parked) × (m .parked ≤ m .crossings)
   pub stops : (c : Named) → z ≡ Stuck c → o ≡ stuck (c .0)

@@ -9,7 +9,7 @@ ghost use Prim.Native.Nat.{_≤_, _<_, _*_};
 ghost use lib.ListN.{length};
 ghost use Rattle.words.specs.Sets.{words, span};
 ghost use Rattle.levels.specs.Levels.{Levelled};
-ghost use Rattle.bring.specs.Acting.{Tabled};
+ghost use Rattle.acting.specs.Acting.{Tabled};
 ghost use Rattle.step.specs.Asking.{BaysBelow};
 ghost use Rattle.carry.specs.Carrying.{procedures};
 ghost use Rattle.play.specs.Playing.{Admitted, Plays};
@@ -50,8 +50,20 @@ fn play_on(
     spare: &mut [u64],
     out: &mut [u64],
 ) -> Staged
-    requires { ⌜ Admitted (length (now standing)) (now table) (now start) (now goal) × (length (now empty) ≡ words) × (length (now placement) ≡ length (now start)) × (length (now owner) ≡ length (now standing)) × (length (now spare) ≡ words) × BaysBelow 0 (now start) (now settled) × (length (now standing) * words ≤ length (now table)) × Levelled (length (now standing)) (now table) ⌝ }
-    ensures { λ z. ⌜ ((t : Tabled (length (now (standing .entry))) (now (table .entry))) → Plays (procedures (t .yard) (now (goal .entry)) (now (start .entry))) (now (out .entry)) (now (out .exit)) z) ⌝ }
+    requires { ⌜
+        Admitted (length (now standing)) (now table) (now start) (now goal)
+        × (length (now empty) ≡ words)
+        × (length (now placement) ≡ length (now start))
+        × (length (now owner) ≡ length (now standing))
+        × (length (now spare) ≡ words)
+        × BaysBelow 0 (now start) (now settled)
+        × (length (now standing) * words ≤ length (now table))
+        × Levelled (length (now standing)) (now table)
+        ⌝ }
+    ensures { λ z. ⌜
+        ((t : Tabled (length (now (standing .entry))) (now (table .entry)))
+        → Plays (procedures (t .yard) (now (goal .entry)) (now (start .entry))) (now (out .entry)) (now (out .exit)) z)
+        ⌝ }
 {
     copies::shorts(placement, start);
     placing::place(start, standing, empty);
@@ -62,7 +74,9 @@ fn play_on(
 // On a table that may go on above its rails.
 fn play_in(table: &[u64], n: usize, start: &[u16], goal: &[u16], out: &mut [u64]) -> Staged
     requires { ⌜ Admitted n (now table) (now start) (now goal) × (n * words ≤ length (now table)) × Levelled n (now table) ⌝ }
-    ensures { λ z. ⌜ ((t : Tabled n (now (table .entry))) → Plays (procedures (t .yard) (now (goal .entry)) (now (start .entry))) (now (out .entry)) (now (out .exit)) z) ⌝ }
+    ensures { λ z. ⌜
+        ((t : Tabled n (now (table .entry))) → Plays (procedures (t .yard) (now (goal .entry)) (now (start .entry))) (now (out .entry)) (now (out .exit)) z)
+        ⌝ }
 {
     let carriers = start.len();
     let mut placement = [0u16; SPAN];
@@ -88,7 +102,9 @@ fn play_in(table: &[u64], n: usize, start: &[u16], goal: &[u16], out: &mut [u64]
 // By the rails alone.
 fn play_by_rails(table: &[u64], n: usize, start: &[u16], goal: &[u16], out: &mut [u64]) -> Staged
     requires { ⌜ Admitted n (now table) (now start) (now goal) × (n * words ≤ length (now table)) ⌝ }
-    ensures { λ z. ⌜ ((t : Tabled n (now (table .entry))) → Plays (procedures (t .yard) (now (goal .entry)) (now (start .entry))) (now (out .entry)) (now (out .exit)) z) ⌝ }
+    ensures { λ z. ⌜
+        ((t : Tabled n (now (table .entry))) → Plays (procedures (t .yard) (now (goal .entry)) (now (start .entry))) (now (out .entry)) (now (out .exit)) z)
+        ⌝ }
 {
     let rails = n * WORDS;
     play_in(&table[..rails], n, start, goal, out)
@@ -104,7 +120,9 @@ fn play_by_levels(
     out: &mut [u64],
 ) -> Staged
     requires { ⌜ Admitted n (now table) (now start) (now goal) × (0 < n) × (span * words ≤ length (now wide)) ⌝ }
-    ensures { λ z. ⌜ ((t : Tabled n (now (table .entry))) → Plays (procedures (t .yard) (now (goal .entry)) (now (start .entry))) (now (out .entry)) (now (out .exit)) z) ⌝ }
+    ensures { λ z. ⌜
+        ((t : Tabled n (now (table .entry))) → Plays (procedures (t .yard) (now (goal .entry)) (now (start .entry))) (now (out .entry)) (now (out .exit)) z)
+        ⌝ }
 {
     copies::longs(wide, table);
     let levels = levels::raise(n, wide);
@@ -121,7 +139,9 @@ fn play_high(
     out: &mut [u64],
 ) -> Staged
     requires { ⌜ Admitted n (now table) (now start) (now goal) × (0 < n) ⌝ }
-    ensures { λ z. ⌜ ((t : Tabled n (now (table .entry))) → Plays (procedures (t .yard) (now (goal .entry)) (now (start .entry))) (now (out .entry)) (now (out .exit)) z) ⌝ }
+    ensures { λ z. ⌜
+        ((t : Tabled n (now (table .entry))) → Plays (procedures (t .yard) (now (goal .entry)) (now (start .entry))) (now (out .entry)) (now (out .exit)) z)
+        ⌝ }
 {
     let mut wide = [0u64; HIGH * Yard::TABLE];
     play_by_levels(table, n, start, goal, &mut wide, out)
@@ -136,7 +156,9 @@ fn play_low(
     out: &mut [u64],
 ) -> Staged
     requires { ⌜ Admitted n (now table) (now start) (now goal) × (0 < n) ⌝ }
-    ensures { λ z. ⌜ ((t : Tabled n (now (table .entry))) → Plays (procedures (t .yard) (now (goal .entry)) (now (start .entry))) (now (out .entry)) (now (out .exit)) z) ⌝ }
+    ensures { λ z. ⌜
+        ((t : Tabled n (now (table .entry))) → Plays (procedures (t .yard) (now (goal .entry)) (now (start .entry))) (now (out .entry)) (now (out .exit)) z)
+        ⌝ }
 {
     let mut wide = [0u64; LOW * Yard::TABLE];
     play_by_levels(table, n, start, goal, &mut wide, out)
@@ -153,7 +175,9 @@ pub fn play(
     out: &mut [u64],
 ) -> Staged
     requires { ⌜ Admitted n (now table) (now start) (now goal) ⌝ }
-    ensures { λ z. ⌜ ((t : Tabled n (now (table .entry))) → Plays (procedures (t .yard) (now (goal .entry)) (now (start .entry))) (now (out .entry)) (now (out .exit)) z) ⌝ }
+    ensures { λ z. ⌜
+        ((t : Tabled n (now (table .entry))) → Plays (procedures (t .yard) (now (goal .entry)) (now (start .entry))) (now (out .entry)) (now (out .exit)) z)
+        ⌝ }
 {
     let carriers = start.len();
     if carriers < MANY {

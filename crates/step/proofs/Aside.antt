@@ -23,7 +23,7 @@ use Rattle.words.proofs.Sets.{row-zero}
 use Rattle.vacate.specs.Placed.{Placed}
 use Rattle.vacate.proofs.Playing.{carrier-is}
 use Rattle.vacate.proofs.Beside.{beside-nearest, beside-path}
-use Rattle.bring.specs.Acting.{Tabled}
+use Rattle.acting.specs.Acting.{Tabled}
 use Rattle.step.specs.Asking.{Loopless}
 
 module _ {n : ℕ} {table : List ℕ} (t : Tabled n table) (most : n ≤ span) (loopless : Loopless n table) (finished : ℕ) (r : Carrier) (w : Bay) (p : Placement)

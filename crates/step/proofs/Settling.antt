@@ -24,10 +24,10 @@ use Rattle.words.proofs.Besides.{equal-tests}
 use Rattle.vacate.specs.Placed.{Placed}
 use Rattle.vacate.proofs.Playing.{carrier-is}
 use Rattle.clear_on.proofs.Attempting.{in-bays}
-use Rattle.bring.specs.Acting.{Tabled, Tallied, Proceeds}
-use Rattle.bring.specs.declared.Tally.{Tally}
-use Rattle.bring.specs.declared.Tried.the-variants.{Done}
-use Rattle.bring.proofs.Acting.{tried-done}
+use Rattle.acting.specs.Acting.{Tabled, Tallied, Proceeds}
+use Rattle.acting.specs.declared.Tally.{Tally}
+use Rattle.acting.specs.declared.Tried.the-variants.{Done}
+use Rattle.acting.proofs.Acting.{tried-done}
 use Rattle.step.specs.Asking.{Loopless, BaysBelow}
 use Rattle.step.proofs.Stepping.{sound-of, railed}
 

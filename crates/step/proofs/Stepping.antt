@@ -24,12 +24,12 @@ use Rattle.swap.specs.Seeking.{Beside}
 use Rattle.rings.specs.Search.{Shown}
 use Rattle.vacate.specs.Placed.{Placed}
 use Rattle.vacate.proofs.Playing.{carrier-is, carrier-none}
-use Rattle.bring.specs.Acting.{Tabled, Tallied, Proceeds}
-use Rattle.bring.specs.declared.Tally.{Tally}
-use Rattle.bring.proofs.Acting.{tallied-none, tallied-then, proceeds-some}
+use Rattle.acting.specs.Acting.{Tabled, Tallied, Proceeds}
+use Rattle.acting.specs.declared.Tally.{Tally}
+use Rattle.acting.proofs.Acting.{tallied-none, tallied-then, proceeds-some}
 use Rattle.step.specs.Asking.{Loopless, BaysBelow}
-use Rattle.bring.specs.declared.Tried.the-variants.{Done}
-use Rattle.bring.specs.declared.Tried.{Tried}
+use Rattle.acting.specs.declared.Tried.the-variants.{Done}
+use Rattle.acting.specs.declared.Tried.{Tried}
 
 pub sound-of : {n : ℕ} {table : List ℕ} (t : Tabled n table) → n ≤ span → Loopless n table → Sound (t .yard)
 sound-of {n} t most l = record {

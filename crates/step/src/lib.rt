@@ -1,21 +1,20 @@
 // One step of a carrier: the next bay is vacated and the carrier crosses, or else it is swapped with the carrier there.
-use bring::Tally;
-use bring::Tried;
+use acting::Tally;
+use acting::Tried;
 use docket::Bay;
 use docket::Carrier;
 ghost use mathlib.Core.Path.{_≡_};
 ghost use mathlib.Core.Bool.{true, false};
-ghost use mathlib.Core.List.{[], _∷_};
-ghost use Prim.Native.Nat.{ℕ, _^_, _≤_, _<_};
+ghost use Prim.Native.Nat.{ℕ, _≤_, _<_};
 ghost use lib.ListN.{length, getD};
 ghost use Rattle.paper.specs.Basics.{_and_};
-ghost use Rattle.paper.specs.Procedure.{only, trade};
-ghost use Rattle.paper.specs.Yard.{carrierAt, crossing};
+ghost use Rattle.paper.specs.Procedure.{trade};
 ghost use Rattle.words.specs.Sets.{mem, memRow, words, span};
 ghost use Rattle.choice.specs.Taking.{Taken};
+ghost use Rattle.vacate.specs.Bounds.{room-step};
 ghost use Rattle.vacate.specs.Placed.{Placed};
-ghost use Rattle.bring.specs.Acting.{Tabled, Ready, Tallied, Within, Proceeds};
-ghost use Rattle.step.specs.Asking.{Loopless, BaysBelow, steps};
+ghost use Rattle.acting.specs.Acting.{Ready, CrossCounts};
+ghost use Rattle.step.specs.Asking.{Loopless, BaysBelow, StepAsks, StepSays, StepSettles};
 
 // The step where a carrier may stand at w: it is vacated, then r crosses; or else r is swapped with the carrier there. Held are r's own bay and
 // those of the finished carriers.
@@ -32,21 +31,25 @@ fn make_way(
     at: Tally,
 ) -> Tried
     requires { ⌜ Ready (now table) (now placement) (now standing) (now empty) ⌝ }
-    requires { ⌜ (r .0 < length (now placement)) × (finished ≤ length (now placement)) × (w .0 < length (now standing)) × (memRow (now table) (getD (now placement) (r .0) 0) (w .0) ≡ true) × Loopless (length (now standing)) (now table) × (at .crossings < 2 ^ 60) × BaysBelow finished (now placement) (now settled) ⌝ }
-    ensures { λ z. ⌜ (Within at 150000 z) × ((t : Tabled (length (now (standing .entry))) (now (table .entry))) → Proceeds (steps (t .yard) finished (r .0) (w .0) (now (placement .entry))) (length (now (standing .entry))) (now (placement .entry)) (now (out .entry)) at (now (placement .exit)) (now (standing .exit)) (now (empty .exit)) (now (out .exit)) z) ⌝ }
+    requires { ⌜ StepAsks finished (r .0) (w .0) (now table) (now placement) (now standing) (now settled) at ⌝ }
+    ensures { λ z. ⌜
+        StepSays finished (r .0) (w .0)
+        (now (table .entry)) (now (placement .entry)) (now (standing .entry)) (now (out .entry)) at
+        (now (placement .exit)) (now (standing .exit)) (now (empty .exit)) (now (out .exit)) z
+        ⌝ }
 {
     let own = r.0 as usize;
     let mut held = [0u64; words::WORDS];
     words::keep(&mut held, 0, settled);
     words::add(&mut held, placement[own] as usize);
-    let vacated = bring::make_room(table, &held, w, placement, standing, empty, out, at);
+    let vacated = acting::make_room(table, &held, w, placement, standing, empty, out, at);
     let Tried::Done(a) = vacated else {
         let bay = w.0 as usize;
         let s = Carrier(standing[bay] as u32);
         return swap::swap(table, r, s, placement, standing, empty, out, at);
     };
     let u = Bay(placement[own]);
-    Tried::Done(bring::cross(placement, standing, empty, u, w, out, a))
+    Tried::Done(acting::cross(placement, standing, empty, u, w, out, a))
 }
 
 // The step where the bay e beside w is empty and the choice: the carrier at w crosses to it, then r crosses. An empty bay is not held, so nobody asks
@@ -64,17 +67,32 @@ fn step_aside(
     at: Tally,
 ) -> Tried
     requires { ⌜ Ready (now table) (now placement) (now standing) (now empty) ⌝ }
-    requires { ⌜ (r .0 < length (now placement)) × (finished ≤ length (now placement)) × (w .0 < length (now standing)) × (memRow (now table) (getD (now placement) (r .0) 0) (w .0) ≡ true) × Loopless (length (now standing)) (now table) × (at .crossings < 2 ^ 60) × (finished ≤ getD (now standing) (w .0) 0) × (mem (now empty) (w .0) ≡ false) × Taken (now table) (λ b. memRow (now table) (w .0) b and memRow (now empty) 0 b) (e .0) × (e .0 < span) ⌝ }
-    ensures { λ z. ⌜ (Within at 150000 z) × ((t : Tabled (length (now (standing .entry))) (now (table .entry))) → Proceeds (steps (t .yard) finished (r .0) (w .0) (now (placement .entry))) (length (now (standing .entry))) (now (placement .entry)) (now (out .entry)) at (now (placement .exit)) (now (standing .exit)) (now (empty .exit)) (now (out .exit)) z) ⌝ }
+    requires { ⌜
+        (r .0 < length (now placement))
+        × (finished ≤ length (now placement))
+        × (w .0 < length (now standing))
+        × (memRow (now table) (getD (now placement) (r .0) 0) (w .0) ≡ true)
+        × Loopless (length (now standing)) (now table)
+        × (at .crossings < room-step)
+        × (finished ≤ getD (now standing) (w .0) 0)
+        × (mem (now empty) (w .0) ≡ false)
+        × Taken (now table) (λ b. memRow (now table) (w .0) b and memRow (now empty) 0 b) (e .0)
+        × (e .0 < span)
+        ⌝ }
+    ensures { λ z. ⌜
+        StepSays finished (r .0) (w .0)
+        (now (table .entry)) (now (placement .entry)) (now (standing .entry)) (now (out .entry)) at
+        (now (placement .exit)) (now (standing .exit)) (now (empty .exit)) (now (out .exit)) z
+        ⌝ }
 {
-    let a = bring::fill(table, placement, standing, empty, w, e, out, at);
+    let a = acting::fill(table, placement, standing, empty, w, e, out, at);
     let own = r.0 as usize;
     let u = Bay(placement[own]);
-    Tried::Done(bring::cross(placement, standing, empty, u, w, out, a))
+    Tried::Done(acting::cross(placement, standing, empty, u, w, out, a))
 }
 
 // One step of r to w: it is vacated, then r crosses; or else r is swapped with the carrier there. Vacating an empty bay moves
-// nothing, and a finished carrier's bay is held: both want no search. Nor does a bay that an empty one is beside.
+// nothing, and a finished carrier's bay is held: neither needs a search. Nor does a bay that an empty one is beside.
 fn step_to(
     table: &[u64],
     settled: &[u64],
@@ -88,15 +106,19 @@ fn step_to(
     at: Tally,
 ) -> Tried
     requires { ⌜ Ready (now table) (now placement) (now standing) (now empty) ⌝ }
-    requires { ⌜ (r .0 < length (now placement)) × (finished ≤ length (now placement)) × (w .0 < length (now standing)) × (memRow (now table) (getD (now placement) (r .0) 0) (w .0) ≡ true) × Loopless (length (now standing)) (now table) × (at .crossings < 2 ^ 60) × BaysBelow finished (now placement) (now settled) ⌝ }
-    ensures { λ z. ⌜ (Within at 150000 z) × ((t : Tabled (length (now (standing .entry))) (now (table .entry))) → Proceeds (steps (t .yard) finished (r .0) (w .0) (now (placement .entry))) (length (now (standing .entry))) (now (placement .entry)) (now (out .entry)) at (now (placement .exit)) (now (standing .exit)) (now (empty .exit)) (now (out .exit)) z) ⌝ }
+    requires { ⌜ StepAsks finished (r .0) (w .0) (now table) (now placement) (now standing) (now settled) at ⌝ }
+    ensures { λ z. ⌜
+        StepSays finished (r .0) (w .0)
+        (now (table .entry)) (now (placement .entry)) (now (standing .entry)) (now (out .entry)) at
+        (now (placement .exit)) (now (standing .exit)) (now (empty .exit)) (now (out .exit)) z
+        ⌝ }
 {
     let bay = w.0 as usize;
     if words::is_in(empty, bay) {
         let own = r.0 as usize;
         let here = placement[own];
         let u = Bay(here);
-        return Tried::Done(bring::cross(placement, standing, empty, u, w, out, at));
+        return Tried::Done(acting::cross(placement, standing, empty, u, w, out, at));
     }
     let s = standing[bay];
     let there = s as usize;
@@ -147,7 +169,9 @@ fn step_to(
 // The set after whoever stood at u and at w have traded bays: if one of the two was in it, that one leaves and the other joins.
 fn settle(settled: &mut [u64], u: Bay, w: Bay)
     requires { ⌜ (length (now settled) ≡ words) × (u .0 < span) × (w .0 < span) ⌝ }
-    ensures { λ _. ⌜ ((b : ℕ) → mem (now (settled .exit)) b ≡ mem (now (settled .entry)) (trade (u .0) (w .0) b)) ⌝ }
+    ensures { λ _. ⌜
+        ((b : ℕ) → mem (now (settled .exit)) b ≡ mem (now (settled .entry)) (trade (u .0) (w .0) b))
+        ⌝ }
 {
     let from = u.0 as usize;
     let to = w.0 as usize;
@@ -175,13 +199,30 @@ pub fn step_in(
     out: &mut [u64],
     at: Tally,
 ) -> Tally
-    requires { ⌜ (r .0 < length (now placement)) × (w .0 < length (now standing)) × (mem (now empty) (w .0) ≡ true) × Placed (length (now standing)) (now placement) (now standing) (now empty) ⌝ }
-    requires { ⌜ (length (now standing) ≤ span) × (length (now empty) ≡ words) × (length (now settled) ≡ words) × (at .crossings < 2 ^ 60) ⌝ }
-    ensures { λ m. ⌜ Tallied (only (crossing (carrierAt (now (placement .entry)) (getD (now (placement .entry)) (r .0) 0)) (getD (now (placement .entry)) (r .0) 0) (w .0) ∷ [])) (length (now (standing .entry))) (now (placement .entry)) (now (placement .exit)) (now (standing .exit)) (now (empty .exit)) (now (out .entry)) at (now (out .exit)) m × ((f : ℕ) → BaysBelow f (now (placement .entry)) (now (settled .entry)) → BaysBelow f (now (placement .exit)) (now (settled .exit))) ⌝ }
+    requires { ⌜
+        (r .0 < length (now placement))
+        × (w .0 < length (now standing))
+        × (mem (now empty) (w .0) ≡ true)
+        × Placed (length (now standing)) (now placement) (now standing) (now empty)
+        ⌝ }
+    requires { ⌜
+        (length (now standing) ≤ span)
+        × (length (now empty) ≡ words)
+        × (length (now settled) ≡ words)
+        × (at .crossings < room-step)
+        ⌝ }
+    ensures { λ m. ⌜
+        CrossCounts (getD (now (placement .entry)) (r .0) 0) (w .0)
+        (now (placement .entry)) (now (standing .entry)) (now (out .entry)) at
+        (now (placement .exit)) (now (standing .exit)) (now (empty .exit)) (now (out .exit)) m
+        × ((f : ℕ)
+        → BaysBelow f (now (placement .entry)) (now (settled .entry))
+        → BaysBelow f (now (placement .exit)) (now (settled .exit)))
+        ⌝ }
 {
     let own = r.0 as usize;
     let u = Bay(placement[own]);
-    let m = bring::cross(placement, standing, empty, u, w, out, at);
+    let m = acting::cross(placement, standing, empty, u, w, out, at);
     settle(settled, u, w);
     m
 }
@@ -200,8 +241,12 @@ pub fn step(
     at: Tally,
 ) -> Tried
     requires { ⌜ Ready (now table) (now placement) (now standing) (now empty) ⌝ }
-    requires { ⌜ (r .0 < length (now placement)) × (finished ≤ length (now placement)) × (w .0 < length (now standing)) × (memRow (now table) (getD (now placement) (r .0) 0) (w .0) ≡ true) × Loopless (length (now standing)) (now table) × (at .crossings < 2 ^ 60) × BaysBelow finished (now placement) (now settled) ⌝ }
-    ensures { λ z. ⌜ (Within at 150000 z) × ((t : Tabled (length (now (standing .entry))) (now (table .entry))) → Proceeds (steps (t .yard) finished (r .0) (w .0) (now (placement .entry))) (length (now (standing .entry))) (now (placement .entry)) (now (out .entry)) at (now (placement .exit)) (now (standing .exit)) (now (empty .exit)) (now (out .exit)) z) × BaysBelow finished (now (placement .exit)) (now (settled .exit)) ⌝ }
+    requires { ⌜ StepAsks finished (r .0) (w .0) (now table) (now placement) (now standing) (now settled) at ⌝ }
+    ensures { λ z. ⌜
+        StepSettles finished (r .0) (w .0)
+        (now (table .entry)) (now (placement .entry)) (now (standing .entry)) (now (out .entry)) at
+        (now (placement .exit)) (now (standing .exit)) (now (empty .exit)) (now (settled .exit)) (now (out .exit)) z
+        ⌝ }
 {
     let own = r.0 as usize;
     let u = Bay(placement[own]);

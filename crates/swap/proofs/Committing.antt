@@ -26,14 +26,14 @@ use Rattle.swap.specs.Seeking.{Beside, standingTraded, fitting}
 use Rattle.words.proofs.Besides.{equal-tests}
 use Rattle.vacate.specs.Placed.{Placed, Stored}
 use Rattle.vacate.proofs.Playing.{carrier-is, carrier-none}
-use Rattle.bring.specs.Acting.{Tabled, Added, Proceeds}
-use Rattle.bring.specs.declared.Tally.{Tally}
-use Rattle.bring.proofs.Acting.{proceeds-none, proceeds-some}
+use Rattle.acting.specs.Acting.{Tabled, Added, Proceeds}
+use Rattle.acting.specs.declared.Tally.{Tally}
+use Rattle.acting.proofs.Acting.{proceeds-none, proceeds-some}
 use Rattle.clear_on.specs.Going.{Logged, Listed}
 use Rattle.clear_on.proofs.Attempting.{log-stored}
 use Rattle.swap.proofs.Seeking.{swap-found}
-use Rattle.bring.specs.declared.Tried.the-variants.{Done}
-use Rattle.bring.specs.declared.Tried.the-variants.{Failed}
+use Rattle.acting.specs.declared.Tried.the-variants.{Done}
+use Rattle.acting.specs.declared.Tried.the-variants.{Failed}
 
 module _ {n : ℕ} {p standing empty : List ℕ} (k : Placed n p standing empty) (r s : Carrier) (hr : r < length p) (hs : s < length p) (differ : s ≡ r → ⊥) (apart : Apart (traded r s p)) (long : n ≤ length standing) where
   in-traded : (b : Bay) → elem b (traded r s p) ≡ elem b p

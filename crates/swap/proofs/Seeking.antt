@@ -23,13 +23,13 @@ use Rattle.docket.specs.Reading.{isSome}
 use Rattle.words.specs.Sets.{mem, span, memRow, Lowest}
 use Rattle.swap.specs.Seeking.{Beside, fitting, TriedAt}
 use Rattle.rings.proofs.Searching.{in-yard, ring-none}
-use Rattle.bring.specs.Acting.{Tabled, nothing}
-use Rattle.bring.specs.declared.Tally.{Tally}
-use Rattle.bring.specs.declared.Tried.{Tried}
+use Rattle.acting.specs.Acting.{Tabled, nothing}
+use Rattle.acting.specs.declared.Tally.{Tally}
+use Rattle.acting.specs.declared.Tried.{Tried}
 use Rattle.trial.specs.Trying.{Wrote, Near}
 use Rattle.trial.proofs.Copying.{freeShown}
-use Rattle.bring.specs.declared.Tried.the-variants.{Done}
-use Rattle.bring.specs.declared.Tried.the-variants.{Failed}
+use Rattle.acting.specs.declared.Tried.the-variants.{Done}
+use Rattle.acting.specs.declared.Tried.the-variants.{Failed}
 
 first-found : (Y : Yard) (r s : Carrier) (p : Placement) (l : List Bay)
     → firstOf (λ v. trial Y r s v p) (filter (junction Y) l) ≡ (find (fitting Y r s p) l >>= λ v. trial Y r s v p)

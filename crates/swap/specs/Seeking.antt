@@ -6,28 +6,27 @@ use mathlib.Core.List.{List, [], _∷_}
 use mathlib.Core.Option.{Option, none, some}
 use Prim.Native.Nat.{ℕ, _≤_, _<_}
 use lib.ListN.{length, getD, set}
-use Rattle.paper.specs.Basics.{_and_}
+use Rattle.paper.specs.Basics.{_and_, find}
+use Rattle.paper.specs.Path.{nearestFirst}
 use Rattle.paper.specs.Procedure.{Made, only, traded, clearOnce, trial, swap}
 use Rattle.paper.specs.Yard.{Bay, Carrier, Yard, Placement, bayOf, joined, junction}
 use Rattle.paper.proofs.Playing.{Sound}
 use Rattle.docket.specs.Reading.{isSome}
 use Rattle.words.specs.Sets.{span}
+use Rattle.vacate.specs.Bounds.{swap-most, room-step}
 use Rattle.vacate.specs.Placed.{Placed}
-use Rattle.bring.specs.Acting.{Tabled}
-use Rattle.bring.specs.declared.Tally.{Tally}
-use Rattle.bring.specs.declared.Tried.{Tried}
-use Rattle.bring.specs.declared.Tried.the-variants.{Done, Failed}
+use Rattle.acting.specs.Acting.{Tabled, nothing, Within, Proceeds}
+use Rattle.acting.specs.declared.Tally.{Tally}
+use Rattle.acting.specs.declared.Tried.{Tried}
+use Rattle.acting.specs.declared.Tried.the-variants.{Done, Failed}
 use Rattle.clear_on.specs.Going.{Logged}
-use Rattle.swap.specs.declared.Junction.the-variants.{At}
+use Rattle.trial.specs.Trying.{Near}
 use Rattle.swap.specs.declared.Junction.{Junction}
-use Rattle.swap.specs.declared.Junction.the-variants.{Missing}
-use Rattle.swap.specs.declared.Spare.the-variants.{Both, Fewer}
+use Rattle.swap.specs.declared.Junction.the-variants.{At, Missing}
 use Rattle.swap.specs.declared.Spare.{Spare}
+use Rattle.swap.specs.declared.Spare.the-variants.{Both, Fewer}
 
--- (the code's functions have the same names)
-abbrev pub swaps : Yard → Carrier → Carrier → Placement → Option Made
-swaps Y r s p = swap Y r s p
-
+-- after r and s have traded places
 abbrev pub placementTraded : Carrier → Carrier → Placement → Placement
 placementTraded r s p = traded r s p
 
@@ -39,7 +38,7 @@ junctionAt (At v m) = some (v .0)
 junctionAt Missing = none
 
 abbrev pub Counted : Junction → Type 0
-Counted (At v m) = m .crossings ≤ 150000
+Counted (At v m) = m .crossings ≤ swap-most
 Counted Missing = Unit {0}
 
 -- v is a junction whose trial succeeds
@@ -77,3 +76,47 @@ pub record TwoSpare (table empty : List ℕ) (u w x y : Bay) : Type 0 where
 abbrev pub Spares : List ℕ → List ℕ → Bay → Bay → Spare → Type 0
 Spares table empty u w (Both x y) = TwoSpare table empty u w (x .0) (y .0)
 Spares table empty u w Fewer = Unit {0}
+
+-- ## What is asked, what is said
+
+-- the trial at v, if v is a junction
+abbrev pub TryJunctionSays : (r s : Carrier) (v : Bay) (table p standing log′ : List ℕ) → Tried → Type 0
+TryJunctionSays r s v table p standing log′ z =
+    Within nothing swap-most z
+    × ((t : Tabled (length standing) table)
+    → Near (t .yard) r s v p
+    → TriedAt (t .yard) r s v p log′ z)
+
+-- the first junction that fits, nearest to r first
+abbrev pub SeekSays : (r s : Carrier) (table p standing log′ : List ℕ) → Junction → Type 0
+SeekSays r s table p standing log′ z =
+    Counted z
+    × ((t : Tabled (length standing) table)
+    → Beside (t .yard) r s p
+    → (junctionAt z ≡ find (fitting (t .yard) r s p) (nearestFirst (t .yard) [] (bayOf p r))) × LoggedAt (t .yard) r s p log′ z)
+
+-- r and s stand at bays that are shown
+abbrev pub TradeAsks : (r s : Carrier) (p standing : List ℕ) → Type 0
+TradeAsks r s p standing =
+    (r < length p)
+    × (s < length p)
+    × (length p ≤ span)
+    × (getD p r 0 < length standing)
+    × (getD p s 0 < length standing)
+
+-- r and its neighbour s
+abbrev pub SwapAsks : (r s : Carrier) (table p standing : List ℕ) → Tally → Type 0
+SwapAsks r s table p standing at =
+    (r < length p)
+    × (s < length p)
+    × (s ≡ r → ⊥)
+    × (at .crossings < room-step)
+    × SideBySide (length standing) table r s p
+
+-- the paper's swap
+abbrev pub SwapSays : (r s : Carrier) (table p standing out : List ℕ) → Tally → (p′ standing′ empty′ out′ : List ℕ) → Tried → Type 0
+SwapSays r s table p standing out at p′ standing′ empty′ out′ z =
+    Within at swap-most z
+    × ((t : Tabled (length standing) table)
+    → Beside (t .yard) r s p
+    → Proceeds (swap (t .yard) r s p) (length standing) p out at p′ standing′ empty′ out′ z)

@@ -1,19 +1,16 @@
-// Swap: the first junction, nearest first, whose trial succeeds is used; its crossings are written, and the two carriers trade places.
-use bring::Tally;
-use bring::Tried;
+// Swap: the first junction, nearest first, whose trial succeeds is used; its crossings stay in the list, and the two carriers trade places.
+use acting::Tally;
+use acting::Tried;
 use docket::Bay;
 use docket::Carrier;
 ghost use mathlib.Core.Path.{_≡_};
-ghost use mathlib.Core.List.{[]};
-ghost use Prim.Native.Nat.{_+_, _*_, _^_, _≤_, _<_};
+ghost use Prim.Native.Nat.{_+_, _*_, _≤_, _<_};
 ghost use lib.ListN.{length, getD};
-ghost use Rattle.paper.specs.Basics.{find};
-ghost use Rattle.paper.specs.Yard.{bayOf};
-ghost use Rattle.paper.specs.Path.{nearestFirst};
 ghost use Rattle.words.specs.Sets.{words, span};
-ghost use Rattle.bring.specs.Acting.{Tabled, Ready, nothing, Within, Proceeds};
-ghost use Rattle.trial.specs.Trying.{Near, Noted, exchanges};
-ghost use Rattle.swap.specs.Seeking.{junctionAt, fitting, TriedAt, Counted, LoggedAt, Beside, placementTraded, standingTraded, SideBySide, swaps, Spares};
+ghost use Rattle.vacate.specs.Bounds.{room-step};
+ghost use Rattle.acting.specs.Acting.{Ready};
+ghost use Rattle.trial.specs.Trying.{Noted, exchanges};
+ghost use Rattle.swap.specs.Seeking.{placementTraded, standingTraded, Spares, TryJunctionSays, SeekSays, TradeAsks, SwapAsks, SwapSays};
 
 // The junction of a swap and the tally of its trial, or that there is none.
 pub enum Junction {
@@ -27,7 +24,7 @@ pub enum Spare {
     Fewer,
 }
 
-// The trial at v, if v is a junction; its crossings go to the log as far as that is so long.
+// The trial at v, if v is a junction. Its crossings go to the log, which is the rest of the list, as far as that is so long.
 fn try_junction(
     table: &[u64],
     v: Bay,
@@ -39,11 +36,19 @@ fn try_junction(
     log: &mut [u64],
 ) -> Tried
     requires { ⌜ Ready (now table) (now placement) (now standing) (now empty) ⌝ }
-    requires { ⌜ (r .0 < length (now placement)) × (s .0 < length (now placement)) × (s .0 ≡ r .0 → ⊥) × (v .0 < length (now standing)) ⌝ }
-    ensures { λ z. ⌜ (Within nothing 150000 z) × ((t : Tabled (length (now (standing .entry))) (now (table .entry))) → Near (t .yard) (r .0) (s .0) (v .0) (now (placement .entry)) → TriedAt (t .yard) (r .0) (s .0) (v .0) (now (placement .entry)) (now (log .exit)) z) ⌝ }
+    requires { ⌜
+        (r .0 < length (now placement))
+        × (s .0 < length (now placement))
+        × (s .0 ≡ r .0 → ⊥)
+        × (v .0 < length (now standing))
+        ⌝ }
+    ensures { λ z. ⌜
+        TryJunctionSays (r .0) (s .0) (v .0)
+        (now (table .entry)) (now (placement .entry)) (now (standing .entry)) (now (log .exit)) z
+        ⌝ }
 {
     let n = standing.len();
-    if bring::is_junction(table, n, v) {
+    if acting::is_junction(table, n, v) {
         let from = Tally {
             crossings: 0,
             parked: 0,
@@ -65,7 +70,9 @@ fn seek(
 ) -> Junction
     requires { ⌜ Ready (now table) (now placement) (now standing) (now empty) ⌝ }
     requires { ⌜ (r .0 < length (now placement)) × (s .0 < length (now placement)) × (s .0 ≡ r .0 → ⊥) ⌝ }
-    ensures { λ z. ⌜ (Counted z) × ((t : Tabled (length (now (standing .entry))) (now (table .entry))) → Beside (t .yard) (r .0) (s .0) (now (placement .entry)) → (junctionAt z ≡ find (fitting (t .yard) (r .0) (s .0) (now (placement .entry))) (nearestFirst (t .yard) [] (bayOf (now (placement .entry)) (r .0)))) × LoggedAt (t .yard) (r .0) (s .0) (now (placement .entry)) (now (log .exit)) z) ⌝ }
+    ensures { λ z. ⌜
+        SeekSays (r .0) (s .0) (now (table .entry)) (now (placement .entry)) (now (standing .entry)) (now (log .exit)) z
+        ⌝ }
 {
     let carrier = r.0 as usize;
     let u = placement[carrier] as usize;
@@ -95,8 +102,11 @@ fn seek(
 
 // Carriers r and s trade places.
 fn trade(placement: &mut [u16], standing: &mut [u16], r: Carrier, s: Carrier)
-    requires { ⌜ (r .0 < length (now placement)) × (s .0 < length (now placement)) × (length (now placement) ≤ span) × (getD (now placement) (r .0) 0 < length (now standing)) × (getD (now placement) (s .0) 0 < length (now standing)) ⌝ }
-    ensures { λ _. ⌜ (now (placement .exit) ≡ placementTraded (r .0) (s .0) (now (placement .entry))) × (now (standing .exit) ≡ standingTraded (r .0) (s .0) (now (placement .entry)) (now (standing .entry))) ⌝ }
+    requires { ⌜ TradeAsks (r .0) (s .0) (now placement) (now standing) ⌝ }
+    ensures { λ _. ⌜
+        (now (placement .exit) ≡ placementTraded (r .0) (s .0) (now (placement .entry)))
+        × (now (standing .exit) ≡ standingTraded (r .0) (s .0) (now (placement .entry)) (now (standing .entry)))
+        ⌝ }
 {
     let first = r.0 as usize;
     let second = s.0 as usize;
@@ -122,8 +132,12 @@ fn swap_far(
     at: Tally,
 ) -> Tried
     requires { ⌜ Ready (now table) (now placement) (now standing) (now empty) ⌝ }
-    requires { ⌜ (r .0 < length (now placement)) × (s .0 < length (now placement)) × (s .0 ≡ r .0 → ⊥) × (at .crossings < 2 ^ 60) × SideBySide (length (now standing)) (now table) (r .0) (s .0) (now placement) ⌝ }
-    ensures { λ z. ⌜ (Within at 150000 z) × ((t : Tabled (length (now (standing .entry))) (now (table .entry))) → Beside (t .yard) (r .0) (s .0) (now (placement .entry)) → Proceeds (swaps (t .yard) (r .0) (s .0) (now (placement .entry))) (length (now (standing .entry))) (now (placement .entry)) (now (out .entry)) at (now (placement .exit)) (now (standing .exit)) (now (empty .entry)) (now (out .exit)) z) ⌝ }
+    requires { ⌜ SwapAsks (r .0) (s .0) (now table) (now placement) (now standing) at ⌝ }
+    ensures { λ z. ⌜
+        SwapSays (r .0) (s .0)
+        (now (table .entry)) (now (placement .entry)) (now (standing .entry)) (now (out .entry)) at
+        (now (placement .exit)) (now (standing .exit)) (now (empty .entry)) (now (out .exit)) z
+        ⌝ }
 {
     let from = clear_on::place_in(out, at.crossings);
     let found = seek(table, r, s, placement, standing, empty, &mut out[from..]);
@@ -131,7 +145,7 @@ fn swap_far(
         return Tried::Failed;
     };
     trade(placement, standing, r, s);
-    Tried::Done(bring::add(at, m))
+    Tried::Done(acting::add(at, m))
 }
 
 // The two lowest empty neighbours of bay u other than w, if there are two.
@@ -167,8 +181,21 @@ fn swap_beside(
     out: &mut [u64],
     at: Tally,
 ) -> Tally
-    requires { ⌜ (r .0 < length (now placement)) × (s .0 < length (now placement)) × (length (now placement) ≤ span) × (getD (now placement) (r .0) 0 < length (now standing)) × (getD (now placement) (s .0) 0 < length (now standing)) × (at .crossings < 2 ^ 60) ⌝ }
-    ensures { λ m. ⌜ (now (placement .exit) ≡ placementTraded (r .0) (s .0) (now (placement .entry))) × (now (standing .exit) ≡ standingTraded (r .0) (s .0) (now (placement .entry)) (now (standing .entry))) × Noted (exchanges (r .0) (s .0) (u .0) (w .0) (x .0) (y .0)) (now (out .entry)) (at .crossings) (now (out .exit)) (m .crossings) × (m .parked ≡ at .parked) ⌝ }
+    requires { ⌜
+        (r .0 < length (now placement))
+        × (s .0 < length (now placement))
+        × (length (now placement) ≤ span)
+        × (getD (now placement) (r .0) 0 < length (now standing))
+        × (getD (now placement) (s .0) 0 < length (now standing))
+        × (at .crossings < room-step)
+        ⌝ }
+    ensures { λ m. ⌜
+        (now (placement .exit) ≡ placementTraded (r .0) (s .0) (now (placement .entry)))
+        × (now (standing .exit) ≡ standingTraded (r .0) (s .0) (now (placement .entry)) (now (standing .entry)))
+        × Noted (exchanges (r .0) (s .0) (u .0) (w .0) (x .0) (y .0))
+        (now (out .entry)) (at .crossings) (now (out .exit)) (m .crossings)
+        × (m .parked ≡ at .parked)
+        ⌝ }
 {
     let before = at.crossings;
     let parked = at.parked;
@@ -178,7 +205,7 @@ fn swap_beside(
 }
 
 // Swap of r with its neighbour s. Where two neighbours of r's bay other than s's are empty, that bay is the nearest junction, its trial
-// succeeds, and no copies are wanted for it.
+// succeeds, and no copies are needed for it.
 pub fn swap(
     table: &[u64],
     r: Carrier,
@@ -190,8 +217,12 @@ pub fn swap(
     at: Tally,
 ) -> Tried
     requires { ⌜ Ready (now table) (now placement) (now standing) (now empty) ⌝ }
-    requires { ⌜ (r .0 < length (now placement)) × (s .0 < length (now placement)) × (s .0 ≡ r .0 → ⊥) × (at .crossings < 2 ^ 60) × SideBySide (length (now standing)) (now table) (r .0) (s .0) (now placement) ⌝ }
-    ensures { λ z. ⌜ (Within at 150000 z) × ((t : Tabled (length (now (standing .entry))) (now (table .entry))) → Beside (t .yard) (r .0) (s .0) (now (placement .entry)) → Proceeds (swaps (t .yard) (r .0) (s .0) (now (placement .entry))) (length (now (standing .entry))) (now (placement .entry)) (now (out .entry)) at (now (placement .exit)) (now (standing .exit)) (now (empty .entry)) (now (out .exit)) z) ⌝ }
+    requires { ⌜ SwapAsks (r .0) (s .0) (now table) (now placement) (now standing) at ⌝ }
+    ensures { λ z. ⌜
+        SwapSays (r .0) (s .0)
+        (now (table .entry)) (now (placement .entry)) (now (standing .entry)) (now (out .entry)) at
+        (now (placement .exit)) (now (standing .exit)) (now (empty .entry)) (now (out .exit)) z
+        ⌝ }
 {
     let first = r.0 as usize;
     let second = s.0 as usize;

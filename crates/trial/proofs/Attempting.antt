@@ -22,14 +22,14 @@ use Rattle.words.specs.Sets.{span}
 use Rattle.yard.specs.Table.{Table}
 use Rattle.vacate.specs.Placed.{Placed, Stored}
 use Rattle.vacate.proofs.Playing.{sets-append, stored-exact, stored-then}
-use Rattle.bring.specs.Acting.{Tallied, Tries}
-use Rattle.bring.specs.declared.Tally.{Tally}
+use Rattle.acting.specs.Acting.{Tallied, Tries}
+use Rattle.acting.specs.declared.Tally.{Tally}
 use Rattle.bring.specs.Turning.{Small, Holds, numbers}
-use Rattle.bring.proofs.Acting.{as-far-then, tried-done}
+use Rattle.acting.proofs.Acting.{as-far-then, tried-done}
 use Rattle.clear_on.specs.Going.{Listed, AtJunction, ClearsTwo}
 use Rattle.trial.specs.Trying.{Noted, Prepared, SetsUp, Wrote, Led}
-use Rattle.bring.specs.declared.Tried.the-variants.{Done}
-use Rattle.bring.specs.declared.Tried.the-variants.{Failed}
+use Rattle.acting.specs.declared.Tried.the-variants.{Done}
+use Rattle.acting.specs.declared.Tried.the-variants.{Failed}
 use Rattle.clear_on.specs.declared.Pair.the-variants.{Missing}
 use Rattle.clear_on.specs.declared.Pair.{Pair}
 

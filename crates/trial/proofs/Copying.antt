@@ -16,7 +16,7 @@ use Rattle.paper.specs.Path.{Free, Route, Way, nearestFirst, shortestPath, path
 use Rattle.paper.specs.Procedure.{trialLed, trial}
 use Rattle.paper.specs.Yard.{Bay, Carrier, Yard, Placement, bayOf}
 use Rattle.paper.proofs.Members.{nothing-in-nil, count-high, in-count, In-head, out-cons}
-use Rattle.bring.specs.Acting.{Ready, Tabled}
+use Rattle.acting.specs.Acting.{Ready, Tabled}
 use Rattle.paper.proofs.Rings.{joined-sym}
 use Rattle.paper.proofs.Shortest.{shortest-path}
 use Rattle.paper.proofs.Swapping.{Chain, way-tail}
@@ -27,8 +27,8 @@ use Rattle.rings.specs.Search.{Shown}
 use Rattle.vacate.proofs.Beside.{beside-path}
 use Rattle.clear_on.proofs.Attempting.{in-bays}
 use Rattle.trial.specs.Trying.{Wrote, Led, Near}
-use Rattle.bring.specs.declared.Tally.{Tally}
-use Rattle.bring.specs.declared.Tried.{Tried}
+use Rattle.acting.specs.declared.Tally.{Tally}
+use Rattle.acting.specs.declared.Tried.{Tried}
 
 -- the code's part of a list from i on
 pub part : (l : List ℕ) (i : ℕ) → take (length l - i) (drop i l) ≡ drop i l

@@ -2,24 +2,26 @@
 -- Assumes nothing.
 use mathlib.Core.Path.{_≡_}
 use mathlib.Core.Bool.{true}
-use mathlib.Core.List.{List, [], _∷_, _++_, map}
+use mathlib.Core.List.{List, [], _∷_, map}
 use mathlib.Core.Option.{Option, none, some}
-use Prim.Native.Nat.{ℕ, _+_}
-use lib.ListN.{length}
+use Prim.Native.Nat.{ℕ, _+_, _≤_, _<_}
+use lib.ListN.{length, getD}
 use lib.Seq.{sets}
 use Rattle.paper.specs.Basics.{In}
-use Rattle.paper.specs.Path.{nearestFirst}
+use Rattle.paper.specs.Path.{nearestFirst, shortestPath}
 use Rattle.paper.specs.Procedure.{Made, together, exchange, bring, clearOnce, clear, trialLed, trial}
 use Rattle.paper.specs.Yard.{Bay, Carrier, Yard, Placement, bayOf, Crossing, pack, after, joined}
 use Rattle.paper.proofs.Playing.{Sound}
 use Rattle.paper.proofs.Swapping.{Chain}
-use Rattle.clear_on.specs.Going.{Listed}
+use Rattle.words.specs.Sets.{span}
+use Rattle.vacate.specs.Bounds.{set-up-most, swap-most, room-step}
+use Rattle.acting.specs.Acting.{Tabled, Within}
+use Rattle.clear_on.specs.Going.{Listed, PairBy}
 use Rattle.clear_on.specs.declared.Pair.the-variants.{Both, Missing}
-use Rattle.bring.specs.declared.Tried.the-variants.{Done}
-use Rattle.bring.specs.declared.Tried.the-variants.{Failed}
-use Rattle.bring.specs.declared.Tally.{Tally}
-use Rattle.bring.specs.declared.Tried.{Tried}
 use Rattle.clear_on.specs.declared.Pair.{Pair}
+use Rattle.acting.specs.declared.Tally.{Tally}
+use Rattle.acting.specs.declared.Tried.{Tried}
+use Rattle.acting.specs.declared.Tried.the-variants.{Done, Failed}
 use Rattle.docket.specs.declared.Bay.{Bay as Numbered}
 
 -- the crossings were counted from `at` on, and each stored at its count where the list is so long
@@ -27,15 +29,9 @@ pub record Noted (xs : List Crossing) (out : List ℕ) (at : ℕ) (out′ : List
   pub stored : out′ ≡ sets out at (map pack xs)
   pub counted : r ≡ at + length xs
 
--- (the code's functions have the same names)
+-- (the code's function has the same name)
 abbrev pub exchanges : Carrier → Carrier → Bay → Bay → Bay → Bay → List Crossing
 exchanges L M v b x y = exchange L M v b x y
-
-abbrev pub trialLeds : Yard → Carrier → Carrier → Bay → List Bay → Placement → Option Made
-trialLeds Y L M v path p = trialLed Y L M v path p
-
-abbrev pub trials : Yard → Carrier → Carrier → Bay → Placement → Option Made
-trials Y r s v p = trial Y r s v p
 
 -- ## Bring and clear
 
@@ -69,3 +65,58 @@ pub record Near (Y : Yard) (r s : Carrier) (v : Bay) (p : Placement) : Type 0 wh
   pub sound : Sound Y
   pub reached : In (bayOf p r) (nearestFirst Y [] v)
   pub beside : joined Y (bayOf p r) (bayOf p s) ≡ true
+
+-- ## What is asked, what is said
+
+-- leader and follower are two, and the path's bays are in the yard
+abbrev pub LedAsks : (L M : Carrier) (v : Bay) (path : List Bay) (p standing : List ℕ) → Tally → Type 0
+LedAsks L M v path p standing at =
+    (L < length p)
+    × (M < length p)
+    × (M ≡ L → ⊥)
+    × (v < length standing)
+    × ((k : ℕ) → k < length path → getD path k 0 < length standing)
+    × (length path ≤ span)
+    × (at .crossings < room-step)
+
+-- bring and clear
+abbrev pub SetUpSays : (L M : Carrier) (v : Bay) (path : List Bay) (table p standing out : List ℕ) → Tally → (p′ out′ : List ℕ) → Pair → Type 0
+SetUpSays L M v path table p standing out at p′ out′ r =
+    PairBy at set-up-most r
+    × ((t : Tabled (length standing) table)
+    → Led (t .yard) L M v path p
+    → SetsUp (t .yard) L M v path p out at p′ out′ r)
+
+-- the whole trial, where leader and follower are known
+abbrev pub LedSays : (L M : Carrier) (v : Bay) (path : List Bay) (table p standing out : List ℕ) → Tally → (out′ : List ℕ) → Tried → Type 0
+LedSays L M v path table p standing out at out′ r =
+    Within at swap-most r
+    × ((t : Tabled (length standing) table)
+    → Led (t .yard) L M v path p
+    → Wrote (trialLed (t .yard) L M v path p) out at out′ r)
+
+-- r and its neighbour s
+abbrev pub TrialAsks : (r s : Carrier) (v : Bay) (p standing : List ℕ) → Tally → Type 0
+TrialAsks r s v p standing at =
+    (r < length p)
+    × (s < length p)
+    × (s ≡ r → ⊥)
+    × (v < length standing)
+    × (at .crossings < room-step)
+
+-- the paper's trial, where the path from r's bay to v is known
+abbrev pub TrialOnSays : (r s : Carrier) (v : Bay) (path : List Bay) (table p standing out : List ℕ) → Tally → (out′ : List ℕ) → Tried → Type 0
+TrialOnSays r s v path table p standing out at out′ z =
+    Within at swap-most z
+    × ((t : Tabled (length standing) table)
+    → Near (t .yard) r s v p
+    → path ≡ shortestPath (t .yard) [] (bayOf p r) v
+    → Wrote (trial (t .yard) r s v p) out at out′ z)
+
+-- the paper's trial
+abbrev pub TrialSays : (r s : Carrier) (v : Bay) (table p standing out : List ℕ) → Tally → (out′ : List ℕ) → Tried → Type 0
+TrialSays r s v table p standing out at out′ z =
+    Within at swap-most z
+    × ((t : Tabled (length standing) table)
+    → Near (t .yard) r s v p
+    → Wrote (trial (t .yard) r s v p) out at out′ z)

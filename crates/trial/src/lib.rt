@@ -1,7 +1,7 @@
-// A trial at a junction: bring, clear, exchange, undo. It is played on copies, so a trial that fails is forgotten, and one that
-// succeeds has only to be written: lent an empty list it only counts.
-use bring::Tally;
-use bring::Tried;
+// A trial at a junction: bring, clear, exchange, undo. It is played on copies, so that nobody has moved if it fails. Its crossings go to the
+// lent list as they are made, and undo reads them back from there. An empty list only counts.
+use acting::Tally;
+use acting::Tried;
 use clear_on::Pair;
 use docket::Bay;
 use docket::Carrier;
@@ -9,20 +9,19 @@ use docket::Crossing;
 use rings::Path;
 ghost use mathlib.Core.Path.{_≡_};
 ghost use mathlib.Core.List.{[], _∷_};
-ghost use Prim.Native.Nat.{ℕ, min, max, _+_, _*_, _^_, _≤_, _<_};
+ghost use Prim.Native.Nat.{ℕ, min, max, _+_, _≤_, _<_};
 ghost use lib.Dec.{eqb, ltb};
 ghost use lib.ListN.{length, getD};
 ghost use Rattle.paper.specs.Basics.{_and_};
-ghost use Rattle.paper.specs.Yard.{bayOf};
-ghost use Rattle.paper.specs.Path.{shortestPath};
 ghost use Rattle.docket.specs.Reading.{crossingOf};
-ghost use Rattle.bring.specs.Acting.{Tabled, Ready, Within};
-ghost use Rattle.clear_on.specs.Going.{PairBy};
-ghost use Rattle.trial.specs.Trying.{Noted, exchanges, SetsUp, Led, Wrote, trialLeds, Near, trials};
+ghost use Rattle.words.specs.Sets.{span};
+ghost use Rattle.vacate.specs.Bounds.{room-crossing, room-step};
+ghost use Rattle.acting.specs.Acting.{Ready};
+ghost use Rattle.trial.specs.Trying.{Noted, exchanges, LedAsks, SetUpSays, LedSays, TrialAsks, TrialOnSays, TrialSays};
 
 // The crossing goes to its place in the list where the list is so long; answers the next place.
 fn note(out: &mut [u64], at: usize, x: Crossing) -> usize
-    requires { ⌜ at < 2 ^ 63 ⌝ }
+    requires { ⌜ at < room-crossing ⌝ }
     ensures { λ r. ⌜ Noted (crossingOf x ∷ []) (now (out .entry)) at (now (out .exit)) r ⌝ }
 {
     bring::put(out, at, docket::pack(x));
@@ -31,8 +30,10 @@ fn note(out: &mut [u64], at: usize, x: Crossing) -> usize
 
 // Three crossings.
 fn note_three(out: &mut [u64], at: usize, x: Crossing, y: Crossing, z: Crossing) -> usize
-    requires { ⌜ at < 2 ^ 62 ⌝ }
-    ensures { λ r. ⌜ Noted (crossingOf x ∷ crossingOf y ∷ crossingOf z ∷ []) (now (out .entry)) at (now (out .exit)) r ⌝ }
+    requires { ⌜ at + 3 < room-crossing ⌝ }
+    ensures { λ r. ⌜
+        Noted (crossingOf x ∷ crossingOf y ∷ crossingOf z ∷ []) (now (out .entry)) at (now (out .exit)) r
+        ⌝ }
 {
     let i = note(out, at, x);
     let j = note(out, i, y);
@@ -50,8 +51,10 @@ pub fn exchange(
     x: Bay,
     y: Bay,
 ) -> usize
-    requires { ⌜ at < 2 ^ 61 ⌝ }
-    ensures { λ r. ⌜ Noted (exchanges (l .0) (m .0) (v .0) (b .0) (x .0) (y .0)) (now (out .entry)) at (now (out .exit)) r ⌝ }
+    requires { ⌜ at + 6 < room-crossing ⌝ }
+    ensures { λ r. ⌜
+        Noted (exchanges (l .0) (m .0) (v .0) (b .0) (x .0) (y .0)) (now (out .entry)) at (now (out .exit)) r
+        ⌝ }
 {
     let i = note_three(
         out,
@@ -107,8 +110,12 @@ fn set_up(
     at: Tally,
 ) -> Pair
     requires { ⌜ Ready (now table) (now placement) (now standing) (now empty) ⌝ }
-    requires { ⌜ (l .0 < length (now placement)) × (m .0 < length (now placement)) × (m .0 ≡ l .0 → ⊥) × (v .0 < length (now standing)) × ((k : ℕ) → k < length (now path) → getD (now path) k 0 < length (now standing)) × (length (now path) ≤ 256) × (at .crossings < 2 ^ 60) ⌝ }
-    ensures { λ r. ⌜ (PairBy at 70000 r) × ((t : Tabled (length (now (standing .entry))) (now (table .entry))) → Led (t .yard) (l .0) (m .0) (v .0) (now (path .entry)) (now (placement .entry)) → SetsUp (t .yard) (l .0) (m .0) (v .0) (now (path .entry)) (now (placement .entry)) (now (out .entry)) at (now (placement .exit)) (now (out .exit)) r) ⌝ }
+    requires { ⌜ LedAsks (l .0) (m .0) (v .0) (now path) (now placement) (now standing) at ⌝ }
+    ensures { λ r. ⌜
+        SetUpSays (l .0) (m .0) (v .0) (now (path .entry))
+        (now (table .entry)) (now (placement .entry)) (now (standing .entry)) (now (out .entry)) at
+        (now (placement .exit)) (now (out .exit)) r
+        ⌝ }
 {
     let brought = bring::bring(table, path, l, m, placement, standing, empty, out, at);
     let Tried::Done(a) = brought else {
@@ -151,8 +158,11 @@ fn attempt_on(
     at: Tally,
 ) -> Tried
     requires { ⌜ Ready (now table) (now placement) (now standing) (now empty) ⌝ }
-    requires { ⌜ (l .0 < length (now placement)) × (m .0 < length (now placement)) × (m .0 ≡ l .0 → ⊥) × (v .0 < length (now standing)) × ((k : ℕ) → k < length (now path) → getD (now path) k 0 < length (now standing)) × (length (now path) ≤ 256) × (at .crossings < 2 ^ 60) ⌝ }
-    ensures { λ r. ⌜ (Within at 150000 r) × ((t : Tabled (length (now (standing .entry))) (now (table .entry))) → Led (t .yard) (l .0) (m .0) (v .0) (now (path .entry)) (now (placement .entry)) → Wrote (trialLeds (t .yard) (l .0) (m .0) (v .0) (now (path .entry)) (now (placement .entry))) (now (out .entry)) at (now (out .exit)) r) ⌝ }
+    requires { ⌜ LedAsks (l .0) (m .0) (v .0) (now path) (now placement) (now standing) at ⌝ }
+    ensures { λ r. ⌜
+        LedSays (l .0) (m .0) (v .0) (now (path .entry))
+        (now (table .entry)) (now (placement .entry)) (now (standing .entry)) (now (out .entry)) at (now (out .exit)) r
+        ⌝ }
 {
     let ready = set_up(table, path, v, l, m, placement, standing, empty, out, at);
     let Pair::Both(x, y, c) = ready else {
@@ -185,8 +195,11 @@ fn attempt(
     at: Tally,
 ) -> Tried
     requires { ⌜ Ready (now table) (now placement) (now standing) (now empty) ⌝ }
-    requires { ⌜ (l .0 < length (now placement)) × (m .0 < length (now placement)) × (m .0 ≡ l .0 → ⊥) × (v .0 < length (now standing)) × ((k : ℕ) → k < length (now path) → getD (now path) k 0 < length (now standing)) × (length (now path) ≤ 256) × (at .crossings < 2 ^ 60) ⌝ }
-    ensures { λ r. ⌜ (Within at 150000 r) × ((t : Tabled (length (now (standing .entry))) (now (table .entry))) → Led (t .yard) (l .0) (m .0) (v .0) (now (path .entry)) (now (placement .entry)) → Wrote (trialLeds (t .yard) (l .0) (m .0) (v .0) (now (path .entry)) (now (placement .entry))) (now (out .entry)) at (now (out .exit)) r) ⌝ }
+    requires { ⌜ LedAsks (l .0) (m .0) (v .0) (now path) (now placement) (now standing) at ⌝ }
+    ensures { λ r. ⌜
+        LedSays (l .0) (m .0) (v .0) (now (path .entry))
+        (now (table .entry)) (now (placement .entry)) (now (standing .entry)) (now (out .entry)) at (now (out .exit)) r
+        ⌝ }
 {
     let mut bays = [0u16; words::SPAN];
     let mut carriers = [0u16; words::SPAN];
@@ -234,8 +247,20 @@ fn try_on(
     at: Tally,
 ) -> Tried
     requires { ⌜ Ready (now table) (now placement) (now standing) (now empty) ⌝ }
-    requires { ⌜ (r .0 < length (now placement)) × (s .0 < length (now placement)) × (s .0 ≡ r .0 → ⊥) × (v .0 < length (now standing)) × ((k : ℕ) → k < length (now path) → getD (now path) k 0 < length (now standing)) × (length (now path) ≤ 256) × (at .crossings < 2 ^ 60) × (1 ≤ length (now path)) ⌝ }
-    ensures { λ z. ⌜ (Within at 150000 z) × ((t : Tabled (length (now (standing .entry))) (now (table .entry))) → Near (t .yard) (r .0) (s .0) (v .0) (now (placement .entry)) → now (path .entry) ≡ shortestPath (t .yard) [] (bayOf (now (placement .entry)) (r .0)) (v .0) → Wrote (trials (t .yard) (r .0) (s .0) (v .0) (now (placement .entry))) (now (out .entry)) at (now (out .exit)) z) ⌝ }
+    requires { ⌜
+        (r .0 < length (now placement))
+        × (s .0 < length (now placement))
+        × (s .0 ≡ r .0 → ⊥)
+        × (v .0 < length (now standing))
+        × ((k : ℕ) → k < length (now path) → getD (now path) k 0 < length (now standing))
+        × (length (now path) ≤ span)
+        × (at .crossings < room-step)
+        × (1 ≤ length (now path))
+        ⌝ }
+    ensures { λ z. ⌜
+        TrialOnSays (r .0) (s .0) (v .0) (now (path .entry))
+        (now (table .entry)) (now (placement .entry)) (now (standing .entry)) (now (out .entry)) at (now (out .exit)) z
+        ⌝ }
 {
     let neighbour = s.0 as usize;
     let w = Bay(placement[neighbour]);
@@ -283,8 +308,11 @@ fn try_along(
     at: Tally,
 ) -> Tried
     requires { ⌜ Ready (now table) (now placement) (now standing) (now empty) ⌝ }
-    requires { ⌜ (r .0 < length (now placement)) × (s .0 < length (now placement)) × (s .0 ≡ r .0 → ⊥) × (v .0 < length (now standing)) × (at .crossings < 2 ^ 60) ⌝ }
-    ensures { λ z. ⌜ (Within at 150000 z) × ((t : Tabled (length (now (standing .entry))) (now (table .entry))) → Near (t .yard) (r .0) (s .0) (v .0) (now (placement .entry)) → Wrote (trials (t .yard) (r .0) (s .0) (v .0) (now (placement .entry))) (now (out .entry)) at (now (out .exit)) z) ⌝ }
+    requires { ⌜ TrialAsks (r .0) (s .0) (v .0) (now placement) (now standing) at ⌝ }
+    ensures { λ z. ⌜
+        TrialSays (r .0) (s .0) (v .0)
+        (now (table .entry)) (now (placement .entry)) (now (standing .entry)) (now (out .entry)) at (now (out .exit)) z
+        ⌝ }
 {
     let carrier = r.0 as usize;
     let u = Bay(placement[carrier]);
@@ -322,8 +350,11 @@ pub fn try_at(
     at: Tally,
 ) -> Tried
     requires { ⌜ Ready (now table) (now placement) (now standing) (now empty) ⌝ }
-    requires { ⌜ (r .0 < length (now placement)) × (s .0 < length (now placement)) × (s .0 ≡ r .0 → ⊥) × (v .0 < length (now standing)) × (at .crossings < 2 ^ 60) ⌝ }
-    ensures { λ z. ⌜ (Within at 150000 z) × ((t : Tabled (length (now (standing .entry))) (now (table .entry))) → Near (t .yard) (r .0) (s .0) (v .0) (now (placement .entry)) → Wrote (trials (t .yard) (r .0) (s .0) (v .0) (now (placement .entry))) (now (out .entry)) at (now (out .exit)) z) ⌝ }
+    requires { ⌜ TrialAsks (r .0) (s .0) (v .0) (now placement) (now standing) at ⌝ }
+    ensures { λ z. ⌜
+        TrialSays (r .0) (s .0) (v .0)
+        (now (table .entry)) (now (placement .entry)) (now (standing .entry)) (now (out .entry)) at (now (out .exit)) z
+        ⌝ }
 {
     let carrier = r.0 as usize;
     let u = placement[carrier];

@@ -3,13 +3,16 @@
 use mathlib.Core.Path.{_≡_}
 use mathlib.Core.List.{List}
 use mathlib.Core.Option.{Option, none, some}
-use Prim.Native.Nat.{ℕ, _+_, _<_}
+use Prim.Native.Nat.{ℕ, _+_, _*_, _≤_, _<_}
 use lib.ListN.{length}
 use Rattle.paper.specs.Basics.{_>>=_}
 use Rattle.paper.specs.Yard.{Bay, Yard, Placement, Crossing}
 use Rattle.paper.specs.Procedure.{filledBy, vacate}
+use Rattle.words.specs.Sets.{words, span}
+use Rattle.levels.specs.Levels.{Levelled}
 use Rattle.rings.specs.Search.{Shown}
-use Rattle.vacate.specs.Placed.{Unchanged, Acted}
+use Rattle.vacate.specs.Bounds.{room-vacate}
+use Rattle.vacate.specs.Placed.{Placed, Unchanged, Acted}
 use Rattle.vacate.specs.declared.Vacated.{Vacated}
 use Rattle.vacate.specs.declared.Vacated.the-variants.{Empty, Filled, Failed}
 
@@ -41,3 +44,23 @@ module _ {n : ℕ} {table held : List ℕ} (s : Shown n table held) (x : Bay) (p
     pub still : filled r ≡ none → Unchanged p standing empty out p′ standing′ empty′ out′
     pub short : (xs : List Crossing) → vacating ≡ some xs → length xs < n
     pub some-moved : (e : Bay) → filled r ≡ some e → (xs : List Crossing) → vacating ≡ some xs → 0 < length xs
+
+-- ## What is asked, what is said
+
+-- x is a bay of the yard that the table shows, and the set has the bays held
+abbrev pub VacateAsks : (table held : List ℕ) → Bay → (p standing empty : List ℕ) → ℕ → Type 0
+VacateAsks table held x p standing empty at =
+    (length standing ≤ span)
+    × (x < length standing)
+    × (length standing * words ≤ length table)
+    × (length held ≡ words)
+    × (length empty ≡ words)
+    × (at < room-vacate)
+    × Placed (length standing) p standing empty
+    × Shown (length standing) table held
+    × Levelled (length standing) table
+
+-- the paper's vacate, in the yard that the table shows
+abbrev pub VacateSays : (table held : List ℕ) → Bay → (p standing empty out : List ℕ) → ℕ → (p′ standing′ empty′ out′ : List ℕ) → Vacated → Type 0
+VacateSays table held x p standing empty out at p′ standing′ empty′ out′ r =
+    (s : Shown (length standing) table held) → Vacates s x p standing empty out at p′ standing′ empty′ out′ r

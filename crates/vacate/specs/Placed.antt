@@ -2,16 +2,17 @@
 -- it, counted, and stored where there is room.
 -- Assumes nothing.
 use mathlib.Core.Path.{_≡_}
-use mathlib.Core.List.{List, _++_, map}
+use mathlib.Core.List.{List, [], _∷_, _++_, map}
 use mathlib.Core.Option.{Option, none, some}
 use Prim.Native.Nat.{ℕ, _+_, _≤_, _<_}
 use lib.ListN.{length, getD, set, take}
-use Rattle.paper.specs.Basics.{In}
+use Rattle.paper.specs.Basics.{In, Out}
 use Rattle.paper.specs.Yard.{Bay, Yard, Placement, Crossing, crossing, carrierAt, bayOf, isEmpty, after, pack}
 use Rattle.paper.specs.Procedure.{shift}
 use Rattle.paper.proofs.Playing.{Apart}
 use Rattle.paper.proofs.Vacating.{Shiftable}
-use Rattle.words.specs.Sets.{mem}
+use Rattle.words.specs.Sets.{mem, words, span}
+use Rattle.vacate.specs.Bounds.{room-crossing}
 
 -- Who stands at each of the n bays and which are empty say the same as the placement; at an empty bay stands the carrier `length p`,
 -- which there is not.
@@ -61,6 +62,34 @@ pub record CanShift (n : ℕ) (p path : List ℕ) : Type 0 where
   pub shiftable : Shiftable yard p apart path
   pub within : (b : ℕ) → In b path → b < n
 
--- (the code's shift has the same name)
-abbrev pub shifts : Placement → List Bay → List Crossing
-shifts p path = shift p path
+-- ## What is asked, what is said
+
+-- a crossing from a to b: a carrier stands at a and none at b
+abbrev pub CrossAsks : Bay → Bay → (p standing empty : List ℕ) → ℕ → Type 0
+CrossAsks a b p standing empty at =
+    (a < length standing)
+    × (b < length standing)
+    × (length standing ≤ span)
+    × (length empty ≡ words)
+    × (at < room-crossing)
+    × In a p
+    × Out b p
+    × Placed (length standing) p standing empty
+
+-- it is the only one that was played
+abbrev pub CrossSays : Bay → Bay → (p standing out : List ℕ) → ℕ → (p′ standing′ empty′ out′ : List ℕ) → ℕ → Type 0
+CrossSays a b p standing out at p′ standing′ empty′ out′ r =
+    Played (crossing (carrierAt p a) a b ∷ []) (length standing) p p′ standing′ empty′ out at out′ r
+
+-- the carriers on the path move one bay on: its last bay is empty
+abbrev pub ShiftAsks : List Bay → (p standing empty : List ℕ) → ℕ → Type 0
+ShiftAsks path p standing empty at =
+    (length standing ≤ span)
+    × (length empty ≡ words)
+    × (at + length path < room-crossing)
+    × Placed (length standing) p standing empty
+    × CanShift (length standing) p path
+
+-- the paper's shift was played
+abbrev pub ShiftSays : List Bay → (p standing out : List ℕ) → ℕ → (p′ standing′ empty′ out′ : List ℕ) → ℕ → Type 0
+ShiftSays path p standing out at p′ standing′ empty′ out′ r = Played (shift p path) (length standing) p p′ standing′ empty′ out at out′ r

@@ -7,17 +7,15 @@ use lookup::Known;
 use rings::Way;
 ghost use mathlib.Core.Path.{_≡_};
 ghost use mathlib.Core.Bool.{Bool, false};
-ghost use mathlib.Core.List.{[], _∷_};
-ghost use Prim.Native.Nat.{ℕ, _+_, _*_, _^_, _≤_, _<_};
+ghost use Prim.Native.Nat.{ℕ, _+_, _*_, _≤_, _<_};
 ghost use lib.ListN.{length, getD, set};
-ghost use Rattle.paper.specs.Basics.{In, Out};
-ghost use Rattle.paper.specs.Yard.{crossing, carrierAt};
 ghost use Rattle.words.specs.Sets.{mem, words, span};
 ghost use Rattle.levels.specs.Levels.{Levelled};
 ghost use Rattle.rings.specs.Search.{Shown};
 ghost use Rattle.rings.specs.Ways.{WayFound};
-ghost use Rattle.vacate.specs.Placed.{Placed, Played, MovedOn, CanShift, shifts};
-ghost use Rattle.vacate.specs.Answer.{Vacates};
+ghost use Rattle.vacate.specs.Bounds.{room-crossing, room-vacate};
+ghost use Rattle.vacate.specs.Placed.{Placed, MovedOn, CrossAsks, CrossSays, ShiftAsks, ShiftSays};
+ghost use Rattle.vacate.specs.Answer.{VacateAsks, VacateSays};
 
 // The bay was empty; the bay that was filled, with the count of crossings afterwards; or nothing could be done.
 pub enum Vacated {
@@ -28,7 +26,7 @@ pub enum Vacated {
 
 // The number goes to its place in the list where the list is so long; answers the next place.
 pub fn store(out: &mut [u64], at: usize, number: u64) -> usize
-    requires { ⌜ at < 2 ^ 63 ⌝ }
+    requires { ⌜ at < room-crossing ⌝ }
     ensures { λ r. ⌜ (now (out .exit) ≡ set (now (out .entry)) at number) × (r ≡ at + 1) ⌝ }
 {
     if at < out.len() {
@@ -47,8 +45,16 @@ fn move_on(
     out: &mut [u64],
     at: usize,
 ) -> usize
-    requires { ⌜ (a .0 < length (now standing)) × (b .0 < length (now standing)) × (getD (now standing) (a .0) 0 < length (now placement)) × (at < 2 ^ 63) ⌝ }
-    ensures { λ r. ⌜ MovedOn (a .0) (b .0) (now (placement .entry)) (now (standing .entry)) (now (out .entry)) at (now (placement .exit)) (now (standing .exit)) (now (out .exit)) r ⌝ }
+    requires { ⌜
+        (a .0 < length (now standing))
+        × (b .0 < length (now standing))
+        × (getD (now standing) (a .0) 0 < length (now placement))
+        × (at < room-crossing)
+        ⌝ }
+    ensures { λ r. ⌜
+        MovedOn (a .0) (b .0) (now (placement .entry)) (now (standing .entry)) (now (out .entry)) at
+        (now (placement .exit)) (now (standing .exit)) (now (out .exit)) r
+        ⌝ }
 {
     let c = standing[a.0 as usize];
     placement[c as usize] = b.0;
@@ -71,8 +77,11 @@ pub fn cross(
     out: &mut [u64],
     at: usize,
 ) -> usize
-    requires { ⌜ (a .0 < length (now standing)) × (b .0 < length (now standing)) × (length (now standing) ≤ span) × (length (now empty) ≡ words) × (at < 2 ^ 63) × In (a .0) (now placement) × Out (b .0) (now placement) × Placed (length (now standing)) (now placement) (now standing) (now empty) ⌝ }
-    ensures { λ r. ⌜ Played (crossing (carrierAt (now (placement .entry)) (a .0)) (a .0) (b .0) ∷ []) (length (now (standing .entry))) (now (placement .entry)) (now (placement .exit)) (now (standing .exit)) (now (empty .exit)) (now (out .entry)) at (now (out .exit)) r ⌝ }
+    requires { ⌜ CrossAsks (a .0) (b .0) (now placement) (now standing) (now empty) at ⌝ }
+    ensures { λ r. ⌜
+        CrossSays (a .0) (b .0) (now (placement .entry)) (now (standing .entry)) (now (out .entry)) at
+        (now (placement .exit)) (now (standing .exit)) (now (empty .exit)) (now (out .exit)) r
+        ⌝ }
 {
     let from = a.0 as usize;
     let to = b.0 as usize;
@@ -96,8 +105,11 @@ fn shift_stretch(
     out: &mut [u64],
     at: usize,
 ) -> usize
-    requires { ⌜ (length (now standing) ≤ span) × (length (now empty) ≡ words) × (at + length (now path) < 2 ^ 63) × Placed (length (now standing)) (now placement) (now standing) (now empty) × CanShift (length (now standing)) (now placement) (now path) ⌝ }
-    ensures { λ r. ⌜ Played (shifts (now (placement .entry)) (now (path .entry))) (length (now (standing .entry))) (now (placement .entry)) (now (placement .exit)) (now (standing .exit)) (now (empty .exit)) (now (out .entry)) at (now (out .exit)) r ⌝ }
+    requires { ⌜ ShiftAsks (now path) (now placement) (now standing) (now empty) at ⌝ }
+    ensures { λ r. ⌜
+        ShiftSays (now (path .entry)) (now (placement .entry)) (now (standing .entry)) (now (out .entry)) at
+        (now (placement .exit)) (now (standing .exit)) (now (empty .exit)) (now (out .exit)) r
+        ⌝ }
 {
     if path.len() < 2 {
         return at;
@@ -127,8 +139,11 @@ pub fn shift(
     out: &mut [u64],
     at: usize,
 ) -> usize
-    requires { ⌜ (length (now standing) ≤ span) × (length (now empty) ≡ words) × (at + length (now path) < 2 ^ 63) × Placed (length (now standing)) (now placement) (now standing) (now empty) × CanShift (length (now standing)) (now placement) (now path) ⌝ }
-    ensures { λ r. ⌜ Played (shifts (now (placement .entry)) (now (path .entry))) (length (now (standing .entry))) (now (placement .entry)) (now (placement .exit)) (now (standing .exit)) (now (empty .exit)) (now (out .entry)) at (now (out .exit)) r ⌝ }
+    requires { ⌜ ShiftAsks (now path) (now placement) (now standing) (now empty) at ⌝ }
+    ensures { λ r. ⌜
+        ShiftSays (now (path .entry)) (now (placement .entry)) (now (standing .entry)) (now (out .entry)) at
+        (now (placement .exit)) (now (standing .exit)) (now (empty .exit)) (now (out .exit)) r
+        ⌝ }
 {
     if path.len() <= STRETCH {
         return shift_stretch(path, placement, standing, empty, out, at);
@@ -137,11 +152,26 @@ pub fn shift(
     shift_stretch(&path[..STRETCH], placement, standing, empty, out, m)
 }
 
-// The shortest path from x to the nearest empty bay, through bays not held. A table with levels is that of a crowded yard: there the way is looked up,
-// and searched for ring by ring only where a held bay lies on it.
+// The shortest path from x to the nearest empty bay, through bays not held. A table with levels is that of a crowded yard: there the way is
+// looked up, and searched for ring by ring only where the levels do not tell it.
 fn way_out(table: &[u64], n: usize, held: &[u64], x: Bay, empty: &[u64], path: &mut [u16]) -> Way
-    requires { ⌜ (n ≤ span) × (x .0 < n) × (n * words ≤ length (now table)) × (length (now held) ≡ words) × (length (now empty) ≡ words) × (n ≤ length (now path)) × (mem (now held) (x .0) ≡ false) × Shown n (now table) (now held) × Levelled n (now table) × (mem (now empty) (x .0) ≡ false) ⌝ }
-    ensures { λ r. ⌜ ((s : Shown n (now (table .entry)) (now (held .entry))) (q : ℕ → Bool) → ((b : ℕ) → b < n → mem (now (empty .entry)) b ≡ q b) → WayFound s (x .0) q (now (path .exit)) r) ⌝ }
+    requires { ⌜
+        (n ≤ span)
+        × (x .0 < n)
+        × (n * words ≤ length (now table))
+        × (length (now held) ≡ words)
+        × (length (now empty) ≡ words)
+        × (n ≤ length (now path))
+        × (mem (now held) (x .0) ≡ false)
+        × Shown n (now table) (now held)
+        × Levelled n (now table)
+        × (mem (now empty) (x .0) ≡ false)
+        ⌝ }
+    ensures { λ r. ⌜
+        ((s : Shown n (now (table .entry)) (now (held .entry))) (q : ℕ → Bool)
+        → ((b : ℕ) → b < n → mem (now (empty .entry)) b ≡ q b)
+        → WayFound s (x .0) q (now (path .exit)) r)
+        ⌝ }
 {
     if table.len() < 2 * n * words::WORDS {
         return ways::way_to_nearest(table, n, held, x, empty, path);
@@ -164,8 +194,24 @@ fn fill_nearest(
     out: &mut [u64],
     at: usize,
 ) -> Vacated
-    requires { ⌜ (length (now standing) ≤ span) × (x .0 < length (now standing)) × (length (now standing) * words ≤ length (now table)) × (length (now held) ≡ words) × (length (now empty) ≡ words) × (at < 2 ^ 62) × (mem (now empty) (x .0) ≡ false) × (mem (now held) (x .0) ≡ false) × Placed (length (now standing)) (now placement) (now standing) (now empty) × Shown (length (now standing)) (now table) (now held) × Levelled (length (now standing)) (now table) ⌝ }
-    ensures { λ r. ⌜ ((s : Shown (length (now (standing .entry))) (now (table .entry)) (now (held .entry))) → Vacates s (x .0) (now (placement .entry)) (now (standing .entry)) (now (empty .entry)) (now (out .entry)) at (now (placement .exit)) (now (standing .exit)) (now (empty .exit)) (now (out .exit)) r) ⌝ }
+    requires { ⌜
+        (length (now standing) ≤ span)
+        × (x .0 < length (now standing))
+        × (length (now standing) * words ≤ length (now table))
+        × (length (now held) ≡ words)
+        × (length (now empty) ≡ words)
+        × (at < room-vacate)
+        × (mem (now empty) (x .0) ≡ false)
+        × (mem (now held) (x .0) ≡ false)
+        × Placed (length (now standing)) (now placement) (now standing) (now empty)
+        × Shown (length (now standing)) (now table) (now held)
+        × Levelled (length (now standing)) (now table)
+        ⌝ }
+    ensures { λ r. ⌜
+        VacateSays (now (table .entry)) (now (held .entry)) (x .0)
+        (now (placement .entry)) (now (standing .entry)) (now (empty .entry)) (now (out .entry)) at
+        (now (placement .exit)) (now (standing .exit)) (now (empty .exit)) (now (out .exit)) r
+        ⌝ }
 {
     let n = standing.len();
     let mut path = [0u16; words::SPAN];
@@ -186,8 +232,12 @@ pub fn vacate(
     out: &mut [u64],
     at: usize,
 ) -> Vacated
-    requires { ⌜ (length (now standing) ≤ span) × (x .0 < length (now standing)) × (length (now standing) * words ≤ length (now table)) × (length (now held) ≡ words) × (length (now empty) ≡ words) × (at < 2 ^ 62) × Placed (length (now standing)) (now placement) (now standing) (now empty) × Shown (length (now standing)) (now table) (now held) × Levelled (length (now standing)) (now table) ⌝ }
-    ensures { λ r. ⌜ ((s : Shown (length (now (standing .entry))) (now (table .entry)) (now (held .entry))) → Vacates s (x .0) (now (placement .entry)) (now (standing .entry)) (now (empty .entry)) (now (out .entry)) at (now (placement .exit)) (now (standing .exit)) (now (empty .exit)) (now (out .exit)) r) ⌝ }
+    requires { ⌜ VacateAsks (now table) (now held) (x .0) (now placement) (now standing) (now empty) at ⌝ }
+    ensures { λ r. ⌜
+        VacateSays (now (table .entry)) (now (held .entry)) (x .0)
+        (now (placement .entry)) (now (standing .entry)) (now (empty .entry)) (now (out .entry)) at
+        (now (placement .exit)) (now (standing .exit)) (now (empty .exit)) (now (out .exit)) r
+        ⌝ }
 {
     let bay = x.0 as usize;
     if words::is_in(empty, bay) {

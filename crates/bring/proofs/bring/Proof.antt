@@ -6,11 +6,12 @@ use native.Mathlib.Omega.{arith}
 use lib.ListN.{length}
 use borrow.Author.Needs.{needs}
 use Rattle.paper.specs.Text.{count}
-use Rattle.bring.specs.Acting.{Tabled}
-use Rattle.bring.proofs.Acting.{tries-none}
+use Rattle.vacate.specs.Bounds.{entry-most}
+use Rattle.acting.specs.Acting.{Tabled}
+use Rattle.acting.proofs.Acting.{tries-none}
 use Rattle.bring.proofs.Bringing.{bay-low, Bringing, bringing-none, bringing-all, bringing-more, bringing-stops}
-use Rattle.bring.specs.declared.Tried.the-variants.{Done}
-use Rattle.bring.specs.declared.Tried.the-variants.{Failed}
+use Rattle.acting.specs.declared.Tried.the-variants.{Done}
+use Rattle.acting.specs.declared.Tried.the-variants.{Failed}
 use Rattle.bring.proofs.bring.Statement.{statement}
 use Rattle.bring.proofs.bring.Tie as tie
 use Rattle.bring.proofs.bring.Reads as reads
@@ -18,7 +19,7 @@ use Rattle.bring.proofs.bring.Lts as lts
 use Rattle.bring.proofs.bring_one.Reads as bring-one-reads
 
 abbrev Inv-loop : tie.InvT-loop
-Inv-loop table path l m placement₀ standing₀ empty₀ out₀ at i₀ placement standing empty out count i = (i ≤ length path) × (count .crossings ≤ at .crossings + 258 * i) × (length placement ≡ length placement₀) × (length standing ≡ length standing₀) × (length empty ≡ length empty₀)
+Inv-loop table path l m placement₀ standing₀ empty₀ out₀ at i₀ placement standing empty out count i = (i ≤ length path) × (count .crossings ≤ at .crossings + entry-most * i) × (length placement ≡ length placement₀) × (length standing ≡ length standing₀) × (length empty ≡ length empty₀)
     × (length out ≡ length out₀) × ((t : Tabled (length standing₀) table) → Bringing (t .yard) (l .0) (m .0) path (length standing₀) placement₀ out₀ at i placement standing empty out count)
 
 abbrev μ-loop : tie.MeasureT-loop

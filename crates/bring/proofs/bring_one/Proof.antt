@@ -6,10 +6,10 @@ use native.Mathlib.Omega.{arith}
 use lib.ListN.{length}
 use mathlib.Core.List.{[]}
 use borrow.Author.Needs.{needs}
-use Rattle.bring.proofs.Acting.{tries-none, acted-failed}
+use Rattle.acting.proofs.Acting.{tries-none, acted-failed}
 use Rattle.bring.proofs.Bringing.{bay-low, pairShown, led, brought-one, free, acts-free, brought-not}
-use Rattle.bring.specs.declared.Tried.the-variants.{Done}
-use Rattle.bring.specs.declared.Tried.the-variants.{Failed}
+use Rattle.acting.specs.declared.Tried.the-variants.{Done}
+use Rattle.acting.specs.declared.Tried.the-variants.{Failed}
 use Rattle.bring.proofs.bring_one.Statement.{statement}
 use Rattle.bring.proofs.bring_one.Tie as tie
 

@@ -6,7 +6,8 @@ use native.Mathlib.Omega.{arith}
 use lib.ListN.{length}
 use borrow.Author.Needs.{needs}
 use Rattle.paper.specs.Text.{count}
-use Rattle.bring.specs.Acting.{Tabled}
+use Rattle.acting.specs.Acting.{Tabled}
+use Rattle.vacate.specs.Bounds.{carrier-most}
 use Rattle.step.specs.Asking.{BaysBelow}
 use Rattle.home.proofs.Homing.{stages-stuck}
 use Rattle.carry.specs.Carrying.{Goals, HomeBelow}
@@ -18,7 +19,7 @@ use Rattle.carry.proofs.carry_all.Tie as tie
 
 abbrev Inv-loop : tie.InvT-loop
 Inv-loop table goals owner placement₀ standing₀ empty₀ settled₀ out₀ count₀ r₀ placement standing empty settled out count r =
-    (r ≤ length goals) × (count .crossings ≤ 80000000 * r) × (length placement ≡ length placement₀) × (length standing ≡ length standing₀) × (length empty ≡ length empty₀) × (length out ≡ length out₀)
+    (r ≤ length goals) × (count .crossings ≤ carrier-most * r) × (length placement ≡ length placement₀) × (length standing ≡ length standing₀) × (length empty ≡ length empty₀) × (length out ≡ length out₀)
     × HomeBelow r goals placement × ((t : Tabled (length standing₀) table) → Served (t .yard) goals (length standing₀) placement₀ out₀ r placement standing empty out count)
     × (length settled ≡ length settled₀) × BaysBelow r placement settled
 

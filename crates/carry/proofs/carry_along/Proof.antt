@@ -4,13 +4,13 @@ use mathlib.Core.Path.{_≡_, _∙_, ap, refl}
 use native.Mathlib.Omega.{arith}
 use lib.ListN.{length}
 use borrow.Author.Needs.{needs}
-use Rattle.bring.proofs.Acting.{tried-done, tried-failed}
+use Rattle.acting.proofs.Acting.{tried-done, tried-failed}
 use Rattle.clear.proofs.Clearing.{ready-again}
 use Rattle.trial.proofs.Copying.{part-long}
 use Rattle.home.proofs.Homing.{at-most, at-most-stuck}
 use Rattle.carry.proofs.Carrying.{drop-last-long, part-ahead, part-home, at-most-more, bays-more, settles, settles-stuck, homeward, carried-stuck, carried-short, carried-home}
-use Rattle.bring.specs.declared.Tried.the-variants.{Done}
-use Rattle.bring.specs.declared.Tried.the-variants.{Failed}
+use Rattle.acting.specs.declared.Tried.the-variants.{Done}
+use Rattle.acting.specs.declared.Tried.the-variants.{Failed}
 use Rattle.carry.proofs.carry_along.Statement.{statement}
 use Rattle.carry.proofs.carry_along.Tie as tie
 

@@ -4,6 +4,7 @@ use mathlib.Core.Path.{_≡_}
 use native.Mathlib.Omega.{arith}
 use lib.ListN.{length}
 use borrow.Author.Needs.{needs}
+use Rattle.vacate.specs.Bounds.{vacate-most}
 use Rattle.clear.proofs.Clearing.{lowest-in, two-short, two-both, two-from, two-within, clears-short, clears-as, twoShown, first-none, first-then, clear-none, clear-one, clear-two, around-of, inside-of, inside-less, holdsTwo, lowest-free, kept-free, ready-again, clears-both}
 use Rattle.clear.specs.declared.Kept.the-variants.{Nothing}
 use Rattle.clear.specs.declared.Kept.the-variants.{One}
@@ -205,7 +206,7 @@ returns-4 c =
     let e : c .before .before .before .before .before .before .before .before .before .before .before .before .before .before .before .before .before .before .before .before .before .before .before .before .before .before .before .before .keep-one .result ≡ One (c .before .before .before .before .before .before .before .before .before .before .before .before .before .before .before .before .before .before .first .given .0 .0) (c .before .before .before .before .before .before .before .before .before .before .before .before .before .before .before .before .before .before .first .given .0 .1 .0) = c .before .before .before .before .before .before .before .before .before .before .before .before .before .before .before .before .before .before .first .given .1 in
     let few = rw e at (c .before .before .before .before .before .before .before .before .before .before .before .before .before .before .before .before .before .before .before .before .before .before .before .before .before .before .before .before .keep-one .ensures .0) in
     let kw : length (c .before .before .before .before .before .before .before .before .before .before .before .before .before .before .before .before .before .before .before .before .before .before .before .before .before .before .before .before .keep-one .last .1 .1 .1 .1 .1 .0) ≡ length (c .before .before .before .before .before .before .before .before .before .before .before .before .before .before .before .before .before .before .before .before .before .before .before .before .before .before .before .before .before .before .before .before .before .before .before .before .before .before .before .before .before .before .before .before .before .before .before .before .before .before .before .before .before .before .before .before .before .before .before .before .args .standing .now) = c .before .before .before .before .before .before .before .before .before .before .before .before .before .before .before .before .before .before .before .before .before .before .before .before .before .before .before .before .keep-one .kept .1 .1 .1 .1 .1 .0 in (
-      two-from 256 (few .2) (few .1) (c .before .before .before .before .before .before .before .before .before .keep-second2 .ensures .0),
+      two-from vacate-most (few .2) (few .1) (c .before .before .before .before .before .before .before .before .before .keep-second2 .ensures .0),
       λ t.
           let h = holdsTwo t _ _ _ _ (c .before .before .before .before .before .before .before .before .before .before .before .before .before .before .before .before .before .before .before .before .before .before .before .before .before .before .before .before .before .before .before .before .before .before .before .before .before .before .before .before .before .before .before .before .alone .ensures) (c .before .before .before .before .before .before .before .before .before .before .before .before .before .before .before .before .before .before .before .before .before .before .before .before .before .before .before .before .before .before .before .before .before .before .before .before .before .before .before .before .join .ensures) in
           let o = rw e at (c .before .before .before .before .before .before .before .before .before .before .before .before .before .before .before .before .before .before .before .before .before .before .before .before .before .before .before .before .keep-one .ensures .1 (twoShown t h)) in

@@ -9,11 +9,11 @@ use borrow.Author.Needs.{needs}
 use Rattle.words.specs.Sets.{mem, span}
 use Rattle.rings.specs.Search.{Shown}
 use Rattle.vacate.specs.Placed.{Unchanged}
-use Rattle.bring.proofs.Acting.{acted-done, acted-failed}
+use Rattle.acting.proofs.Acting.{acted-done, acted-failed}
 use Rattle.clear.specs.Keeping.{Stuck}
 use Rattle.clear.proofs.Clearing.{same-again, unchanged-played, stuck-none, stuck-more, keeps-here, ready-again}
-use Rattle.bring.specs.declared.Tried.the-variants.{Done}
-use Rattle.bring.specs.declared.Tried.the-variants.{Failed}
+use Rattle.acting.specs.declared.Tried.the-variants.{Done}
+use Rattle.acting.specs.declared.Tried.the-variants.{Failed}
 use Rattle.clear.proofs.keep_one.Statement.{statement}
 use Rattle.clear.proofs.keep_one.Tie as tie
 

@@ -3,7 +3,8 @@
 use mathlib.Core.Path.{sym, ap}
 use native.Mathlib.Omega.{arith}
 use lib.ListN.{length}
-use Rattle.bring.specs.Acting.{nothing}
+use Rattle.vacate.specs.Bounds.{clear-once-most, attempt-most}
+use Rattle.acting.specs.Acting.{nothing}
 use Rattle.clear_on.proofs.Attempting.{ready-copy, attempted, within-more}
 use borrow.Author.Needs.{needs}
 use Rattle.clear_on.proofs.attempt.Statement.{statement}
@@ -89,7 +90,7 @@ returns-2 : tie.Need-returns-2
 returns-2 c =
     let e = c .before .before .before .before .before .before .before .before .before .before .before .before .before .before .before .before .before .before .copy .ensures in
     let d = c .before .before .before .before .before .before .before .before .before .before .before .before .before .before .before .copy2 .ensures in
-    (within-more (c .before .before .before .before .before .vacate-both .result) nothing 512 516 (omega arith) (c .before .before .before .before .before .vacate-both .ensures .0), λ t j. rw (c .before .before .before .before .before .before .before .before .before .before .if1 .left) (attempted (rw (e, d) at (c .before .before .before .before .before .vacate-both .ensures .1) t)))
+    (within-more (c .before .before .before .before .before .vacate-both .result) nothing clear-once-most attempt-most (omega arith) (c .before .before .before .before .before .vacate-both .ensures .0), λ t j. rw (c .before .before .before .before .before .before .before .before .before .before .if1 .left) (attempted (rw (e, d) at (c .before .before .before .before .before .vacate-both .ensures .1) t)))
 
 pub attempt-spec : {M : Type 1} → statement M
 attempt-spec =

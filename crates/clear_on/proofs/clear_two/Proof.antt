@@ -4,6 +4,7 @@ use mathlib.Core.Path.{_≡_}
 use native.Mathlib.Omega.{arith}
 use lib.ListN.{length}
 use Rattle.clear.proofs.Clearing.{ready-again}
+use Rattle.vacate.specs.Bounds.{clear-once-most}
 use Rattle.clear_on.proofs.Attempting.{pair-none, pair-both, pair-from, still-there, two-at-once, two-few, two-in-time}
 use borrow.Author.Needs.{needs}
 use Rattle.clear_on.proofs.clear_two.Statement.{statement}
@@ -68,7 +69,7 @@ returns-2 c =
     let z = c .before .before .before .before .before .before .before .before .before .before .before .before .before .before .before .before .before .before .before .before .before .before .before .before .before .before .before .before .pre .1 in
     let f = c .before .before .before .before .before .before .before .before .before .before .before .before .before .before .before .before .before .before .clear .ensures .0 .single _ _ (c .before .before .before .before .before .before .before .before .cleared2 .given .1) in
     let kw : length (c .before .before .before .before .before .before .before .before .before .before .before .before .before .before .before .before .before .before .clear .last .1 .1 .1 .1 .0) ≡ length (c .before .before .before .before .before .before .before .before .before .before .before .before .before .before .before .before .before .before .before .before .before .before .before .before .before .before .before .before .args .standing .now) = c .before .before .before .before .before .before .before .before .before .before .before .before .before .before .before .before .before .before .clear .kept .1 .1 .1 .1 .0 in (
-      pair-from 512 (f .2) (f .1) (c .before .before .go-on .ensures .0),
+      pair-from clear-once-most (f .2) (f .1) (c .before .before .go-on .ensures .0),
       λ t s j.
           let k = c .before .before .before .before .before .before .before .before .before .before .before .before .before .before .before .before .before .before .clear .ensures .1 t .single _ _ (c .before .before .before .before .before .before .before .before .cleared2 .given .1) in
           two-in-time (t .yard) _ _ _ _ _ k ((rw kw at (c .before .before .go-on .ensures .1)) t (still-there (t .yard) _ _ _ _ _ s (p .placed .apart) (z .0) (z .1) j _ (k .played .moved))),

@@ -6,10 +6,10 @@ use Prim.Native.Nat.{_≤_, _<_, _-_}
 use native.Mathlib.Omega.{arith}
 use lib.ListN.{length}
 use Rattle.words.specs.Sets.{mem, span}
-use Rattle.bring.specs.Acting.{Tabled}
+use Rattle.acting.specs.Acting.{Tabled}
 use Rattle.clear_on.specs.Going.{AtJunction, wayOf}
 use Rattle.clear_on.proofs.Attempting.{Failing, failing-none, failing-more, kept-none, kept-one}
-use Rattle.bring.specs.declared.Tried.the-variants.{Done, Failed}
+use Rattle.acting.specs.declared.Tried.the-variants.{Done, Failed}
 use borrow.Author.Needs.{needs}
 use Rattle.clear_on.proofs.first_kept.Statement.{statement}
 use Rattle.clear_on.proofs.first_kept.Tie as tie

@@ -4,10 +4,10 @@ use mathlib.Core.Path.{_≡_, sym, _∙_}
 use Prim.Native.Nat.{_+_}
 use native.Mathlib.Omega.{arith}
 use lib.ListN.{length}
-use Rattle.bring.proofs.Acting.{tries-none}
+use Rattle.acting.proofs.Acting.{tries-none}
 use Rattle.clear.proofs.Clearing.{ready-again}
 use Rattle.clear_on.proofs.Attempting.{round-ready, round-done, round-fails}
-use Rattle.bring.specs.declared.Tried.the-variants.{Done, Failed}
+use Rattle.acting.specs.declared.Tried.the-variants.{Done, Failed}
 use borrow.Author.Needs.{needs}
 use Rattle.clear_on.proofs.go_round.Statement.{statement}
 use Rattle.clear_on.proofs.go_round.Tie as tie

@@ -3,10 +3,11 @@
 use mathlib.Core.Path.{_≡_}
 use native.Mathlib.Omega.{arith}
 use lib.ListN.{length}
-use Rattle.bring.proofs.Acting.{tries-none, acted-done, acted-failed}
+use Rattle.vacate.specs.Bounds.{vacate-most}
+use Rattle.acting.proofs.Acting.{tries-none, acted-done, acted-failed}
 use Rattle.clear.proofs.Clearing.{twoShown, heldShown, holdsTwo, ready-again}
 use Rattle.clear_on.proofs.Attempting.{both-tries, aside-fails, within-from}
-use Rattle.bring.specs.declared.Tried.the-variants.{Done, Failed}
+use Rattle.acting.specs.declared.Tried.the-variants.{Done, Failed}
 use borrow.Author.Needs.{needs}
 use Rattle.clear_on.proofs.vacate_both.Statement.{statement}
 use Rattle.clear_on.proofs.vacate_both.Tie as tie
@@ -105,7 +106,7 @@ returns-2 c =
     let e : c .before .before .before .before .before .before .before .before .before .before .before .before .before .before .before .before .before .before .before .before .before .before .before .before .before .before .before .before .before .make-room .result ≡ Done (c .before .before .before .before .before .before .before .before .before .before .before .before .before .before .before .before .before .before .before .vacated .given .0 .0) = c .before .before .before .before .before .before .before .before .before .before .before .before .before .before .before .before .before .before .before .vacated .given .1 in
     let few = rw e at (c .before .before .before .before .before .before .before .before .before .before .before .before .before .before .before .before .before .before .before .before .before .before .before .before .before .before .before .before .before .make-room .ensures .0) in
     let kw : length (c .before .before .before .before .before .before .before .before .before .before .before .before .before .before .before .before .before .before .before .before .before .before .before .before .before .before .before .before .before .make-room .last .1 .1 .1 .1 .0) ≡ length (c .before .before .before .before .before .before .before .before .before .before .before .before .before .before .before .before .before .before .before .before .before .before .before .before .before .before .before .before .before .before .before .before .before .before .before .before .before .before .before .before .before .before .before .before .before .before .before .before .args .standing .now) = c .before .before .before .before .before .before .before .before .before .before .before .before .before .before .before .before .before .before .before .before .before .before .before .before .before .before .before .before .before .make-room .kept .1 .1 .1 .1 .0 in (
-      within-from (c .before .before .before .before .before .before .before .before .make-room2 .result) (c .before .before .before .before .before .before .before .before .before .before .before .before .before .before .before .before .before .before .before .before .before .before .before .before .before .before .before .before .before .before .before .before .before .before .before .before .before .before .before .before .before .before .before .before .before .before .before .before .args .at) (c .before .before .before .before .before .before .before .before .before .before .before .before .before .before .before .before .before .before .before .vacated .given .0 .0) 256 256 few (c .before .before .before .before .before .before .before .before .make-room2 .ensures .0),
+      within-from (c .before .before .before .before .before .before .before .before .make-room2 .result) (c .before .before .before .before .before .before .before .before .before .before .before .before .before .before .before .before .before .before .before .before .before .before .before .before .before .before .before .before .before .before .before .before .before .before .before .before .before .before .before .before .before .before .before .before .before .before .before .before .args .at) (c .before .before .before .before .before .before .before .before .before .before .before .before .before .before .before .before .before .before .before .vacated .given .0 .0) vacate-most vacate-most few (c .before .before .before .before .before .before .before .before .make-room2 .ensures .0),
       λ t.
           let h = holdsTwo t _ _ _ _ (c .before .before .before .before .before .before .before .before .before .before .before .before .before .before .before .before .before .before .before .before .before .before .before .before .before .before .before .before .before .before .before .before .before .before .before .before .before .before .before .before .alone .ensures) (c .before .before .before .before .before .before .before .before .before .before .before .before .before .before .before .before .before .before .before .before .before .before .before .before .before .before .before .before .before .before .before .before .before .before .before .before .join .ensures) in
           both-tries (t .yard) _ _ _ _ (rw e at (c .before .before .before .before .before .before .before .before .before .before .before .before .before .before .before .before .before .before .before .before .before .before .before .before .before .before .before .before .before .make-room .ensures .1 (twoShown t h))) ((rw kw at (c .before .before .before .before .before .before .before .before .make-room2 .ensures .1)) (heldShown t h _ (c .before .before .before .before .before .before .before .before .before .before .before .before .before .before .before .join2 .ensures))),

@@ -7,19 +7,20 @@ use native.Mathlib.Omega.{arith}
 use lib.ListN.{length, getD, drop}
 use borrow.Author.Needs.{needs}
 use Rattle.paper.specs.Text.{count}
-use Rattle.bring.specs.Acting.{Tabled}
-use Rattle.bring.proofs.Acting.{tries-none}
+use Rattle.acting.specs.Acting.{Tabled}
+use Rattle.acting.proofs.Acting.{tries-none}
+use Rattle.vacate.specs.Bounds.{swap-most}
 use Rattle.step.specs.Asking.{BaysBelow}
 use Rattle.go.specs.Going.{Linked}
 use Rattle.go.proofs.Going.{Going, going-none, going-all, going-more, going-stops, linked-here, arrived}
-use Rattle.bring.specs.declared.Tried.the-variants.{Done}
-use Rattle.bring.specs.declared.Tried.the-variants.{Failed}
+use Rattle.acting.specs.declared.Tried.the-variants.{Done}
+use Rattle.acting.specs.declared.Tried.the-variants.{Failed}
 use Rattle.go.proofs.go.Statement.{statement}
 use Rattle.go.proofs.go.Tie as tie
 
 abbrev Inv-loop : tie.InvT-loop
 Inv-loop table ahead r placement₀ standing₀ empty₀ settled₀ out₀ finished at i₀ placement standing empty settled out count i =
-    (i ≤ length ahead) × (count .crossings ≤ at .crossings + 150000 * i) × (length placement ≡ length placement₀) × (length standing ≡ length standing₀) × (length empty ≡ length empty₀) × (length out ≡ length out₀)
+    (i ≤ length ahead) × (count .crossings ≤ at .crossings + swap-most * i) × (length placement ≡ length placement₀) × (length standing ≡ length standing₀) × (length empty ≡ length empty₀) × (length out ≡ length out₀)
     × Linked (length standing₀) table (getD placement (r .0) 0) (drop i ahead)
     × ((t : Tabled (length standing₀) table) (goals : List ℕ) → Going (t .yard) goals (r .0) ahead (length standing₀) placement₀ out₀ at i placement standing empty out count)
     × (length settled ≡ length settled₀) × BaysBelow (r .0) placement settled

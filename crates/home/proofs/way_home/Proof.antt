@@ -7,9 +7,10 @@ use lib.ListN.{length, drop, drop-of-length-le}
 use mathlib.Core.List.{[], _∷_, _++_}
 use borrow.Author.Needs.{needs}
 use Rattle.paper.specs.Text.{count}
+use Rattle.vacate.specs.Bounds.{swap-most}
 use Rattle.step.specs.Asking.{BaysBelow}
 use Rattle.home.specs.Homing.{Settled, Homeward}
-use Rattle.bring.specs.Acting.{Tabled}
+use Rattle.acting.specs.Acting.{Tabled}
 use Rattle.home.proofs.Homing.{stages-stuck, Homed, homed-none, homed-more, homed-stops, homed-all, at-most, at-most-stuck, turn-due, turn-low, turn-homed}
 use Rattle.home.specs.declared.Staged.the-variants.{Planned}
 use Rattle.home.specs.declared.Staged.the-variants.{Stuck}
@@ -18,7 +19,7 @@ use Rattle.home.proofs.way_home.Tie as tie
 
 abbrev Inv-loop : tie.InvT-loop
 Inv-loop table goals owner finished bays placement₀ standing₀ empty₀ settled₀ out₀ at i₀ placement standing empty settled out count i =
-    (i ≤ length bays) × (count .crossings + 150000 * i ≤ at .crossings + 150000 * length bays) × (length placement ≡ length placement₀) × (length standing ≡ length standing₀) × (length empty ≡ length empty₀) × (length out ≡ length out₀)
+    (i ≤ length bays) × (count .crossings + swap-most * i ≤ at .crossings + swap-most * length bays) × (length placement ≡ length placement₀) × (length standing ≡ length standing₀) × (length empty ≡ length empty₀) × (length out ≡ length out₀)
     × ((h : Homeward (length standing₀) table goals finished bays placement₀) → Settled goals finished (h .first) (bays ++ (h .last ∷ [])) (drop i bays ++ (h .last ∷ [])) placement)
     × ((t : Tabled (length standing₀) table) → Homed (t .yard) goals finished bays (length standing₀) placement₀ out₀ at i placement standing empty out count)
     × (length settled ≡ length settled₀) × BaysBelow finished placement settled

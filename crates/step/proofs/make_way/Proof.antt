@@ -5,11 +5,11 @@ use Prim.Native.Nat.{_<_}
 use native.Mathlib.Omega.{arith}
 use lib.ListN.{length, getD}
 use borrow.Author.Needs.{needs}
-use Rattle.bring.proofs.Acting.{acted-done, acted-failed}
+use Rattle.acting.proofs.Acting.{acted-done, acted-failed}
 use Rattle.clear.proofs.Clearing.{ready-again}
 use Rattle.step.proofs.Stepping.{heldBy, met-carrier, met-other, met-beside, stepped-swap, r-there, r-inside, w-empty, stepped-cross}
-use Rattle.bring.specs.declared.Tried.the-variants.{Done}
-use Rattle.bring.specs.declared.Tried.the-variants.{Failed}
+use Rattle.acting.specs.declared.Tried.the-variants.{Done}
+use Rattle.acting.specs.declared.Tried.the-variants.{Failed}
 use Rattle.step.proofs.make_way.Statement.{statement}
 use Rattle.step.proofs.make_way.Tie as tie
 

@@ -13,14 +13,16 @@ fill-requires : tie.Need-fill-requires
 fill-requires c κs =
     let p = c .before .before .before .before .before .before .before .before .before .pre .0 in
     let z = c .before .before .before .before .before .before .before .before .before .pre .1 in (
-      z .2,
-      inside-e (p .tabled) (p .most) (z .4) (c .before .before .before .before .before .before .before .before .before .args .finished) (c .before .before .before .before .before .before .before .before .before .args .r .0) (c .before .before .before .before .before .before .before .before .before .args .w .0) (c .before .before .before .before .before .before .before .before .before .args .placement .now) (p .placed) (z .0) (z .1) (z .2) (z .3) (z .6) (z .7) (c .before .before .before .before .before .before .before .before .before .args .e .0) (z .8) (z .9),
-      p .most,
-      p .empty-size,
-      omega (arith, z .5),
-      full-in (p .tabled) (p .most) (z .4) (c .before .before .before .before .before .before .before .before .before .args .finished) (c .before .before .before .before .before .before .before .before .before .args .r .0) (c .before .before .before .before .before .before .before .before .before .args .w .0) (c .before .before .before .before .before .before .before .before .before .args .placement .now) (p .placed) (z .0) (z .1) (z .2) (z .3) (z .6) (z .7) (c .before .before .before .before .before .before .before .before .before .args .e .0) (z .8) (z .9),
-      empty-e (p .tabled) (p .most) (z .4) (c .before .before .before .before .before .before .before .before .before .args .finished) (c .before .before .before .before .before .before .before .before .before .args .r .0) (c .before .before .before .before .before .before .before .before .before .args .w .0) (c .before .before .before .before .before .before .before .before .before .args .placement .now) (p .placed) (z .0) (z .1) (z .2) (z .3) (z .6) (z .7) (c .before .before .before .before .before .before .before .before .before .args .e .0) (z .8) (z .9),
-      p .placed,
+      (
+        z .2,
+        inside-e (p .tabled) (p .most) (z .4) (c .before .before .before .before .before .before .before .before .before .args .finished) (c .before .before .before .before .before .before .before .before .before .args .r .0) (c .before .before .before .before .before .before .before .before .before .args .w .0) (c .before .before .before .before .before .before .before .before .before .args .placement .now) (p .placed) (z .0) (z .1) (z .2) (z .3) (z .6) (z .7) (c .before .before .before .before .before .before .before .before .before .args .e .0) (z .8) (z .9),
+        p .most,
+        p .empty-size,
+        omega (arith, z .5),
+        full-in (p .tabled) (p .most) (z .4) (c .before .before .before .before .before .before .before .before .before .args .finished) (c .before .before .before .before .before .before .before .before .before .args .r .0) (c .before .before .before .before .before .before .before .before .before .args .w .0) (c .before .before .before .before .before .before .before .before .before .args .placement .now) (p .placed) (z .0) (z .1) (z .2) (z .3) (z .6) (z .7) (c .before .before .before .before .before .before .before .before .before .args .e .0) (z .8) (z .9),
+        empty-e (p .tabled) (p .most) (z .4) (c .before .before .before .before .before .before .before .before .before .args .finished) (c .before .before .before .before .before .before .before .before .before .args .r .0) (c .before .before .before .before .before .before .before .before .before .args .w .0) (c .before .before .before .before .before .before .before .before .before .args .placement .now) (p .placed) (z .0) (z .1) (z .2) (z .3) (z .6) (z .7) (c .before .before .before .before .before .before .before .before .before .args .e .0) (z .8) (z .9),
+        p .placed,
+      ),
       p .table-size,
     )
 

@@ -12,8 +12,8 @@ use Rattle.words.specs.Sets.{mem, words, span}
 use Rattle.words.proofs.Sets.{zeros, mem-zeros}
 use Rattle.swap.specs.Seeking.{Beside}
 use Rattle.rings.proofs.Searching.{Widening, widening-first, widening-more, widening-rows}
-use Rattle.bring.specs.Acting.{Tabled}
-use Rattle.bring.specs.declared.Tried.the-variants.{Done, Failed}
+use Rattle.acting.specs.Acting.{Tabled}
+use Rattle.acting.specs.declared.Tried.the-variants.{Done, Failed}
 use Rattle.trial.proofs.Copying.{freeShown}
 use Rattle.swap.proofs.Seeking.{Sought, sought-first, sought-found, sought-end, sought-start, sought-more, sought-next, reached-from, ring-low, near-of}
 use Rattle.swap.proofs.seek.Statement.{statement}

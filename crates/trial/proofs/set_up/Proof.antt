@@ -4,12 +4,12 @@ use mathlib.Core.Path.{_≡_}
 use native.Mathlib.Omega.{arith}
 use lib.ListN.{length}
 use borrow.Author.Needs.{needs}
-use Rattle.bring.proofs.Acting.{tried-done, tried-failed}
+use Rattle.acting.proofs.Acting.{tried-done, tried-failed}
 use Rattle.clear.proofs.Clearing.{ready-again}
 use Rattle.clear_on.proofs.Attempting.{pair-none, pair-from, pair-within}
 use Rattle.trial.proofs.Attempting.{not-brought, at-junction, set-up-all}
-use Rattle.bring.specs.declared.Tried.the-variants.{Done}
-use Rattle.bring.specs.declared.Tried.the-variants.{Failed}
+use Rattle.acting.specs.declared.Tried.the-variants.{Done}
+use Rattle.acting.specs.declared.Tried.the-variants.{Failed}
 use Rattle.trial.proofs.set_up.Statement.{statement}
 use Rattle.trial.proofs.set_up.Tie as tie
 

@@ -1,10 +1,10 @@
--- `bring::tally_filled` meets its contract. One more is counted exactly if the bay is a junction.
+-- `acting::tally_filled` meets its contract. One more is counted exactly if the bay is a junction.
 -- Assumes nothing.
 use mathlib.Core.Path.{refl, sym, _∙_}
 use borrow.Author.Needs.{needs}
-use Rattle.bring.proofs.Junctions.{filling-more, filling-none}
-use Rattle.bring.proofs.tally_filled.Statement.{statement}
-use Rattle.bring.proofs.tally_filled.Tie as tie
+use Rattle.acting.proofs.Junctions.{filling-more, filling-none}
+use Rattle.acting.proofs.tally_filled.Statement.{statement}
+use Rattle.acting.proofs.tally_filled.Tie as tie
 
 is-junction-requires : tie.Need-is-junction-requires
 is-junction-requires c κs = search needs

@@ -1,12 +1,12 @@
--- `bring::make_room` meets its contract. The paper's vacate gives crossings exactly where the answer has a count, and fewer of them than there are bays.
+-- `acting::make_room` meets its contract. The paper's vacate gives crossings exactly where the answer has a count, and fewer of them than there are bays.
 -- Assumes nothing.
 use borrow.Author.Needs.{needs}
-use Rattle.bring.proofs.Acting.{room-acts, room-within, filled-in}
-use Rattle.bring.proofs.make_room.Statement.{statement}
-use Rattle.bring.proofs.make_room.Tie as tie
-use Rattle.bring.proofs.make_room.Reads as reads
-use Rattle.bring.proofs.make_room.Lts as lts
-use Rattle.bring.proofs.counted.Reads as counted-reads
+use Rattle.acting.proofs.Acting.{room-acts, room-within, filled-in}
+use Rattle.acting.proofs.make_room.Statement.{statement}
+use Rattle.acting.proofs.make_room.Tie as tie
+use Rattle.acting.proofs.make_room.Reads as reads
+use Rattle.acting.proofs.make_room.Lts as lts
+use Rattle.acting.proofs.counted.Reads as counted-reads
 use Rattle.vacate.proofs.vacate.Reads as vacate-reads
 
 vacate-requires : tie.Need-vacate-requires

@@ -6,18 +6,19 @@ use mathlib.Core.List.{List, [], _∷_, map}
 use mathlib.Core.Option.{Option, none, some}
 use Prim.Native.Nat.{ℕ, min, _≤_, _<_, _+_, _*_, _^_}
 use lib.ListN.{length}
-use Rattle.paper.specs.Procedure.{Made, only, parking, vacate, bring}
-use Rattle.paper.specs.Yard.{Bay, Carrier, Yard, Placement, Crossing, crossing, bayOf, after, pack, junction}
+use Rattle.paper.specs.Procedure.{Made, Action, only, parking, vacate}
+use Rattle.paper.specs.Yard.{Bay, Yard, Crossing, crossing, carrierAt, after, pack, junction}
 use Rattle.words.specs.Sets.{words, span}
 use Rattle.yard.specs.Table.{Table}
 use Rattle.levels.specs.Levels.{Levelled}
+use Rattle.rings.specs.Search.{Shown}
+use Rattle.vacate.specs.Bounds.{vacate-most, room-vacate}
 use Rattle.vacate.specs.Placed.{Placed, Stored, Unchanged}
 use Rattle.vacate.specs.declared.Vacated.{Vacated}
 use Rattle.vacate.specs.declared.Vacated.the-variants.{Empty, Filled, Failed as NotVacated}
-use Rattle.bring.specs.declared.Tally.{Tally}
-use Rattle.bring.specs.declared.Tried.the-variants.{Done}
-use Rattle.bring.specs.declared.Tried.the-variants.{Failed}
-use Rattle.bring.specs.declared.Tried.{Tried}
+use Rattle.acting.specs.declared.Tally.{Tally}
+use Rattle.acting.specs.declared.Tried.the-variants.{Done, Failed}
+use Rattle.acting.specs.declared.Tried.{Tried}
 
 -- the table is that of some yard
 pub record Tabled (n : ℕ) (table : List ℕ) : Type 0 where
@@ -106,16 +107,45 @@ pub record Proceeds (o : Option Made) (n : ℕ) (p out : List ℕ) (at : Tally) 
   pub tries : Tries o n p out at p′ standing′ empty′ out′ r
   pub still : r ≡ Failed → p′ ≡ p
 
--- l goes into x, and m follows into l's bay
-abbrev pub entering : Carrier → Carrier → Bay → Placement → Made
-entering L M x p = only (crossing L (bayOf p L) x ∷ crossing M (bayOf p M) (bayOf p L) ∷ [])
+-- ## In the yard that the table shows
 
--- (the code's functions have the same names)
+-- tries what the paper's action makes at the placement lent
+abbrev pub TriesAs : (Yard → Action) → (table p standing out : List ℕ) → Tally → (p′ standing′ empty′ out′ : List ℕ) → Tried → Type 0
+TriesAs action table p standing out at p′ standing′ empty′ out′ r =
+    (t : Tabled (length standing) table) → Tries (action (t .yard) p) (length standing) p out at p′ standing′ empty′ out′ r
+
+-- proceeds as the paper's action does
+abbrev pub ProceedsAs : (Yard → Action) → (table p standing out : List ℕ) → Tally → (p′ standing′ empty′ out′ : List ℕ) → Tried → Type 0
+ProceedsAs action table p standing out at p′ standing′ empty′ out′ r =
+    (t : Tabled (length standing) table) → Proceeds (action (t .yard) p) (length standing) p out at p′ standing′ empty′ out′ r
+
+-- (the code's function has the same name)
 abbrev pub junctions : Yard → Bay → Bool
 junctions Y v = junction Y v
 
-abbrev pub vacates : Yard → List Bay → Bay → Placement → Option Made
-vacates Y held x p = vacate Y held x p
+-- ## What is asked, what is said
 
-abbrev pub brings : Yard → Carrier → Carrier → List Bay → Placement → Option Made
-brings Y L M path p = bring Y L M path p
+-- vacating x
+abbrev pub RoomAsks : (table held : List ℕ) → Bay → (standing : List ℕ) → Tally → Type 0
+RoomAsks table held x standing at =
+    (x < length standing)
+    × (length held ≡ words)
+    × (at .crossings < room-vacate)
+    × Shown (length standing) table held
+
+abbrev pub RoomSays : (table held : List ℕ) → Bay → (p standing empty out : List ℕ) → Tally → (p′ standing′ empty′ out′ : List ℕ) → Tried → Type 0
+RoomSays table held x p standing empty out at p′ standing′ empty′ out′ r =
+    Within at vacate-most r
+    × ((s : Shown (length standing) table held)
+    → Acts (vacate (s .yard) (s .bays) x p) (length standing) p standing empty out at p′ standing′ empty′ out′ r)
+
+-- the crossing from a to b is the only one
+abbrev pub CrossCounts : Bay → Bay → (p standing out : List ℕ) → Tally → (p′ standing′ empty′ out′ : List ℕ) → Tally → Type 0
+CrossCounts a b p standing out at p′ standing′ empty′ out′ r =
+    Tallied (only (crossing (carrierAt p a) a b ∷ [])) (length standing) p p′ standing′ empty′ out at out′ r
+
+-- it is a vacate that filled b
+abbrev pub FillCounts : Bay → Bay → (table p standing out : List ℕ) → Tally → (p′ standing′ empty′ out′ : List ℕ) → Tally → Type 0
+FillCounts a b table p standing out at p′ standing′ empty′ out′ r =
+    (t : Tabled (length standing) table)
+    → Tallied (filledWith (t .yard) (crossing (carrierAt p a) a b) b) (length standing) p p′ standing′ empty′ out at out′ r

@@ -1,13 +1,13 @@
--- `bring::is_junction` meets its contract. The rails counted are the yard's.
+-- `acting::is_junction` meets its contract. The rails counted are the yard's.
 -- Assumes nothing.
 use mathlib.Core.Path.{ap, _∙_}
 use Prim.Native.Nat.{ℕ}
 use native.Mathlib.Omega.{arith}
 use lib.Dec.{ltb}
 use borrow.Author.Needs.{needs}
-use Rattle.bring.proofs.Junctions.{junction-rails}
-use Rattle.bring.proofs.is_junction.Statement.{statement}
-use Rattle.bring.proofs.is_junction.Tie as tie
+use Rattle.acting.proofs.Junctions.{junction-rails}
+use Rattle.acting.proofs.is_junction.Statement.{statement}
+use Rattle.acting.proofs.is_junction.Tie as tie
 
 cast-count-rails : tie.Need-cast-count-rails
 cast-count-rails c = search needs

@@ -6,7 +6,7 @@ use mathlib.Core.Option.{Option, none, some}
 use Prim.Native.Nat.{ℕ, _≤_, _<_, _+_}
 use native.Mathlib.Omega.{arith}
 use lib.ListN.{length, length-append, length-map}
-use Rattle.bring.specs.Acting.{AsFar, FilledIn, Filling, Counts, Tallied, Within, Acts, Tries, Proceeds}
+use Rattle.acting.specs.Acting.{AsFar, FilledIn, Filling, Counts, Tallied, Within, Acts, Tries, Proceeds}
 use Rattle.paper.specs.Basics.{upTo, In}
 use Rattle.paper.specs.Procedure.{Made, only, together, parking, vacate}
 use Rattle.paper.specs.Yard.{Bay, Yard, Crossing, pack, after}
@@ -20,10 +20,10 @@ use Rattle.rings.specs.Search.{Shown}
 use Rattle.vacate.specs.Answer.{countAfter, filled, vacating, Vacates}
 use Rattle.vacate.proofs.Answers.{answered-count}
 use Rattle.vacate.proofs.Playing.{stored-none, stored-then}
-use Rattle.bring.specs.declared.Tally.{Tally}
-use Rattle.bring.specs.declared.Tried.the-variants.{Done}
-use Rattle.bring.specs.declared.Tried.the-variants.{Failed}
-use Rattle.bring.specs.declared.Tried.{Tried}
+use Rattle.acting.specs.declared.Tally.{Tally}
+use Rattle.acting.specs.declared.Tried.the-variants.{Done}
+use Rattle.acting.specs.declared.Tried.the-variants.{Failed}
+use Rattle.acting.specs.declared.Tried.{Tried}
 use Rattle.vacate.specs.declared.Vacated.{Vacated}
 use Rattle.vacate.specs.declared.Vacated.the-variants.{Empty, Filled, Failed as NotVacated}
 

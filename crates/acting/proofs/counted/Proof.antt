@@ -1,9 +1,9 @@
--- `bring::counted` meets its contract. Each case carries the tally that goes with the answer.
+-- `acting::counted` meets its contract. Each case carries the tally that goes with the answer.
 -- Assumes nothing.
 use mathlib.Core.Path.{sym, refl}
 use borrow.Author.Needs.{needs}
-use Rattle.bring.proofs.counted.Statement.{statement}
-use Rattle.bring.proofs.counted.Tie as tie
+use Rattle.acting.proofs.counted.Statement.{statement}
+use Rattle.acting.proofs.counted.Tie as tie
 
 enum-told : tie.Need-enum-told
 enum-told c = search needs

@@ -10,7 +10,7 @@ use Rattle.paper.specs.Yard.{Bay, Yard, junction}
 use Rattle.words.specs.Sets.{span}
 use Rattle.choice.specs.Taking.{rails}
 use Rattle.choice.proofs.Counting.{table-rails}
-use Rattle.bring.specs.Acting.{Tabled, AsFar, Filling}
+use Rattle.acting.specs.Acting.{Tabled, AsFar, Filling}
 
 pub junction-rails : {n : ℕ} {table : List ℕ} (t : Tabled n table) → n ≤ span → (v : Bay) → v < n → ltb 2 (rails table v) ≡ junction (t .yard) v
 unfolding junction

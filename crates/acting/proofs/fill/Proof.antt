@@ -1,10 +1,10 @@
--- `bring::fill` meets its contract. One crossing is a vacate that filled its bay.
+-- `acting::fill` meets its contract. One crossing is a vacate that filled its bay.
 -- Assumes nothing.
 use native.Mathlib.Omega.{arith}
 use borrow.Author.Needs.{needs}
-use Rattle.bring.proofs.Acting.{tallied-filled}
-use Rattle.bring.proofs.fill.Statement.{statement}
-use Rattle.bring.proofs.fill.Tie as tie
+use Rattle.acting.proofs.Acting.{tallied-filled}
+use Rattle.acting.proofs.fill.Statement.{statement}
+use Rattle.acting.proofs.fill.Tie as tie
 
 cross-requires : tie.Need-cross-requires
 cross-requires c κs = search needs
