@@ -26,11 +26,8 @@ pub enum Counted {
     Refused(Refusal),
 }
 
-// Clearing room takes time, and a plan longer than its room is played twice. So there are five rooms, and the one taken follows the lengths
-// measured on 256 bays, the least and the most of 15 random orders each, or of 100 where the order is not one of the bench:
-// - random yards with 8 rail ends to a bay: 60 carriers 242 to 300, 128: 767 to 920, 200: 1914 to 2182, 240: 3649 to 4189, 254: 7092 to 10525;
-// - grid of 16 × 16: 60 carriers 1067 to 1526, 100: 2408 to 3533, 128: 3990 to 5459, 152: 5404 to 7913, 200: 11751 to 15942, 240: 32656 to 44029;
-// - lines with sidings: 20 carriers 1808 to 3040, 24: 1910 to 4358, 32: 3226 to 7430, 40: 5413 to 13336.
+// Clearing room takes time, and a plan longer than its room is played twice. So there are five rooms, and the one taken is the least that holds a plan as
+// long as it is likely to be.
 
 // Crossings that the least room holds.
 const LEAST: usize = 1024;
@@ -43,30 +40,6 @@ const HALF: usize = 8192;
 
 // Crossings that the fourth holds. The last holds Yard::CROSSINGS, more than which no plan may have.
 const MORE: usize = 16384;
-
-// Fewer carriers than this have the least room in a dense yard.
-const DENSE_LEAST: usize = 144;
-
-// Fewer than this have the second room there, all others the fourth.
-const DENSE_LESS: usize = 224;
-
-// Fewer carriers than this have the second room in a yard like a grid.
-const GRID_LESS: usize = 100;
-
-// Fewer than this have the third room there.
-const GRID_HALF: usize = 152;
-
-// Fewer than this have the fourth, all others the last.
-const GRID_MORE: usize = 208;
-
-// Fewer carriers than this have the second room in a narrow yard.
-const NARROW_LESS: usize = 24;
-
-// Fewer than this have the third room there.
-const NARROW_HALF: usize = 32;
-
-// Fewer than this have the fourth, all others the last.
-const NARROW_MORE: usize = 64;
 
 // What comes of a plan in the room that it was kept in.
 enum Handed {
@@ -212,55 +185,35 @@ fn hand_out_most(
     }
 }
 
-// In a dense yard.
-fn hand_out_dense(
-    table: &[u64; Yard::TABLE],
-    n: usize,
-    ends: usize,
-    start: &[u16],
-    goal: &[u16],
-    out: &mut [u64],
-) -> Handed
-    requires { ⌜ Admitted n (now table) (now start) (now goal) ⌝ }
-    ensures { λ r. ⌜ ((t : Tabled n (now (table .entry))) → HandsIfKept (procedures (t .yard) (now (goal .entry)) (now (start .entry))) (now (out .entry)) r (now (out .exit))) ⌝ }
-{
-    if start.len() < DENSE_LEAST {
-        return hand_out_least(table, n, ends, start, goal, out);
+// Whether so much room is likely to hold the plan: what a carrier has of it, in sixteenths of a crossing, is held to what a carrier needs. The crowd counts, which
+// is how many bays there are for each empty one. In a dense yard no bay is far, and a carrier seldom needs more than 40 crossings. On a grid the side counts
+// too, for which a straight line stands from 5 to 17. In a narrow yard a carrier has a long way and meets most of the others. The numbers were found on random
+// orders in yards of 16 to 256 bays; no answer depends on them.
+fn likely_holds(room: usize, n: usize, ends: usize, carriers: usize) -> bool {
+    if Yard::CROSSINGS < room {
+        return true;
     }
-    if start.len() < DENSE_LESS {
-        return hand_out_less(table, n, ends, start, goal, out);
+    if Yard::BAYS < n {
+        return false;
     }
-    hand_out_more(table, n, ends, start, goal, out)
+    if n <= carriers {
+        return false;
+    }
+    let empty = n - carriers;
+    let each = room * 16 / (carriers + 1);
+    if n <= ends / DENSE {
+        if 640 <= each {
+            return true;
+        }
+        return (empty * 64 + n * 24) / empty <= each;
+    }
+    if n <= ends / GRID * 2 {
+        return (empty * 20 + n * 12) / empty <= each / (n / 20 + 5);
+    }
+    n * 8 + carriers * 32 <= each
 }
 
-// In any other yard: fewer than `less` carriers have the second room, fewer than `half` the third, fewer than `more` the fourth.
-fn hand_out_sparse(
-    table: &[u64; Yard::TABLE],
-    n: usize,
-    ends: usize,
-    less: usize,
-    half: usize,
-    more: usize,
-    start: &[u16],
-    goal: &[u16],
-    out: &mut [u64],
-) -> Handed
-    requires { ⌜ Admitted n (now table) (now start) (now goal) ⌝ }
-    ensures { λ r. ⌜ ((t : Tabled n (now (table .entry))) → HandsIfKept (procedures (t .yard) (now (goal .entry)) (now (start .entry))) (now (out .entry)) r (now (out .exit))) ⌝ }
-{
-    if start.len() < less {
-        return hand_out_less(table, n, ends, start, goal, out);
-    }
-    if start.len() < half {
-        return hand_out_half(table, n, ends, start, goal, out);
-    }
-    if start.len() < more {
-        return hand_out_more(table, n, ends, start, goal, out);
-    }
-    Handed::Done(hand_out_most(table, n, ends, start, goal, out))
-}
-
-// With the room that the plan is likely to need, by the carriers and by how many rails a bay has; the rails have so many ends.
+// With the least room that is likely to hold the plan, by bays, carriers and the rails' ends.
 fn hand_out_likely(
     table: &[u64; Yard::TABLE],
     n: usize,
@@ -272,14 +225,20 @@ fn hand_out_likely(
     requires { ⌜ Admitted n (now table) (now start) (now goal) ⌝ }
     ensures { λ r. ⌜ ((t : Tabled n (now (table .entry))) → HandsIfKept (procedures (t .yard) (now (goal .entry)) (now (start .entry))) (now (out .entry)) r (now (out .exit))) ⌝ }
 {
-    if n <= ends / DENSE {
-        return hand_out_dense(table, n, ends, start, goal, out);
+    let carriers = start.len();
+    if likely_holds(LEAST, n, ends, carriers) {
+        return hand_out_least(table, n, ends, start, goal, out);
     }
-    let grid = n <= ends / GRID * 2;
-    let less = if grid { GRID_LESS } else { NARROW_LESS };
-    let half = if grid { GRID_HALF } else { NARROW_HALF };
-    let more = if grid { GRID_MORE } else { NARROW_MORE };
-    hand_out_sparse(table, n, ends, less, half, more, start, goal, out)
+    if likely_holds(LESS, n, ends, carriers) {
+        return hand_out_less(table, n, ends, start, goal, out);
+    }
+    if likely_holds(HALF, n, ends, carriers) {
+        return hand_out_half(table, n, ends, start, goal, out);
+    }
+    if likely_holds(MORE, n, ends, carriers) {
+        return hand_out_more(table, n, ends, start, goal, out);
+    }
+    Handed::Done(hand_out_most(table, n, ends, start, goal, out))
 }
 
 // With the likely room, and once more with the last where the plan is longer than that. The likely one is given back by then, so the two share their

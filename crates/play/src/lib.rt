@@ -14,17 +14,20 @@ ghost use Rattle.step.specs.Asking.{BaysBelow};
 ghost use Rattle.carry.specs.Carrying.{procedures};
 ghost use Rattle.play.specs.Playing.{Admitted, Plays};
 
-// Fewer carriers than this are soon planned, and levels do not pay for themselves.
-const MANY: usize = 128;
-
-// Where at most so many bays are empty, vacating has far to go, and many levels pay.
-const CROWDED: usize = 20;
+// Where this share of the bays is empty, or less, vacating has far to go, and many levels pay.
+const CROWDED: usize = 12;
 
 // Levels that have room then in any yard.
 const HIGH: usize = 32;
 
-// Where at most so many are empty, a few levels pay, unless the yard is dense. Where more are, vacating has not far to go.
-const FILLED: usize = 64;
+// A yard with fewer bays has all its levels in the lesser room.
+const WIDE: usize = 128;
+
+// Where less than this share is empty, a few levels pay, unless the yard is dense. Where more is, vacating has not far to go.
+const FILLED: usize = 4;
+
+// Filling levels takes time, so there must be so many carriers more.
+const SURPLUS: usize = 7;
 
 // Levels that have room there in any yard.
 const LOW: usize = 8;
@@ -180,20 +183,24 @@ pub fn play(
         ⌝ }
 {
     let carriers = start.len();
-    if carriers < MANY {
+    if carriers < n - n / FILLED + SURPLUS {
         return play_by_rails(table, n, start, goal, out);
     }
     if ends / GRID * 2 < n {
         return play_by_rails(table, n, start, goal, out);
     }
-    if n <= carriers + CROWDED {
-        return play_high(table, n, start, goal, out);
+    let yard = Yard {
+        bays: n,
+        rails: ends / 2,
+    };
+    if n / CROWDED < yard.empty_bays(start) {
+        if n <= ends / DENSE {
+            return play_by_rails(table, n, start, goal, out);
+        }
+        return play_low(table, n, start, goal, out);
     }
-    if carriers + FILLED < n {
-        return play_by_rails(table, n, start, goal, out);
+    if n < WIDE {
+        return play_low(table, n, start, goal, out);
     }
-    if n <= ends / DENSE {
-        return play_by_rails(table, n, start, goal, out);
-    }
-    play_low(table, n, start, goal, out)
+    play_high(table, n, start, goal, out)
 }
