@@ -2,11 +2,18 @@
 // it without its there-and-back trips.
 use libc::STDERR_FILENO;
 use libc::STDOUT_FILENO;
+ghost use mathlib.Core.Path.{_≡_};
 ghost use Prim.Native.Nat.{_+_, _≤_};
 ghost use lib.ListN.{length};
+ghost use Rattle.paper.specs.Text.{text, same};
+ghost use Rattle.stores.specs.Writing.{Wrote};
+ghost use Rattle.filing.specs.Filing.{fileOf};
 ghost use Rattle.program.specs.Printout.{print-room};
+ghost use Rattle.printout.specs.Whole.{printFor};
 
-// How many of a file's first bytes are in the buffer, and whether it could be read.
+// How many of a file's first bytes are in the buffer, and whether it could be read. No contract says which bytes these are: what a call of the
+// operating system puts into a buffer is not known to the proof. So the promises begin with the bytes read, in `print`, and end with the bytes
+// handed to the operating system.
 struct Loaded {
     bytes: usize,
     readable: bool,
@@ -63,35 +70,31 @@ fn load(path: &[u8], buffer: &mut [u8]) -> Loaded
     loaded
 }
 
-// Any other word is a file's name.
-fn is_flag(word: &[u8]) -> bool {
-    if word.len() != 9 {
-        return false;
-    }
-    let dashes = word[0] == b'-' && word[1] == b'-';
-    let half = word[2] == b's' && word[3] == b'h' && word[4] == b'o' && word[5] == b'r';
-    dashes && half && word[6] == b't' && word[7] == b'e' && word[8] == b'n'
+// True exactly for the word `--shorten`. Any other word is a file's name.
+fn is_flag(word: &[u8]) -> bool
+    ensures { λ r. ⌜ r ≡ same (now (word .entry)) (text "--shorten") ⌝ }
+{
+    lines::is_word(word, b"--shorten")
 }
 
-// With the flag the plan is shortened.
+// All that is printed for two files, each with whether it could be read: what the paper prints; with the flag as first word, with the plan shortened.
 fn print(
-    short: bool,
+    word: &[u8],
     map: &[u8],
     mapped: bool,
     scenario: &[u8],
     listed: bool,
     out: &mut [u8],
 ) -> usize
-    ensures { λ r. ⌜ r ≤ print-room ⌝ }
+    ensures { λ r. ⌜ Wrote (now (out .entry)) 0 (printFor (same (now (word .entry)) (text "--shorten")) (fileOf mapped (now (map .entry))) (fileOf listed (now (scenario .entry)))) (now (out .exit)) r × (r ≤ print-room) ⌝ }
 {
-    if short {
-        return program::program_short(map, mapped, scenario, listed, out);
-    }
-    program::program(map, mapped, scenario, listed, out)
+    let short = is_flag(word);
+    printout::print(short, map, mapped, scenario, listed, out)
 }
 
-// These many bytes of a file decide the answer, however long it is, and every print fits in these many.
-fn answer(short: bool, map_path: &[u8], scenario_path: &[u8]) {
+// These many bytes of a file decide the answer, however long it is, and every print fits in these many. It has no contract of its own: it lends nothing
+// and answers nothing. What it writes is the whole of what `print` answers.
+fn answer(word: &[u8], map_path: &[u8], scenario_path: &[u8]) {
     let mut map = [0u8; filing::MAP_BYTES];
     let mut scenario = [0u8; filing::SCENARIO_BYTES];
     let mut out = [0u8; program::PRINT_BYTES];
@@ -100,7 +103,7 @@ fn answer(short: bool, map_path: &[u8], scenario_path: &[u8]) {
     let m = first.bytes;
     let s = second.bytes;
     let n = print(
-        short,
+        word,
         &map[..m],
         first.readable,
         &scenario[..s],
@@ -111,7 +114,7 @@ fn answer(short: bool, map_path: &[u8], scenario_path: &[u8]) {
 }
 
 // The two files are named by the words from `first` on.
-fn answer_from(short: bool, first: usize)
+fn answer_from(word: &[u8], first: usize)
     requires { ⌜ first ≤ 2 ⌝ }
 {
     if os::arg_count() != first + 2 {
@@ -124,15 +127,15 @@ fn answer_from(short: bool, first: usize)
     let m = os::arg(first, &mut map);
     let mut scenario = io::buffer();
     let s = os::arg(first + 1, &mut scenario);
-    answer(short, &map[..m], &scenario[..s]);
+    answer(word, &map[..m], &scenario[..s]);
 }
 
 fn main() {
     let mut word = io::buffer();
     let w = os::arg(1, &mut word);
     if is_flag(&word[..w]) {
-        answer_from(true, 2);
+        answer_from(&word[..w], 2);
     } else {
-        answer_from(false, 1);
+        answer_from(&word[..w], 1);
     }
 }
