@@ -9,6 +9,7 @@ use lib.ListN.{length}
 use lib.Seq.{sets}
 use Rattle.paper.specs.Limits.{most-carriers}
 use Rattle.paper.specs.Yard.{Bay}
+use Rattle.paper.specs.Order.{order}
 use Rattle.paper.specs.Docket.{Refusal, no-14, no-15}
 use Rattle.paper.specs.Answers.{Answer, refused, plan}
 use Rattle.paper.specs.Text.{Text, Read, good, badLine}
@@ -71,7 +72,7 @@ filed mapFile scenarioFile = mapFiled (readFile readMap mapFile) scenarioFile
 
 -- the program's answer to it
 abbrev pub answered : Filed → Answer
-answered (order n ends cs) = plan n ends (startsOf cs) (goalsOf cs) program-room
+answered (order n ends cs) = plan (order n ends (startsOf cs) (goalsOf cs)) program-room
 answered (refusal r) = refused r
 
 -- ## What is told of it, and what stands in the lent lists

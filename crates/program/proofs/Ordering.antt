@@ -40,7 +40,7 @@ pub record Stands (mapFile scenarioFile : Option Text) (o : Order) (ends starts 
   pub rails : o .ends ≤ length ends
   pub starting : o .carriers ≤ length starts
   pub ending : o .carriers ≤ length goals
-  pub answers : plan (o .bays) (take (o .ends) ends) (take (o .carriers) starts) (take (o .carriers) goals) program-room ≡ programAnswer mapFile scenarioFile
+  pub answers : plan (order (o .bays) (take (o .ends) ends) (take (o .carriers) starts) (take (o .carriers) goals)) program-room ≡ programAnswer mapFile scenarioFile
 
 module _ {mapFile scenarioFile : Option Text} {r : Ordered} {ends₀ ends starts₀ starts goals₀ goals : List ℕ} (f : Files mapFile scenarioFile r ends₀ ends starts₀ starts goals₀ goals) where
   pub order-stands : (o : Order) → r ≡ the.Order o → 16384 ≤ length ends₀ → most-carriers ≤ length starts₀ → most-carriers ≤ length goals₀ → Stands mapFile scenarioFile o ends starts goals

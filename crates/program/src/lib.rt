@@ -7,6 +7,7 @@ use yard::Yard;
 ghost use mathlib.Core.Path.{_≡_};
 ghost use Prim.Native.Nat.{_≤_};
 ghost use lib.ListN.{length, take};
+ghost use Rattle.paper.specs.Order.{order};
 ghost use Rattle.paper.specs.Answers.{plan as planned};
 ghost use Rattle.paper.specs.Print.{printed};
 ghost use Rattle.paper.specs.Program.{program as printedFor, program-room};
@@ -87,8 +88,8 @@ pub fn shorten_planned(
     plan: &[u64],
     short: &mut [u64],
 ) -> Planned
-    requires { ⌜ PlannedIn bays (now ends) (now starts) (now goals) answer (now plan) × (length (now short) ≡ program-room) ⌝ }
-    ensures { λ r. ⌜ ShortIn bays (now (ends .entry)) (now (starts .entry)) (now (goals .entry)) r (now (short .exit)) ⌝ }
+    requires { ⌜ PlannedIn (order bays (now ends) (now starts) (now goals)) answer (now plan) × (length (now short) ≡ program-room) ⌝ }
+    ensures { λ r. ⌜ ShortIn (order bays (now (ends .entry)) (now (starts .entry)) (now (goals .entry))) r (now (short .exit)) ⌝ }
 {
     match answer {
         Planned::Accepted(m) => {
