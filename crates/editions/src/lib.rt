@@ -46,7 +46,10 @@ pub fn slots_of(
     plan: &[u64],
     out: &mut [u32],
 ) -> Verdict
-    ensures { λ r. ⌜ SlotsOfSay (order bays (now (rails .entry)) (now (start .entry)) (now (goal .entry))) (now (plan .entry)) edition (now (out .entry)) r (now (out .exit)) ⌝ }
+    ensures { λ r. ⌜
+        SlotsOfSay (order bays (now (rails .entry)) (now (start .entry)) (now (goal .entry)))
+        (now (plan .entry)) edition (now (out .entry)) r (now (out .exit))
+        ⌝ }
 {
     let fits = known(edition);
     if !fits {

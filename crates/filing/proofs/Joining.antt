@@ -9,7 +9,6 @@ use native.Mathlib.Nat.{mul-le-mul}
 use lib.ListN.{length}
 use lib.Seq.{sets}
 use Rattle.paper.specs.Yard.{Bay}
-use Rattle.paper.specs.Order.{Order}
 use Rattle.paper.specs.Text.{Text, Read, good, badLine}
 use Rattle.paper.specs.Map.{Grid, readMap, cells, bayCount, bayIn, railEnds}
 use Rattle.paper.specs.Scenario.{readScenario}
@@ -132,15 +131,15 @@ no-order : {mapFile scenarioFile : Option Text} (f : Refusal) (ends starts goals
 no-order f ends starts goals e = record { answer = rw e refl; endsLeft = rw e refl; startsLeft = rw e refl; goalsLeft = rw e refl }
 
 module _ {mapFile scenarioFile : Option Text} {before table : List ℕ} {r : MapRead} (m : MapFiled mapFile before r table) where
-  pub map-refused : (o : Order) → r ≡ map-read.Bad (o .bays) → Files mapFile scenarioFile (the.Refused (docket.BadMap (o .bays))) (o .ends) (o .ends) (o .starts) (o .starts) (o .goals) (o .goals)
+  pub map-refused : (l : ℕ) (ends starts goals : List ℕ) → r ≡ map-read.Bad l → Files mapFile scenarioFile (the.Refused (docket.BadMap l)) ends ends starts starts goals goals
   unfolding filed
-  map-refused o e =
+  map-refused l ends starts goals e =
       by-read (readFile readMap mapFile)
-      (λ G q. let y : badLine (o .bays) ≡ shapeOf (good G) = rw (e, q) at (m .answer) in never (cc))
+      (λ G q. let y : badLine l ≡ shapeOf (good G) = rw (e, q) at (m .answer) in never (cc))
       (λ n q.
-      let y : badLine (o .bays) ≡ badLine n = rw (e, q) at (m .answer) in
-      let z : n ≡ o .bays = cc in
-      no-order (docket.BadMap (o .bays)) (o .ends) (o .starts) (o .goals) (rw (q, z) refl))
+      let y : badLine l ≡ badLine n = rw (e, q) at (m .answer) in
+      let z : n ≡ l = cc in
+      no-order (docket.BadMap l) ends starts goals (rw (q, z) refl))
 
   module _ (g : Held) (e : r ≡ map-read.Grid g) (fits : 4096 ≤ length before) {x : ScenarioRead} {starts₀ starts goals₀ goals : List ℕ} (s : ScenarioFiled scenarioFile g table x starts₀ starts goals₀ goals) where
     pub scenario-refused : (l : ℕ) (ends : List ℕ) → x ≡ scenario-read.Bad l → Files mapFile scenarioFile (the.Refused (docket.BadScenario l)) ends ends starts₀ starts goals₀ goals

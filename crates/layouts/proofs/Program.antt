@@ -67,7 +67,7 @@ module _ (G : Grid) where
 
   -- planning never answers 14 or 15
   planned-below : (cs : List (Bay × Bay)) (r : Refusal)
-      → plan (bayCount G) (railEnds G) (map (λ c. c .0) cs) (map (λ c. c .1) cs) program-room ≡ refused r
+      → plan (order (bayCount G) (railEnds G) (map (λ c. c .0) cs) (map (λ c. c .1) cs)) program-room ≡ refused r
       → elem (number r) (numbersOf (orderRows G cs)) ≡ true
   planned-below cs r h =
       given-number (orderRows G cs) (number r) (carried r)
@@ -79,7 +79,7 @@ module _ (mapFile scenarioFile : Option Text) where
       → ((n : ℕ) → BadMap mapFile n → programAnswer mapFile scenarioFile ≡ refused (badMap n) → P)
       → ((G : Grid) → GoodMap mapFile G → (n : ℕ) → BadScenario G scenarioFile n → programAnswer mapFile scenarioFile ≡ refused (badScenario n) → P)
       → ((G : Grid) → GoodMap mapFile G → (cs : List (Bay × Bay)) → GoodScenario G scenarioFile cs
-      → programAnswer mapFile scenarioFile ≡ plan (bayCount G) (railEnds G) (map (λ c. c .0) cs) (map (λ c. c .1) cs) program-room → P)
+      → programAnswer mapFile scenarioFile ≡ plan (order (bayCount G) (railEnds G) (map (λ c. c .0) cs) (map (λ c. c .1) cs)) program-room → P)
       → P
   unfolding programAnswer scenarioRead planRead
   by-files f g h =
@@ -102,7 +102,7 @@ module _ (mapFile scenarioFile : Option Text) where
 
   -- Where both files keep their layout, the program plans what they say.
   pub program-plans : (G : Grid) → GoodMap mapFile G → (cs : List (Bay × Bay)) → GoodScenario G scenarioFile cs
-      → programAnswer mapFile scenarioFile ≡ plan (bayCount G) (railEnds G) (map (λ c. c .0) cs) (map (λ c. c .1) cs) program-room
+      → programAnswer mapFile scenarioFile ≡ plan (order (bayCount G) (railEnds G) (map (λ c. c .0) cs) (map (λ c. c .1) cs)) program-room
   unfolding programAnswer scenarioRead planRead
   program-plans G m cs k =
       let e = map-file-good mapFile G .1 m in

@@ -143,7 +143,10 @@ fn up_to_eleven(
     plan: &[u64],
     marks: &[u8],
 ) -> Checked
-    ensures { λ r. ⌜ checkedOf r ≡ upToEleven (order bays (now (rails .entry)) (now (start .entry)) (now (goal .entry))) (now (plan .entry)) (now (marks .entry)) ⌝ }
+    ensures { λ r. ⌜
+        checkedOf r ≡ upToEleven (order bays (now (rails .entry)) (now (start .entry)) (now (goal .entry)))
+        (now (plan .entry)) (now (marks .entry))
+        ⌝ }
 {
     let checked = checker::check(bays, rails, start, goal, plan);
     if let Checked::Refused(r) = checked {
@@ -173,7 +176,10 @@ pub fn compare(
     running: Record,
     held: Held,
 ) -> Agreement
-    ensures { λ r. ⌜ agreementOf r ≡ agreement (order bays (now (rails .entry)) (now (start .entry)) (now (goal .entry))) (now (plan .entry)) (now (marks .entry)) running (linesHeld held) ⌝ }
+    ensures { λ r. ⌜
+        agreementOf r ≡ agreement (order bays (now (rails .entry)) (now (start .entry)) (now (goal .entry)))
+        (now (plan .entry)) (now (marks .entry)) running (linesHeld held)
+        ⌝ }
 {
     let checked = up_to_eleven(bays, rails, start, goal, plan, marks);
     if let Checked::Refused(r) = checked {
@@ -203,7 +209,10 @@ pub fn open(
     running: Record,
     count: usize,
 ) -> Opening
-    ensures { λ r. ⌜ OpenSays (order bays (now (rails .entry)) (now (start .entry)) (now (goal .entry))) (now (plan .entry)) (now (marks .entry)) running count r ⌝ }
+    ensures { λ r. ⌜
+        OpenSays (order bays (now (rails .entry)) (now (start .entry)) (now (goal .entry)))
+        (now (plan .entry)) (now (marks .entry)) running count r
+        ⌝ }
 {
     let checked = up_to_eleven(bays, rails, start, goal, plan, marks);
     if let Checked::Refused(r) = checked {
@@ -299,7 +308,10 @@ pub fn report(
     running: Record,
     held: Held,
 ) -> Told
-    ensures { λ r. ⌜ BillingSays (order bays (now (rails .entry)) (now (start .entry)) (now (goal .entry))) (now (plan .entry)) (now (marks .entry)) name running held r (now (marks .exit)) ⌝ }
+    ensures { λ r. ⌜
+        BillingSays (order bays (now (rails .entry)) (now (start .entry)) (now (goal .entry)))
+        (now (plan .entry)) (now (marks .entry)) name running held r (now (marks .exit))
+        ⌝ }
 {
     let agreed = compare(bays, rails, start, goal, plan, marks, running, held);
     match agreed {

@@ -37,7 +37,10 @@ pub fn placement(
     marks: &[u8],
     at: &mut [u16],
 ) -> Verdict
-    ensures { λ r. ⌜ PlacementSays (order bays (now (rails .entry)) (now (start .entry)) (now (goal .entry))) (now (plan .entry)) (now (marks .entry)) (now (at .entry)) r (now (at .exit)) ⌝ }
+    ensures { λ r. ⌜
+        PlacementSays (order bays (now (rails .entry)) (now (start .entry)) (now (goal .entry)))
+        (now (plan .entry)) (now (marks .entry)) (now (at .entry)) r (now (at .exit))
+        ⌝ }
 {
     let checked = checker::check(bays, rails, start, goal, plan);
     if let Checked::Refused(r) = checked {

@@ -7,8 +7,8 @@ use native.Mathlib.Numerals.{add-one}
 use lib.ListN.{length, take, getD, length-append, length-map}
 use lib.Seq.{take-length}
 use Rattle.paper.specs.Limits.{most-bays}
-use Rattle.paper.specs.Yard.{Bay, Placement, Crossing, pack, unpack, crossings}
-use Rattle.paper.specs.Order.{Order, order}
+use Rattle.paper.specs.Yard.{Crossing, pack, unpack, crossings}
+use Rattle.paper.specs.Order.{Order}
 use mathlib.Core.Option.{none}
 use Rattle.paper.specs.Answers.{Answer, accepted, refused, plan, check}
 use Rattle.paper.specs.OnePass.{Fits}
@@ -102,10 +102,10 @@ room-for {r} {list} {a} h fit {before} {after} {k} p =
     (λ c f. omega (arith, p .short c f)))
 
 -- so what the planner answers is printed within that room
-pub order-room : {n : ℕ} {ends : List Bay} {s g : Placement} {lent : List ℕ} {r : Planned} {lent′ : List ℕ} → PlanSays (order n ends s g) lent r lent′ → program-room ≡ length lent
+pub order-room : {o : Order} {lent : List ℕ} {r : Planned} {lent′ : List ℕ} → PlanSays o lent r lent′ → program-room ≡ length lent
     → {before after : List ℕ} {k : ℕ} → Prints r lent′ before after k → k ≤ print-room
-order-room {n} {ends} {s} {g} says e p = room-for (handed-in says e) (plan-fits (order n ends s g)) p
+order-room {o} says e p = room-for (handed-in says e) (plan-fits o) p
 
-pub short-room : {n : ℕ} {ends : List Bay} {s g : Placement} {r : Planned} {list : List ℕ} → ShortIn (order n ends s g) r list
+pub short-room : {o : Order} {r : Planned} {list : List ℕ} → ShortIn o r list
     → {before after : List ℕ} {k : ℕ} → Prints r list before after k → k ≤ print-room
-short-room {n} {ends} {s} {g} h p = room-for (h .handed) (short-fits (order n ends s g)) p
+short-room {o} h p = room-for (h .handed) (short-fits o) p

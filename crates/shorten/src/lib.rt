@@ -476,7 +476,10 @@ pub fn shorten(
     marks: &[u8],
     out: &mut [u64],
 ) -> Verdict
-    ensures { λ r. ⌜ ShortenSays (order bays (now (rails .entry)) (now (start .entry)) (now (goal .entry))) (now (plan .entry)) (now (marks .entry)) (now (out .entry)) r (now (out .exit)) ⌝ }
+    ensures { λ r. ⌜
+        ShortenSays (order bays (now (rails .entry)) (now (start .entry)) (now (goal .entry)))
+        (now (plan .entry)) (now (marks .entry)) (now (out .entry)) r (now (out .exit))
+        ⌝ }
 {
     let checked = checker::check(bays, rails, start, goal, plan);
     if let Checked::Refused(r) = checked {

@@ -2,7 +2,6 @@
 -- Assumes nothing.
 use native.Mathlib.Omega.{arith}
 use borrow.Author.Needs.{needs}
-use Rattle.paper.specs.Order.{order}
 use Rattle.filing.proofs.Joining.{map-refused, scenario-refused, order-filed}
 use Rattle.filing.proofs.read_order.Statement.{statement}
 use Rattle.filing.proofs.read_order.Tie as tie
@@ -70,7 +69,7 @@ returns-2 : tie.Need-returns-2
 returns-2 c = scenario-refused (c .before .before .before .before .before .before .before .before .before .before .before .before .before .before .before .read-map .ensures) _ (c .before .before .before .before .before .before .before .before .before .before .before .before .found .given .1) (omega (arith, slice-aggregate-read-map (c .before .before .before .before .before .before .before .before .before .before .before .before .before .before .before .before))) (c .before .before .before .before .before .before .before .read-scenario .ensures) _ (c .before .before .before .before .before .before .before .before .before .before .before .before .before .before .before .before .before .before .before .before .before .before .args .ends .now) (c .before .carriers-found2 .given .1)
 
 returns-3 : tie.Need-returns-3
-returns-3 c = map-refused (c .before .before .before .before .read-map .ensures) (order _ (c .before .before .before .before .before .before .before .before .before .before .before .args .ends .now) (c .before .before .before .before .before .before .before .before .before .before .before .args .starts .now) (c .before .before .before .before .before .before .before .before .before .before .before .args .goals .now)) (c .before .found2 .given .1)
+returns-3 c = map-refused (c .before .before .before .before .read-map .ensures) _ (c .before .before .before .before .before .before .before .before .before .before .before .args .ends .now) (c .before .before .before .before .before .before .before .before .before .before .before .args .starts .now) (c .before .before .before .before .before .before .before .before .before .before .before .args .goals .now) (c .before .found2 .given .1)
 
 pub read-order-spec : {M : Type 1} → statement M
 read-order-spec =
