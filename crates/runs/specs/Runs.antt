@@ -83,7 +83,7 @@ Agreed starts plan b = (b .running ≡ recordOf starts (crossings plan) (b .mark
 
 -- a call with that check's yard, start and goal
 abbrev pub asking : Order → ℕ → Request
-asking o i = record { bays = o .bays; ends = o .ends; starts = o .starts; goals = o .goals; name = i }
+asking o i = record { order = o; name = i }
 
 -- Demand 3 over such a sequence, from fresh marks and any record and lines
 pub record Demand3Mixed (o : Order) (plan : List ℕ) (b : Books) (cs : List Call) : Type 0 where
