@@ -9,7 +9,7 @@ use lib.ListN.{length, take}
 use lib.Seq.{sets}
 use Rattle.paper.specs.Limits.{most-carriers}
 use Rattle.paper.specs.Yard.{Bay}
-use Rattle.paper.specs.Order.{Order, order as orderOf, order}
+use Rattle.paper.specs.Order.{Order, order as orderOf}
 use Rattle.paper.specs.Docket.{Refusal, no-14, no-15}
 use Rattle.paper.specs.Answers.{Answer, refused, plan}
 use Rattle.paper.specs.Text.{Text, Read, good, badLine}
