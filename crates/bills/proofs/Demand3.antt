@@ -9,7 +9,8 @@ use Prim.Native.Nat.{ℕ, suc, _<_}
 use native.Mathlib.Omega.{arith}
 use lib.ListN.{length, getD, set, length-map}
 use Rattle.paper.specs.Basics.{if_then_else_, In, NoDup}
-use Rattle.paper.specs.Yard.{Bay, Carrier, Placement, Crossing, after, legalPlan, pack, unpack, crossings, named}
+use Rattle.paper.specs.Yard.{Carrier, Yard, Placement, Crossing, after, legalPlan, pack, unpack, crossings, named}
+use Rattle.paper.specs.Order.{Order}
 use Rattle.paper.specs.Dependence.{isDone, doneOf, countOf, placementBy}
 use Rattle.paper.specs.Docket.{yardOf}
 use Rattle.paper.specs.Answers.{accept, accepts, check, marksAfter, accepted, plan as planned}
@@ -51,7 +52,7 @@ module _ (plan : List ℕ) where
   -- Whatever is not accepted changes nothing, on any books.
   pub unaccepted : (b : Books) (q : Request) → (answerOn plan b q ≡ accept → ⊥) → booksBy plan b q ≡ b
   unaccepted b q h =
-      let e = nothing-changed (q .bays) (q .ends) (q .starts) (q .goals) plan (b .marks) (b .running) (b .lines) (q .name) h in
+      let e = nothing-changed (q .order) plan (b .marks) (b .running) (b .lines) (q .name) h in
       books-parts (booksBy plan b q) b (e .0) (e .1) (e .2)
 
   -- a report that is accepted leaves the marks that the paper's does, and any other leaves them as they were
@@ -64,7 +65,7 @@ module _ (plan : List ℕ) where
       by-cases (accepts (answerOn plan b q))
       (λ e.
       let a : answerTo plan (b .marks) q ≡ accept =
-      accepted-too (q .bays) (q .ends) (q .starts) (q .goals) plan (b .marks) (b .running) (b .lines) (q .name) (accepts-accept (answerOn plan b q) .0 e) in
+      accepted-too (q .order) plan (b .marks) (b .running) (b .lines) (q .name) (accepts-accept (answerOn plan b q) .0 e) in
       f e (accepts-accept (answerTo plan (b .marks) q) .1 a) (rw e (ap (marksAfter (b .marks) (q .name)) (sym a))))
       (λ e. g e (rw e))
 
@@ -84,39 +85,39 @@ module _ (plan : List ℕ) where
         rw e (ih .1 ∙ ap (λ ms. namesFrom plan ms (heard (booksBy plan b q) qs)) s),
       ))
 
-  ends-afresh : (n : ℕ) (ends : List Bay) (starts : Placement) → legalPlan (yardOf n ends) starts (crossings plan) ≡ true → (b : Books) (qs : List Request)
+  ends-afresh : (Y : Yard) (starts : Placement) → legalPlan Y starts (crossings plan) ≡ true → (b : Books) (qs : List Request)
       → Afresh starts plan (b .marks) (b .running) (b .lines)
       → Afresh starts plan (booksFrom plan b qs .marks) (booksFrom plan b qs .running) (booksFrom plan b qs .lines)
   unfolding booksFrom
-  ends-afresh n ends starts lawful b [] f = f
-  ends-afresh n ends starts lawful b (q ∷ qs) f =
-      ends-afresh n ends starts lawful (booksBy plan b q) qs (kept-afresh (yardOf n ends) starts plan lawful b q f)
+  ends-afresh Y starts lawful b [] f = f
+  ends-afresh Y starts lawful b (q ∷ qs) f =
+      ends-afresh Y starts lawful (booksBy plan b q) qs (kept-afresh Y starts plan lawful b q f)
 
 -- ## The demand
 
-module _ (n : ℕ) (ends : List Bay) (starts goals : Placement) (plan : List ℕ) (passes : check n ends starts goals plan ≡ none) where
-  kept-on-books : (qs : List Request) → Kept (yardOf n ends) starts (crossings plan) (booksEnd starts plan qs .marks) (namesBilled starts plan qs)
+module _ (o : Order) (plan : List ℕ) (passes : check o plan ≡ none) where
+  kept-on-books : (qs : List Request) → Kept (yardOf o) (o .starts) (crossings plan) (booksEnd (o .starts) plan qs .marks) (namesBilled (o .starts) plan qs)
   kept-on-books qs =
-      let e = run-is plan (freshBooks plan starts) qs in
-      rw (e .0, e .1) (kept-from-fresh n ends starts goals plan passes (heard plan (freshBooks plan starts) qs))
+      let e = run-is plan (freshBooks plan (o .starts)) qs in
+      rw (e .0, e .1) (kept-from-fresh o plan passes (heard plan (freshBooks plan (o .starts)) qs))
 
-  pub demand-3-billed : (qs : List Request) → Demand3Billed n ends starts goals plan qs
+  pub demand-3-billed : (qs : List Request) → Demand3Billed o plan qs
   demand-3-billed qs =
-      let Y = yardOf n ends in
+      let Y = yardOf o in
       let xs = crossings plan in
-      let b = booksEnd starts plan qs in
+      let b = booksEnd (o .starts) plan qs in
       let k = kept-on-books qs in
-      let legal = plan-lawful n ends starts goals plan passes in
-      let ok = fine Y starts xs legal (b .marks) (namesBilled starts plan qs) k in
-      let f = ends-afresh plan n ends starts legal (freshBooks plan starts) qs (refl, refl) in
+      let legal = plan-lawful o plan passes in
+      let ok = fine Y (o .starts) xs legal (b .marks) (namesBilled (o .starts) plan qs) k in
+      let f = ends-afresh plan Y (o .starts) legal (freshBooks plan (o .starts)) qs (refl, refl) in
       let len : length xs ≡ length plan = length-map plan unpack in
-      let first = done-set Y starts xs (b .marks) (closed-of xs (b .marks) (k .order)) legal .first in
-      let each : (c : Carrier) → c < length starts → getD (b .lines) c noLine .billed ≡ countOf c (doneOf xs (b .marks)) =
-      λ c h. ap (λ l. getD l c noLine .billed) (f .1) ∙ ap (λ l. l .billed) (line-at (length starts) xs (b .marks) c noLine h) in
+      let first = done-set Y (o .starts) xs (b .marks) (closed-of xs (b .marks) (k .order)) legal .first in
+      let each : (c : Carrier) → c < length (o .starts) → getD (b .lines) c noLine .billed ≡ countOf c (doneOf xs (b .marks)) =
+      λ c h. ap (λ l. getD l c noLine .billed) (f .1) ∙ ap (λ l. l .billed) (line-at (length (o .starts)) xs (b .marks) c noLine h) in
       let sum : allBilled (b .lines) ≡ length (doneOf xs (b .marks)) =
-      ap allBilled (f .1) ∙ billed-is-done (length starts) xs (b .marks) (λ i h. carrier-there Y starts (doneOf xs (b .marks)) i first h) in
-      let same-answer : (i : ℕ) → answerOn plan b (asked n ends starts goals i) ≡ answerTo plan (b .marks) (asked n ends starts goals i) =
-      λ i. billing-told n ends starts goals plan (b .marks) (b .running) (b .lines) i passes ok f in
+      ap allBilled (f .1) ∙ billed-is-done (length (o .starts)) xs (b .marks) (λ i h. carrier-there Y (o .starts) (doneOf xs (b .marks)) i first h) in
+      let same-answer : (i : ℕ) → answerOn plan b (asked o i) ≡ answerTo plan (b .marks) (asked o i) =
+      λ i. billing-told o plan (b .marks) (b .running) (b .lines) i passes ok f in
       record {
         afresh = f;
         lawful = k .lawful;
@@ -126,21 +127,21 @@ module _ (n : ℕ) (ends : List Bay) (starts goals : Placement) (plan : List ℕ
         once = k .once;
         each-billed = λ c h. each c h ∙ sym (k .counts c);
         all-billed = sum ∙ sym (ap (λ r. r .done) (f .0));
-        last-names = λ c h. ap (λ l. getD l c noLine .last) (f .1) ∙ ap (λ l. l .last) (line-at (length starts) xs (b .marks) c noLine h)
-            ∙ last-run plan c (freshBooks plan starts) qs ∙ ap (λ l. lastOf c xs l (namesBilled starts plan qs)) (last-fresh c untouched 0 xs (length plan));
+        last-names = λ c h. ap (λ l. getD l c noLine .last) (f .1) ∙ ap (λ l. l .last) (line-at (length (o .starts)) xs (b .marks) c noLine h)
+            ∙ last-run plan c (freshBooks plan (o .starts)) qs ∙ ap (λ l. lastOf c xs l (namesBilled (o .starts) plan qs)) (last-fresh c untouched 0 xs (length plan));
         repeats = λ q m. unaccepted plan b q
             (λ a. not-both (k .names (q .name) m .1)
-            (tell-facts xs (b .marks) (q .name) (((accepts-exactly (q .bays) (q .ends) (q .starts) (q .goals) plan (b .marks) (b .running) (b .lines) (q .name)) .0 a) .2) .2));
+            (tell-facts xs (b .marks) (q .name) (((accepts-exactly (q .order) plan (b .marks) (b .running) (b .lines) (q .name)) .0 a) .2) .2));
         answered = λ i m.
-            let d = k .names i m in same-answer i ∙ done-already n ends starts goals plan (b .marks) passes ok i (d .0) (d .1);
+            let d = k .names i m in same-answer i ∙ done-already o plan (b .marks) passes ok i (d .0) (d .1);
         unchanged = λ q h. unaccepted plan b q h;
         goes-on = λ i h d.
-            let r = some-ready Y starts xs legal (b .marks) (suc i) i (omega arith) (rw len h) d in
-            (r .0, same-answer (r .0) ∙ facts-accept n ends starts goals plan (b .marks) passes ok (r .0) (r .1) (r .2) (r .3));
+            let r = some-ready Y (o .starts) xs legal (b .marks) (suc i) i (omega arith) (rw len h) d in
+            (r .0, same-answer (r .0) ∙ facts-accept o plan (b .marks) passes ok (r .0) (r .1) (r .2) (r .3));
         all-home = λ g.
             let whole = all-done xs (b .marks) (k .long) (λ i h. g i (rw len at h)) in
             record {
-              home = ap (λ r. r .at) (f .0) ∙ ap (λ ys. places (after starts ys)) whole ∙ ap places (check-passed n ends starts goals plan passes .home);
+              home = ap (λ r. r .at) (f .0) ∙ ap (λ ys. places (after (o .starts) ys)) whole ∙ ap places (check-passed o plan passes .home);
               each = λ c h. each c h ∙ ap (countOf c) whole;
               billed = sum ∙ ap length whole ∙ len;
               done = ap (λ r. r .done) (f .0) ∙ ap length whole ∙ len;
@@ -148,7 +149,7 @@ module _ (n : ℕ) (ends : List Bay) (starts goals : Placement) (plan : List ℕ
       }
 
 -- Every plan handed out passes the check, so this is of every such plan.
-pub handed-demand-3-billed : (n : ℕ) (ends : List Bay) (starts goals : Placement) (lent : ℕ) (xs : List Crossing) → planned n ends starts goals lent ≡ accepted xs
-    → (qs : List Request) → Demand3Billed n ends starts goals (map pack xs) qs
-handed-demand-3-billed n ends starts goals lent xs h qs =
-    demand-3-billed n ends starts goals (map pack xs) (handed-passes n ends starts goals lent xs h .0) qs
+pub handed-demand-3-billed : (o : Order) (lent : ℕ) (xs : List Crossing) → planned o lent ≡ accepted xs
+    → (qs : List Request) → Demand3Billed o (map pack xs) qs
+handed-demand-3-billed o lent xs h qs =
+    demand-3-billed o (map pack xs) (handed-passes o lent xs h .0) qs

@@ -9,7 +9,8 @@ use Prim.Native.Nat.{ℕ, _<_}
 use lib.ListN.{length, getD, set}
 use borrow.Author.Tests.{not-false, eqb-true, ne-eqb}
 use Rattle.paper.specs.Basics.{elem}
-use Rattle.paper.specs.Yard.{Bay, Placement, Yard, Crossing, legalPlan, crossings, named}
+use Rattle.paper.specs.Yard.{Placement, Yard, Crossing, legalPlan, crossings, named}
+use Rattle.paper.specs.Order.{Order}
 use Rattle.paper.specs.Dependence.{isDone, slots}
 use Rattle.paper.specs.Docket.{Refusal, room, disagrees, yardOf, badMarks, mismarked}
 use Rattle.paper.specs.Answers.{Report, accept, already, refuse, accepts, tell, check, report}
@@ -45,63 +46,63 @@ accepts-accept r = (to r, λ e. ap accepts e)
 unaccepting : (r : Report) → (r ≡ accept → ⊥) → accepts r ≡ false
 unaccepting r h = by-cases (accepts r) (λ e. absurd (h ((accepts-accept r) .0 e))) (λ e. e)
 
-module _ (n : ℕ) (ends : List Bay) (starts goals : Placement) (plan marks : List ℕ) where
+module _ (o : Order) (plan marks : List ℕ) where
   -- "the refusals up to 11" pass exactly if the check does and the marks are in order
-  pub eleven-exactly : (upToEleven n ends starts goals plan marks ≡ none)
-      ↔ ((check n ends starts goals plan ≡ none) × (badMarks (crossings plan) marks ≡ false))
+  pub eleven-exactly : (upToEleven o plan marks ≡ none)
+      ↔ ((check o plan ≡ none) × (badMarks (crossings plan) marks ≡ false))
   unfolding upToEleven
   eleven-exactly = (
-    λ h. let b = none-both (check n ends starts goals plan) _ h in (b .0, none-when (badMarks (crossings plan) marks) mismarked (b .1)),
+    λ h. let b = none-both (check o plan) _ h in (b .0, none-when (badMarks (crossings plan) marks) mismarked (b .1)),
     λ f. rw (f .0, f .1),
   )
 
   -- the paper's report does the same tests first
-  report-refused : (name : ℕ) (r : Refusal) → upToEleven n ends starts goals plan marks ≡ some r → report n ends starts goals plan marks name ≡ refuse r
+  report-refused : (name : ℕ) (r : Refusal) → upToEleven o plan marks ≡ some r → report o plan marks name ≡ refuse r
   unfolding upToEleven report tell
   report-refused name r u =
-      by-option (check n ends starts goals plan)
+      by-option (check o plan)
       (λ p. by-cases (badMarks (crossings plan) marks)
       (λ m. let k = rw (p, m) at u in rw (p, m) (cc))
       (λ m. let k = rw (p, m) at u in never-some r k))
       (λ x p. let k = rw p at u in rw p (cc))
 
-  report-goes-on : (name : ℕ) → upToEleven n ends starts goals plan marks ≡ none
-      → report n ends starts goals plan marks name ≡ tell (crossings plan) marks name
+  report-goes-on : (name : ℕ) → upToEleven o plan marks ≡ none
+      → report o plan marks name ≡ tell (crossings plan) marks name
   unfolding report
   report-goes-on name u = rw ((eleven-exactly .0 u) .0)
 
   -- and answers 19 to no name
-  never-19 : (name : ℕ) → report n ends starts goals plan marks name ≡ refuse disagrees → ⊥
+  never-19 : (name : ℕ) → report o plan marks name ≡ refuse disagrees → ⊥
   unfolding elem
-  never-19 name h = report-never n ends starts goals plan marks name disagrees refl h
+  never-19 name h = report-never o plan marks name disagrees refl h
 
   -- ## Opening
 
   -- "otherwise opening answers 8 carrying k, after 11"
-  pub opening-room : (lent : ℕ) → upToEleven n ends starts goals plan marks ≡ none → (lent ≡ length starts → ⊥)
-      → opening n ends starts goals plan marks lent ≡ some (room (length starts))
+  pub opening-room : (lent : ℕ) → upToEleven o plan marks ≡ none → (lent ≡ length (o .starts) → ⊥)
+      → opening o plan marks lent ≡ some (room (length (o .starts)))
   unfolding opening
-  opening-room lent h k = rw (h, ne-eqb lent (length starts) k)
+  opening-room lent h k = rw (h, ne-eqb lent (length (o .starts)) k)
 
-  pub opening-eleven : (lent : ℕ) (r : Refusal) → upToEleven n ends starts goals plan marks ≡ some r → opening n ends starts goals plan marks lent ≡ some r
+  pub opening-eleven : (lent : ℕ) (r : Refusal) → upToEleven o plan marks ≡ some r → opening o plan marks lent ≡ some r
   unfolding opening
   opening-eleven lent r h = rw h
 
   module _ (rec : Record) (lines : List Line) where
     -- "opening builds both from plan and marks"; the lines are k
-    pub opened : opening n ends starts goals plan marks (length lines) ≡ none
-        → Afresh starts plan marks (openedRecord n ends starts goals plan marks rec (length lines)) (openedLines n ends starts goals plan marks lines)
-        × (length (openedLines n ends starts goals plan marks lines) ≡ length starts)
-        × (length lines ≡ length starts)
+    pub opened : opening o plan marks (length lines) ≡ none
+        → Afresh (o .starts) plan marks (openedRecord o plan marks rec (length lines)) (openedLines o plan marks lines)
+        × (length (openedLines o plan marks lines) ≡ length (o .starts))
+        × (length lines ≡ length (o .starts))
     unfolding opening openedRecord openedLines
-    opened h = ((rw h refl, rw h refl), rw h (lines-long (length starts) (crossings plan) marks), long h)
+    opened h = ((rw h refl, rw h refl), rw h (lines-long (length (o .starts)) (crossings plan) marks), long h)
       where
-        long : opening n ends starts goals plan marks (length lines) ≡ none → length lines ≡ length starts
-        long h = eqb-true _ _ (not-false _ (none-when _ (room (length starts)) ((none-both (upToEleven n ends starts goals plan marks) _ h) .1)))
+        long : opening o plan marks (length lines) ≡ none → length lines ≡ length (o .starts)
+        long h = eqb-true _ _ (not-false _ (none-when _ (room (length (o .starts))) ((none-both (upToEleven o plan marks) _ h) .1)))
 
     -- a refusal leaves both as they were
-    pub not-opened : (r : Refusal) → opening n ends starts goals plan marks (length lines) ≡ some r
-        → (openedRecord n ends starts goals plan marks rec (length lines) ≡ rec) × (openedLines n ends starts goals plan marks lines ≡ lines)
+    pub not-opened : (r : Refusal) → opening o plan marks (length lines) ≡ some r
+        → (openedRecord o plan marks rec (length lines) ≡ rec) × (openedLines o plan marks lines ≡ lines)
     unfolding openedRecord openedLines
     not-opened r h = (rw h, rw h)
 
@@ -109,48 +110,48 @@ module _ (n : ℕ) (ends : List Bay) (starts goals : Placement) (plan marks : Li
 
   module _ (rec : Record) (lines : List Line) where
     -- "a separate test, after the refusals up to 11, answers yes exactly if all agree"
-    pub agrees-exactly : (agreement n ends starts goals plan marks rec lines ≡ agrees)
-        ↔ ((upToEleven n ends starts goals plan marks ≡ none) × Afresh starts plan marks rec lines)
+    pub agrees-exactly : (agreement o plan marks rec lines ≡ agrees)
+        ↔ ((upToEleven o plan marks ≡ none) × Afresh (o .starts) plan marks rec lines)
     unfolding agreement
     agrees-exactly = (
-      λ h. by-option (upToEleven n ends starts goals plan marks)
-          (λ u. by-cases (agree n ends starts goals plan marks rec lines)
-          (λ a. (u, (agree-exactly n ends starts goals plan marks rec lines) .0 a))
+      λ h. by-option (upToEleven o plan marks)
+          (λ u. by-cases (agree o plan marks rec lines)
+          (λ a. (u, (agree-exactly o plan marks rec lines) .0 a))
           (λ a. let k = rw (u, a) at h in never (cc)))
           (λ r u. let k = rw u at h in never (cc)),
-      λ f. rw (f .0, (agree-exactly n ends starts goals plan marks rec lines) .1 (f .1)),
+      λ f. rw (f .0, (agree-exactly o plan marks rec lines) .1 (f .1)),
     )
 
-    pub differs-exactly : (agreement n ends starts goals plan marks rec lines ≡ differs)
-        ↔ ((upToEleven n ends starts goals plan marks ≡ none) × (Afresh starts plan marks rec lines → ⊥))
+    pub differs-exactly : (agreement o plan marks rec lines ≡ differs)
+        ↔ ((upToEleven o plan marks ≡ none) × (Afresh (o .starts) plan marks rec lines → ⊥))
     unfolding agreement
     differs-exactly = (
-      λ h. by-option (upToEleven n ends starts goals plan marks)
-          (λ u. by-cases (agree n ends starts goals plan marks rec lines)
+      λ h. by-option (upToEleven o plan marks)
+          (λ u. by-cases (agree o plan marks rec lines)
           (λ a. let k = rw (u, a) at h in never (cc))
-          (λ a. (u, (differ-exactly n ends starts goals plan marks rec lines) .0 a)))
+          (λ a. (u, (differ-exactly o plan marks rec lines) .0 a)))
           (λ r u. let k = rw u at h in never (cc)),
-      λ f. rw (f .0, (differ-exactly n ends starts goals plan marks rec lines) .1 (f .1)),
+      λ f. rw (f .0, (differ-exactly o plan marks rec lines) .1 (f .1)),
     )
 
     module _ (name : ℕ) where
       -- every way in which a report's answer comes about
       pub by-billing : {P : Type 0}
-          → ((r : Refusal) → upToEleven n ends starts goals plan marks ≡ some r → billing n ends starts goals plan marks rec lines name ≡ refuse r → P)
-          → (upToEleven n ends starts goals plan marks ≡ none → agree n ends starts goals plan marks rec lines ≡ false
-          → billing n ends starts goals plan marks rec lines name ≡ refuse disagrees → P)
-          → (upToEleven n ends starts goals plan marks ≡ none → agree n ends starts goals plan marks rec lines ≡ true
-          → billing n ends starts goals plan marks rec lines name ≡ tell (crossings plan) marks name → P)
+          → ((r : Refusal) → upToEleven o plan marks ≡ some r → billing o plan marks rec lines name ≡ refuse r → P)
+          → (upToEleven o plan marks ≡ none → agree o plan marks rec lines ≡ false
+          → billing o plan marks rec lines name ≡ refuse disagrees → P)
+          → (upToEleven o plan marks ≡ none → agree o plan marks rec lines ≡ true
+          → billing o plan marks rec lines name ≡ tell (crossings plan) marks name → P)
           → P
       unfolding billing
       by-billing f g h =
-          by-option (upToEleven n ends starts goals plan marks)
-          (λ u. by-cases (agree n ends starts goals plan marks rec lines) (λ a. h u a (rw (u, a))) (λ a. g u a (rw (u, a))))
+          by-option (upToEleven o plan marks)
+          (λ u. by-cases (agree o plan marks rec lines) (λ a. h u a (rw (u, a))) (λ a. g u a (rw (u, a))))
           (λ r u. f r u (rw u))
 
       -- "19, record disagrees, after 11 and before 12"
-      pub disagrees-exactly : (billing n ends starts goals plan marks rec lines name ≡ refuse disagrees)
-          ↔ ((upToEleven n ends starts goals plan marks ≡ none) × (agree n ends starts goals plan marks rec lines ≡ false))
+      pub disagrees-exactly : (billing o plan marks rec lines name ≡ refuse disagrees)
+          ↔ ((upToEleven o plan marks ≡ none) × (agree o plan marks rec lines ≡ false))
       unfolding billing
       disagrees-exactly = (
         λ h. by-billing
@@ -161,8 +162,8 @@ module _ (n : ℕ) (ends : List Bay) (starts goals : Placement) (plan marks : Li
       )
 
       -- "Demand 2's rule for accepting a name then asks for a record and lines that agree, besides plan and marks in order."
-      pub accepts-exactly : (billing n ends starts goals plan marks rec lines name ≡ accept)
-          ↔ ((upToEleven n ends starts goals plan marks ≡ none) × (agree n ends starts goals plan marks rec lines ≡ true)
+      pub accepts-exactly : (billing o plan marks rec lines name ≡ accept)
+          ↔ ((upToEleven o plan marks ≡ none) × (agree o plan marks rec lines ≡ true)
           × (tell (crossings plan) marks name ≡ accept))
       unfolding billing
       accepts-exactly = (
@@ -171,8 +172,8 @@ module _ (n : ℕ) (ends : List Bay) (starts goals : Placement) (plan marks : Li
       )
 
       -- where it is not 19 it is the paper's answer
-      pub told-or-19 : {P : Type 0} → (billing n ends starts goals plan marks rec lines name ≡ report n ends starts goals plan marks name → P)
-          → (billing n ends starts goals plan marks rec lines name ≡ refuse disagrees → P) → P
+      pub told-or-19 : {P : Type 0} → (billing o plan marks rec lines name ≡ report o plan marks name → P)
+          → (billing o plan marks rec lines name ≡ refuse disagrees → P) → P
       told-or-19 f g =
           by-billing
           (λ r u e. f (e ∙ sym (report-refused name r u)))
@@ -180,22 +181,22 @@ module _ (n : ℕ) (ends : List Bay) (starts goals : Placement) (plan marks : Li
           (λ u a e. f (e ∙ sym (report-goes-on name u)))
 
       -- what it accepts the paper's report accepts
-      pub accepted-too : billing n ends starts goals plan marks rec lines name ≡ accept → report n ends starts goals plan marks name ≡ accept
+      pub accepted-too : billing o plan marks rec lines name ≡ accept → report o plan marks name ≡ accept
       accepted-too h = told-or-19 (λ e. sym e ∙ h) (λ e. never (cc))
 
       -- with all in order it is the paper's answer
-      pub billing-told : check n ends starts goals plan ≡ none → badMarks (crossings plan) marks ≡ false → Afresh starts plan marks rec lines
-          → billing n ends starts goals plan marks rec lines name ≡ report n ends starts goals plan marks name
+      pub billing-told : check o plan ≡ none → badMarks (crossings plan) marks ≡ false → Afresh (o .starts) plan marks rec lines
+          → billing o plan marks rec lines name ≡ report o plan marks name
       billing-told passes fine f =
-          told-or-19 (λ e. e) (λ e. not-both ((agree-exactly n ends starts goals plan marks rec lines) .1 f) ((disagrees-exactly .0 e) .1))
+          told-or-19 (λ e. e) (λ e. not-both ((agree-exactly o plan marks rec lines) .1 f) ((disagrees-exactly .0 e) .1))
 
       -- "refusals and "already" change none of them", for any record and lines at all
-      pub nothing-changed : (billing n ends starts goals plan marks rec lines name ≡ accept → ⊥)
-          → (marksThen n ends starts goals plan marks rec lines name ≡ marks)
-          × (recordThen n ends starts goals plan marks rec lines name ≡ rec)
-          × (linesThen n ends starts goals plan marks rec lines name ≡ lines)
+      pub nothing-changed : (billing o plan marks rec lines name ≡ accept → ⊥)
+          → (marksThen o plan marks rec lines name ≡ marks)
+          × (recordThen o plan marks rec lines name ≡ rec)
+          × (linesThen o plan marks rec lines name ≡ lines)
       unfolding marksThen recordThen linesThen
-      nothing-changed h = let e = unaccepting (billing n ends starts goals plan marks rec lines name) h in (rw e, rw e, rw e)
+      nothing-changed h = let e = unaccepting (billing o plan marks rec lines name) h in (rw e, rw e, rw e)
 
 -- ## Kept afresh
 
@@ -222,33 +223,33 @@ module _ (Y : Yard) (first : Placement) (plan : List ℕ) (lawful : legalPlan Y 
   kept-afresh b q f =
       by-cases (accepts (answerOn plan b q))
       (λ e.
-      let a = (accepts-exactly (q .bays) (q .ends) (q .starts) (q .goals) plan (b .marks) (b .running) (b .lines) (q .name)) .0
+      let a = (accepts-exactly (q .order) plan (b .marks) (b .running) (b .lines) (q .name)) .0
       ((accepts-accept (answerOn plan b q)) .0 e) in
       rw e (step-afresh (b .marks) (b .running) (b .lines) (q .name) (a .2) f))
       (λ e. rw e f)
 
 -- "after each report on a record that agreed, record and lines equal what plan, start and marks give worked out afresh"
-pub reported-afresh : (n : ℕ) (ends : List Bay) (starts goals : Placement) (plan marks : List ℕ) (rec : Record) (lines : List Line) (name : ℕ)
-    → Afresh starts plan marks rec lines
-    → Afresh starts plan (marksThen n ends starts goals plan marks rec lines name)
-    (recordThen n ends starts goals plan marks rec lines name) (linesThen n ends starts goals plan marks rec lines name)
+pub reported-afresh : (o : Order) (plan marks : List ℕ) (rec : Record) (lines : List Line) (name : ℕ)
+    → Afresh (o .starts) plan marks rec lines
+    → Afresh (o .starts) plan (marksThen o plan marks rec lines name)
+    (recordThen o plan marks rec lines name) (linesThen o plan marks rec lines name)
 unfolding marksThen recordThen linesThen
-reported-afresh n ends starts goals plan marks rec lines name f =
-    by-cases (accepts (billing n ends starts goals plan marks rec lines name))
+reported-afresh o plan marks rec lines name f =
+    by-cases (accepts (billing o plan marks rec lines name))
     (λ e.
-    let a = (accepts-exactly n ends starts goals plan marks rec lines name) .0 ((accepts-accept (billing n ends starts goals plan marks rec lines name)) .0 e) in
-    let passes = ((eleven-exactly n ends starts goals plan marks) .0 (a .0)) .0 in
-    rw e (step-afresh (yardOf n ends) starts plan (check-passed n ends starts goals plan passes .lawful) marks rec lines name (a .2) f))
+    let a = (accepts-exactly o plan marks rec lines name) .0 ((accepts-accept (billing o plan marks rec lines name)) .0 e) in
+    let passes = ((eleven-exactly o plan marks) .0 (a .0)) .0 in
+    rw e (step-afresh (yardOf o) (o .starts) plan (check-passed o plan passes .lawful) marks rec lines name (a .2) f))
     (λ e. rw e f)
 
 -- With plan and marks in order and record and lines that agree, a name is accepted exactly if it is in the plan, not yet done, and every earlier
 -- crossing it depends on is done.
-pub accepts-ready : (n : ℕ) (ends : List Bay) (starts goals : Placement) (plan marks : List ℕ) (rec : Record) (lines : List Line) (name : ℕ)
-    → check n ends starts goals plan ≡ none → badMarks (crossings plan) marks ≡ false → Afresh starts plan marks rec lines
-    → (billing n ends starts goals plan marks rec lines name ≡ accept)
+pub accepts-ready : (o : Order) (plan marks : List ℕ) (rec : Record) (lines : List Line) (name : ℕ)
+    → check o plan ≡ none → badMarks (crossings plan) marks ≡ false → Afresh (o .starts) plan marks rec lines
+    → (billing o plan marks rec lines name ≡ accept)
     ↔ ((name < length (crossings plan)) × (isDone marks name ≡ false) × Ready (crossings plan) marks name)
-accepts-ready n ends starts goals plan marks rec lines name passes fine f = (
-  λ h. let t = tell-facts (crossings plan) marks name (((accepts-exactly n ends starts goals plan marks rec lines name) .0 h) .2) in (t .1, t .2, t .3),
-  λ t. let e = billing-told n ends starts goals plan marks rec lines name passes fine f in
-      e ∙ facts-accept n ends starts goals plan marks passes fine name (t .0) (t .1) (t .2),
+accepts-ready o plan marks rec lines name passes fine f = (
+  λ h. let t = tell-facts (crossings plan) marks name (((accepts-exactly o plan marks rec lines name) .0 h) .2) in (t .1, t .2, t .3),
+  λ t. let e = billing-told o plan marks rec lines name passes fine f in
+      e ∙ facts-accept o plan marks passes fine name (t .0) (t .1) (t .2),
 )

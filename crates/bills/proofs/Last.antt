@@ -11,6 +11,7 @@ use lib.ListN.{length, set, replicate}
 use borrow.Author.Tests.{eqb-true, eqb-false, eq-eqb}
 use Rattle.paper.specs.Basics.{if_then_else_, _and_}
 use Rattle.paper.specs.Yard.{Carrier, Crossing, crossings, named, most-crossings}
+use Rattle.paper.specs.Order.{order}
 use Rattle.paper.specs.Dependence.{done, isDone}
 use Rattle.paper.specs.Answers.{accepts}
 use Rattle.paper.specs.Log.{Request}
@@ -120,7 +121,7 @@ last-run plan c b (q ∷ qs) =
     let ih = last-run plan c (booksBy plan b q) qs in
     by-cases (accepts (answerOn plan b q))
     (λ e.
-    let a = (accepts-exactly (q .bays) (q .ends) (q .starts) (q .goals) plan (b .marks) (b .running) (b .lines) (q .name)) .0
+    let a = (accepts-exactly (q .order) plan (b .marks) (b .running) (b .lines) (q .name)) .0
     ((accepts-accept (answerOn plan b q)) .0 e) in
     let t = tell-facts xs (b .marks) (q .name) (a .2) in
     let s = last-accepted xs (b .marks) (q .name) (marks-long xs (b .marks) (t .0)) (order-of xs (b .marks) (t .0)) (t .1) (t .2) c in

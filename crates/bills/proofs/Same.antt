@@ -6,7 +6,8 @@ use mathlib.Core.List.{List, [], _∷_}
 use Prim.Native.Nat.{ℕ}
 use lib.ListN.{length}
 use borrow.Author.Tests.{eqb-true, eq-eqb}
-use Rattle.paper.specs.Yard.{Bay, Placement, crossings}
+use Rattle.paper.specs.Yard.{crossings}
+use Rattle.paper.specs.Order.{Order}
 use Rattle.paper.proofs.Tests.{by-cases, not-both, and-left, and-right, and-both}
 use Rattle.bills.specs.Billing.{recordOf, linesOf}
 use Rattle.bills.specs.Answering.{sameNumbers, sameRecord, sameLine, sameLines, agree}
@@ -69,17 +70,17 @@ lines-same l m = (to l m, λ e. rw e (from m))
     from [] = refl
     from (a ∷ m) = and-both _ _ (same-line a) (from m)
 
-module _ (n : ℕ) (ends : List Bay) (starts goals : Placement) (plan marks : List ℕ) (rec : Record) (lines : List Line) where
-  pub agree-exactly : (agree n ends starts goals plan marks rec lines ≡ true) ↔ Afresh starts plan marks rec lines
+module _ (o : Order) (plan marks : List ℕ) (rec : Record) (lines : List Line) where
+  pub agree-exactly : (agree o plan marks rec lines ≡ true) ↔ Afresh (o .starts) plan marks rec lines
   unfolding agree
   agree-exactly = (
     λ h. ((record-same rec _) .0 (and-left _ _ h), (lines-same lines _) .0 (and-right _ _ h)),
     λ f. and-both _ _ ((record-same rec _) .1 (f .0)) ((lines-same lines _) .1 (f .1)),
   )
 
-  pub differ-exactly : (agree n ends starts goals plan marks rec lines ≡ false) ↔ (Afresh starts plan marks rec lines → ⊥)
+  pub differ-exactly : (agree o plan marks rec lines ≡ false) ↔ (Afresh (o .starts) plan marks rec lines → ⊥)
   differ-exactly = false-exactly _ agree-exactly
 
   -- "The line list has exactly k entries"; one of another length does not agree
-  pub other-length : (length lines ≡ length starts → ⊥) → agree n ends starts goals plan marks rec lines ≡ false
-  other-length h = differ-exactly .1 (λ f. h (ap length (f .1) ∙ lines-long (length starts) (crossings plan) marks))
+  pub other-length : (length lines ≡ length (o .starts) → ⊥) → agree o plan marks rec lines ≡ false
+  other-length h = differ-exactly .1 (λ f. h (ap length (f .1) ∙ lines-long (length (o .starts)) (crossings plan) marks))

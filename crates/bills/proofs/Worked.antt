@@ -7,6 +7,7 @@ use Prim.Native.Nat.{ℕ, _-_}
 use lib.ListN.{replicate}
 use Rattle.paper.specs.Limits.{most-bays}
 use Rattle.paper.specs.Yard.{Bay, Placement, Crossing, crossing, pack}
+use Rattle.paper.specs.Order.{order}
 use Rattle.paper.specs.Dependence.{slots, fresh}
 use Rattle.paper.specs.Docket.{mismarked, unknown, early, disagrees, room, missed}
 use Rattle.paper.specs.Answers.{Report, accept, already, refuse, check}
@@ -49,7 +50,7 @@ abbrev line : ℕ → ℕ → ℕ → Line
 line c billed last = record { carrier = c; billed = billed; last = last }
 
 -- 3 depends on 0, and 4 on 0, 2 and 3
-pub its-slots : (slots xs ≡ 1 ∷ 1 ∷ 1 ∷ 2 ∷ 3 ∷ []) × (check 7 line-7 starts goals plan ≡ none)
+pub its-slots : (slots xs ≡ 1 ∷ 1 ∷ 1 ∷ 2 ∷ 3 ∷ []) × (check (order 7 line-7 starts goals) plan ≡ none)
 unfolding computing-bills
 its-slots = (refl, refl)
 
@@ -86,7 +87,7 @@ abbrev lines : List Line
 lines = line 0 1 0 ∷ line 1 1 2 ∷ line 2 0 untouched ∷ []
 
 abbrev reported : Placement → List ℕ → Record → List Line → ℕ → Report
-reported goals marks rec lines name = billing 7 line-7 starts goals plan marks rec lines name
+reported goals marks rec lines name = billing (order 7 line-7 starts goals) plan marks rec lines name
 
 -- 10 and 11 come before 19, and 19 before 12, "already" and 13; a place, the number done, the highest slot, a count, a last name or a length that is wrong is 19
 pub all-answered : (reported goals marks rec lines 3
@@ -120,18 +121,18 @@ pub all-answered : (reported goals marks rec lines 3
 unfolding computing-bills
 all-answered = refl
 
-pub all-tested : (agreement 7 line-7 starts goals plan marks rec lines
-    ∷ agreement 7 line-7 starts goals plan (fresh plan) rec lines
-    ∷ agreement 7 line-7 starts goals plan [] rec lines
+pub all-tested : (agreement (order 7 line-7 starts goals) plan marks rec lines
+    ∷ agreement (order 7 line-7 starts goals) plan (fresh plan) rec lines
+    ∷ agreement (order 7 line-7 starts goals) plan [] rec lines
     ∷ [])
     ≡ agrees ∷ differs ∷ refused mismarked ∷ []
 unfolding computing-bills
 all-tested = refl
 
-pub all-opened : (opening 7 line-7 starts goals plan marks 3
-    ∷ opening 7 line-7 starts goals plan marks 2
-    ∷ opening 7 line-7 starts goals plan marks 4
-    ∷ opening 7 line-7 starts goals plan [] 4
+pub all-opened : (opening (order 7 line-7 starts goals) plan marks 3
+    ∷ opening (order 7 line-7 starts goals) plan marks 2
+    ∷ opening (order 7 line-7 starts goals) plan marks 4
+    ∷ opening (order 7 line-7 starts goals) plan [] 4
     ∷ [])
     ≡ none ∷ some (room 3) ∷ some (room 3) ∷ some mismarked ∷ []
 unfolding computing-bills
@@ -139,7 +140,7 @@ all-opened = refl
 
 -- reported from fresh: 3 too early, 2, 2 again, 0, 3, 1, 4
 abbrev request : ℕ → Request
-request i = record { bays = 7; ends = line-7; starts = starts; goals = goals; name = i }
+request i = record { order = order 7 line-7 starts goals; name = i }
 
 abbrev names : List ℕ
 names = 3 ∷ 2 ∷ 2 ∷ 0 ∷ 3 ∷ 1 ∷ 4 ∷ []

@@ -8,7 +8,8 @@ use Prim.Native.Nat.{ℕ}
 use lib.Dec.{eqb}
 use lib.ListN.{length, getD, set}
 use Rattle.paper.specs.Basics.{if_then_else_, if-some_then_else_, _and_, orElse, when}
-use Rattle.paper.specs.Yard.{Bay, Placement, crossings, named}
+use Rattle.paper.specs.Yard.{crossings, named}
+use Rattle.paper.specs.Order.{Order}
 use Rattle.paper.specs.Dependence.{slots}
 use Rattle.paper.specs.Docket.{Refusal, room, disagrees, no-11}
 use Rattle.paper.specs.Answers.{Report, refuse, accepts, tell, check}
@@ -43,20 +44,20 @@ pub data Agreement : Type 0 where
   agrees differs : Agreement
   refused : Refusal → Agreement
 
-module _ (n : ℕ) (ends : List Bay) (starts goals : Placement) (plan : List ℕ) where
+module _ (o : Order) (plan : List ℕ) where
   abbrev freshRecord : List ℕ → Record
-  freshRecord marks = recordOf starts (crossings plan) marks
+  freshRecord marks = recordOf (o .starts) (crossings plan) marks
 
   abbrev freshLines : List ℕ → List Line
-  freshLines marks = linesOf (length starts) (crossings plan) marks
+  freshLines marks = linesOf (length (o .starts)) (crossings plan) marks
 
   -- "the refusals up to 11"
   unfoldable pub upToEleven : List ℕ → Option Refusal
-  upToEleven marks = orElse (check n ends starts goals plan) (no-11 (crossings plan) marks)
+  upToEleven marks = orElse (check o plan) (no-11 (crossings plan) marks)
 
   -- "otherwise opening answers 8 carrying k, after 11", for a list of so many lines
   unfoldable pub opening : List ℕ → ℕ → Option Refusal
-  opening marks lent = orElse (upToEleven marks) (when (not (eqb lent (length starts))) (room (length starts)))
+  opening marks lent = orElse (upToEleven marks) (when (not (eqb lent (length (o .starts)))) (room (length (o .starts))))
 
   -- "opening builds both from plan and marks"
   unfoldable pub openedRecord : List ℕ → Record → ℕ → Record

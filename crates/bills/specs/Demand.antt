@@ -9,7 +9,8 @@ use Prim.Native.Nat.{ℕ, _<_, _+_}
 use lib.Dec.{eqb}
 use lib.ListN.{length, getD}
 use Rattle.paper.specs.Basics.{if_then_else_, In, NoDup}
-use Rattle.paper.specs.Yard.{Bay, Carrier, Placement, Crossing, after, legalPlan, crossings, named}
+use Rattle.paper.specs.Yard.{Carrier, Placement, Crossing, after, legalPlan, crossings, named}
+use Rattle.paper.specs.Order.{Order}
 use Rattle.paper.specs.Dependence.{isDone, countOf, placementBy}
 use Rattle.paper.specs.Docket.{yardOf}
 use Rattle.paper.specs.Answers.{accept, already}
@@ -45,8 +46,8 @@ module _ (starts : Placement) (plan : List ℕ) (qs : List Request) where
   crossingsBilled = map (named (crossings plan)) namesBilled
 
 -- a report with the check's yard, start and goal
-abbrev pub asked : ℕ → List Bay → Placement → Placement → ℕ → Request
-asked n ends starts goals i = record { bays = n; ends = ends; starts = starts; goals = goals; name = i }
+abbrev pub asked : Order → ℕ → Request
+asked o i = record { order = o; name = i }
 
 -- books on which every crossing of the plan is done
 pub record AllBilled (starts goals : Placement) (plan : List ℕ) (b : Books) : Type 0 where
@@ -57,29 +58,29 @@ pub record AllBilled (starts goals : Placement) (plan : List ℕ) (b : Books) : 
   pub billed : allBilled (b .lines) ≡ length plan
   pub done : b .running .done ≡ length plan
 
-pub record Demand3Billed (n : ℕ) (ends : List Bay) (starts goals : Placement) (plan : List ℕ) (qs : List Request) : Type 0 where
+pub record Demand3Billed (o : Order) (plan : List ℕ) (qs : List Request) : Type 0 where
   -- record and lines are what plan, start and marks give worked out afresh,
-  pub afresh : Afresh starts plan (booksEnd starts plan qs .marks) (booksEnd starts plan qs .running) (booksEnd starts plan qs .lines)
+  pub afresh : Afresh (o .starts) plan (booksEnd (o .starts) plan qs .marks) (booksEnd (o .starts) plan qs .running) (booksEnd (o .starts) plan qs .lines)
   -- the accepted crossings, in the order accepted, are each legal,
-  pub lawful : legalPlan (yardOf n ends) starts (crossingsBilled starts plan qs) ≡ true
+  pub lawful : legalPlan (yardOf o) (o .starts) (crossingsBilled (o .starts) plan qs) ≡ true
   -- and leave the carriers where those same crossings in plan order would, and where the record says:
-  pub same : after starts (crossingsBilled starts plan qs) ≡ placementBy starts (crossings plan) (booksEnd starts plan qs .marks)
-  pub placed : booksEnd starts plan qs .running .at ≡ places (after starts (crossingsBilled starts plan qs))
+  pub same : after (o .starts) (crossingsBilled (o .starts) plan qs) ≡ placementBy (o .starts) (crossings plan) (booksEnd (o .starts) plan qs .marks)
+  pub placed : booksEnd (o .starts) plan qs .running .at ≡ places (after (o .starts) (crossingsBilled (o .starts) plan qs))
   -- (those marked done are the accepted ones, each accepted once; each is billed once).
-  pub marked : (i : ℕ) → (isDone (booksEnd starts plan qs .marks) i ≡ true) ↔ In i (namesBilled starts plan qs)
-  pub once : NoDup (namesBilled starts plan qs)
-  pub each-billed : (c : Carrier) → c < length starts → getD (booksEnd starts plan qs .lines) c noLine .billed ≡ countOf c (crossingsBilled starts plan qs)
-  pub all-billed : allBilled (booksEnd starts plan qs .lines) ≡ booksEnd starts plan qs .running .done
+  pub marked : (i : ℕ) → (isDone (booksEnd (o .starts) plan qs .marks) i ≡ true) ↔ In i (namesBilled (o .starts) plan qs)
+  pub once : NoDup (namesBilled (o .starts) plan qs)
+  pub each-billed : (c : Carrier) → c < length (o .starts) → getD (booksEnd (o .starts) plan qs .lines) c noLine .billed ≡ countOf c (crossingsBilled (o .starts) plan qs)
+  pub all-billed : allBilled (booksEnd (o .starts) plan qs .lines) ≡ booksEnd (o .starts) plan qs .running .done
   -- Each line has its carrier's last name accepted.
-  pub last-names : (c : Carrier) → c < length starts
-      → getD (booksEnd starts plan qs .lines) c noLine .last ≡ lastOf c (crossings plan) untouched (namesBilled starts plan qs)
+  pub last-names : (c : Carrier) → c < length (o .starts)
+      → getD (booksEnd (o .starts) plan qs .lines) c noLine .last ≡ lastOf c (crossings plan) untouched (namesBilled (o .starts) plan qs)
   -- A repeat changes nothing, whatever it comes with, and with that check's yard, start and goal it answers "already".
-  pub repeats : (q : Request) → In (q .name) (namesBilled starts plan qs) → booksBy plan (booksEnd starts plan qs) q ≡ booksEnd starts plan qs
-  pub answered : (i : ℕ) → In i (namesBilled starts plan qs) → answerOn plan (booksEnd starts plan qs) (asked n ends starts goals i) ≡ already
+  pub repeats : (q : Request) → In (q .name) (namesBilled (o .starts) plan qs) → booksBy plan (booksEnd (o .starts) plan qs) q ≡ booksEnd (o .starts) plan qs
+  pub answered : (i : ℕ) → In i (namesBilled (o .starts) plan qs) → answerOn plan (booksEnd (o .starts) plan qs) (asked o i) ≡ already
   -- Whatever is not accepted changes neither marks nor record nor lines.
-  pub unchanged : (q : Request) → (answerOn plan (booksEnd starts plan qs) q ≡ accept → ⊥) → booksBy plan (booksEnd starts plan qs) q ≡ booksEnd starts plan qs
+  pub unchanged : (q : Request) → (answerOn plan (booksEnd (o .starts) plan qs) q ≡ accept → ⊥) → booksBy plan (booksEnd (o .starts) plan qs) q ≡ booksEnd (o .starts) plan qs
   -- While one is undone, some name would be accepted in a report with that check's yard, start and goal.
-  pub goes-on : (i : ℕ) → i < length plan → isDone (booksEnd starts plan qs .marks) i ≡ false
-      → (j : ℕ) × (answerOn plan (booksEnd starts plan qs) (asked n ends starts goals j) ≡ accept)
+  pub goes-on : (i : ℕ) → i < length plan → isDone (booksEnd (o .starts) plan qs .marks) i ≡ false
+      → (j : ℕ) × (answerOn plan (booksEnd (o .starts) plan qs) (asked o j) ≡ accept)
   -- With all done, every carrier is home and has been billed its plan's count of crossings.
-  pub all-home : ((i : ℕ) → i < length plan → isDone (booksEnd starts plan qs .marks) i ≡ true) → AllBilled starts goals plan (booksEnd starts plan qs)
+  pub all-home : ((i : ℕ) → i < length plan → isDone (booksEnd (o .starts) plan qs .marks) i ≡ true) → AllBilled (o .starts) (o .goals) plan (booksEnd (o .starts) plan qs)

@@ -21,13 +21,13 @@ pub record Books : Type 0 where
 
 module _ (plan : List ℕ) where
   abbrev pub answerOn : Books → Request → Report
-  answerOn b q = billing (q .bays) (q .ends) (q .starts) (q .goals) plan (b .marks) (b .running) (b .lines) (q .name)
+  answerOn b q = billing (q .order) plan (b .marks) (b .running) (b .lines) (q .name)
 
   abbrev pub booksBy : Books → Request → Books
   booksBy b q = record {
-    marks = marksThen (q .bays) (q .ends) (q .starts) (q .goals) plan (b .marks) (b .running) (b .lines) (q .name);
-    running = recordThen (q .bays) (q .ends) (q .starts) (q .goals) plan (b .marks) (b .running) (b .lines) (q .name);
-    lines = linesThen (q .bays) (q .ends) (q .starts) (q .goals) plan (b .marks) (b .running) (b .lines) (q .name);
+    marks = marksThen (q .order) plan (b .marks) (b .running) (b .lines) (q .name);
+    running = recordThen (q .order) plan (b .marks) (b .running) (b .lines) (q .name);
+    lines = linesThen (q .order) plan (b .marks) (b .running) (b .lines) (q .name);
   }
 
   -- record and lines worked out afresh from marks

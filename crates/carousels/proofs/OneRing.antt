@@ -3,14 +3,15 @@
 use mathlib.Core.Path.{_≡_, refl, sym, _∙_, ap}
 use mathlib.Core.Bool.{Bool, true}
 use mathlib.Core.Logic.{_⊎_, ⊎-elim}
-use mathlib.Core.List.{List, []}
+use mathlib.Core.List.{[]}
 use mathlib.Core.Option.{none, Option·getD}
 use Prim.Native.Nat.{ℕ, suc, _<_, _≤_}
 use native.Mathlib.Omega.{arith}
 use lib.Dec.{eqb}
 use borrow.Author.Tests.{eqb-true, eq-eqb}
 use Rattle.paper.specs.Basics.{find, upTo}
-use Rattle.paper.specs.Yard.{Bay, Yard, Placement, joined, carousel}
+use Rattle.paper.specs.Yard.{Bay, Yard, joined, carousel}
+use Rattle.paper.specs.Order.{Order}
 use Rattle.paper.specs.Docket.{yardOf, apartBay}
 use Rattle.paper.specs.Answers.{firstSix}
 use Rattle.paper.proofs.Members.{in-count, count-high, find-some, find-in, find-passes}
@@ -118,9 +119,9 @@ three-bays Y some-bay sound all-joined two-each =
     three-or-more Y sound (going-round Y sound two-each some-bay) (Y .bays) (walk-closed Y some-bay sound all-joined two-each)
 
 -- Once 1 to 6 pass, a carousel is one ring.
-pub one-ring : (n : ℕ) (ends : List Bay) (starts goals : Placement) (lent : ℕ) → firstSix n ends starts goals lent ≡ none
-    → carousel (yardOf n ends) ≡ true → Round (yardOf n ends)
-one-ring n ends starts goals lent passed two-each =
-    let c = clean-of n ends starts goals lent passed in
+pub one-ring : (o : Order) (lent : ℕ) → firstSix o lent ≡ none
+    → carousel (yardOf o) ≡ true → Round (yardOf o)
+one-ring o lent passed two-each =
+    let c = clean-of o lent passed in
     let enough = c .sizes .enough-bays in
-    goes-round (yardOf n ends) (omega arith) (sound-of n ends (c .rails)) (c .reached) two-each
+    goes-round (yardOf o) (omega arith) (sound-of o (c .rails)) (c .reached) two-each

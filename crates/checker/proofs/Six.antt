@@ -6,7 +6,8 @@ use mathlib.Core.Option.{Option, none, some}
 use Prim.Native.Nat.{ℕ, _≤_, _<_}
 use native.Mathlib.Omega.{arith}
 use lib.ListN.{length}
-use Rattle.paper.specs.Yard.{Bay, Carrier, Placement, bayOf, crossings}
+use Rattle.paper.specs.Yard.{Carrier, Placement, bayOf, crossings}
+use Rattle.paper.specs.Order.{Order}
 use Rattle.paper.specs.Docket.{Refusal, yardOf}
 use Rattle.paper.specs.Answers.{firstSix, check}
 use Rattle.paper.proofs.Members.{count-high}
@@ -16,34 +17,34 @@ use Rattle.words.specs.Sets.{span}
 use Rattle.yard.specs.Table.{Table}
 use Rattle.checker.specs.Reading.{NineTen}
 
-module _ (n : ℕ) (ends : List Bay) (starts goals : Placement) (plan : List ℕ) where
-  pub six-refused : (r : Refusal) → some r ≡ firstSix n ends starts goals (length plan) → some r ≡ check n ends starts goals plan
+module _ (o : Order) (plan : List ℕ) where
+  pub six-refused : (r : Refusal) → some r ≡ firstSix o (length plan) → some r ≡ check o plan
   unfolding check
   six-refused r h = rw (← h)
 
-  module _ (passes : none ≡ firstSix n ends starts goals (length plan)) where
-    clean : Clean n ends starts goals (length plan)
-    clean = clean-of n ends starts goals (length plan) (sym passes)
+  module _ (passes : none ≡ firstSix o (length plan)) where
+    clean : Clean o (length plan)
+    clean = clean-of o (length plan) (sym passes)
 
-    good : Good (yardOf n ends) starts
-    good = good-of n ends starts (clean .starts)
+    good : Good (yardOf o) (o .starts)
+    good = good-of o (o .starts) (clean .starts)
 
-    bays-inside : (p : Placement) → Good (yardOf n ends) p → (c : Carrier) → c < length p → bayOf p c < span
-    bays-inside p g c k = omega (arith, count-high 0 n (bayOf p c) (g .inside c k), clean .sizes .few-bays)
+    bays-inside : (p : Placement) → Good (yardOf o) p → (c : Carrier) → c < length p → bayOf p c < span
+    bays-inside p g c k = omega (arith, count-high 0 (o .bays) (bayOf p c) (g .inside c k), clean .sizes .few-bays)
 
-    pub as-many : length starts ≡ length goals
+    pub as-many : length (o .starts) ≡ length (o .goals)
     as-many = clean .sizes .same-length
 
-    pub few-carriers : length goals ≤ span
+    pub few-carriers : length (o .goals) ≤ span
     few-carriers = omega (arith, clean .sizes .same-length, clean .uncrowded, clean .sizes .few-bays)
 
-    pub starts-inside : (c : Carrier) → c < length starts → bayOf starts c < span
-    starts-inside = bays-inside starts good
+    pub starts-inside : (c : Carrier) → c < length (o .starts) → bayOf (o .starts) c < span
+    starts-inside = bays-inside (o .starts) good
 
-    pub goals-inside : (c : Carrier) → c < length goals → bayOf goals c < span
-    goals-inside = bays-inside goals (good-of n ends goals (clean .goals))
+    pub goals-inside : (c : Carrier) → c < length (o .goals) → bayOf (o .goals) c < span
+    goals-inside = bays-inside (o .goals) (good-of o (o .goals) (clean .goals))
 
-    pub six-passed : (table : List ℕ) → Table (yardOf n ends) n table → (answer : Option Refusal)
-        → NineTen table starts goals (crossings plan) answer → answer ≡ check n ends starts goals plan
+    pub six-passed : (table : List ℕ) → Table (yardOf o) (o .bays) table → (answer : Option Refusal)
+        → NineTen table (o .starts) (o .goals) (crossings plan) answer → answer ≡ check o plan
     unfolding check
-    six-passed table rows answer rest = rw (← passes) (rest (yardOf n ends) rows (clean .sizes .few-bays) good)
+    six-passed table rows answer rest = rw (← passes) (rest (yardOf o) rows (clean .sizes .few-bays) good)

@@ -4,6 +4,7 @@ ghost use mathlib.Core.Path.{_≡_};
 ghost use Prim.Native.Nat.{ℕ, _≤_, _<_};
 ghost use lib.ListN.{length, getD};
 ghost use Rattle.paper.specs.Yard.{crossings};
+ghost use Rattle.paper.specs.Order.{order};
 ghost use Rattle.paper.specs.Answers.{check as checkOf};
 ghost use Rattle.words.specs.Sets.{span};
 ghost use Rattle.replay.specs.Playing.{legalityOf};
@@ -78,7 +79,7 @@ fn check_from(table: &[u64; Yard::TABLE], start: &[u16], goal: &[u16], plan: &[u
 
 // The check tests 1 to 6, then 9, 10.
 pub fn check(bays: u64, rails: &[u16], start: &[u16], goal: &[u16], plan: &[u64]) -> Checked
-    ensures { λ r. ⌜ checkedOf r ≡ checkOf bays (now (rails .entry)) (now (start .entry)) (now (goal .entry)) (now (plan .entry)) ⌝ }
+    ensures { λ r. ⌜ checkedOf r ≡ checkOf (order bays (now (rails .entry)) (now (start .entry)) (now (goal .entry))) (now (plan .entry)) ⌝ }
 {
     let mut table = [0u64; Yard::TABLE];
     let opened = Yard::open(bays, rails, start, goal, plan.len() as u64, &mut table);

@@ -10,7 +10,8 @@ use lib.Dec.{ltb, eqb}
 use lib.ListN.{length, drop}
 use Rattle.paper.specs.Basics.{_or_, if_then_else_}
 use Rattle.paper.specs.Limits.{most-bays}
-use Rattle.paper.specs.Yard.{Bay, Placement, Crossing, crossings, most-crossings}
+use Rattle.paper.specs.Yard.{Crossing, crossings, most-crossings}
+use Rattle.paper.specs.Order.{Order}
 use Rattle.paper.specs.Dependence.{slots}
 use Rattle.paper.specs.Answers.{check, slotsRefusal, slotsEnd}
 use Rattle.paper.specs.OnePass.{Fits}
@@ -42,31 +43,31 @@ pub by-one : (e : ℕ) (xs : List Crossing) → eqb e 2 ≡ false → slotsBy e 
 unfolding slotsBy
 by-one e xs h = rw h
 
-module _ (n : ℕ) (ends : List Bay) (starts goals : Placement) (plan : List ℕ) (e : ℕ) where
-  pub says-unknown : isKnown e ≡ false → (out : List ℕ) → SlotsOfSay n ends starts goals plan e out (Denied Edition) out
+module _ (o : Order) (plan : List ℕ) (e : ℕ) where
+  pub says-unknown : isKnown e ≡ false → (out : List ℕ) → SlotsOfSay o plan e out (Denied Edition) out
   unfolding slotsOfRefusal slotsOfEnd
   says-unknown k out = record { answers = rw k; leaves = rw k }
 
   module _ (k : isKnown e ≡ true) where
-    pub says-refused : (out : List ℕ) (r : Refusal) → some (refusalOf r) ≡ check n ends starts goals plan → SlotsOfSay n ends starts goals plan e out (Denied r) out
+    pub says-refused : (out : List ℕ) (r : Refusal) → some (refusalOf r) ≡ check o plan → SlotsOfSay o plan e out (Denied r) out
     unfolding slotsOfRefusal slotsOfEnd slotsRefusal
     says-refused out r h = record { answers = rw (k, ← h); leaves = rw (k, ← h) }
 
-    module _ (passes : none ≡ check n ends starts goals plan) where
+    module _ (passes : none ≡ check o plan) where
       pub fits : Fits most-bays most-bays plan
-      fits = check-fits n ends starts goals plan (sym passes)
+      fits = check-fits o plan (sym passes)
 
       pub short : length plan ≤ most-crossings
-      short = clean-of n ends starts goals (length plan) (check-passed n ends starts goals plan (sym passes) .sound) .sizes .short-plan
+      short = clean-of o (length plan) (check-passed o plan (sym passes) .sound) .sizes .short-plan
 
-      pub says-room : (out : List ℕ) → length out < length plan → SlotsOfSay n ends starts goals plan e out (Denied (Room (length plan))) out
+      pub says-room : (out : List ℕ) → length out < length plan → SlotsOfSay o plan e out (Denied (Room (length plan))) out
       unfolding slotsOfRefusal slotsOfEnd slotsRefusal
       says-room out h =
           let over : (ltb (length out) (length plan) or ltb most-crossings (length plan)) ≡ true = or-left _ _ (lt-ltb (length out) (length plan) h) in
           record { answers = rw (k, ← passes, over); leaves = rw (k, ← passes, over) }
 
       pub says-written : (out out′ : List ℕ) → length plan ≤ length out → out′ ≡ slotsBy e (crossings plan) ++ drop (length plan) out
-          → SlotsOfSay n ends starts goals plan e out (Granted (length plan)) out′
+          → SlotsOfSay o plan e out (Granted (length plan)) out′
       unfolding slotsOfRefusal slotsOfEnd slotsRefusal
       says-written out out′ h w =
           let room : (ltb (length out) (length plan) or ltb most-crossings (length plan)) ≡ false =
@@ -74,7 +75,7 @@ module _ (n : ℕ) (ends : List Bay) (starts goals : Placement) (plan : List ℕ
           record { answers = rw (k, ← passes, room); leaves = rw (k, ← passes, room) w }
 
   -- The first edition is slots as document 01 has them: the same refusals, the same list.
-  pub first-edition : (lent : List ℕ) → (slotsOfRefusal n ends starts goals plan 1 (length lent) ≡ slotsRefusal n ends starts goals plan (length lent))
-      × (slotsOfEnd n ends starts goals plan 1 lent ≡ slotsEnd n ends starts goals plan lent)
+  pub first-edition : (lent : List ℕ) → (slotsOfRefusal o plan 1 (length lent) ≡ slotsRefusal o plan (length lent))
+      × (slotsOfEnd o plan 1 lent ≡ slotsEnd o plan lent)
   unfolding slotsOfRefusal slotsOfEnd slotsEnd slotsBy isKnown _or_
   first-edition lent = (refl, refl)

@@ -7,7 +7,8 @@ use Prim.Native.Nat.{ℕ}
 use lib.Dec.{eqb}
 use lib.ListN.{length, drop}
 use Rattle.paper.specs.Basics.{if_then_else_, if-some_then_else_, orElse, when, _or_}
-use Rattle.paper.specs.Yard.{Bay, Placement, Crossing, crossings}
+use Rattle.paper.specs.Yard.{Crossing, crossings}
+use Rattle.paper.specs.Order.{Order}
 use Rattle.paper.specs.Docket.{Refusal, edition, Verdict, unlessDenied}
 use Rattle.paper.specs.Dependence.{slots}
 use Rattle.paper.specs.Answers.{slotsRefusal}
@@ -24,10 +25,10 @@ no-20 e = when (not (isKnown e)) edition
 unfoldable pub slotsBy : ℕ → List Crossing → List ℕ
 slotsBy e xs = if eqb e 2 then trainSlots xs else slots xs
 
-module _ (n : ℕ) (ends : List Bay) (starts goals : Placement) (plan : List ℕ) where
+module _ (o : Order) (plan : List ℕ) where
   -- "20, unknown edition, tested before all others"; then as slots
   unfoldable pub slotsOfRefusal : ℕ → ℕ → Option Refusal
-  slotsOfRefusal e lent = orElse (no-20 e) (slotsRefusal n ends starts goals plan lent)
+  slotsOfRefusal e lent = orElse (no-20 e) (slotsRefusal o plan lent)
 
   -- the length written is the plan's
   abbrev pub slotsOf : ℕ → ℕ → Verdict

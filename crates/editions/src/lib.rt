@@ -6,6 +6,7 @@ ghost use Prim.Native.Nat.{_≤_};
 ghost use lib.ListN.{length, drop};
 ghost use Rattle.paper.specs.Limits.{most-bays};
 ghost use Rattle.paper.specs.Yard.{crossings, most-crossings};
+ghost use Rattle.paper.specs.Order.{order};
 ghost use Rattle.paper.specs.OnePass.{Fits};
 ghost use Rattle.editions.specs.Editions.{isKnown, slotsBy};
 ghost use Rattle.editions.specs.Statement.{SlotsOfSay};
@@ -45,7 +46,10 @@ pub fn slots_of(
     plan: &[u64],
     out: &mut [u32],
 ) -> Verdict
-    ensures { λ r. ⌜ SlotsOfSay bays (now (rails .entry)) (now (start .entry)) (now (goal .entry)) (now (plan .entry)) edition (now (out .entry)) r (now (out .exit)) ⌝ }
+    ensures { λ r. ⌜
+        SlotsOfSay (order bays (now (rails .entry)) (now (start .entry)) (now (goal .entry)))
+        (now (plan .entry)) edition (now (out .entry)) r (now (out .exit))
+        ⌝ }
 {
     let fits = known(edition);
     if !fits {

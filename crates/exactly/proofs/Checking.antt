@@ -9,7 +9,8 @@ use lib.Dec.{eqb, leb}
 use lib.ListN.{length, getD}
 use borrow.Author.Tests.{eqb-true, eq-eqb}
 use Rattle.paper.specs.Basics.{if-some_then_else_, _>>=_, orElse, when, elem, _and_}
-use Rattle.paper.specs.Yard.{Bay, Placement, Crossing, crossings, after}
+use Rattle.paper.specs.Yard.{Crossing, crossings, after}
+use Rattle.paper.specs.Order.{Order}
 use Rattle.paper.specs.Dependence.{isDone, undoneBefore}
 use Rattle.paper.specs.Docket.{Refusal, number, carried, yardOf, badMarks, no-9, no-10, no-11, no-12, no-13}
 use Rattle.paper.specs.Answers.{firstSix, check, slotsRefusal, Report, accept, already, refuse, tell, report}
@@ -23,37 +24,37 @@ use Rattle.exactly.proofs.Six.{Refuses, six-reads}
 use Rattle.exactly.proofs.Plans.{reads-8, reads-9, reads-10}
 use Rattle.exactly.proofs.Marks.{reads-11, reads-12, reads-13}
 
-module _ (n : ℕ) (ends : List Bay) (starts goals : Placement) (crossed : List ℕ) where
+module _ (o : Order) (crossed : List ℕ) where
   -- ## The check and slots
 
-  pub check-reads : Refuses (check n ends starts goals crossed) (checkRows n ends starts goals crossed)
+  pub check-reads : Refuses (check o crossed) (checkRows o crossed)
   unfolding check
   check-reads =
-      after-it number carried (six-reads n ends starts goals (length crossed)) (λ _.
-      after-it number carried (reads-9 (yardOf n ends) starts (crossings crossed)) (λ _.
-      reads-10 goals (after starts (crossings crossed))))
+      after-it number carried (six-reads o (length crossed)) (λ _.
+      after-it number carried (reads-9 (yardOf o) (o .starts) (crossings crossed)) (λ _.
+      reads-10 (o .goals) (after (o .starts) (crossings crossed))))
 
   -- The check refuses exactly by the first of 1 to 6, 9, 10 that applies, and passes exactly if none does.
-  pub check-refuses : (r : Refusal) → (check n ends starts goals crossed ≡ some r) ↔ Given (checkRows n ends starts goals crossed) (number r) (carried r)
+  pub check-refuses : (r : Refusal) → (check o crossed ≡ some r) ↔ Given (checkRows o crossed) (number r) (carried r)
   unfolding distinct elem _and_
   check-refuses r = exactly number carried check-reads refl r
 
-  pub check-passes : (check n ends starts goals crossed ≡ none) ↔ NoneOf (checkRows n ends starts goals crossed)
+  pub check-passes : (check o crossed ≡ none) ↔ NoneOf (checkRows o crossed)
   check-passes = nothing-exactly number carried check-reads
 
-  pub slots-reads : (lent : ℕ) → Refuses (slotsRefusal n ends starts goals crossed lent) (slotsRows n ends starts goals crossed lent)
+  pub slots-reads : (lent : ℕ) → Refuses (slotsRefusal o crossed lent) (slotsRows o crossed lent)
   unfolding slotsRefusal
   slots-reads lent = after-it number carried check-reads (λ _. reads-8 lent (length crossed))
 
-  pub slots-refuse : (lent : ℕ) (r : Refusal) → (slotsRefusal n ends starts goals crossed lent ≡ some r)
-      ↔ Given (slotsRows n ends starts goals crossed lent) (number r) (carried r)
+  pub slots-refuse : (lent : ℕ) (r : Refusal) → (slotsRefusal o crossed lent ≡ some r)
+      ↔ Given (slotsRows o crossed lent) (number r) (carried r)
   unfolding distinct elem _and_
   slots-refuse lent r = exactly number carried (slots-reads lent) refl r
 
-  pub slots-accept : (lent : ℕ) → (slotsRefusal n ends starts goals crossed lent ≡ none) ↔ NoneOf (slotsRows n ends starts goals crossed lent)
+  pub slots-accept : (lent : ℕ) → (slotsRefusal o crossed lent ≡ none) ↔ NoneOf (slotsRows o crossed lent)
   slots-accept lent = nothing-exactly number carried (slots-reads lent)
 
   module _ (marks : List ℕ) where
     -- what every function that has marks tests first
-    pub marks-read : Refuses (orElse (check n ends starts goals crossed) (no-11 (crossings crossed) marks)) (markRows n ends starts goals crossed marks)
+    pub marks-read : Refuses (orElse (check o crossed) (no-11 (crossings crossed) marks)) (markRows o crossed marks)
     marks-read = after-it number carried check-reads (λ _. reads-11 (crossings crossed) marks)

@@ -7,7 +7,8 @@ use mathlib.Core.Option.{Option, none, some}
 use Prim.Native.Nat.{ℕ}
 use lib.ListN.{length}
 use Rattle.paper.specs.Basics.{if-some_then_else_, orElse, elem, _and_}
-use Rattle.paper.specs.Yard.{Bay, Placement, Crossing}
+use Rattle.paper.specs.Yard.{Crossing}
+use Rattle.paper.specs.Order.{Order}
 use Rattle.paper.specs.Procedure.{Made, Outcome, planned, stuck, procedure}
 use Rattle.paper.specs.Docket.{Refusal, number, carried, yardOf, no-7, no-8}
 use Rattle.paper.specs.Answers.{Answer, accepted, refused, crossingsOf, within, unless, plan, firstSix}
@@ -52,39 +53,39 @@ refused-exactly t xs r = (to t, λ e. rw e)
     to none h = never (cc)
     to (some q) h = ap some (refused-same h)
 
-module _ (n : ℕ) (ends : List Bay) (starts goals : Placement) (lent : ℕ) where
+module _ (given : Order) (lent : ℕ) where
   abbrev outcome : Outcome
-  outcome = procedure (yardOf n ends) goals starts
+  outcome = procedure (yardOf given) (given .goals) (given .starts)
 
   abbrev tests : Option Refusal
-  tests = orElse (firstSix n ends starts goals 0) (orElse (no-7 outcome) (no-8 lent (length (crossingsOf outcome))))
+  tests = orElse (firstSix given 0) (orElse (no-7 outcome) (no-8 lent (length (crossingsOf outcome))))
 
-  plan-is : plan n ends starts goals lent ≡ (if-some tests then refused else accepted (crossingsOf outcome))
+  plan-is : plan given lent ≡ (if-some tests then refused else accepted (crossingsOf outcome))
   unfolding plan unless within
-  plan-is = by-option (firstSix n ends starts goals 0) (λ e. rw e) (λ r e. rw e)
+  plan-is = by-option (firstSix given 0) (λ e. rw e) (λ r e. rw e)
 
-  plan-reads : Refuses tests (planRows n ends starts goals lent)
-  plan-reads = after-it number carried (six-reads n ends starts goals 0) (λ _. within-reads lent outcome)
+  plan-reads : Refuses tests (planRows given lent)
+  plan-reads = after-it number carried (six-reads given 0) (λ _. within-reads lent outcome)
 
   no-number-twice : distinct (1 ∷ 2 ∷ 3 ∷ 4 ∷ 5 ∷ 6 ∷ 7 ∷ 8 ∷ []) ≡ true
   unfolding distinct elem _and_
   no-number-twice = refl
 
   -- Planning refuses exactly by the first of 1 to 8 that applies.
-  pub plan-refuses : (r : Refusal) → (plan n ends starts goals lent ≡ refused r) ↔ Given (planRows n ends starts goals lent) (number r) (carried r)
+  pub plan-refuses : (r : Refusal) → (plan given lent ≡ refused r) ↔ Given (planRows given lent) (number r) (carried r)
   plan-refuses r =
       let e = exactly number carried plan-reads no-number-twice r in
       let f = refused-exactly tests (crossingsOf outcome) r in
       (λ h. e .0 (f .0 (sym plan-is ∙ h)), λ g. plan-is ∙ f .1 (e .1 g))
 
   -- It accepts a plan exactly if none of them applies, and the plan is the procedure's.
-  pub plan-accepts : (xs : List Crossing) → (plan n ends starts goals lent ≡ accepted xs) ↔ (NoneOf (planRows n ends starts goals lent) × Gives outcome xs)
+  pub plan-accepts : (xs : List Crossing) → (plan given lent ≡ accepted xs) ↔ (NoneOf (planRows given lent) × Gives outcome xs)
   unfolding crossingsOf
   plan-accepts xs =
       let e = nothing-exactly number carried plan-reads in (
         λ h. (
           by-option tests (λ t. e .0 t) (λ r t. let q : accepted xs ≡ refused r = sym h ∙ plan-is ∙ ap (λ t. if-some t then refused else accepted (crossingsOf outcome)) t in never (cc)),
-          (accepted-exactly n ends starts goals lent xs) .0 h .1,
+          (accepted-exactly given lent xs) .0 h .1,
         ),
         λ k. plan-is ∙ ap (λ t. if-some t then refused else accepted (crossingsOf outcome)) (e .1 (k .0)) ∙ ap (λ o. accepted (crossingsOf o)) (k .1 .1) ∙ ap accepted (k .1 .2),
       )

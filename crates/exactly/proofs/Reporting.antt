@@ -10,7 +10,8 @@ use lib.Dec.{eqb, leb}
 use lib.ListN.{length, getD}
 use borrow.Author.Tests.{eqb-true, eq-eqb}
 use Rattle.paper.specs.Basics.{if_then_else_, if-some_then_else_, _>>=_, orElse, when, elem, _and_}
-use Rattle.paper.specs.Yard.{Bay, Placement, Crossing, crossings}
+use Rattle.paper.specs.Yard.{Crossing, crossings}
+use Rattle.paper.specs.Order.{Order}
 use Rattle.paper.specs.Dependence.{isDone, undoneBefore}
 use Rattle.paper.specs.Docket.{Refusal, number, carried, badMarks, no-11, no-12, no-13}
 use Rattle.paper.specs.Answers.{check, Report, accept, already, refuse, tell, report}
@@ -70,32 +71,32 @@ module _ (xs : List Crossing) (marks : List ℕ) (name : ℕ) where
       (λ d. rw (m, l, d))
       (λ d. by-option (undoneBefore xs marks name) (λ u. rw (m, l, d, u)) (λ e u. rw (m, l, d, u))))
 
-module _ (n : ℕ) (ends : List Bay) (starts goals : Placement) (crossed marks : List ℕ) (name : ℕ) where
+module _ (o : Order) (crossed marks : List ℕ) (name : ℕ) where
   abbrev tests : Option Report
   tests =
-      orElse (orElse (check n ends starts goals crossed) (no-11 (crossings crossed) marks) >>= λ r. some (refuse r))
+      orElse (orElse (check o crossed) (no-11 (crossings crossed) marks) >>= λ r. some (refuse r))
       (known (crossings crossed) marks name)
 
-  report-is : report n ends starts goals crossed marks name ≡ otherwise tests accept
+  report-is : report o crossed marks name ≡ otherwise tests accept
   unfolding report tell
   report-is =
-      by-option (check n ends starts goals crossed)
+      by-option (check o crossed)
       (λ p. by-cases (badMarks (crossings crossed) marks)
       (λ m. rw (p, m))
       (λ m. rw (p, m) (rw m at (tell-is (crossings crossed) marks name m))))
       (λ r p. rw p)
 
-  pub report-reads : Reports tests (reportRows n ends starts goals crossed marks name)
+  pub report-reads : Reports tests (reportRows o crossed marks name)
   unfolding elem
   report-reads =
-      after-it reportNumber reportValue (refusing (marks-read n ends starts goals crossed marks) refl refl) (λ _.
+      after-it reportNumber reportValue (refusing (marks-read o crossed marks) refl refl) (λ _.
       known-reads (crossings crossed) marks name)
 
   abbrev Rows : List Row
-  Rows = reportRows n ends starts goals crossed marks name
+  Rows = reportRows o crossed marks name
 
   -- what the tests give, as the report's answer
-  report-gives : (a : Report) → (a ≡ accept → ⊥) → (report n ends starts goals crossed marks name ≡ a) ↔ Given Rows (reportNumber a) (reportValue a)
+  report-gives : (a : Report) → (a ≡ accept → ⊥) → (report o crossed marks name ≡ a) ↔ Given Rows (reportNumber a) (reportValue a)
   unfolding distinct elem _and_
   report-gives a other =
       let e = exactly reportNumber reportValue report-reads refl a in
@@ -103,20 +104,20 @@ module _ (n : ℕ) (ends : List Bay) (starts goals : Placement) (crossed marks :
       (λ h. e .0 (f .0 (sym report-is ∙ h)), λ g. report-is ∙ f .1 (e .1 g))
 
   -- A report refuses exactly by the first of 1 to 6, 9, 10, 11, 12, "already", 13 that applies.
-  pub report-refuses : (r : Refusal) → (report n ends starts goals crossed marks name ≡ refuse r) ↔ Given Rows (number r) (carried r)
+  pub report-refuses : (r : Refusal) → (report o crossed marks name ≡ refuse r) ↔ Given Rows (number r) (carried r)
   report-refuses r = report-gives (refuse r) (λ h. never (cc))
 
   -- what none of these has the number of it never answers
-  pub report-never : (r : Refusal) → elem (number r) (numbersOf Rows) ≡ false → report n ends starts goals crossed marks name ≡ refuse r → ⊥
+  pub report-never : (r : Refusal) → elem (number r) (numbersOf Rows) ≡ false → report o crossed marks name ≡ refuse r → ⊥
   report-never r h e =
       never-given reportNumber reportValue report-reads (refuse r) h (otherwise-exactly tests accept (refuse r) (λ k. never (cc)) .0 (sym report-is ∙ e))
 
   -- A done name answers "already" exactly if none of those before 13 applies.
-  pub report-already : (report n ends starts goals crossed marks name ≡ already) ↔ Given Rows already-number none
+  pub report-already : (report o crossed marks name ≡ already) ↔ Given Rows already-number none
   report-already = report-gives already (λ h. never (cc))
 
   -- A name is accepted exactly if none applies.
-  pub report-accepts : (report n ends starts goals crossed marks name ≡ accept) ↔ NoneOf Rows
+  pub report-accepts : (report o crossed marks name ≡ accept) ↔ NoneOf Rows
   unfolding distinct elem _and_
   report-accepts =
       let e = nothing-exactly reportNumber reportValue report-reads in

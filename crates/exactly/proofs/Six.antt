@@ -12,6 +12,7 @@ use lib.Seq.{length-take-le, getD-take}
 use borrow.Author.Tests.{not-true, ltb-true, lt-ltb, leb-true, le-leb, eqb-true, eqb-false, eq-eqb, ne-eqb}
 use Rattle.paper.specs.Basics.{_and_, _or_, _>>=_, orElse, when, any, elem, firstBad}
 use Rattle.paper.specs.Yard.{Bay, Carrier, Rail, Yard, Placement, fewest-bays, most-bays, most-rails, most-crossings, kept-empty, bayOf, joined}
+use Rattle.paper.specs.Order.{Order}
 use Rattle.paper.specs.Docket.{Refusal, size, rail, apart, crowd, start, goal, number, carried, railsOf, yardOf, badSize, badRail, badPlace, apartBay, no-1, no-2, no-3, no-4, no-5, no-6}
 use Rattle.paper.specs.Answers.{firstSix}
 use Rattle.paper.proofs.Tests.{by-cases, and-left, and-right, and-both, or-left, or-right, or-cases, none-when, none-from}
@@ -30,12 +31,12 @@ Refuses t rows = Reads number carried t rows
 
 -- ## 1
 
-module _ (n : ℕ) (ends : List Bay) (starts goals : Placement) (lent : ℕ) where
-  pub size-words : (badSize n ends starts goals lent ≡ true) ↔ WrongSize n ends starts goals lent
+module _ (o : Order) (lent : ℕ) where
+  pub size-words : (badSize o lent ≡ true) ↔ WrongSize o lent
   unfolding badSize
   size-words = (to, from)
     where
-      to : badSize n ends starts goals lent ≡ true → WrongSize n ends starts goals lent
+      to : badSize o lent ≡ true → WrongSize o lent
       to h =
           or-cases _ _ h
           (λ h. or-cases _ _ h
@@ -49,7 +50,7 @@ module _ (n : ℕ) (ends : List Bay) (starts goals : Placement) (lent : ℕ) whe
           (λ a. other-length (eqb-false _ _ (not-true _ a))))
           (λ a. long-plan (ltb-true _ _ a))
 
-      from : WrongSize n ends starts goals lent → badSize n ends starts goals lent ≡ true
+      from : WrongSize o lent → badSize o lent ≡ true
       from (few-bays l) = or-left _ _ (or-left _ _ (or-left _ _ (or-left _ _ (or-left _ _ (lt-ltb _ _ l)))))
       from (many-bays l) = or-left _ _ (or-left _ _ (or-left _ _ (or-left _ _ (or-right _ _ (lt-ltb _ _ l)))))
       from (many-rails l) = or-left _ _ (or-left _ _ (or-left _ _ (or-right _ _ (lt-ltb _ _ l))))
@@ -159,40 +160,40 @@ first-place-words n p = first-place (badPlace n) 0 p (BadPlace n p) (place-words
 
 -- ## In their order
 
-module _ (n : ℕ) (ends : List Bay) (starts goals : Placement) where
+module _ (o : Order) where
   -- past 1 and 2
-  pub apart-words : 0 < n → firstBad (badRail n) 0 [] (railsOf ends) ≡ none → (b : Bay) → (apartBay (yardOf n ends) ≡ some b) ↔ LowestApart n ends b
+  pub apart-words : 0 < o .bays → firstBad (badRail (o .bays)) 0 [] (railsOf (o .ends)) ≡ none → (b : Bay) → (apartBay (yardOf o) ≡ some b) ↔ LowestApart o b
   apart-words l h b =
-      let e = apart-exactly (yardOf n ends) (sound-of n ends h) l b in (
+      let e = apart-exactly (yardOf o) (sound-of o h) l b in (
         λ k. let r = e .0 k in record { there = r .0; unreached = r .1; lower-reached = r .2 },
         λ r. e .1 (r .there, r .unreached, r .lower-reached),
       )
 
   module _ (lent : ℕ) where
-    pub reads-1 : Refuses (no-1 n ends starts goals lent) (plain 1 (WrongSize n ends starts goals lent) ∷ [])
-    reads-1 = plain-test number carried (WrongSize n ends starts goals lent) (badSize n ends starts goals lent) size (docket-tells size) refl (size-words n ends starts goals lent)
+    pub reads-1 : Refuses (no-1 o lent) (plain 1 (WrongSize o lent) ∷ [])
+    reads-1 = plain-test number carried (WrongSize o lent) (badSize o lent) size (docket-tells size) refl (size-words o lent)
 
-    pub some-bay : no-1 n ends starts goals lent ≡ none → 0 < n
-    some-bay h = let z = sizes-of n ends starts goals lent (none-when (badSize n ends starts goals lent) size h) .enough-bays in omega arith
+    pub some-bay : no-1 o lent ≡ none → 0 < o .bays
+    some-bay h = let z = sizes-of o lent (none-when (badSize o lent) size h) .enough-bays in omega arith
 
-  pub reads-2 : Refuses (no-2 n ends) (carrying 2 (FirstBadRail n ends) ∷ [])
-  reads-2 = carrying-test number carried (FirstBadRail n ends) (firstBad (badRail n) 0 [] (railsOf ends)) rail 2 (λ v. docket-tells (rail v)) (λ v. refl) (λ v. refl) (first-rail-words n ends)
+  pub reads-2 : Refuses (no-2 o) (carrying 2 (FirstBadRail (o .bays) (o .ends)) ∷ [])
+  reads-2 = carrying-test number carried (FirstBadRail (o .bays) (o .ends)) (firstBad (badRail (o .bays)) 0 [] (railsOf (o .ends))) rail 2 (λ v. docket-tells (rail v)) (λ v. refl) (λ v. refl) (first-rail-words (o .bays) (o .ends))
 
-  pub reads-3 : 0 < n → no-2 n ends ≡ none → Refuses (no-3 n ends) (carrying 3 (LowestApart n ends) ∷ [])
+  pub reads-3 : 0 < o .bays → no-2 o ≡ none → Refuses (no-3 o) (carrying 3 (LowestApart o) ∷ [])
   reads-3 l h =
-      carrying-test number carried (LowestApart n ends) (apartBay (yardOf n ends)) apart 3 (λ v. docket-tells (apart v)) (λ v. refl) (λ v. refl)
-      (apart-words l (none-from rail (firstBad (badRail n) 0 [] (railsOf ends)) h))
+      carrying-test number carried (LowestApart o) (apartBay (yardOf o)) apart 3 (λ v. docket-tells (apart v)) (λ v. refl) (λ v. refl)
+      (apart-words l (none-from rail (firstBad (badRail (o .bays)) 0 [] (railsOf (o .ends))) h))
 
-  pub reads-4 : Refuses (no-4 n starts) (plain 4 (Crowded n starts) ∷ [])
-  reads-4 = plain-test number carried (Crowded n starts) (ltb n (length starts + kept-empty)) crowd (docket-tells crowd) refl (ltb-true n (length starts + kept-empty), lt-ltb n (length starts + kept-empty))
+  pub reads-4 : Refuses (no-4 o) (plain 4 (Crowded (o .bays) (o .starts)) ∷ [])
+  reads-4 = plain-test number carried (Crowded (o .bays) (o .starts)) (ltb (o .bays) (length (o .starts) + kept-empty)) crowd (docket-tells crowd) refl (ltb-true (o .bays) (length (o .starts) + kept-empty), lt-ltb (o .bays) (length (o .starts) + kept-empty))
 
-  pub reads-5 : Refuses (no-5 n starts) (carrying 5 (FirstBadPlace n starts) ∷ [])
-  reads-5 = carrying-test number carried (FirstBadPlace n starts) (firstBad (badPlace n) 0 [] starts) start 5 (λ v. docket-tells (start v)) (λ v. refl) (λ v. refl) (first-place-words n starts)
+  pub reads-5 : Refuses (no-5 o) (carrying 5 (FirstBadPlace (o .bays) (o .starts)) ∷ [])
+  reads-5 = carrying-test number carried (FirstBadPlace (o .bays) (o .starts)) (firstBad (badPlace (o .bays)) 0 [] (o .starts)) start 5 (λ v. docket-tells (start v)) (λ v. refl) (λ v. refl) (first-place-words (o .bays) (o .starts))
 
-  pub reads-6 : Refuses (no-6 n goals) (carrying 6 (FirstBadPlace n goals) ∷ [])
-  reads-6 = carrying-test number carried (FirstBadPlace n goals) (firstBad (badPlace n) 0 [] goals) goal 6 (λ v. docket-tells (goal v)) (λ v. refl) (λ v. refl) (first-place-words n goals)
+  pub reads-6 : Refuses (no-6 o) (carrying 6 (FirstBadPlace (o .bays) (o .goals)) ∷ [])
+  reads-6 = carrying-test number carried (FirstBadPlace (o .bays) (o .goals)) (firstBad (badPlace (o .bays)) 0 [] (o .goals)) goal 6 (λ v. docket-tells (goal v)) (λ v. refl) (λ v. refl) (first-place-words (o .bays) (o .goals))
 
-  pub six-reads : (lent : ℕ) → Refuses (firstSix n ends starts goals lent) (six n ends starts goals lent)
+  pub six-reads : (lent : ℕ) → Refuses (firstSix o lent) (six o lent)
   unfolding firstSix
   six-reads lent =
       after-it number carried (reads-1 lent) (λ a.

@@ -6,7 +6,8 @@ use mathlib.Core.Option.{Option, none, some}
 use mathlib.Core.Path.{_≡_}
 use Prim.Native.Nat.{ℕ}
 use lib.ListN.{length}
-use Rattle.paper.specs.Yard.{Bay, Placement, crossings, after}
+use Rattle.paper.specs.Yard.{crossings, after}
+use Rattle.paper.specs.Order.{Order}
 use Rattle.paper.specs.Procedure.{Made, Outcome, planned, stuck, procedure}
 use Rattle.paper.specs.Docket.{number, carried, yardOf}
 use Rattle.paper.specs.Answers.{Report, accept, already, refuse}
@@ -31,25 +32,25 @@ reportValue (refuse r) = carried r
 abbrev pub no-room : ℕ → ℕ → Row
 no-room lent needed = carrying 8 (λ v. (v ≡ needed) × TooLong lent needed)
 
-module _ (n : ℕ) (ends : List Bay) (starts goals : Placement) where
+module _ (o : Order) where
   -- "1 to 6"; `lent` is the lent plan's crossings, 0 where none is lent
   abbrev pub six : ℕ → List Row
   six lent =
-      plain 1 (WrongSize n ends starts goals lent)
-      ∷ carrying 2 (FirstBadRail n ends)
-      ∷ carrying 3 (LowestApart n ends)
-      ∷ plain 4 (Crowded n starts)
-      ∷ carrying 5 (FirstBadPlace n starts)
-      ∷ carrying 6 (FirstBadPlace n goals)
+      plain 1 (WrongSize o lent)
+      ∷ carrying 2 (FirstBadRail (o .bays) (o .ends))
+      ∷ carrying 3 (LowestApart o)
+      ∷ plain 4 (Crowded (o .bays) (o .starts))
+      ∷ carrying 5 (FirstBadPlace (o .bays) (o .starts))
+      ∷ carrying 6 (FirstBadPlace (o .bays) (o .goals))
       ∷ []
 
   -- 7: "the procedure below fails": "the carrier that could not step"
   abbrev pub Stopped : ℕ → Type 0
-  Stopped c = procedure (yardOf n ends) goals starts ≡ stuck c
+  Stopped c = procedure (yardOf o) (o .goals) (o .starts) ≡ stuck c
 
   -- 8: the procedure's plan is longer than the lent list, or over 65,536: its length
   abbrev pub NoRoom : ℕ → ℕ → Type 0
-  NoRoom lent v = (m : Made) × (procedure (yardOf n ends) goals starts ≡ planned m) × (v ≡ length (m .moves)) × TooLong lent (length (m .moves))
+  NoRoom lent v = (m : Made) × (procedure (yardOf o) (o .goals) (o .starts) ≡ planned m) × (v ≡ length (m .moves)) × TooLong lent (length (m .moves))
 
   -- "Planning tests 1 to 8 by number."
   abbrev pub planRows : ℕ → List Row
@@ -60,8 +61,8 @@ module _ (n : ℕ) (ends : List Bay) (starts goals : Placement) where
     abbrev pub checkRows : List Row
     checkRows =
         six (length plan)
-        ++ (carrying 9 (FirstIllegal (yardOf n ends) starts (crossings plan))
-        ∷ carrying 10 (LowestAway goals (after starts (crossings plan)))
+        ++ (carrying 9 (FirstIllegal (yardOf o) (o .starts) (crossings plan))
+        ∷ carrying 10 (LowestAway (o .goals) (after (o .starts) (crossings plan)))
         ∷ [])
 
     -- "Slots do the same, then 8 for the slot list."

@@ -6,6 +6,7 @@ use mathlib.Core.Path.{_≡_}
 use Prim.Native.Nat.{ℕ, _<_, _≤_, _+_, _/_, _%_}
 use lib.ListN.{length, getD, take}
 use Rattle.paper.specs.Yard.{Bay, Carrier, Rail, Yard, Placement, Crossing, fewest-bays, most-bays, most-rails, most-crossings, kept-empty, bayOf, named, after}
+use Rattle.paper.specs.Order.{Order}
 use Rattle.paper.specs.Path.{Reached}
 use Rattle.paper.specs.Docket.{railsOf, yardOf}
 use Rattle.exactly.specs.First.{FirstOf}
@@ -13,13 +14,13 @@ use Rattle.exactly.specs.First.{FirstOf}
 -- ## 1 to 6
 
 -- 1: "n or rail count outside its limit, odd number of rail ends, start and goal of different length, or a lent plan over 65,536 crossings"
-pub data WrongSize (n : ℕ) (ends : List Bay) (starts goals : Placement) (lent : ℕ) : Type 0 where
-  few-bays : n < fewest-bays → WrongSize n ends starts goals lent
-  many-bays : most-bays < n → WrongSize n ends starts goals lent
-  many-rails : most-rails < length ends / 2 → WrongSize n ends starts goals lent
-  odd-ends : length ends % 2 ≡ 1 → WrongSize n ends starts goals lent
-  other-length : (length starts ≡ length goals → ⊥) → WrongSize n ends starts goals lent
-  long-plan : most-crossings < lent → WrongSize n ends starts goals lent
+pub data WrongSize (o : Order) (lent : ℕ) : Type 0 where
+  few-bays : o .bays < fewest-bays → WrongSize o lent
+  many-bays : most-bays < o .bays → WrongSize o lent
+  many-rails : most-rails < length (o .ends) / 2 → WrongSize o lent
+  odd-ends : length (o .ends) % 2 ≡ 1 → WrongSize o lent
+  other-length : (length (o .starts) ≡ length (o .goals) → ⊥) → WrongSize o lent
+  long-plan : most-crossings < lent → WrongSize o lent
 
 abbrev pub railAt : List Rail → ℕ → Rail
 railAt rails i = getD rails i (0, 0)
@@ -40,10 +41,10 @@ abbrev pub FirstBadRail : ℕ → List Bay → ℕ → Type 0
 FirstBadRail n ends i = FirstOf (length (railsOf ends)) (BadRail n (railsOf ends)) i
 
 -- 3: "some bay cannot be reached from bay 0", the "lowest such bay"
-pub record LowestApart (n : ℕ) (ends : List Bay) (b : Bay) : Type 0 where
-  pub there : b < n
-  pub unreached : Reached (yardOf n ends) b → ⊥
-  pub lower-reached : (a : Bay) → a < b → Reached (yardOf n ends) a
+pub record LowestApart (o : Order) (b : Bay) : Type 0 where
+  pub there : b < o .bays
+  pub unreached : Reached (yardOf o) b → ⊥
+  pub lower-reached : (a : Bay) → a < b → Reached (yardOf o) a
 
 -- 4: "k + 2 > n"
 abbrev pub Crowded : ℕ → Placement → Type 0

@@ -5,10 +5,11 @@ use mathlib.Core.List.{List, map}
 use mathlib.Core.Option.{Option, none, some}
 use mathlib.Core.Path.{_≡_}
 use Prim.Native.Nat.{ℕ, _+_, _*_}
-use lib.ListN.{length}
+use lib.ListN.{length, take}
 use lib.Seq.{sets}
 use Rattle.paper.specs.Limits.{most-carriers}
 use Rattle.paper.specs.Yard.{Bay}
+use Rattle.paper.specs.Order.{Order, order as orderOf}
 use Rattle.paper.specs.Docket.{Refusal, no-14, no-15}
 use Rattle.paper.specs.Answers.{Answer, refused, plan}
 use Rattle.paper.specs.Text.{Text, Read, good, badLine}
@@ -21,6 +22,7 @@ use Rattle.gridmap.specs.declared.MapRead.{MapRead}
 use Rattle.gridmap.specs.Cells.{mapOf, shapeOf, cellsAfter}
 use Rattle.scenario.specs.declared.ScenarioRead.{ScenarioRead}
 use Rattle.scenario.specs.Under.{bayBy, answerOf, countRead, startsAfter, goalsAfter, startsOf, goalsOf}
+use Rattle.filing.specs.declared.Order.{Order as Counts}
 use Rattle.filing.specs.declared.Ordered.{Ordered}
 use Rattle.filing.specs.declared.Ordered.the-variants as the
 
@@ -71,10 +73,14 @@ filed mapFile scenarioFile = mapFiled (readFile readMap mapFile) scenarioFile
 
 -- the program's answer to it
 abbrev pub answered : Filed → Answer
-answered (order n ends cs) = plan n ends (startsOf cs) (goalsOf cs) program-room
+answered (order n ends cs) = plan (orderOf n ends (startsOf cs) (goalsOf cs)) program-room
 answered (refusal r) = refused r
 
 -- ## What is told of it, and what stands in the lent lists
+
+-- the order that lists begin with, by how many of each there are
+abbrev pub orderIn : Counts → List Bay → List Bay → List Bay → Order
+orderIn o ends starts goals = orderOf (o .bays) (take (o .ends) ends) (take (o .carriers) starts) (take (o .carriers) goals)
 
 pub data Told : Type 0 where
   counts : ℕ → ℕ → ℕ → Told

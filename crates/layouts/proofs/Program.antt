@@ -8,6 +8,7 @@ use Prim.Native.Nat.{ℕ, zero, suc, _≤_}
 use native.Mathlib.Omega.{arith}
 use Rattle.paper.specs.Basics.{if-some_then_else_, elem}
 use Rattle.paper.specs.Yard.{Bay}
+use Rattle.paper.specs.Order.{order}
 use Rattle.paper.specs.Docket.{Refusal, badMap, badScenario, number, carried}
 use Rattle.paper.specs.Answers.{Answer, refused, plan}
 use Rattle.paper.specs.Text.{Text, Read, good, badLine}
@@ -66,11 +67,11 @@ module _ (G : Grid) where
 
   -- planning never answers 14 or 15
   planned-below : (cs : List (Bay × Bay)) (r : Refusal)
-      → plan (bayCount G) (railEnds G) (map (λ c. c .0) cs) (map (λ c. c .1) cs) program-room ≡ refused r
+      → plan (order (bayCount G) (railEnds G) (map (λ c. c .0) cs) (map (λ c. c .1) cs)) program-room ≡ refused r
       → elem (number r) (numbersOf (orderRows G cs)) ≡ true
   planned-below cs r h =
       given-number (orderRows G cs) (number r) (carried r)
-      (plan-refuses (bayCount G) (railEnds G) (map (λ c. c .0) cs) (map (λ c. c .1) cs) program-room r .0 h)
+      (plan-refuses (order (bayCount G) (railEnds G) (map (λ c. c .0) cs) (map (λ c. c .1) cs)) program-room r .0 h)
 
 module _ (mapFile scenarioFile : Option Text) where
   -- every way in which the answer comes about
@@ -78,7 +79,7 @@ module _ (mapFile scenarioFile : Option Text) where
       → ((n : ℕ) → BadMap mapFile n → programAnswer mapFile scenarioFile ≡ refused (badMap n) → P)
       → ((G : Grid) → GoodMap mapFile G → (n : ℕ) → BadScenario G scenarioFile n → programAnswer mapFile scenarioFile ≡ refused (badScenario n) → P)
       → ((G : Grid) → GoodMap mapFile G → (cs : List (Bay × Bay)) → GoodScenario G scenarioFile cs
-      → programAnswer mapFile scenarioFile ≡ plan (bayCount G) (railEnds G) (map (λ c. c .0) cs) (map (λ c. c .1) cs) program-room → P)
+      → programAnswer mapFile scenarioFile ≡ plan (order (bayCount G) (railEnds G) (map (λ c. c .0) cs) (map (λ c. c .1) cs)) program-room → P)
       → P
   unfolding programAnswer scenarioRead planRead
   by-files f g h =
@@ -101,7 +102,7 @@ module _ (mapFile scenarioFile : Option Text) where
 
   -- Where both files keep their layout, the program plans what they say.
   pub program-plans : (G : Grid) → GoodMap mapFile G → (cs : List (Bay × Bay)) → GoodScenario G scenarioFile cs
-      → programAnswer mapFile scenarioFile ≡ plan (bayCount G) (railEnds G) (map (λ c. c .0) cs) (map (λ c. c .1) cs) program-room
+      → programAnswer mapFile scenarioFile ≡ plan (order (bayCount G) (railEnds G) (map (λ c. c .0) cs) (map (λ c. c .1) cs)) program-room
   unfolding programAnswer scenarioRead planRead
   program-plans G m cs k =
       let e = map-file-good mapFile G .1 m in
@@ -139,7 +140,7 @@ module _ (mapFile scenarioFile : Option Text) where
     λ h. by-files
         (λ m k e. let z : r ≡ badMap m = cc in not-both (rw z at below) refl)
         (λ G g m k e. let z : r ≡ badScenario m = cc in not-both (rw z at below) refl)
-        (λ G g cs k e. (G, cs, g, k, plan-refuses (bayCount G) (railEnds G) (map (λ c. c .0) cs) (map (λ c. c .1) cs) program-room r .0 (sym e ∙ h))),
+        (λ G g cs k e. (G, cs, g, k, plan-refuses (order (bayCount G) (railEnds G) (map (λ c. c .0) cs) (map (λ c. c .1) cs)) program-room r .0 (sym e ∙ h))),
     λ k. program-plans (k .0) (k .2) (k .1) (k .3)
-        ∙ plan-refuses (bayCount (k .0)) (railEnds (k .0)) (map (λ c. c .0) (k .1)) (map (λ c. c .1) (k .1)) program-room r .1 (k .4),
+        ∙ plan-refuses (order (bayCount (k .0)) (railEnds (k .0)) (map (λ c. c .0) (k .1)) (map (λ c. c .1) (k .1))) program-room r .1 (k .4),
   )

@@ -6,6 +6,7 @@ use mathlib.Core.Option.{Option, none, some}
 use mathlib.Core.Path.{_≡_}
 use Prim.Native.Nat.{ℕ, suc}
 use Rattle.paper.specs.Yard.{Bay, Rail}
+use Rattle.paper.specs.Order.{order}
 use Rattle.paper.specs.Text.{Text, lines}
 use Rattle.paper.specs.Map.{Grid, typeDue, bayCount, bayIn, railEnds}
 use Rattle.paper.specs.Scenario.{versionDue}
@@ -43,7 +44,7 @@ module _ (G : Grid) where
 
   -- what the program then plans: "The program lends room for 8,192 crossings."
   abbrev pub orderRows : List (Bay × Bay) → List Row
-  orderRows cs = planRows (bayCount G) (railEnds G) (map (λ c. c .0) cs) (map (λ c. c .1) cs) program-room
+  orderRows cs = planRows (order (bayCount G) (railEnds G) (map (λ c. c .0) cs) (map (λ c. c .1) cs)) program-room
 
 -- r is one of the rails
 abbrev pub Among : Rail → List Rail → Type 0

@@ -10,7 +10,8 @@ use lib.ListN.{length, getD, length-map, length-take}
 use lib.Seq.{getD-take}
 use Rattle.paper.specs.Basics.{_and_}
 use Rattle.paper.specs.Limits.{most-bays}
-use Rattle.paper.specs.Yard.{Bay, Carrier, Placement, Crossing, crossings, named}
+use Rattle.paper.specs.Yard.{Carrier, Placement, Crossing, crossings, named}
+use Rattle.paper.specs.Order.{Order}
 use Rattle.paper.specs.Dependence.{done, doneOf, countOf}
 use Rattle.paper.proofs.Tests.{by-cases}
 use Rattle.paper.proofs.Packing.{named-is}
@@ -84,22 +85,22 @@ module _ (starts : Placement) (plan marks : List ℕ) (fit : Fit starts plan mar
           sym (getD-take (held .count) (held .lines) c noLine (omega (arith, long, h))) ∙ ap (λ (ls : List Line). getD ls c noLine) (f .1)
           ∙ line-at (length starts) (crossings plan) marks c noLine h
 
-module _ (n : ℕ) (ends : List Bay) (starts goals : Placement) (plan marks : List ℕ) (rec : Record) (held : Held) where
-  pub compare-refused : (r : Refusal) → some (refusalOf r) ≡ upToEleven n ends starts goals plan marks
-      → refused (refusalOf r) ≡ agreement n ends starts goals plan marks rec (linesHeld held)
+module _ (o : Order) (plan marks : List ℕ) (rec : Record) (held : Held) where
+  pub compare-refused : (r : Refusal) → some (refusalOf r) ≡ upToEleven o plan marks
+      → refused (refusalOf r) ≡ agreement o plan marks rec (linesHeld held)
   unfolding agreement
   compare-refused r h = rw (← h)
 
-  module _ (passes : none ≡ upToEleven n ends starts goals plan marks) where
-    pub compare-agrees : true ≡ allSame starts plan marks rec held → agrees ≡ agreement n ends starts goals plan marks rec (linesHeld held)
+  module _ (passes : none ≡ upToEleven o plan marks) where
+    pub compare-agrees : true ≡ allSame (o .starts) plan marks rec held → agrees ≡ agreement o plan marks rec (linesHeld held)
     unfolding agreement agree
     compare-agrees a = rw (← passes, ← a)
 
-    pub compare-differs : false ≡ allSame starts plan marks rec held → differs ≡ agreement n ends starts goals plan marks rec (linesHeld held)
+    pub compare-differs : false ≡ allSame (o .starts) plan marks rec held → differs ≡ agreement o plan marks rec (linesHeld held)
     unfolding agreement agree
     compare-differs a = rw (← passes, ← a)
 
-  pub may-settle : agrees ≡ agreement n ends starts goals plan marks rec (linesHeld held) → SettleAsks plan marks rec held
+  pub may-settle : agrees ≡ agreement o plan marks rec (linesHeld held) → SettleAsks plan marks rec held
   may-settle h =
-      let f = agrees-exactly n ends starts goals plan marks rec (linesHeld held) .0 (sym h) in
-      room-to-settle starts plan marks (fit-of n ends starts goals plan marks (sym (f .0))) rec held (f .1)
+      let f = agrees-exactly o plan marks rec (linesHeld held) .0 (sym h) in
+      room-to-settle (o .starts) plan marks (fit-of o plan marks (sym (f .0))) rec held (f .1)

@@ -4,7 +4,7 @@ use mathlib.Core.List.{List}
 use mathlib.Core.Option.{none}
 use Prim.Native.Nat.{ℕ}
 use lib.ListN.{set}
-use Rattle.paper.specs.Yard.{Bay, Placement}
+use Rattle.paper.specs.Order.{Order}
 use Rattle.paper.specs.Answers.{report}
 use Rattle.paper.proofs.Tests.{none-both}
 use Rattle.marks.specs.Reading.{reportOf}
@@ -21,25 +21,25 @@ use Rattle.ledger.specs.declared.Told.{Told}
 use Rattle.ledger.proofs.Opened.{opened-afresh}
 use Rattle.ledger.proofs.Lent.{settled-held}
 
-module _ (n : ℕ) (ends : List Bay) (starts goals : Placement) (plan marks : List ℕ) where
+module _ (given : Order) (plan marks : List ℕ) where
   -- the test says yes of what opening left
-  pub opened-agrees : (rec : Record) (count : ℕ) (o : Opening) → OpenSays n ends starts goals plan marks rec count o → opening n ends starts goals plan marks count ≡ none
-      → (a : Agreement) → agreementOf a ≡ agreement n ends starts goals plan marks (o .running) (linesHeld (o .held)) → agreementOf a ≡ agrees
+  pub opened-agrees : (rec : Record) (count : ℕ) (o : Opening) → OpenSays given plan marks rec count o → opening given plan marks count ≡ none
+      → (a : Agreement) → agreementOf a ≡ agreement given plan marks (o .running) (linesHeld (o .held)) → agreementOf a ≡ agrees
   unfolding opening
   opened-agrees rec count o s u a h =
-      h ∙ agrees-exactly n ends starts goals plan marks (o .running) (linesHeld (o .held)) .1
-      (none-both (upToEleven n ends starts goals plan marks) _ u .0, opened-afresh n ends starts goals plan marks rec count o s u)
+      h ∙ agrees-exactly given plan marks (o .running) (linesHeld (o .held)) .1
+      (none-both (upToEleven given plan marks) _ u .0, opened-afresh given plan marks rec count o s u)
 
-  module _ (passes : upToEleven n ends starts goals plan marks ≡ none) (rec : Record) (held : Held) (f : Afresh starts plan marks rec (linesHeld held)) where
-    module _ (name : ℕ) (r : Told) (marks′ : List ℕ) (s : BillingSays n ends starts goals plan marks name rec held r marks′) where
+  module _ (passes : upToEleven given plan marks ≡ none) (rec : Record) (held : Held) (f : Afresh (given .starts) plan marks rec (linesHeld held)) where
+    module _ (name : ℕ) (r : Told) (marks′ : List ℕ) (s : BillingSays given plan marks name rec held r marks′) where
       -- a report on it is never 19: it answers what the report without a record does,
-      pub told-as-report : reportOf (r .answer) ≡ report n ends starts goals plan marks name
+      pub told-as-report : reportOf (r .answer) ≡ report given plan marks name
       told-as-report =
-          let e = eleven-exactly n ends starts goals plan marks .0 passes in
-          s .answers ∙ billing-told n ends starts goals plan marks rec (linesHeld held) name (e .0) (e .1) f
+          let e = eleven-exactly given plan marks .0 passes in
+          s .answers ∙ billing-told given plan marks rec (linesHeld held) name (e .0) (e .1) f
 
       -- and leaves what is worked out afresh from the marks that it leaves, once the one line is set.
-      pub left-afresh : Afresh starts plan marks′ (r .running) (set (linesHeld held) (r .at) (r .line))
+      pub left-afresh : Afresh (given .starts) plan marks′ (r .running) (set (linesHeld held) (r .at) (r .line))
       left-afresh =
-          let g = reported-afresh n ends starts goals plan marks rec (linesHeld held) name f in
-          rw (s .marks-then, s .leaves, settled-held n ends starts goals plan marks rec held name r marks′ s) g
+          let g = reported-afresh given plan marks rec (linesHeld held) name f in
+          rw (s .marks-then, s .leaves, settled-held given plan marks rec held name r marks′ s) g

@@ -2,7 +2,7 @@
 use mathlib.Core.Path.{_≡_, refl, sym, _∙_, ap}
 use mathlib.Core.List.{List}
 use Prim.Native.Nat.{ℕ}
-use Rattle.paper.specs.Yard.{Bay, Placement}
+use Rattle.paper.specs.Order.{Order}
 use Rattle.paper.proofs.Determined.{Determined, telling-by}
 use Rattle.docket.proofs.Telling.{refusalFor, refusal-back}
 use Rattle.checker.specs.declared.Checked.{Checked}
@@ -52,16 +52,16 @@ told-parts a b e f g l = go (a .answer) (b .answer) (a .running) (b .running) (a
 
 -- ## Opening, the agreement test and a report
 
-module _ (n : ℕ) (ends : List Bay) (starts goals : Placement) (plan marks : List ℕ) (rec : Record) where
-  pub open-determined : (count : ℕ) (a a′ : Opening) → OpenSays n ends starts goals plan marks rec count a → OpenSays n ends starts goals plan marks rec count a′ → a ≡ a′
+module _ (o : Order) (plan marks : List ℕ) (rec : Record) where
+  pub open-determined : (count : ℕ) (a a′ : Opening) → OpenSays o plan marks rec count a → OpenSays o plan marks rec count a′ → a ≡ a′
   open-determined count a a′ s t =
       opening-parts a a′ (checks-told-apart (a .answer) (a′ .answer) (s .answers ∙ sym (t .answers))) (s .leaves ∙ sym (t .leaves)) (s .holds ∙ sym (t .holds))
 
-  pub compare-determined : (held : Held) (a a′ : Agreement) → agreementOf a ≡ agreement n ends starts goals plan marks rec (linesHeld held)
-      → agreementOf a′ ≡ agreement n ends starts goals plan marks rec (linesHeld held) → a ≡ a′
+  pub compare-determined : (held : Held) (a a′ : Agreement) → agreementOf a ≡ agreement o plan marks rec (linesHeld held)
+      → agreementOf a′ ≡ agreement o plan marks rec (linesHeld held) → a ≡ a′
   compare-determined held a a′ s t = telling-by agreementOf agreementFor agreement-back a a′ (s ∙ sym t)
 
-  pub report-determined : (held : Held) (name : ℕ) → Determined (BillingSays n ends starts goals plan marks name rec held)
+  pub report-determined : (held : Held) (name : ℕ) → Determined (BillingSays o plan marks name rec held)
   report-determined held name a a′ m m′ s t = (
     told-parts a a′ (reports-told-apart (a .answer) (a′ .answer) (s .answers ∙ sym (t .answers))) (s .leaves ∙ sym (t .leaves))
         (s .place ∙ sym (t .place)) (s .line-then ∙ sym (t .line-then)),

@@ -11,7 +11,8 @@ use lib.Dec.{leb}
 use lib.ListN.{length, getD, set, length-map, length-take}
 use lib.Seq.{take-all, set-out, getD-take}
 use Rattle.paper.specs.Limits.{most-bays}
-use Rattle.paper.specs.Yard.{Bay, Placement, crossings, named}
+use Rattle.paper.specs.Yard.{crossings, named}
+use Rattle.paper.specs.Order.{Order}
 use Rattle.paper.specs.Answers.{accepts}
 use Rattle.paper.proofs.Tests.{by-cases, by-option}
 use Rattle.paper.proofs.Packing.{named-is}
@@ -31,52 +32,52 @@ use Rattle.ledger.specs.declared.Told.{Told}
 use Rattle.ledger.proofs.Laid.{held-at, held-long, held-taken}
 use Rattle.ledger.proofs.Refusing.{fit-of}
 
-module _ (n : ℕ) (ends : List Bay) (starts goals : Placement) (plan marks : List ℕ) (rec : Record) (lines : List Line) where
-  agree-lent : none ≡ upToEleven n ends starts goals plan marks
-      → agree n ends starts goals plan marks rec (linesHeld (gathered lines)) ≡ agree n ends starts goals plan marks rec lines
+module _ (o : Order) (plan marks : List ℕ) (rec : Record) (lines : List Line) where
+  agree-lent : none ≡ upToEleven o plan marks
+      → agree o plan marks rec (linesHeld (gathered lines)) ≡ agree o plan marks rec lines
   agree-lent passes =
-      let few = fit-of n ends starts goals plan marks passes .few in
+      let few = fit-of o plan marks passes .few in
       by-cases (leb (length lines) most-bays)
-      (λ e. ap (agree n ends starts goals plan marks rec) (held-taken lines (leb-true (length lines) most-bays e)))
+      (λ e. ap (agree o plan marks rec) (held-taken lines (leb-true (length lines) most-bays e)))
       (λ e.
       let over = leb-false (length lines) most-bays e in
       let long : length (linesHeld (gathered lines)) ≡ most-bays = ap length (take-all (length lines) (gathered lines .lines) (omega (arith, held-long lines, over))) ∙ held-long lines in
-      other-length n ends starts goals plan marks rec (linesHeld (gathered lines)) (λ q. absurd (omega (arith, long, q, few)))
-      ∙ sym (other-length n ends starts goals plan marks rec lines (λ q. absurd (omega (arith, over, q, few)))))
+      other-length o plan marks rec (linesHeld (gathered lines)) (λ q. absurd (omega (arith, long, q, few)))
+      ∙ sym (other-length o plan marks rec lines (λ q. absurd (omega (arith, over, q, few)))))
 
-  pub agreement-lent : agreement n ends starts goals plan marks rec (linesHeld (gathered lines)) ≡ agreement n ends starts goals plan marks rec lines
+  pub agreement-lent : agreement o plan marks rec (linesHeld (gathered lines)) ≡ agreement o plan marks rec lines
   unfolding agreement
-  agreement-lent = by-option (upToEleven n ends starts goals plan marks) (λ u. rw (u, agree-lent (sym u))) (λ x u. rw u)
+  agreement-lent = by-option (upToEleven o plan marks) (λ u. rw (u, agree-lent (sym u))) (λ x u. rw u)
 
-  billing-lent : (name : ℕ) → billing n ends starts goals plan marks rec (linesHeld (gathered lines)) name ≡ billing n ends starts goals plan marks rec lines name
+  billing-lent : (name : ℕ) → billing o plan marks rec (linesHeld (gathered lines)) name ≡ billing o plan marks rec lines name
   unfolding billing
-  billing-lent name = by-option (upToEleven n ends starts goals plan marks) (λ u. rw (u, agree-lent (sym u))) (λ x u. rw u)
+  billing-lent name = by-option (upToEleven o plan marks) (λ u. rw (u, agree-lent (sym u))) (λ x u. rw u)
 
   -- where a report changes a line, all lines are there, and the name's carrier among them
-  accepted-there : (name : ℕ) → accepts (billing n ends starts goals plan marks rec lines name) ≡ true
-      → (length lines ≡ length starts) × (named (crossings plan) name .carrier < length starts) × (length starts < most-bays)
+  accepted-there : (name : ℕ) → accepts (billing o plan marks rec lines name) ≡ true
+      → (length lines ≡ length (o .starts)) × (named (crossings plan) name .carrier < length (o .starts)) × (length (o .starts) < most-bays)
   accepted-there name y =
-      let a = accepts-exactly n ends starts goals plan marks rec lines name .0 (accepts-accept (billing n ends starts goals plan marks rec lines name) .0 y) in
-      let fit = fit-of n ends starts goals plan marks (sym (a .0)) in
+      let a = accepts-exactly o plan marks rec lines name .0 (accepts-accept (billing o plan marks rec lines name) .0 y) in
+      let fit = fit-of o plan marks (sym (a .0)) in
       let inside : name < length plan = rw length-map at (tell-facts (crossings plan) marks name (a .2) .1) in (
-        ap length (agree-exactly n ends starts goals plan marks rec lines .0 (a .1) .1) ∙ lines-long (length starts) (crossings plan) marks,
+        ap length (agree-exactly o plan marks rec lines .0 (a .1) .1) ∙ lines-long (length (o .starts)) (crossings plan) marks,
         rw (named-is plan name) (fit .fits name inside .0),
         fit .few,
       )
 
   -- what a report says of lines that are lent
   pub record Settled (name : ℕ) (r : Told) (marks′ : List ℕ) : Type 0 where
-    pub answers : reportOf (r .answer) ≡ billing n ends starts goals plan marks rec lines name
-    pub marks-then : marks′ ≡ marksThen n ends starts goals plan marks rec lines name
-    pub leaves : r .running ≡ recordThen n ends starts goals plan marks rec lines name
-    pub lines-then : set lines (r .at) (r .line) ≡ linesThen n ends starts goals plan marks rec lines name
+    pub answers : reportOf (r .answer) ≡ billing o plan marks rec lines name
+    pub marks-then : marks′ ≡ marksThen o plan marks rec lines name
+    pub leaves : r .running ≡ recordThen o plan marks rec lines name
+    pub lines-then : set lines (r .at) (r .line) ≡ linesThen o plan marks rec lines name
 
   module _ (name : ℕ) (r : Told) (marks′ : List ℕ) where
-    pub settled-lent : BillingSays n ends starts goals plan marks name rec (gathered lines) r marks′ → Settled name r marks′
+    pub settled-lent : BillingSays o plan marks name rec (gathered lines) r marks′ → Settled name r marks′
     unfolding marksThen recordThen linesThen
     settled-lent s =
         let b = billing-lent name in
-        let now = billing n ends starts goals plan marks rec lines name in
+        let now = billing o plan marks rec lines name in
         let c = named (crossings plan) name .carrier in
         record {
           answers = s .answers ∙ b;
@@ -93,25 +94,25 @@ module _ (n : ℕ) (ends : List Bay) (starts goals : Placement) (plan marks : Li
         }
 
   -- the same where what is held is known to be these lines
-  pub agreement-of-lent : (held : Held) → held ≡ gathered lines → {a : Agreement} → a ≡ agreement n ends starts goals plan marks rec (linesHeld held)
-      → a ≡ agreement n ends starts goals plan marks rec lines
-  agreement-of-lent held e h = h ∙ ap (λ (g : Held). agreement n ends starts goals plan marks rec (linesHeld g)) e ∙ agreement-lent
+  pub agreement-of-lent : (held : Held) → held ≡ gathered lines → {a : Agreement} → a ≡ agreement o plan marks rec (linesHeld held)
+      → a ≡ agreement o plan marks rec lines
+  agreement-of-lent held e h = h ∙ ap (λ (g : Held). agreement o plan marks rec (linesHeld g)) e ∙ agreement-lent
 
   pub settled-of-lent : (held : Held) → held ≡ gathered lines → (name : ℕ) (r : Told) (marks′ : List ℕ)
-      → BillingSays n ends starts goals plan marks name rec held r marks′ → Settled name r marks′
-  settled-of-lent held e name r marks′ s = settled-lent name r marks′ (subst (λ (g : Held). BillingSays n ends starts goals plan marks name rec g r marks′) e s)
+      → BillingSays o plan marks name rec held r marks′ → Settled name r marks′
+  settled-of-lent held e name r marks′ s = settled-lent name r marks′ (subst (λ (g : Held). BillingSays o plan marks name rec g r marks′) e s)
 
 -- The same by value: what is held, with the one line set, is what the report leaves.
-module _ (n : ℕ) (ends : List Bay) (starts goals : Placement) (plan marks : List ℕ) (rec : Record) (held : Held) (name : ℕ) (r : Told) (marks′ : List ℕ) where
-  pub settled-held : BillingSays n ends starts goals plan marks name rec held r marks′
-      → set (linesHeld held) (r .at) (r .line) ≡ linesThen n ends starts goals plan marks rec (linesHeld held) name
+module _ (o : Order) (plan marks : List ℕ) (rec : Record) (held : Held) (name : ℕ) (r : Told) (marks′ : List ℕ) where
+  pub settled-held : BillingSays o plan marks name rec held r marks′
+      → set (linesHeld held) (r .at) (r .line) ≡ linesThen o plan marks rec (linesHeld held) name
   unfolding linesThen
   settled-held s =
       let c = named (crossings plan) name .carrier in
       let short : length (linesHeld held) ≤ held .count = omega (arith, length-take (held .count) (held .lines)) in
-      by-cases (accepts (billing n ends starts goals plan marks rec (linesHeld held) name))
+      by-cases (accepts (billing o plan marks rec (linesHeld held) name))
       (λ y.
-      let t = accepted-there n ends starts goals plan marks rec (linesHeld held) name y in
+      let t = accepted-there o plan marks rec (linesHeld held) name y in
       let there = getD-take (held .count) (held .lines) c noLine (omega (arith, short, t .0, t .1)) in
       let place : r .at ≡ c = s .place ∙ rw y in
       let line : r .line ≡ charged (getD (linesHeld held) c noLine) name = s .line-then ∙ rw y (ap (λ (l : Line). charged l name) (sym there)) in

@@ -7,7 +7,8 @@ use Prim.Native.Nat.{ℕ}
 use native.Mathlib.Omega.{arith}
 use lib.ListN.{length, length-map}
 use Rattle.paper.specs.Limits.{most-bays}
-use Rattle.paper.specs.Yard.{Bay, Placement, crossings}
+use Rattle.paper.specs.Yard.{crossings}
+use Rattle.paper.specs.Order.{Order}
 use Rattle.paper.specs.OnePass.{Fits}
 use Rattle.paper.specs.Docket.{badMarks, mismarked}
 use Rattle.paper.specs.Docket as paper
@@ -22,33 +23,33 @@ use Rattle.bills.proofs.Stepping.{carrier-there}
 use Rattle.bills.proofs.Keeping.{eleven-exactly}
 use Rattle.ledger.specs.Statements.{Fit}
 
-module _ (n : ℕ) (ends : List Bay) (starts goals : Placement) (plan marks : List ℕ) where
-  pub eleven-refused : (r : paper.Refusal) → some r ≡ check n ends starts goals plan → some r ≡ upToEleven n ends starts goals plan marks
+module _ (o : Order) (plan marks : List ℕ) where
+  pub eleven-refused : (r : paper.Refusal) → some r ≡ check o plan → some r ≡ upToEleven o plan marks
   unfolding upToEleven
   eleven-refused r h = rw (← h)
 
-  module _ (passes : none ≡ check n ends starts goals plan) where
-    pub eleven-marks : badMarks (crossings plan) marks ≡ true → some mismarked ≡ upToEleven n ends starts goals plan marks
+  module _ (passes : none ≡ check o plan) where
+    pub eleven-marks : badMarks (crossings plan) marks ≡ true → some mismarked ≡ upToEleven o plan marks
     unfolding upToEleven
     eleven-marks b = rw (← passes, b)
 
-    pub eleven-none : badMarks (crossings plan) marks ≡ false → none ≡ upToEleven n ends starts goals plan marks
+    pub eleven-none : badMarks (crossings plan) marks ≡ false → none ≡ upToEleven o plan marks
     unfolding upToEleven
     eleven-none b = rw (← passes, b)
 
     pub check-gives-fits : Fits most-bays most-bays plan
-    check-gives-fits = check-fits n ends starts goals plan (sym passes)
+    check-gives-fits = check-fits o plan (sym passes)
 
   -- once none of them holds, all numbers fit
-  pub fit-of : none ≡ upToEleven n ends starts goals plan marks → Fit starts plan marks
+  pub fit-of : none ≡ upToEleven o plan marks → Fit (o .starts) plan marks
   fit-of h =
-      let e = eleven-exactly n ends starts goals plan marks .0 (sym h) in
-      let p = check-passed n ends starts goals plan (e .0) in
-      let k = clean-of n ends starts goals (length plan) (p .sound) in
-      let all = check-fits n ends starts goals plan (e .0) in
+      let e = eleven-exactly o plan marks .0 (sym h) in
+      let p = check-passed o plan (e .0) in
+      let k = clean-of o (length plan) (p .sound) in
+      let all = check-fits o plan (e .0) in
       record {
         even = marks-long (crossings plan) marks (e .1) ∙ length-map plan _;
         short = k .sizes .short-plan;
         few = omega (arith, k .uncrowded, k .sizes .few-bays);
-        fits = λ i h′. (rw (← named-is plan i) (carrier-there _ starts (crossings plan) i (p .lawful) (rw length-map h′)), all i h′ .1, all i h′ .2);
+        fits = λ i h′. (rw (← named-is plan i) (carrier-there _ (o .starts) (crossings plan) i (p .lawful) (rw length-map h′)), all i h′ .1, all i h′ .2);
       }

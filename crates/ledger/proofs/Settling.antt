@@ -7,7 +7,8 @@ use lib.Dec.{leb}
 use lib.ListN.{length, set}
 use borrow.Author.Tests.{leb-true, leb-false}
 use Rattle.paper.specs.Basics.{if_then_else_}
-use Rattle.paper.specs.Yard.{Bay, Placement, Crossing, crossings}
+use Rattle.paper.specs.Yard.{Crossing, crossings}
+use Rattle.paper.specs.Order.{Order}
 use Rattle.paper.specs.Docket as paper
 use Rattle.paper.specs.Answers.{Report, accept, already, refuse, accepts, marksAfter}
 use Rattle.paper.proofs.Tests.{by-cases, by-option, not-both}
@@ -60,30 +61,30 @@ module _ (plan marks : List ℕ) (name : ℕ) (rec : Record) (held : Held) (r : 
     unchanged = λ y. (k, i, l);
   }
 
-module _ (n : ℕ) (ends : List Bay) (starts goals : Placement) (plan marks : List ℕ) (rec : Record) (held : Held) (name : ℕ) (r : Told) (marks′ : List ℕ) where
+module _ (o : Order) (plan marks : List ℕ) (rec : Record) (held : Held) (name : ℕ) (r : Told) (marks′ : List ℕ) where
   abbrev lines : List Line
   lines = linesHeld held
 
   -- nothing changes
-  pub billing-left : (b : Report) → b ≡ billing n ends starts goals plan marks rec lines name → accepts b ≡ false → reportOf (r .answer) ≡ b
-      → r .running ≡ rec → r .at ≡ held .count → r .line ≡ noLine → marks′ ≡ marks → BillingSays n ends starts goals plan marks name rec held r marks′
+  pub billing-left : (b : Report) → b ≡ billing o plan marks rec lines name → accepts b ≡ false → reportOf (r .answer) ≡ b
+      → r .running ≡ rec → r .at ≡ held .count → r .line ≡ noLine → marks′ ≡ marks → BillingSays o plan marks name rec held r marks′
   unfolding marksThen recordThen
   billing-left b is not-so a k i l m =
-      let same : accepts (billing n ends starts goals plan marks rec lines name) ≡ false = ap accepts (sym is) ∙ not-so in
+      let same : accepts (billing o plan marks rec lines name) ≡ false = ap accepts (sym is) ∙ not-so in
       record { answers = a ∙ is; marks-then = m ∙ rw same; leaves = k ∙ rw same; place = i ∙ rw same; line-then = l ∙ rw same }
 
   -- the record disagrees
-  pub billing-differs : differs ≡ agreement n ends starts goals plan marks rec lines → refuse paper.disagrees ≡ billing n ends starts goals plan marks rec lines name
+  pub billing-differs : differs ≡ agreement o plan marks rec lines → refuse paper.disagrees ≡ billing o plan marks rec lines name
   unfolding billing
   billing-differs h =
-      let d = differs-exactly n ends starts goals plan marks rec lines .0 (sym h) in
-      sym (rw (d .0, differ-exactly n ends starts goals plan marks rec lines .1 (d .1)))
+      let d = differs-exactly o plan marks rec lines .0 (sym h) in
+      sym (rw (d .0, differ-exactly o plan marks rec lines .1 (d .1)))
 
-  pub billing-refused : (x : paper.Refusal) → refused x ≡ agreement n ends starts goals plan marks rec lines → refuse x ≡ billing n ends starts goals plan marks rec lines name
+  pub billing-refused : (x : paper.Refusal) → refused x ≡ agreement o plan marks rec lines → refuse x ≡ billing o plan marks rec lines name
   unfolding billing agreement
   billing-refused x h =
-      by-option (upToEleven n ends starts goals plan marks)
-      (λ u. by-cases (agree n ends starts goals plan marks rec lines)
+      by-option (upToEleven o plan marks)
+      (λ u. by-cases (agree o plan marks rec lines)
       (λ a. let k = rw (u, a) at h in absurd (not-both refl (ap isRefused (sym k))))
       (λ a. let k = rw (u, a) at h in absurd (not-both refl (ap isRefused (sym k)))))
       (λ y u. let k = rw u at h in rw u (ap refuse (refused-same k)))
@@ -102,15 +103,15 @@ module _ (n : ℕ) (ends : List Bay) (starts goals : Placement) (plan marks : Li
       refused-same k = ap inside k
 
   -- all agree: the rest tells
-  pub billing-settled : agrees ≡ agreement n ends starts goals plan marks rec lines → SettleSays plan marks name rec held r marks′
-      → BillingSays n ends starts goals plan marks name rec held r marks′
+  pub billing-settled : agrees ≡ agreement o plan marks rec lines → SettleSays plan marks name rec held r marks′
+      → BillingSays o plan marks name rec held r marks′
   unfolding billing marksThen recordThen
   billing-settled h s =
-      let f = agrees-exactly n ends starts goals plan marks rec lines .0 (sym h) in
-      let ok = eleven-exactly n ends starts goals plan marks .0 (f .0) in
+      let f = agrees-exactly o plan marks rec lines .0 (sym h) in
+      let ok = eleven-exactly o plan marks .0 (f .0) in
       let xs = crossings plan in
-      let yes = agree-exactly n ends starts goals plan marks rec lines .1 (f .1) in
-      let is : billing n ends starts goals plan marks rec lines name ≡ toldInOrder xs marks name = rw (f .0, yes) (told-on xs marks name (ok .1)) in
+      let yes = agree-exactly o plan marks rec lines .1 (f .1) in
+      let is : billing o plan marks rec lines name ≡ toldInOrder xs marks name = rw (f .0, yes) (told-on xs marks name (ok .1)) in
       record {
         answers = s .answers ∙ sym is;
         marks-then = s .marks-then ∙ marks-by marks name (toldInOrder xs marks name) ∙ rw is;

@@ -8,7 +8,8 @@ use Prim.Native.Nat.{ℕ, _≤_, _<_}
 use lib.ListN.{length, getD}
 use Rattle.paper.specs.Basics.{if_then_else_, if-some_then_else_, _and_}
 use Rattle.paper.specs.Limits.{most-bays}
-use Rattle.paper.specs.Yard.{Bay, Placement, crossings, named, most-crossings}
+use Rattle.paper.specs.Yard.{Placement, crossings, named, most-crossings}
+use Rattle.paper.specs.Order.{Order}
 use Rattle.paper.specs.Dependence.{slots}
 use Rattle.paper.specs.OnePass.{Fits}
 use Rattle.paper.specs.Answers.{Report, accepts, marksAfter}
@@ -76,19 +77,19 @@ pub record SettleSays (plan marks : List ℕ) (name : ℕ) (rec : Record) (held 
       × (r .line ≡ charged (lineAt held (named (crossings plan) name .carrier)) name)
   pub unchanged : accepts (toldInOrder (crossings plan) marks name) ≡ false → (r .running ≡ rec) × (r .at ≡ held .count) × (r .line ≡ noLine)
 
-module _ (n : ℕ) (ends : List Bay) (starts goals : Placement) (plan marks : List ℕ) where
+module _ (o : Order) (plan marks : List ℕ) where
   -- the lines that opening builds: none where it is refused
   abbrev pub built : ℕ → List Line
-  built count = if-some opening n ends starts goals plan marks count then (λ r. []) else linesOf (length starts) (crossings plan) marks
+  built count = if-some opening o plan marks count then (λ r. []) else linesOf (length (o .starts)) (crossings plan) marks
 
   pub record OpenSays (rec : Record) (count : ℕ) (r : Opening) : Type 0 where
-    pub answers : checkedOf (r .answer) ≡ opening n ends starts goals plan marks count
-    pub leaves : r .running ≡ openedRecord n ends starts goals plan marks rec count
+    pub answers : checkedOf (r .answer) ≡ opening o plan marks count
+    pub leaves : r .running ≡ openedRecord o plan marks rec count
     pub holds : r .held ≡ gathered (built count)
 
   module _ (name : ℕ) (rec : Record) (held : Held) where
     abbrev billed : Report
-    billed = billing n ends starts goals plan marks rec (linesHeld held) name
+    billed = billing o plan marks rec (linesHeld held) name
 
     -- the one line that changes, with its place: past the last line where none does, and then an empty one
     abbrev pub placeThen : ℕ
@@ -98,8 +99,8 @@ module _ (n : ℕ) (ends : List Bay) (starts goals : Placement) (plan marks : Li
     lineThen = if accepts billed then charged (lineAt held (named (crossings plan) name .carrier)) name else noLine
 
     pub record BillingSays (r : Told) (marks′ : List ℕ) : Type 0 where
-      pub answers : reportOf (r .answer) ≡ billing n ends starts goals plan marks rec (linesHeld held) name
-      pub marks-then : marks′ ≡ marksThen n ends starts goals plan marks rec (linesHeld held) name
-      pub leaves : r .running ≡ recordThen n ends starts goals plan marks rec (linesHeld held) name
+      pub answers : reportOf (r .answer) ≡ billing o plan marks rec (linesHeld held) name
+      pub marks-then : marks′ ≡ marksThen o plan marks rec (linesHeld held) name
+      pub leaves : r .running ≡ recordThen o plan marks rec (linesHeld held) name
       pub place : r .at ≡ placeThen
       pub line-then : r .line ≡ lineThen

@@ -5,6 +5,7 @@ ghost use Prim.Native.Nat.{_≤_, _<_};
 ghost use lib.ListN.{length, replicate};
 ghost use Rattle.paper.specs.Limits.{most-bays};
 ghost use Rattle.paper.specs.Yard.{crossings, most-crossings};
+ghost use Rattle.paper.specs.Order.{order};
 ghost use Rattle.paper.specs.Dependence.{placementBy};
 ghost use Rattle.paper.specs.OnePass.{Fits};
 ghost use Rattle.paper.specs.Answers.{accepts};
@@ -142,7 +143,10 @@ fn up_to_eleven(
     plan: &[u64],
     marks: &[u8],
 ) -> Checked
-    ensures { λ r. ⌜ checkedOf r ≡ upToEleven bays (now (rails .entry)) (now (start .entry)) (now (goal .entry)) (now (plan .entry)) (now (marks .entry)) ⌝ }
+    ensures { λ r. ⌜
+        checkedOf r ≡ upToEleven (order bays (now (rails .entry)) (now (start .entry)) (now (goal .entry)))
+        (now (plan .entry)) (now (marks .entry))
+        ⌝ }
 {
     let checked = checker::check(bays, rails, start, goal, plan);
     if let Checked::Refused(r) = checked {
@@ -172,7 +176,10 @@ pub fn compare(
     running: Record,
     held: Held,
 ) -> Agreement
-    ensures { λ r. ⌜ agreementOf r ≡ agreement bays (now (rails .entry)) (now (start .entry)) (now (goal .entry)) (now (plan .entry)) (now (marks .entry)) running (linesHeld held) ⌝ }
+    ensures { λ r. ⌜
+        agreementOf r ≡ agreement (order bays (now (rails .entry)) (now (start .entry)) (now (goal .entry)))
+        (now (plan .entry)) (now (marks .entry)) running (linesHeld held)
+        ⌝ }
 {
     let checked = up_to_eleven(bays, rails, start, goal, plan, marks);
     if let Checked::Refused(r) = checked {
@@ -202,7 +209,10 @@ pub fn open(
     running: Record,
     count: usize,
 ) -> Opening
-    ensures { λ r. ⌜ OpenSays bays (now (rails .entry)) (now (start .entry)) (now (goal .entry)) (now (plan .entry)) (now (marks .entry)) running count r ⌝ }
+    ensures { λ r. ⌜
+        OpenSays (order bays (now (rails .entry)) (now (start .entry)) (now (goal .entry)))
+        (now (plan .entry)) (now (marks .entry)) running count r
+        ⌝ }
 {
     let checked = up_to_eleven(bays, rails, start, goal, plan, marks);
     if let Checked::Refused(r) = checked {
@@ -298,7 +308,10 @@ pub fn report(
     running: Record,
     held: Held,
 ) -> Told
-    ensures { λ r. ⌜ BillingSays bays (now (rails .entry)) (now (start .entry)) (now (goal .entry)) (now (plan .entry)) (now (marks .entry)) name running held r (now (marks .exit)) ⌝ }
+    ensures { λ r. ⌜
+        BillingSays (order bays (now (rails .entry)) (now (start .entry)) (now (goal .entry)))
+        (now (plan .entry)) (now (marks .entry)) name running held r (now (marks .exit))
+        ⌝ }
 {
     let agreed = compare(bays, rails, start, goal, plan, marks, running, held);
     match agreed {

@@ -12,6 +12,7 @@ use lib.ListN.{length}
 use borrow.Author.Tests.{not-true, not-false, leb-false, eqb-true, eqb-false, eq-eqb, ltb-false, le-ltb}
 use Rattle.paper.specs.Basics.{if_then_else_, _and_, _or_, any, filter, firstBad, elem, upTo, In, Out, NoDup, when, placeOf}
 use Rattle.paper.specs.Yard.{Bay, Carrier, Rail, Yard, Placement, fewest-bays, most-bays, most-rails, most-crossings, kept-empty, bayOf, occupied, emptyBays, joined}
+use Rattle.paper.specs.Order.{Order}
 use Rattle.paper.specs.Path.{Along, Reached, nearestFirst}
 use Rattle.paper.specs.Docket.{size, rail, apart, crowd, start, goal, railsOf, yardOf, badSize, badRail, apartBay, badPlace, number, Refusal, no-1, no-2, no-3, no-4, no-5}
 use Rattle.paper.specs.Answers.{firstSix}
@@ -24,17 +25,17 @@ use Rattle.paper.proofs.Playing.{Apart, Sound, Good, out-of, placeOf-ba
 -- ## 1
 
 -- 1 is not given exactly if the sizes fit.
-pub record Sizes (n : ℕ) (ends : List Bay) (s g : Placement) (lent : ℕ) : Type 0 where
-  pub enough-bays : fewest-bays ≤ n
-  pub few-bays : n ≤ most-bays
-  pub few-rails : length ends / 2 ≤ most-rails
-  pub even-ends : eqb (length ends % 2) 1 ≡ false
-  pub same-length : length s ≡ length g
+pub record Sizes (o : Order) (lent : ℕ) : Type 0 where
+  pub enough-bays : fewest-bays ≤ o .bays
+  pub few-bays : o .bays ≤ most-bays
+  pub few-rails : length (o .ends) / 2 ≤ most-rails
+  pub even-ends : eqb (length (o .ends) % 2) 1 ≡ false
+  pub same-length : length (o .starts) ≡ length (o .goals)
   pub short-plan : lent ≤ most-crossings
 
-pub sizes-of : (n : ℕ) (ends : List Bay) (s g : Placement) (lent : ℕ) → badSize n ends s g lent ≡ false → Sizes n ends s g lent
+pub sizes-of : (o : Order) (lent : ℕ) → badSize o lent ≡ false → Sizes o lent
 unfolding badSize
-sizes-of n ends s g lent h =
+sizes-of o lent h =
     let a = or-none _ _ h in
     let b = or-none _ _ (a .0) in
     let c = or-none _ _ (b .0) in
@@ -49,9 +50,9 @@ sizes-of n ends s g lent h =
       short-plan = ltb-false _ _ (a .1);
     }
 
-pub of-sizes : (n : ℕ) (ends : List Bay) (s g : Placement) (lent : ℕ) → Sizes n ends s g lent → badSize n ends s g lent ≡ false
+pub of-sizes : (o : Order) (lent : ℕ) → Sizes o lent → badSize o lent ≡ false
 unfolding badSize
-of-sizes n ends s g lent z =
+of-sizes o lent z =
     or-neither _ _
     (or-neither _ _
     (or-neither _ _ (or-neither _ _ (or-neither _ _ (le-ltb _ _ (z .enough-bays)) (le-ltb _ _ (z .few-bays))) (le-ltb _ _ (z .few-rails))) (z .even-ends))
@@ -99,13 +100,15 @@ module _ (a b : Bay) where
       (λ e. joined-good n rs (g .3) (rw e at h))
 
 -- Past 2 a rail leads to another bay of the yard.
-pub sound-of : (n : ℕ) (ends : List Bay) → firstBad (badRail n) 0 [] (railsOf ends) ≡ none → Sound (yardOf n ends)
+pub sound-of : (o : Order) → firstBad (badRail (o .bays)) 0 [] (railsOf (o .ends)) ≡ none → Sound (yardOf o)
 unfolding joined
-sound-of n ends h =
-    let g = rails-good n 0 [] (railsOf ends) h in
+sound-of o h =
+    let n = o .bays in
+    let rs = railsOf (o .ends) in
+    let g = rails-good n 0 [] rs h in
     record {
-      inside = λ a b j. in-count 0 n b (omega arith) (let k = (joined-good a b n (railsOf ends) g j) .0 in omega arith);
-      no-loop = λ a j. (joined-good a a n (railsOf ends) g j) .1 refl;
+      inside = λ a b j. in-count 0 n b (omega arith) (let k = (joined-good a b n rs g j) .0 in omega arith);
+      no-loop = λ a j. (joined-good a a n rs g j) .1 refl;
     }
 
 -- ## 3
@@ -262,8 +265,9 @@ places-good n c used (b ∷ p) h =
     })
 
 -- Past 5 carriers stand apart, at bays of the yard; past 6 so do their goals.
-pub good-of : (n : ℕ) (ends : List Bay) (p : Placement) → firstBad (badPlace n) 0 [] p ≡ none → Good (yardOf n ends) p
-good-of n ends p h =
+pub good-of : (o : Order) (p : Placement) → firstBad (badPlace (o .bays)) 0 [] p ≡ none → Good (yardOf o) p
+good-of o p h =
+    let n = o .bays in
     let g = places-good n 0 [] p h in
     record { apart = g .distinct; inside = λ c k. in-count 0 n (bayOf p c) (omega arith) (let l = g .inside c k in omega arith) }
 
@@ -314,45 +318,45 @@ empty-bays n p h =
 
 -- ## 1 to 6
 
-pub record Clean (n : ℕ) (ends : List Bay) (s g : Placement) (lent : ℕ) : Type 0 where
-  pub sizes : Sizes n ends s g lent
-  pub rails : firstBad (badRail n) 0 [] (railsOf ends) ≡ none
-  pub reached : apartBay (yardOf n ends) ≡ none
-  pub uncrowded : length s + kept-empty ≤ n
-  pub starts : firstBad (badPlace n) 0 [] s ≡ none
-  pub goals : firstBad (badPlace n) 0 [] g ≡ none
+pub record Clean (o : Order) (lent : ℕ) : Type 0 where
+  pub sizes : Sizes o lent
+  pub rails : firstBad (badRail (o .bays)) 0 [] (railsOf (o .ends)) ≡ none
+  pub reached : apartBay (yardOf o) ≡ none
+  pub uncrowded : length (o .starts) + kept-empty ≤ o .bays
+  pub starts : firstBad (badPlace (o .bays)) 0 [] (o .starts) ≡ none
+  pub goals : firstBad (badPlace (o .bays)) 0 [] (o .goals) ≡ none
 
 -- None of 1 to 6 is given exactly if all of this holds.
-pub clean-of : (n : ℕ) (ends : List Bay) (s g : Placement) (lent : ℕ) → firstSix n ends s g lent ≡ none → Clean n ends s g lent
+pub clean-of : (o : Order) (lent : ℕ) → firstSix o lent ≡ none → Clean o lent
 unfolding firstSix
-clean-of n ends s g lent h =
+clean-of o lent h =
     let r1 = none-both _ _ h in
     let r2 = none-both _ _ (r1 .1) in
     let r3 = none-both _ _ (r2 .1) in
-    let r4 = none-both (when (ltb n (length s + kept-empty)) crowd) _ (r3 .1) in
+    let r4 = none-both (when (ltb (o .bays) (length (o .starts) + kept-empty)) crowd) _ (r3 .1) in
     let r5 = none-both _ _ (r4 .1) in
     record {
-      sizes = sizes-of n ends s g lent (none-when (badSize n ends s g lent) size (r1 .0));
-      rails = none-from rail (firstBad (badRail n) 0 [] (railsOf ends)) (r2 .0);
-      reached = none-from apart (apartBay (yardOf n ends)) (r3 .0);
-      uncrowded = ltb-false _ _ (none-when (ltb n (length s + kept-empty)) crowd (r4 .0));
-      starts = none-from start (firstBad (badPlace n) 0 [] s) (r5 .0);
-      goals = none-from goal (firstBad (badPlace n) 0 [] g) (r5 .1);
+      sizes = sizes-of o lent (none-when (badSize o lent) size (r1 .0));
+      rails = none-from rail (firstBad (badRail (o .bays)) 0 [] (railsOf (o .ends))) (r2 .0);
+      reached = none-from apart (apartBay (yardOf o)) (r3 .0);
+      uncrowded = ltb-false _ _ (none-when (ltb (o .bays) (length (o .starts) + kept-empty)) crowd (r4 .0));
+      starts = none-from start (firstBad (badPlace (o .bays)) 0 [] (o .starts)) (r5 .0);
+      goals = none-from goal (firstBad (badPlace (o .bays)) 0 [] (o .goals)) (r5 .1);
     }
 
-pub of-clean : (n : ℕ) (ends : List Bay) (s g : Placement) (lent : ℕ) → Clean n ends s g lent → firstSix n ends s g lent ≡ none
+pub of-clean : (o : Order) (lent : ℕ) → Clean o lent → firstSix o lent ≡ none
 unfolding firstSix
-of-clean n ends s g lent c =
-    rw (of-sizes n ends s g lent (c .sizes), c .rails, c .reached, le-ltb n (length s + kept-empty) (c .uncrowded), c .starts, c .goals)
+of-clean o lent c =
+    rw (of-sizes o lent (c .sizes), c .rails, c .reached, le-ltb (o .bays) (length (o .starts) + kept-empty) (c .uncrowded), c .starts, c .goals)
 
 -- the first six are what they are called
-pub six-number : (n : ℕ) (ends : List Bay) (s g : Placement) (lent : ℕ) (r : Refusal) → firstSix n ends s g lent ≡ some r → number r ≤ 6
+pub six-number : (o : Order) (lent : ℕ) (r : Refusal) → firstSix o lent ≡ some r → number r ≤ 6
 unfolding firstSix
-six-number n ends s g lent r h =
-    either (no-1 n ends s g lent) _ h (λ a. let e = some-when (badSize n ends s g lent) size a in rw (← e .1) (omega arith)) (λ _ h2.
-    either (no-2 n ends) _ h2 (λ a. let e = some-from rail (firstBad (badRail n) 0 [] (railsOf ends)) a in rw (← e .2) (omega arith)) (λ _ h3.
-    either (no-3 n ends) _ h3 (λ a. let e = some-from apart (apartBay (yardOf n ends)) a in rw (← e .2) (omega arith)) (λ _ h4.
-    either (no-4 n s) _ h4 (λ a. let e = some-when (ltb n (length s + kept-empty)) crowd a in rw (← e .1) (omega arith)) (λ _ h5.
-    either (no-5 n s) _ h5
-    (λ a. let e = some-from start (firstBad (badPlace n) 0 [] s) a in rw (← e .2) (omega arith))
-    (λ _ a. let e = some-from goal (firstBad (badPlace n) 0 [] g) a in rw (← e .2) (omega arith))))))
+six-number o lent r h =
+    either (no-1 o lent) _ h (λ a. let e = some-when (badSize o lent) size a in rw (← e .1) (omega arith)) (λ _ h2.
+    either (no-2 o) _ h2 (λ a. let e = some-from rail (firstBad (badRail (o .bays)) 0 [] (railsOf (o .ends))) a in rw (← e .2) (omega arith)) (λ _ h3.
+    either (no-3 o) _ h3 (λ a. let e = some-from apart (apartBay (yardOf o)) a in rw (← e .2) (omega arith)) (λ _ h4.
+    either (no-4 o) _ h4 (λ a. let e = some-when (ltb (o .bays) (length (o .starts) + kept-empty)) crowd a in rw (← e .1) (omega arith)) (λ _ h5.
+    either (no-5 o) _ h5
+    (λ a. let e = some-from start (firstBad (badPlace (o .bays)) 0 [] (o .starts)) a in rw (← e .2) (omega arith))
+    (λ _ a. let e = some-from goal (firstBad (badPlace (o .bays)) 0 [] (o .goals)) a in rw (← e .2) (omega arith))))))

@@ -8,7 +8,8 @@ use Prim.Native.Nat.{ℕ, suc, _<_, _≤_}
 use native.Mathlib.Omega.{arith}
 use lib.ListN.{length, length-map, drop, getD}
 use Rattle.paper.specs.Basics.{In, NoDup}
-use Rattle.paper.specs.Yard.{Bay, Carrier, Placement, Crossing, after, legalPlan, unpack, crossings, pack, most-crossings}
+use Rattle.paper.specs.Yard.{Carrier, Crossing, after, legalPlan, unpack, crossings, pack, most-crossings}
+use Rattle.paper.specs.Order.{Order}
 use Rattle.paper.specs.Procedure.{stuck, procedure}
 use Rattle.paper.specs.Dependence.{isDone, countOf, slots, placementBy}
 use Rattle.paper.specs.Docket.{yardOf, badMarks, stopped, room, Refusal}
@@ -23,36 +24,36 @@ use Rattle.paper.proofs.Reporting.{Ready, accept-facts, facts-accept, d
 use Rattle.paper.proofs.Logging.{fine, some-ready, all-done, unaccepted, plan-lawful, kept-from-fresh}
 use Rattle.paper.proofs.Handing.{handed-passes}
 
-pub demand-1 : (n : ℕ) (ends : List Bay) (starts goals : Placement) → Demand1 n ends starts goals
+pub demand-1 : (o : Order) → Demand1 o
 unfolding written slotsEnd
-demand-1 n ends starts goals = record {
+demand-1 o = record {
   plan-refused = λ lent r h. rw h;
   slots-refused = λ crossed lent r h. rw h;
-  not-accepted = λ crossed marks name h. unaccepted marks name (report n ends starts goals crossed marks name) h;
+  not-accepted = λ crossed marks name h. unaccepted marks name (report o crossed marks name) h;
   plan-written = λ lent xs h. rw h;
   slots-written = λ crossed lent h. rw h;
 }
 
-pub demand-2 : (n : ℕ) (ends : List Bay) (starts goals : Placement) → Demand2 n ends starts goals
-demand-2 n ends starts goals = record {
-  legal-home = accepted-right n ends starts goals;
-  the-procedure = accepted-exactly n ends starts goals;
-  stops = stopped-exactly n ends starts goals;
-  no-room = room-exactly n ends starts goals;
+pub demand-2 : (o : Order) → Demand2 o
+demand-2 o = record {
+  legal-home = accepted-right o;
+  the-procedure = accepted-exactly o;
+  stops = stopped-exactly o;
+  no-room = room-exactly o;
   slots-rise-along = slots-rise;
   slots-are-lowest = slots-lowest;
-  accepts-exactly = λ crossed marks p f. report-accepts n ends starts goals crossed marks p f;
+  accepts-exactly = λ crossed marks p f. report-accepts o crossed marks p f;
 }
 
-module _ (n : ℕ) (ends : List Bay) (starts goals : Placement) (plan : List ℕ) (passes : check n ends starts goals plan ≡ none) where
-  pub demand-3 : (qs : List Request) → Demand3 n ends starts goals plan qs
+module _ (o : Order) (plan : List ℕ) (passes : check o plan ≡ none) where
+  pub demand-3 : (qs : List Request) → Demand3 o plan qs
   demand-3 qs =
-      let Y = yardOf n ends in
+      let Y = yardOf o in
       let xs = crossings plan in
       let ms = marksOf plan qs in
-      let k = kept-from-fresh n ends starts goals plan passes qs in
-      let lawful = plan-lawful n ends starts goals plan passes in
-      let ok = fine Y starts xs lawful ms (namesOf plan qs) k in
+      let k = kept-from-fresh o plan passes qs in
+      let lawful = plan-lawful o plan passes in
+      let ok = fine Y (o .starts) xs lawful ms (namesOf plan qs) k in
       let len : length xs ≡ length plan = length-map plan unpack in
       record {
         lawful = k .lawful;
@@ -60,18 +61,18 @@ module _ (n : ℕ) (ends : List Bay) (starts goals : Placement) (plan : List ℕ
         marked = λ i. (k .marked i, λ m. k .names i m .1);
         once = k .once;
         repeats = λ q m. unaccepted ms (q .name) (answerTo plan ms q)
-            (λ h. not-both (k .names (q .name) m .1) (accept-facts (q .bays) (q .ends) (q .starts) (q .goals) plan ms (q .name) h .3));
-        answered = λ i m. let f = k .names i m in done-already n ends starts goals plan ms passes ok i (f .0) (f .1);
+            (λ h. not-both (k .names (q .name) m .1) (accept-facts (q .order) plan ms (q .name) h .3));
+        answered = λ i m. let f = k .names i m in done-already o plan ms passes ok i (f .0) (f .1);
         unchanged = λ q h. unaccepted ms (q .name) (answerTo plan ms q) h;
         goes-on = λ i h d.
-            let r = some-ready Y starts xs lawful ms (suc i) i (omega arith) (rw len h) d in
-            (r .0, facts-accept n ends starts goals plan ms passes ok (r .0) (r .1) (r .2) (r .3));
+            let r = some-ready Y (o .starts) xs lawful ms (suc i) i (omega arith) (rw len h) d in
+            (r .0, facts-accept o plan ms passes ok (r .0) (r .1) (r .2) (r .3));
         all-home = λ f.
             let whole = all-done xs ms (k .long) (λ i h. f i (rw len at h)) in
-            (k .same ∙ ap (after starts) whole ∙ check-passed n ends starts goals plan passes .home, λ c. k .counts c ∙ ap (countOf c) whole);
+            (k .same ∙ ap (after (o .starts)) whole ∙ check-passed o plan passes .home, λ c. k .counts c ∙ ap (countOf c) whole);
       }
 
 -- Every plan handed out passes the check, so demand 3 is of every such plan.
-pub handed-demand-3 : (n : ℕ) (ends : List Bay) (s g : Placement) (lent : ℕ) (xs : List Crossing) → plan n ends s g lent ≡ accepted xs
-    → (qs : List Request) → Demand3 n ends s g (map pack xs) qs
-handed-demand-3 n ends s g lent xs h qs = demand-3 n ends s g (map pack xs) (handed-passes n ends s g lent xs h .0) qs
+pub handed-demand-3 : (o : Order) (lent : ℕ) (xs : List Crossing) → plan o lent ≡ accepted xs
+    → (qs : List Request) → Demand3 o (map pack xs) qs
+handed-demand-3 o lent xs h qs = demand-3 o (map pack xs) (handed-passes o lent xs h .0) qs

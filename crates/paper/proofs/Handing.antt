@@ -9,7 +9,8 @@ use lib.Dec.{eqb}
 use lib.ListN.{length, getD, length-map, length-set}
 use borrow.Author.Tests.{eqb-true}
 use Rattle.paper.specs.Limits.{most-bays}
-use Rattle.paper.specs.Yard.{Bay, Carrier, Yard, Placement, Crossing, bayOf, move, legalPlan, most-crossings, pack, unpack, crossings, named}
+use Rattle.paper.specs.Yard.{Carrier, Yard, Placement, Crossing, bayOf, move, legalPlan, most-crossings, pack, unpack, crossings, named}
+use Rattle.paper.specs.Order.{Order}
 use Rattle.paper.specs.Docket.{yardOf}
 use Rattle.paper.specs.Answers.{accepted, firstSix, plan, check}
 use Rattle.paper.specs.OnePass.{Fits}
@@ -38,11 +39,11 @@ module _ (Y : Yard) (sound : Sound Y) (few : Y .bays ≤ most-bays) where
       ap₂ (λ y ys. y ∷ ys) (unpack-pack x (omega arith) (omega arith)) ih
 
 -- 1 to 6 with the plan lent, where they pass without it and it is short
-lent-too : (n : ℕ) (ends : List Bay) (s g : Placement) (m : ℕ) → firstSix n ends s g 0 ≡ none → m ≤ most-crossings → firstSix n ends s g m ≡ none
-lent-too n ends s g m h k =
-    let c = clean-of n ends s g 0 h in
+lent-too : (o : Order) (m : ℕ) → firstSix o 0 ≡ none → m ≤ most-crossings → firstSix o m ≡ none
+lent-too o m h k =
+    let c = clean-of o 0 h in
     let z = c .sizes in
-    of-clean n ends s g m (record {
+    of-clean o m (record {
       sizes = record {
         enough-bays = z .enough-bays;
         few-bays = z .few-bays;
@@ -59,17 +60,17 @@ lent-too n ends s g m h k =
     })
 
 -- Every plan handed out passes the check, and its numbers read as its crossings.
-pub handed-passes : (n : ℕ) (ends : List Bay) (s g : Placement) (lent : ℕ) (xs : List Crossing) → plan n ends s g lent ≡ accepted xs
-    → (check n ends s g (map pack xs) ≡ none) × (crossings (map pack xs) ≡ xs)
-handed-passes n ends s g lent xs h =
-    let a = (accepted-exactly n ends s g lent xs) .0 h in
-    let right = accepted-right n ends s g lent xs h in
-    let c = clean-of n ends s g 0 (a .0) in
-    let good = good-of n ends s (c .starts) in
-    let back = reads-back (yardOf n ends) (sound-of n ends (c .rails)) (c .sizes .few-bays) s xs
-    (λ c k. let z = count-high 0 n (bayOf s c) (good .inside c k) in omega arith) (right .0) in (
-      passed-check n ends s g (map pack xs) (record {
-        sound = lent-too n ends s g (length (map pack xs)) (a .0) (rw length-map (a .3));
+pub handed-passes : (o : Order) (lent : ℕ) (xs : List Crossing) → plan o lent ≡ accepted xs
+    → (check o (map pack xs) ≡ none) × (crossings (map pack xs) ≡ xs)
+handed-passes o lent xs h =
+    let a = (accepted-exactly o lent xs) .0 h in
+    let right = accepted-right o lent xs h in
+    let c = clean-of o 0 (a .0) in
+    let good = good-of o (o .starts) (c .starts) in
+    let back = reads-back (yardOf o) (sound-of o (c .rails)) (c .sizes .few-bays) (o .starts) xs
+    (λ c k. let z = count-high 0 (o .bays) (bayOf (o .starts) c) (good .inside c k) in omega arith) (right .0) in (
+      passed-check o (map pack xs) (record {
+        sound = lent-too o (length (map pack xs)) (a .0) (rw length-map (a .3));
         lawful = rw back (right .0);
         home = rw back (right .1);
       }),
@@ -95,15 +96,15 @@ module _ (Y : Yard) (sound : Sound Y) where
       (plan-tail Y p x xs h) i (omega arith))
 
 -- What passes the check names carriers and bays of the largest yard: what the passes over a checked plan ask.
-pub check-fits : (n : ℕ) (ends : List Bay) (s g : Placement) (plan : List ℕ) → check n ends s g plan ≡ none → Fits most-bays most-bays plan
-check-fits n ends s g plan h i k =
-    let p = check-passed n ends s g plan h in
-    let c = clean-of n ends s g (length plan) (p .sound) in
-    let good = good-of n ends s (c .starts) in
+pub check-fits : (o : Order) (plan : List ℕ) → check o plan ≡ none → Fits most-bays most-bays plan
+check-fits o plan h i k =
+    let p = check-passed o plan h in
+    let c = clean-of o (length plan) (p .sound) in
+    let good = good-of o (o .starts) (c .starts) in
     let few = c .sizes .few-bays in
     let small = c .uncrowded in
-    let f = plan-fits (yardOf n ends) (sound-of n ends (c .rails)) s (crossings plan)
-    (λ b q. let z = count-high 0 n (bayOf s b) (good .inside b q) in omega arith) (p .lawful) i (rw length-map k) in
+    let f = plan-fits (yardOf o) (sound-of o (c .rails)) (o .starts) (crossings plan)
+    (λ b q. let z = count-high 0 (o .bays) (bayOf (o .starts) b) (good .inside b q) in omega arith) (p .lawful) i (rw length-map k) in
     let same : named (crossings plan) i ≡ unpack (getD plan i 0) = named-is plan i in
     let f₀ = rw same at (f .0) in
     let f₁ = rw same at (f .1) in

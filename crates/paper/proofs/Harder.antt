@@ -5,21 +5,19 @@ use mathlib.Core.Path.{_≡_, refl}
 use mathlib.Core.List.{List, [], _∷_, map}
 use Prim.Native.Nat.{ℕ}
 use Rattle.paper.specs.Yard.{Bay, Placement, crossing}
+use Rattle.paper.specs.Order.{Order, order}
 use Rattle.paper.specs.Docket.{stopped, room}
 use Rattle.paper.specs.Answers.{Answer, accepted, refused, plan, planParked}
 use Rattle.paper.proofs.Worked.{computing}
 
 pub record Hard : Type 0 where
-  pub bays : ℕ
+  pub order : Order
   pub lent : ℕ
-  pub ends : List Bay
-  pub starts : Placement
-  pub goals : Placement
   pub parked : ℕ
   pub answer : Answer
 
 abbrev hard : ℕ → ℕ → List Bay → Placement → Placement → ℕ → Answer → Hard
-hard n l e s g k a = record { bays = n; lent = l; ends = e; starts = s; goals = g; parked = k; answer = a }
+hard n l e s g k a = record { order = order n e s g; lent = l; parked = k; answer = a }
 
 abbrev pub yards : List Hard
 yards =
@@ -49,10 +47,10 @@ yards =
     (refused (room 20))
     ∷ []
 
-pub all-computed : map (λ y. plan (y .bays) (y .ends) (y .starts) (y .goals) (y .lent)) yards ≡ map (λ y. y .answer) yards
+pub all-computed : map (λ y. plan (y .order) (y .lent)) yards ≡ map (λ y. y .answer) yards
 unfolding computing
 all-computed = refl
 
-pub all-counted : map (λ y. planParked (y .bays) (y .ends) (y .starts) (y .goals) (y .lent)) yards ≡ map (λ y. y .parked) yards
+pub all-counted : map (λ y. planParked (y .order) (y .lent)) yards ≡ map (λ y. y .parked) yards
 unfolding computing
 all-counted = refl

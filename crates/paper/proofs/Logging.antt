@@ -12,7 +12,8 @@ use lib.ListN.{length, set, replicate, length-set, length-map, length-replicate}
 use lib.Seq.{getD-set-same, getD-set-other}
 use borrow.Author.Tests.{eqb-true, eqb-false, eq-eqb}
 use Rattle.paper.specs.Basics.{_or_, any, In, NoDup}
-use Rattle.paper.specs.Yard.{Bay, Carrier, Yard, Placement, Crossing, move, after, legalPlan, crossings, named}
+use Rattle.paper.specs.Yard.{Carrier, Yard, Placement, Crossing, move, after, legalPlan, crossings, named}
+use Rattle.paper.specs.Order.{Order}
 use Rattle.paper.specs.Dependence.{done, isDone, undoneBefore, doneOf, countOf, fresh}
 use Rattle.paper.specs.Docket.{yardOf, badMarks}
 use Rattle.paper.specs.Answers.{check, Report, accept, already, refuse, accepts, marksAfter}
@@ -202,24 +203,24 @@ unaccepted ms i accept h = absurd (h refl)
 unaccepted ms i already h = refl
 unaccepted ms i (refuse x) h = refl
 
-module _ (n : ℕ) (ends : List Bay) (starts goals : Placement) (plan : List ℕ) (passes : check n ends starts goals plan ≡ none) where
-  pub plan-lawful : legalPlan (yardOf n ends) starts (crossings plan) ≡ true
-  plan-lawful = check-passed n ends starts goals plan passes .lawful
+module _ (o : Order) (plan : List ℕ) (passes : check o plan ≡ none) where
+  pub plan-lawful : legalPlan (yardOf o) (o .starts) (crossings plan) ≡ true
+  plan-lawful = check-passed o plan passes .lawful
 
-  kept-run : (ms got : List ℕ) (qs : List Request) → Kept (yardOf n ends) starts (crossings plan) ms got
-      → Kept (yardOf n ends) starts (crossings plan) (marksFrom plan ms qs) (got ++ namesFrom plan ms qs)
+  kept-run : (ms got : List ℕ) (qs : List Request) → Kept (yardOf o) (o .starts) (crossings plan) ms got
+      → Kept (yardOf o) (o .starts) (crossings plan) (marksFrom plan ms qs) (got ++ namesFrom plan ms qs)
   unfolding marksFrom namesFrom marksAfter accepts
   kept-run ms got [] k = rw append-nil k
   kept-run ms got (q ∷ qs) k =
       by-report (answerTo plan ms q)
       (λ e.
       let i = q .name in
-      let f = accept-facts (q .bays) (q .ends) (q .starts) (q .goals) plan ms i e in
-      let ih = kept-run (set ms i 1) (got ++ (i ∷ [])) qs (kept-on (yardOf n ends) starts (crossings plan) plan-lawful ms got i k (f .2) (f .3) (f .4)) in
+      let f = accept-facts (q .order) plan ms i e in
+      let ih = kept-run (set ms i 1) (got ++ (i ∷ [])) qs (kept-on (yardOf o) (o .starts) (crossings plan) plan-lawful ms got i k (f .2) (f .3) (f .4)) in
       rw e (rw append-assoc at ih))
       (λ e. rw e (kept-run ms got qs k))
       (λ x e. rw e (kept-run ms got qs k))
 
-  pub kept-from-fresh : (qs : List Request) → Kept (yardOf n ends) starts (crossings plan) (marksOf plan qs) (namesOf plan qs)
+  pub kept-from-fresh : (qs : List Request) → Kept (yardOf o) (o .starts) (crossings plan) (marksOf plan qs) (namesOf plan qs)
   kept-from-fresh qs =
-      kept-run (fresh plan) [] qs (rw length-map at (kept-fresh (yardOf n ends) starts (crossings plan) plan-lawful))
+      kept-run (fresh plan) [] qs (rw length-map at (kept-fresh (yardOf o) (o .starts) (crossings plan) plan-lawful))

@@ -11,7 +11,8 @@ use lib.Dec.{ltb}
 use lib.ListN.{length}
 use borrow.Author.Tests.{ltb-true, ltb-false, le-ltb, lt-ltb}
 use Rattle.paper.specs.Basics.{_or_}
-use Rattle.paper.specs.Yard.{Bay, Carrier, Placement, Crossing, after, legalPlan, most-crossings}
+use Rattle.paper.specs.Yard.{Carrier, Crossing, after, legalPlan, most-crossings}
+use Rattle.paper.specs.Order.{Order}
 use Rattle.paper.specs.Procedure.{Made, Outcome, planned, stuck, procedure}
 use Rattle.paper.specs.Docket.{Refusal, number, apart, stopped, room, yardOf}
 use Rattle.paper.specs.Answers.{accepted, refused, crossingsOf, parkedOf, within, unless, plan, beside, planParked, firstSix}
@@ -49,37 +50,37 @@ module _ (lent : ℕ) where
       (λ k. g (inr (ltb-true _ _ k)))
       (λ k. f (ltb-false _ _ e) (ltb-false _ _ k)))
 
-module _ (n : ℕ) (ends : List Bay) (s g : Placement) (lent : ℕ) where
+module _ (given : Order) (lent : ℕ) where
   abbrev outcome : Outcome
-  outcome = procedure (yardOf n ends) g s
+  outcome = procedure (yardOf given) (given .goals) (given .starts)
 
-  pub plan-clean : firstSix n ends s g 0 ≡ none → plan n ends s g lent ≡ within lent outcome
+  pub plan-clean : firstSix given 0 ≡ none → plan given lent ≡ within lent outcome
   unfolding plan unless
   plan-clean h = rw h
 
-  pub plan-unclean : (r : Refusal) → firstSix n ends s g 0 ≡ some r → plan n ends s g lent ≡ refused r
+  pub plan-unclean : (r : Refusal) → firstSix given 0 ≡ some r → plan given lent ≡ refused r
   unfolding plan unless
   plan-unclean r h = rw h
 
   -- every way in which an answer comes about
   by-plan : {P : Type 0}
-      → ((r : Refusal) → number r ≤ 6 → plan n ends s g lent ≡ refused r → P)
-      → (firstSix n ends s g 0 ≡ none → (c : Carrier) → outcome ≡ stuck c → plan n ends s g lent ≡ refused (stopped c) → P)
-      → (firstSix n ends s g 0 ≡ none → (m : Made) → outcome ≡ planned m → TooLong lent (length (m .moves)) → plan n ends s g lent ≡ refused (room (length (m .moves))) → P)
-      → (firstSix n ends s g 0 ≡ none → (m : Made) → outcome ≡ planned m → length (m .moves) ≤ lent → length (m .moves) ≤ most-crossings → plan n ends s g lent ≡ accepted (m .moves) → P)
+      → ((r : Refusal) → number r ≤ 6 → plan given lent ≡ refused r → P)
+      → (firstSix given 0 ≡ none → (c : Carrier) → outcome ≡ stuck c → plan given lent ≡ refused (stopped c) → P)
+      → (firstSix given 0 ≡ none → (m : Made) → outcome ≡ planned m → TooLong lent (length (m .moves)) → plan given lent ≡ refused (room (length (m .moves))) → P)
+      → (firstSix given 0 ≡ none → (m : Made) → outcome ≡ planned m → length (m .moves) ≤ lent → length (m .moves) ≤ most-crossings → plan given lent ≡ accepted (m .moves) → P)
       → P
   by-plan early stops long fits =
-      by-option (firstSix n ends s g 0)
+      by-option (firstSix given 0)
       (λ e. by-outcome outcome
       (λ m o. by-length lent (m .moves)
       (λ h k. fits e m o h k (plan-clean e ∙ ap (within lent) o ∙ within-fits lent m h k))
       (λ h. long e m o h (plan-clean e ∙ ap (within lent) o ∙ within-long lent m h)))
       (λ c o. stops e c o (plan-clean e ∙ ap (within lent) o ∙ within-stuck lent c)))
-      (λ r e. early r (six-number n ends s g 0 r e) (plan-unclean r e))
+      (λ r e. early r (six-number given 0 r e) (plan-unclean r e))
 
   -- A plan is accepted exactly if 1 to 6 pass, the procedure gives it, and it fits.
-  pub accepted-exactly : (xs : List Crossing) → (plan n ends s g lent ≡ accepted xs)
-      ↔ ((firstSix n ends s g 0 ≡ none) × Gives outcome xs × (length xs ≤ lent) × (length xs ≤ most-crossings))
+  pub accepted-exactly : (xs : List Crossing) → (plan given lent ≡ accepted xs)
+      ↔ ((firstSix given 0 ≡ none) × Gives outcome xs × (length xs ≤ lent) × (length xs ≤ most-crossings))
   accepted-exactly xs = (
     λ h. by-plan
         (λ r l e. never (cc))
@@ -91,8 +92,8 @@ module _ (n : ℕ) (ends : List Bay) (s g : Placement) (lent : ℕ) where
   )
 
   -- 7 carries c exactly if 1 to 6 pass and the procedure stops with c.
-  pub stopped-exactly : (c : Carrier) → (plan n ends s g lent ≡ refused (stopped c))
-      ↔ ((firstSix n ends s g 0 ≡ none) × (outcome ≡ stuck c))
+  pub stopped-exactly : (c : Carrier) → (plan given lent ≡ refused (stopped c))
+      ↔ ((firstSix given 0 ≡ none) × (outcome ≡ stuck c))
   stopped-exactly c = (
     λ h. by-plan
         (λ r l e. let z : r ≡ stopped c = cc in let w = rw z at l in absurd (omega arith))
@@ -103,8 +104,8 @@ module _ (n : ℕ) (ends : List Bay) (s g : Placement) (lent : ℕ) where
   )
 
   -- 8 carries m exactly if 1 to 6 pass, the procedure gives a list of m crossings, and that is longer than the lent list or over 65,536.
-  pub room-exactly : (m : ℕ) → (plan n ends s g lent ≡ refused (room m))
-      ↔ ((firstSix n ends s g 0 ≡ none) × ((xs : List Crossing) × Gives outcome xs × (length xs ≡ m)) × TooLong lent m)
+  pub room-exactly : (m : ℕ) → (plan given lent ≡ refused (room m))
+      ↔ ((firstSix given 0 ≡ none) × ((xs : List Crossing) × Gives outcome xs × (length xs ≡ m)) × TooLong lent m)
   room-exactly m = (
     λ h. by-plan
         (λ r l e. let z : r ≡ room m = cc in let w = rw z at l in absurd (omega arith))
@@ -117,22 +118,22 @@ module _ (n : ℕ) (ends : List Bay) (s g : Placement) (lent : ℕ) where
   )
 
   -- An accepted plan is legal from the starts and ends at the goals.
-  pub accepted-right : (xs : List Crossing) → plan n ends s g lent ≡ accepted xs
-      → (legalPlan (yardOf n ends) s xs ≡ true) × (after s xs ≡ g)
+  pub accepted-right : (xs : List Crossing) → plan given lent ≡ accepted xs
+      → (legalPlan (yardOf given) (given .starts) xs ≡ true) × (after (given .starts) xs ≡ given .goals)
   accepted-right xs h =
       let a = (accepted-exactly xs) .0 h in
-      let c = clean-of n ends s g 0 (a .0) in
-      let Y = yardOf n ends in
-      let gg = good-of n ends g (c .goals) in
+      let c = clean-of given 0 (a .0) in
+      let Y = yardOf given in
+      let gg = good-of given (given .goals) (c .goals) in
       rw (← (a .1 .2))
-      (procedure-right Y (sound-of n ends (c .rails)) g (gg .apart) gg s (a .1 .0)
-      (good-of n ends s (c .starts)) (c .sizes .same-length) (a .1 .1))
+      (procedure-right Y (sound-of given (c .rails)) (given .goals) (gg .apart) gg (given .starts) (a .1 .0)
+      (good-of given (given .starts) (c .starts)) (c .sizes .same-length) (a .1 .1))
 
   -- What an accepted plan carries is what its procedure counted; beside a refusal it is 0.
-  pub accepted-parked : (m : Made) → outcome ≡ planned m → plan n ends s g lent ≡ accepted (m .moves) → planParked n ends s g lent ≡ m .parked
+  pub accepted-parked : (m : Made) → outcome ≡ planned m → plan given lent ≡ accepted (m .moves) → planParked given lent ≡ m .parked
   unfolding planParked beside parkedOf
   accepted-parked m o e = rw (e, o)
 
-  pub refused-parked : (r : Refusal) → plan n ends s g lent ≡ refused r → planParked n ends s g lent ≡ 0
+  pub refused-parked : (r : Refusal) → plan given lent ≡ refused r → planParked given lent ≡ 0
   unfolding planParked beside
   refused-parked r e = rw e

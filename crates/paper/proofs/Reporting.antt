@@ -11,7 +11,8 @@ use lib.ListN.{length, getD, length-set, List·getD-eq-default}
 use lib.Seq.{getD-set-same, getD-set-other}
 use borrow.Author.Tests.{not-true, not-false, eqb-true, leb-false, le-leb, lt-leb, ltb-true, ltb-false}
 use Rattle.paper.specs.Basics.{_and_, _or_, upTo}
-use Rattle.paper.specs.Yard.{Bay, Placement, Crossing, crossings, named}
+use Rattle.paper.specs.Yard.{Crossing, crossings, named}
+use Rattle.paper.specs.Order.{Order}
 use Rattle.paper.specs.Dependence.{depend, isDone, undoneBefore}
 use Rattle.paper.specs.Docket.{Refusal, unknown, early, badMarks}
 use Rattle.paper.specs.Answers.{check, Report, accept, already, refuse, tell, report, marksAfter, marksEnd}
@@ -91,50 +92,50 @@ tell-facts xs ms i h =
     (λ u. (f, leb-false _ _ e, d, ready-of xs ms i u))
     (λ y u. let w = rw u at c in let z : _≡_ {A = ℕ} 0 1 = cc in absurd (omega arith)))))
 
-module _ (n : ℕ) (ends : List Bay) (starts goals : Placement) (plan : List ℕ) (ms : List ℕ) where
+module _ (o : Order) (plan : List ℕ) (ms : List ℕ) where
   -- the same of a report, and the check passes
-  pub accept-facts : (i : ℕ) → report n ends starts goals plan ms i ≡ accept
-      → (check n ends starts goals plan ≡ none) × (badMarks (crossings plan) ms ≡ false)
+  pub accept-facts : (i : ℕ) → report o plan ms i ≡ accept
+      → (check o plan ≡ none) × (badMarks (crossings plan) ms ≡ false)
       × (i < length (crossings plan)) × (isDone ms i ≡ false) × Ready (crossings plan) ms i
   unfolding report
   accept-facts i h =
-      by-option (check n ends starts goals plan)
+      by-option (check o plan)
       (λ p. let f = tell-facts (crossings plan) ms i (rw p at h) in (p, f .0, f .1, f .2, f .3))
       (λ r p. let a = rw p at h in let z : _≡_ {A = ℕ} 0 1 = cc in absurd (omega arith))
 
-  module _ (passes : check n ends starts goals plan ≡ none) (fine : badMarks (crossings plan) ms ≡ false) where
+  module _ (passes : check o plan ≡ none) (fine : badMarks (crossings plan) ms ≡ false) where
     pub facts-accept : (i : ℕ) → i < length (crossings plan) → isDone ms i ≡ false → Ready (crossings plan) ms i
-        → report n ends starts goals plan ms i ≡ accept
+        → report o plan ms i ≡ accept
     unfolding report tell
     facts-accept i l d r =
         rw (passes, fine, lt-leb (length (crossings plan)) i l, d, of-ready (crossings plan) ms i r)
 
     -- A reported name is accepted exactly if it is in the plan, not yet done, and every earlier crossing it depends on is done.
-    pub report-accepts : (i : ℕ) → (report n ends starts goals plan ms i ≡ accept)
+    pub report-accepts : (i : ℕ) → (report o plan ms i ≡ accept)
         ↔ ((i < length (crossings plan)) × (isDone ms i ≡ false) × Ready (crossings plan) ms i)
     report-accepts i = (λ h. let f = accept-facts i h in (f .2, f .3, f .4), λ f. facts-accept i (f .0) (f .1) (f .2))
 
     -- a done name answers "already"
-    pub done-already : (i : ℕ) → i < length (crossings plan) → isDone ms i ≡ true → report n ends starts goals plan ms i ≡ already
+    pub done-already : (i : ℕ) → i < length (crossings plan) → isDone ms i ≡ true → report o plan ms i ≡ already
     unfolding report tell
     done-already i l d = rw (passes, fine, lt-leb (length (crossings plan)) i l, d)
 
     -- 12 exactly where the name is not in the plan
-    pub not-in-plan : (i : ℕ) → length (crossings plan) ≤ i → report n ends starts goals plan ms i ≡ refuse unknown
+    pub not-in-plan : (i : ℕ) → length (crossings plan) ≤ i → report o plan ms i ≡ refuse unknown
     unfolding report tell
     not-in-plan i l = rw (passes, fine, le-leb (length (crossings plan)) i l)
 
     -- 13 where some earlier crossing that it depends on is undone
     pub told-early : (i e : ℕ) → i < length (crossings plan) → isDone ms i ≡ false → undoneBefore (crossings plan) ms i ≡ some e
-        → report n ends starts goals plan ms i ≡ refuse (early e)
+        → report o plan ms i ≡ refuse (early e)
     unfolding report tell
     told-early i e l d u = rw (passes, fine, lt-leb (length (crossings plan)) i l, d, u)
 
     -- an accepted report changes the mark of the reported name from 0 to 1 and no other
-    pub accepted-mark : (i : ℕ) → report n ends starts goals plan ms i ≡ accept
-        → (getD ms i 0 ≡ 0) × (getD (marksEnd n ends starts goals plan ms i) i 0 ≡ 1)
-        × ((j : ℕ) → (j ≡ i → ⊥) → getD (marksEnd n ends starts goals plan ms i) j 0 ≡ getD ms j 0)
-        × (length (marksEnd n ends starts goals plan ms i) ≡ length ms)
+    pub accepted-mark : (i : ℕ) → report o plan ms i ≡ accept
+        → (getD ms i 0 ≡ 0) × (getD (marksEnd o plan ms i) i 0 ≡ 1)
+        × ((j : ℕ) → (j ≡ i → ⊥) → getD (marksEnd o plan ms i) j 0 ≡ getD ms j 0)
+        × (length (marksEnd o plan ms i) ≡ length ms)
     unfolding marksAfter
     accepted-mark i h =
         let f = accept-facts i h in

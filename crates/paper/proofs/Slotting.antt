@@ -11,7 +11,8 @@ use lib.ListN.{length, getD, set, take, drop, replicate, length-map, length-appe
 use lib.Seq.{take-at, drop-at, length-take-le, getD-take, getD-set-same, getD-set-other}
 use borrow.Author.Tests.{eqb-true, eqb-false}
 use Rattle.paper.specs.Basics.{if_then_else_, _or_}
-use Rattle.paper.specs.Yard.{Bay, Placement, Crossing, unpack, crossings, named}
+use Rattle.paper.specs.Yard.{Crossing, unpack, crossings, named}
+use Rattle.paper.specs.Order.{Order}
 use Rattle.paper.specs.Dependence.{depend, highest, slotsAfter, slots}
 use Rattle.paper.specs.Docket.{Refusal}
 use Rattle.paper.specs.Answers.{slotsRefusal, slotsEnd}
@@ -210,14 +211,14 @@ pub slots-start : (k n : ℕ) (xs : List Crossing) → slots xs ≡ slotsPass (a
 slots-start k n xs = rw (at-zeros k, at-zeros n) (slots-pass xs)
 
 -- The lent slot list: unchanged on a refusal; else the slots, and beyond them what stood there.
-module _ (n : ℕ) (ends : List Bay) (starts goals : Placement) (plan lent : List ℕ) where
-  pub slots-refused : (r : Refusal) → slotsRefusal n ends starts goals plan (length lent) ≡ some r → slotsEnd n ends starts goals plan lent ≡ lent
+module _ (o : Order) (plan lent : List ℕ) where
+  pub slots-refused : (r : Refusal) → slotsRefusal o plan (length lent) ≡ some r → slotsEnd o plan lent ≡ lent
   unfolding slotsEnd
   slots-refused r h = rw h
 
-  pub slots-given : slotsRefusal n ends starts goals plan (length lent) ≡ none
-      → (take (length plan) (slotsEnd n ends starts goals plan lent) ≡ slots (crossings plan))
-      × (drop (length plan) (slotsEnd n ends starts goals plan lent) ≡ drop (length plan) lent)
+  pub slots-given : slotsRefusal o plan (length lent) ≡ none
+      → (take (length plan) (slotsEnd o plan lent) ≡ slots (crossings plan))
+      × (drop (length plan) (slotsEnd o plan lent) ≡ drop (length plan) lent)
   unfolding slotsEnd
   slots-given h =
       let len : length (slots (crossings plan)) ≡ length plan = slots-length (crossings plan) ∙ length-map plan unpack in

@@ -13,6 +13,7 @@ use lib.Seq.{getD-take}
 use borrow.Author.Tests.{lt-ltb, ne-eqb}
 use Rattle.paper.specs.Basics.{_and_, In, NoDup}
 use Rattle.paper.specs.Yard.{Bay, Carrier, Yard, Placement, crossing, bayOf, carrierAt, after, joined}
+use Rattle.paper.specs.Order.{Order}
 use Rattle.paper.specs.Path.{Shortest}
 use Rattle.paper.specs.Procedure.{Made, only, together, cross, vacate, step, planned, orStuck, holding, avoided, pathOf, go, homeAt, wayHome, along, TurnOf, ComesTo}
 use Rattle.paper.specs.Docket.{yardOf}
@@ -55,37 +56,37 @@ comes-to-each Y goals r path p m h i =
     let s = home-suffix Y goals (suc r) i (dropLast (drop 1 path)) (after p (gone .moves)) home e in
     (after (after p (gone .moves)) (s .0 .moves), record { gone = gone; goes = d; home = s .0; homes = s .1; stand = refl }))
 
-module _ (n : ℕ) (ends : List Bay) (starts goals : Placement) (passes : firstSix n ends starts goals 0 ≡ none) (r : Carrier) (hr : r < length goals) where
+module _ (o : Order) (passes : firstSix o 0 ≡ none) (r : Carrier) (hr : r < length (o .goals)) where
   abbrev Y : Yard
-  Y = yardOf n ends
+  Y = yardOf o
 
   sound : Sound Y
-  sound = sound-of n ends (clean-of n ends starts goals 0 passes .rails)
+  sound = sound-of o (clean-of o 0 passes .rails)
 
-  good-goals : Good Y goals
-  good-goals = good-of n ends goals (clean-of n ends starts goals 0 passes .goals)
+  good-goals : Good Y (o .goals)
+  good-goals = good-of o (o .goals) (clean-of o 0 passes .goals)
 
   -- where r's turn begins, the carriers below it are home
   record Begun (p : Placement) : Type 0 where
     good : Good Y p
-    len : length p ≡ length goals
-    at-home : Home Y sound goals (good-goals .apart) r p
+    len : length p ≡ length (o .goals)
+    at-home : Home Y sound (o .goals) (good-goals .apart) r p
 
-  begun : (p : Placement) → TurnOf Y goals starts r p → Begun p
+  begun : (p : Placement) → TurnOf Y (o .goals) (o .starts) r p → Begun p
   begun p t =
-      let c = clean-of n ends starts goals 0 passes in
+      let c = clean-of o 0 passes in
       let ms = t .before .moves in
-      let g = good-of n ends starts (c .starts) in
-      let h = all-carried Y sound goals (good-goals .apart) (good-goals .inside) r 0 starts (t .before) g (c .sizes .same-length) (omega arith) (λ d k. absurd (omega arith))
+      let g = good-of o (o .starts) (c .starts) in
+      let h = all-carried Y sound (o .goals) (good-goals .apart) (good-goals .inside) r 0 (o .starts) (t .before) g (c .sizes .same-length) (omega arith) (λ d k. absurd (omega arith))
       (t .planned-before) in
       rw (← t .stand) (record {
-        good = plan-good Y sound starts ms g (h .0);
-        len = after-length starts ms ∙ c .sizes .same-length;
+        good = plan-good Y sound (o .starts) ms g (h .0);
+        len = after-length (o .starts) ms ∙ c .sizes .same-length;
         at-home = λ d k. h .1 d (omega arith);
       })
 
-  module _ (p : Placement) (turn : TurnOf Y goals starts r p) (path : List Bay) (its : pathOf Y goals r p ≡ some path)
-      (i : ℕ) (inner : suc (suc i) < length path) (q : Placement) (comes : ComesTo Y goals r path (suc i) p q) where
+  module _ (p : Placement) (turn : TurnOf Y (o .goals) (o .starts) r p) (path : List Bay) (its : pathOf Y (o .goals) r p ≡ some path)
+      (i : ℕ) (inner : suc (suc i) < length path) (q : Placement) (comes : ComesTo Y (o .goals) r path (suc i) p q) where
     -- the bays ahead of r, which no bay of its path stands among twice
     abbrev ahead : List Bay
     ahead = drop 1 path
@@ -95,44 +96,44 @@ module _ (n : ℕ) (ends : List Bay) (starts goals : Placement) (passes : firstS
 
     record Going : Type 0 where
       starts-at : path ≡ u ∷ ahead
-      chain : Chain Y u ahead (bayOf goals r)
+      chain : Chain Y u ahead (bayOf (o .goals) r)
       once : NoDup (u ∷ ahead)
-      gone-there : Gone Y sound goals r u ahead (bayOf goals r) p (comes .gone .moves)
+      gone-there : Gone Y sound (o .goals) r u ahead (bayOf (o .goals) r) p (comes .gone .moves)
 
     going : Going
     going =
         let b = begun p turn in
-        let held = avoided Y goals r p in
+        let held = avoided Y (o .goals) r p in
         let long : r < length p = omega (arith, b .len) in
-        let short : Shortest Y held u (bayOf goals r) path =
-        path-short Y sound goals (good-goals .apart) r p path (b .good) (b .len) long (good-goals .inside r hr) (b .at-home) its in
+        let short : Shortest Y held u (bayOf (o .goals) r) path =
+        path-short Y sound (o .goals) (good-goals .apart) r p path (b .good) (b .len) long (good-goals .inside r hr) (b .at-home) its in
         let way = short .way in
         let cons : path ≡ u ∷ ahead = rw (way .starts) in
-        let chain = way-tail Y held u path (bayOf goals r) way in
+        let chain = way-tail Y held u path (bayOf (o .goals) r) way in
         let n : NoDup (u ∷ ahead) = rw cons at (short .once) in
         record {
           starts-at = cons;
           chain = chain;
           once = n;
-          gone-there = go-goes Y sound goals r ahead u (bayOf goals r) p (comes .gone) (b .good) long refl chain n (comes .goes);
+          gone-there = go-goes Y sound (o .goals) r ahead u (bayOf (o .goals) r) p (comes .gone) (b .good) long refl chain n (comes .goes);
         }
 
     -- the path, cut behind vi
-    cut : ahead ≡ take (suc i) (dropLast ahead) ++ (drop (suc i) (dropLast ahead) ++ (bayOf goals r ∷ []))
+    cut : ahead ≡ take (suc i) (dropLast ahead) ++ (drop (suc i) (dropLast ahead) ++ (bayOf (o .goals) r ∷ []))
     cut =
         let a = going in
         let len : length path ≡ suc (length ahead) = ap length (a .starts-at) in
         ⊎-elim
         (λ k. let z : length ahead ≡ 0 = ap length (k .0) in absurd (omega arith))
-        (λ k. k ∙ ap (λ l. l ++ (bayOf goals r ∷ [])) (sym (take-append-drop (suc i) (dropLast ahead)))
-        ∙ append-assoc (take (suc i) (dropLast ahead)) (drop (suc i) (dropLast ahead)) (bayOf goals r ∷ []))
-        (chain-last Y u ahead (bayOf goals r) (a .chain))
+        (λ k. k ∙ ap (λ l. l ++ (bayOf (o .goals) r ∷ [])) (sym (take-append-drop (suc i) (dropLast ahead)))
+        ∙ append-assoc (take (suc i) (dropLast ahead)) (drop (suc i) (dropLast ahead)) (bayOf (o .goals) r ∷ []))
+        (chain-last Y u ahead (bayOf (o .goals) r) (a .chain))
 
     -- there each finished carrier is at home or one bay back
     record Coming (there : Placement) : Type 0 where
       good : Good Y there
-      len : length there ≡ length goals
-      back : (c : Carrier) → c < suc r → (bayOf there c ≡ bayOf goals c) ⊎ Pair u ahead (bayOf there c) (bayOf goals c)
+      len : length there ≡ length (o .goals)
+      back : (c : Carrier) → c < suc r → (bayOf there c ≡ bayOf (o .goals) c) ⊎ Pair u ahead (bayOf there c) (bayOf (o .goals) c)
 
     come-to : Coming (after (after p (comes .gone .moves)) (comes .home .moves))
     come-to =
@@ -141,7 +142,7 @@ module _ (n : ℕ) (ends : List Bay) (starts goals : Placement) (passes : firstS
         let xs = comes .gone .moves in
         let ys = comes .home .moves in
         let long : r < length p = omega (arith, b .len) in
-        let t = back-or-home Y sound goals (good-goals .apart) r p (b .good) (b .len) long (b .at-home) u xs
+        let t = back-or-home Y sound (o .goals) (good-goals .apart) r p (b .good) (b .len) long (b .at-home) u xs
         (take (suc i) (dropLast ahead)) (drop (suc i) (dropLast ahead)) (comes .home) ahead cut (a .chain) (a .once) (a .gone-there) (comes .homes) in
         record {
           good = plan-good Y sound (after p xs) ys (plan-good Y sound p xs (b .good) (a .gone-there .legal)) (t .0);
@@ -153,7 +154,7 @@ module _ (n : ℕ) (ends : List Bay) (starts goals : Placement) (passes : firstS
     coming = subst (λ there. Coming there) (comes .stand) come-to
 
     -- "if a finished carrier has goal vi and is not there": here vi is the bay at the place i + 1, and v(i−1) the one at the place i
-    module _ (c : Carrier) (finished : c ≤ r) (has-goal : bayOf goals c ≡ getD path (suc i) 0) (not-there : bayOf q c ≡ getD path (suc i) 0 → ⊥) where
+    module _ (c : Carrier) (finished : c ≤ r) (has-goal : bayOf (o .goals) c ≡ getD path (suc i) 0) (not-there : bayOf q c ≡ getD path (suc i) 0 → ⊥) where
       pair : Pair u ahead (bayOf q c) (getD path (suc i) 0)
       pair = ⊎-elim (λ k. absurd (not-there (k ∙ has-goal))) (λ k. rw has-goal at k) (coming .back c (omega arith))
 
@@ -167,18 +168,18 @@ module _ (n : ℕ) (ends : List Bay) (starts goals : Placement) (passes : firstS
 
       -- A rail joins v(i−1) and vi.
       pub rail-home : joined Y (getD path i 0) (getD path (suc i) 0) ≡ true
-      rail-home = rw one-bay-back at (pair-joined Y u ahead (bayOf goals r) (bayOf q c) (getD path (suc i) 0) (going .chain) pair)
+      rail-home = rw one-bay-back at (pair-joined Y u ahead (bayOf (o .goals) r) (bayOf q c) (getD path (suc i) 0) (going .chain) pair)
 
       -- It is the one that steps, "by the same rule; a failure is 7 for that carrier".
-      pub steps-home : homeAt Y goals (suc r) (getD path (suc i) 0) q ≡ orStuck c (step Y (suc r) c (getD path (suc i) 0) q)
+      pub steps-home : homeAt Y (o .goals) (suc r) (getD path (suc i) 0) q ≡ orStuck c (step Y (suc r) c (getD path (suc i) 0) q)
       unfolding homeAt
       steps-home =
           let v = getD path (suc i) 0 in
-          let f = carrierAt (take (suc r) goals) v in
+          let f = carrierAt (take (suc r) (o .goals)) v in
           let k : c < suc r = omega arith in
-          let there : In v (take (suc r) goals) = rw (getD-take (suc r) goals c 0 k ∙ has-goal) at (bay-in (take (suc r) goals) c (rw length-take (omega arith))) in
-          let low : f < suc r = let l = rw length-take at (placeOf-there (take (suc r) goals) v there) in omega arith in
-          let its-goal : bayOf goals f ≡ v = sym (getD-take (suc r) goals f 0 low) ∙ placeOf-bay (take (suc r) goals) v there in
+          let there : In v (take (suc r) (o .goals)) = rw (getD-take (suc r) (o .goals) c 0 k ∙ has-goal) at (bay-in (take (suc r) (o .goals)) c (rw length-take (omega arith))) in
+          let low : f < suc r = let l = rw length-take at (placeOf-there (take (suc r) (o .goals)) v there) in omega arith in
+          let its-goal : bayOf (o .goals) f ≡ v = sym (getD-take (suc r) (o .goals) f 0 low) ∙ placeOf-bay (take (suc r) (o .goals)) v there in
           let same : f ≡ c = good-goals .apart f c (omega arith) (omega arith) (its-goal ∙ sym has-goal) in
           let away : eqb (bayOf q f) v ≡ false = ne-eqb (bayOf q f) v (λ e. not-there (rw same at e)) in
           let away-c : eqb (bayOf q c) v ≡ false = rw same at away in

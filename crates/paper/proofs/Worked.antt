@@ -12,6 +12,7 @@ use Rattle.paper.specs.Answers.{Answer, accepted, refused, plan, planEnd
 use Rattle.paper.specs.Log.{Request, reports}
 use Rattle.paper.specs.Basics
 use Rattle.paper.specs.Yard
+use Rattle.paper.specs.Order.{Order, order}
 use Rattle.paper.specs.Path
 use Rattle.paper.specs.Procedure
 use Rattle.paper.specs.Dependence
@@ -26,10 +27,7 @@ computing = tt
 
 -- a yard, and the names then reported one after the other from fresh marks
 pub record Case : Type 0 where
-  pub bays : ℕ
-  pub ends : List Bay
-  pub starts : Placement
-  pub goals : Placement
+  pub order : Order
   pub names : List ℕ
 
 -- the planner's answer with room for 8,192 crossings, the plan's slots, and the answers to the reports
@@ -43,11 +41,11 @@ planOf (accepted xs) = xs
 planOf (refused r) = []
 
 abbrev pub request : Case → ℕ → Request
-request c i = record { bays = c .bays; ends = c .ends; starts = c .starts; goals = c .goals; name = i }
+request c i = record { order = c .order; name = i }
 
 abbrev pub computed : Case → Said
 computed c =
-    let a = plan (c .bays) (c .ends) (c .starts) (c .goals) 8192 in
+    let a = plan (c .order) 8192 in
     let lent = map pack (planOf a) in
     record { answer = a; slots = slots (planOf a); reports = reports lent (fresh lent) (map (request c) (c .names)) }
 
@@ -56,9 +54,9 @@ pub record Worked : Type 0 where
   pub given : Case
   pub said : Said
 
-abbrev worked : ℕ → List Bay → Placement → Placement → List ℕ → Answer → List ℕ → List Report → Worked
-worked n e s g ns a ss rs =
-    record { given = record { bays = n; ends = e; starts = s; goals = g; names = ns }; said = record { answer = a; slots = ss; reports = rs } }
+abbrev worked : Order → List ℕ → Answer → List ℕ → List Report → Worked
+worked o ns a ss rs =
+    record { given = record { order = o; names = ns }; said = record { answer = a; slots = ss; reports = rs } }
 
 -- yard "T", a line of four, a ring of four, a line of six
 abbrev pub T : List Bay
@@ -84,34 +82,34 @@ abbrev one-to-six : List ℕ
 one-to-six = 1 ∷ 2 ∷ 3 ∷ 4 ∷ 5 ∷ 6 ∷ []
 
 abbrev Y1 : Worked
-Y1 = worked 4 T (1 ∷ 0 ∷ []) (0 ∷ 1 ∷ []) [] (accepted Y1-plan) one-to-six []
+Y1 = worked (order 4 T (1 ∷ 0 ∷ []) (0 ∷ 1 ∷ [])) [] (accepted Y1-plan) one-to-six []
 
 abbrev Y2 : Worked
-Y2 = worked 4 T (1 ∷ 0 ∷ []) (1 ∷ 2 ∷ []) [] (accepted Y2-plan) (1 ∷ 2 ∷ 3 ∷ 4 ∷ 5 ∷ 6 ∷ 7 ∷ 8 ∷ []) []
+Y2 = worked (order 4 T (1 ∷ 0 ∷ []) (1 ∷ 2 ∷ [])) [] (accepted Y2-plan) (1 ∷ 2 ∷ 3 ∷ 4 ∷ 5 ∷ 6 ∷ 7 ∷ 8 ∷ []) []
 
 abbrev Y3 : Worked
-Y3 = worked 4 line-4 (0 ∷ 1 ∷ []) (1 ∷ 0 ∷ []) [] (refused (stopped 1)) [] []
+Y3 = worked (order 4 line-4 (0 ∷ 1 ∷ []) (1 ∷ 0 ∷ [])) [] (refused (stopped 1)) [] []
 
 abbrev Y4 : Worked
-Y4 = worked 4 ring-4 (0 ∷ 1 ∷ []) (1 ∷ 0 ∷ []) []
+Y4 = worked (order 4 ring-4 (0 ∷ 1 ∷ []) (1 ∷ 0 ∷ [])) []
     (accepted (crossing 1 1 2 ∷ crossing 0 0 1 ∷ crossing 1 2 3 ∷ crossing 1 3 0 ∷ [])) (1 ∷ 2 ∷ 2 ∷ 3 ∷ []) []
 
 abbrev Y5 : Worked
-Y5 = worked 4 ring-4 (0 ∷ 1 ∷ []) (1 ∷ 2 ∷ []) [] (accepted (crossing 1 1 2 ∷ crossing 0 0 1 ∷ [])) (1 ∷ 2 ∷ []) []
+Y5 = worked (order 4 ring-4 (0 ∷ 1 ∷ []) (1 ∷ 2 ∷ [])) [] (accepted (crossing 1 1 2 ∷ crossing 0 0 1 ∷ [])) (1 ∷ 2 ∷ []) []
 
 abbrev Y6 : Worked
-Y6 = worked 6 line-6 (0 ∷ 5 ∷ []) (1 ∷ 4 ∷ []) (1 ∷ 0 ∷ 1 ∷ [])
+Y6 = worked (order 6 line-6 (0 ∷ 5 ∷ []) (1 ∷ 4 ∷ [])) (1 ∷ 0 ∷ 1 ∷ [])
     (accepted (crossing 0 0 1 ∷ crossing 1 5 4 ∷ [])) (1 ∷ 1 ∷ []) (accept ∷ accept ∷ already ∷ [])
 
 abbrev Y7 : Worked
-Y7 = worked 4 T (1 ∷ 0 ∷ []) (0 ∷ 1 ∷ []) (1 ∷ 6 ∷ 0 ∷ 0 ∷ [])
+Y7 = worked (order 4 T (1 ∷ 0 ∷ []) (0 ∷ 1 ∷ [])) (1 ∷ 6 ∷ 0 ∷ 0 ∷ [])
     (accepted Y1-plan) one-to-six (refuse (early 0) ∷ refuse unknown ∷ accept ∷ already ∷ [])
 
 abbrev Y8 : Worked
-Y8 = worked 2 (0 ∷ 1 ∷ []) [] [] [] (accepted []) [] []
+Y8 = worked (order 2 (0 ∷ 1 ∷ []) [] []) [] (accepted []) [] []
 
 abbrev Y9 : Worked
-Y9 = worked 2 (0 ∷ 1 ∷ []) (0 ∷ []) (1 ∷ []) [] (refused crowd) [] []
+Y9 = worked (order 2 (0 ∷ 1 ∷ []) (0 ∷ []) (1 ∷ [])) [] (refused crowd) [] []
 
 abbrev pub yards : List Worked
 yards = Y1 ∷ Y2 ∷ Y3 ∷ Y4 ∷ Y5 ∷ Y6 ∷ Y7 ∷ Y8 ∷ Y9 ∷ []
@@ -126,12 +124,12 @@ abbrev numbers : ℕ → List ℕ
 numbers k = upTo k
 
 abbrev sizeOf : ℕ → ℕ → ℕ → ℕ → ℕ → Option Refusal
-sizeOf n e k l lent = no-1 n (numbers e) (numbers k) (numbers l) lent
+sizeOf n e k l lent = no-1 (order n (numbers e) (numbers k) (numbers l)) lent
 
 pub limits : (sizeOf 256 0 254 254 0
-    ∷ no-4 256 (numbers 254)
+    ∷ no-4 (order 256 [] (numbers 254) [])
     ∷ sizeOf 257 0 0 0 0
-    ∷ no-4 256 (numbers 255)
+    ∷ no-4 (order 256 [] (numbers 255) [])
     ∷ sizeOf 2 2 0 0 0
     ∷ sizeOf 1 0 0 0 0
     ∷ sizeOf 2 2048 0 0 0
@@ -146,8 +144,8 @@ unfolding computing
 limits = refl
 
 -- Y11: Y1 with room for five is 8 carrying 6, list unchanged; with room for seven the last place is left alone.
-pub room-for-five : (planEnd 4 T (1 ∷ 0 ∷ []) (0 ∷ 1 ∷ []) (7 ∷ 7 ∷ 7 ∷ 7 ∷ 7 ∷ [])
-    ∷ planEnd 4 T (1 ∷ 0 ∷ []) (0 ∷ 1 ∷ []) (7 ∷ 7 ∷ 7 ∷ 7 ∷ 7 ∷ 7 ∷ 7 ∷ [])
+pub room-for-five : (planEnd (order 4 T (1 ∷ 0 ∷ []) (0 ∷ 1 ∷ [])) (7 ∷ 7 ∷ 7 ∷ 7 ∷ 7 ∷ [])
+    ∷ planEnd (order 4 T (1 ∷ 0 ∷ []) (0 ∷ 1 ∷ [])) (7 ∷ 7 ∷ 7 ∷ 7 ∷ 7 ∷ 7 ∷ 7 ∷ [])
     ∷ [])
     ≡ (7 ∷ 7 ∷ 7 ∷ 7 ∷ 7 ∷ []) ∷ (map pack Y1-plan ++ (7 ∷ [])) ∷ []
 unfolding computing
@@ -161,13 +159,13 @@ triangle = 0 ∷ 1 ∷ 0 ∷ 2 ∷ 0 ∷ 3 ∷ 1 ∷ 2 ∷ 1 ∷ 4 ∷ []
 
 -- At junction 0 bay 1 alone is kept: the carrier at 2 goes to 1, and from there to 4.
 abbrev saved-aside : Worked
-saved-aside = worked 5 triangle (0 ∷ 3 ∷ 2 ∷ []) (3 ∷ 0 ∷ 2 ∷ []) []
+saved-aside = worked (order 5 triangle (0 ∷ 3 ∷ 2 ∷ []) (3 ∷ 0 ∷ 2 ∷ [])) []
     (accepted (crossing 2 2 1 ∷ crossing 2 1 4 ∷ crossing 0 0 1 ∷ crossing 1 3 0 ∷ crossing 1 0 2 ∷ crossing 0 1 0 ∷ crossing 0 0 3 ∷ crossing 1 2 0 ∷ crossing 2 4 1 ∷ crossing 2 1 2 ∷ []))
     (1 ∷ 2 ∷ 3 ∷ 4 ∷ 5 ∷ 6 ∷ 7 ∷ 8 ∷ 7 ∷ 9 ∷ []) []
 
 -- At junction 1, the follower at 0, bay 4 alone is kept: the two go forth to 4 and 1, the carrier at 2 goes to 0 and from there to 3, and the two go back.
 abbrev saved-around : Worked
-saved-around = worked 5 triangle (3 ∷ 0 ∷ 2 ∷ []) (0 ∷ 3 ∷ 2 ∷ []) []
+saved-around = worked (order 5 triangle (3 ∷ 0 ∷ 2 ∷ []) (0 ∷ 3 ∷ 2 ∷ [])) []
     (accepted (crossing 1 0 1 ∷ crossing 0 3 0 ∷ crossing 1 1 4 ∷ crossing 0 0 1 ∷ crossing 2 2 0 ∷ crossing 2 0 3 ∷ crossing 0 1 0 ∷ crossing 1 4 1 ∷ crossing 1 1 2 ∷ crossing 0 0 1 ∷ crossing 0 1 4 ∷ crossing 1 2 1 ∷ crossing 1 1 0 ∷ crossing 0 4 1 ∷ crossing 0 1 4 ∷ crossing 1 0 1 ∷ crossing 2 3 0 ∷ crossing 2 0 2 ∷ crossing 1 1 0 ∷ crossing 0 4 1 ∷ crossing 1 0 3 ∷ crossing 0 1 0 ∷ []))
     (1 ∷ 2 ∷ 2 ∷ 3 ∷ 4 ∷ 5 ∷ 6 ∷ 7 ∷ 8 ∷ 9 ∷ 10 ∷ 11 ∷ 12 ∷ 13 ∷ 14 ∷ 15 ∷ 16 ∷ 17 ∷ 18 ∷ 19 ∷ 19 ∷ 20 ∷ []) []
 
@@ -178,7 +176,7 @@ ways-worked = refl
 
 -- T, start 1,0, goal 0,1: what the check says of these plans
 abbrev checked : List Crossing → Option Refusal
-checked xs = check 4 T (1 ∷ 0 ∷ []) (0 ∷ 1 ∷ []) (map pack xs)
+checked xs = check (order 4 T (1 ∷ 0 ∷ []) (0 ∷ 1 ∷ [])) (map pack xs)
 
 pub all-checked : (checked Y1-plan
     ∷ checked []
@@ -192,7 +190,7 @@ all-checked = refl
 
 -- and reports on Y1's plan with these marks
 abbrev told : List ℕ → ℕ → Report
-told ms i = report 4 T (1 ∷ 0 ∷ []) (0 ∷ 1 ∷ []) (map pack Y1-plan) ms i
+told ms i = report (order 4 T (1 ∷ 0 ∷ []) (0 ∷ 1 ∷ [])) (map pack Y1-plan) ms i
 
 pub all-told : (told (1 ∷ 0 ∷ 0 ∷ 0 ∷ 0 ∷ 0 ∷ []) 5
     ∷ told (1 ∷ 1 ∷ 1 ∷ 1 ∷ 1 ∷ 0 ∷ []) 5

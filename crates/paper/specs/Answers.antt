@@ -6,20 +6,21 @@ use mathlib.Core.Option.{Option, none, some}
 use Prim.Native.Nat.{ℕ}
 use lib.ListN.{length, set, drop}
 use Rattle.paper.specs.Basics.{if_then_else_, if-some_then_else_, orElse}
-use Rattle.paper.specs.Yard.{Bay, Placement, Crossing, pack, crossings, after}
+use Rattle.paper.specs.Yard.{Crossing, pack, crossings, after}
+use Rattle.paper.specs.Order.{Order}
 use Rattle.paper.specs.Procedure.{Outcome, planned, stuck, procedure}
 use Rattle.paper.specs.Dependence.{slots, isDone}
 use Rattle.paper.specs.Docket.{Refusal, Verdict, granted, denied, yardOf, no-1, no-2, no-3, no-4, no-5, no-6, no-7, no-8, no-9, no-10, no-11, no-12, no-13}
 
 -- the first of 1 to 6, by number; `lent` is the lent plan's crossings, 0 where none is lent
-unfoldable pub firstSix : ℕ → List Bay → Placement → Placement → ℕ → Option Refusal
-firstSix n ends starts goals lent =
-    orElse (no-1 n ends starts goals lent)
-    (orElse (no-2 n ends)
-    (orElse (no-3 n ends)
-    (orElse (no-4 n starts)
-    (orElse (no-5 n starts)
-    (no-6 n goals)))))
+unfoldable pub firstSix : Order → ℕ → Option Refusal
+firstSix o lent =
+    orElse (no-1 o lent)
+    (orElse (no-2 o)
+    (orElse (no-3 o)
+    (orElse (no-4 o)
+    (orElse (no-5 o)
+    (no-6 o)))))
 
 -- ## Planning
 
@@ -49,10 +50,10 @@ unless none a = a
 unless (some r) a = refused r
 
 -- "Planning tests 1 to 8 by number." The lent list has so many places.
-unfoldable pub plan : ℕ → List Bay → Placement → Placement → ℕ → Answer
-plan n ends starts goals lent =
-    let result = within lent (procedure (yardOf n ends) goals starts) in
-    unless (firstSix n ends starts goals 0) result
+unfoldable pub plan : Order → ℕ → Answer
+plan o lent =
+    let result = within lent (procedure (yardOf o) (o .goals) (o .starts)) in
+    unless (firstSix o 0) result
 
 -- what is carried beside an accepted plan; 0 beside a refusal
 unfoldable pub beside : Answer → ℕ → ℕ
@@ -60,16 +61,16 @@ beside (accepted xs) k = k
 beside (refused r) k = 0
 
 -- "The planner's answer then carries how many vacates in the plan, undoing left aside, filled a bay of three rails or more."
-unfoldable pub planParked : ℕ → List Bay → Placement → Placement → ℕ → ℕ
-planParked n ends starts goals lent = beside (plan n ends starts goals lent) (parkedOf (procedure (yardOf n ends) goals starts))
+unfoldable pub planParked : Order → ℕ → ℕ
+planParked o lent = beside (plan o lent) (parkedOf (procedure (yardOf o) (o .goals) (o .starts)))
 
 -- "Acceptance by the planner writes the plan and nothing beyond its length."
 unfoldable pub written : Answer → List ℕ → List ℕ
 written (accepted xs) lent = map pack xs ++ drop (length xs) lent
 written (refused r) lent = lent
 
-abbrev pub planEnd : ℕ → List Bay → Placement → Placement → List ℕ → List ℕ
-planEnd n ends starts goals lent = written (plan n ends starts goals (length lent)) lent
+abbrev pub planEnd : Order → List ℕ → List ℕ
+planEnd o lent = written (plan o (length lent)) lent
 
 -- ## Check, slots, report
 
@@ -95,14 +96,14 @@ marksAfter marks name accept = set marks name 1
 marksAfter marks name already = marks
 marksAfter marks name (refuse r) = marks
 
-module _ (n : ℕ) (ends : List Bay) (starts goals : Placement) (plan : List ℕ) where
+module _ (o : Order) (plan : List ℕ) where
   -- "The check tests 1 to 6, then 9, 10." None of them: it passes.
   unfoldable pub check : Option Refusal
   check =
       let xs = crossings plan in
-      orElse (firstSix n ends starts goals (length plan))
-      (orElse (no-9 (yardOf n ends) starts xs)
-      (no-10 goals (after starts xs)))
+      orElse (firstSix o (length plan))
+      (orElse (no-9 (yardOf o) (o .starts) xs)
+      (no-10 (o .goals) (after (o .starts) xs)))
 
   -- "Slots do the same, then 8 for the slot list", which has so many places
   unfoldable pub slotsRefusal : ℕ → Option Refusal

@@ -8,7 +8,8 @@ use Prim.Native.Nat.{ℕ, suc, _+_, _/_, _%_}
 use lib.Dec.{eqb, ltb, leb}
 use lib.ListN.{length}
 use Rattle.paper.specs.Basics.{if_then_else_, _or_, _>>=_, when, any, find, firstBad, elem, upTo}
-use Rattle.paper.specs.Yard.{Bay, Carrier, Rail, Yard, Placement, Crossing, fewest-bays, most-bays, most-rails, most-crossings, kept-empty, bayOf, move, joined, legal}
+use Rattle.paper.specs.Yard.{Bay, Carrier, Rail, Yard, Placement, Crossing, fewest-bays, most-bays, most-rails, most-crossings, kept-empty, bayOf, lowestOpen, openBays, move, joined, legal}
+use Rattle.paper.specs.Order.{Order}
 use Rattle.paper.specs.Path.{nearestFirst}
 use Rattle.paper.specs.Procedure.{Outcome, planned, stuck}
 use Rattle.paper.specs.Dependence.{undoneBefore, outOfOrder}
@@ -72,47 +73,51 @@ railsOf [] = []
 railsOf (a ∷ []) = []
 railsOf (a ∷ b ∷ rest) = (a, b) ∷ railsOf rest
 
-abbrev pub yardOf : ℕ → List Bay → Yard
-yardOf n ends = record { bays = n; rails = railsOf ends }
+-- a yard by its bays and rail ends, and the yard of an order, which every rule is given
+abbrev pub yardBy : ℕ → List Bay → Yard
+yardBy n ends = record { bays = n; rails = railsOf ends }
+
+abbrev pub yardOf : Order → Yard
+yardOf o = yardBy (o .bays) (o .ends)
 
 -- 1 size: "n or rail count outside its limit, odd number of rail ends, start and goal of different length, or a lent plan over
 -- 65,536 crossings". The last number is the lent plan's crossings, 0 where none is lent.
-unfoldable pub badSize : ℕ → List Bay → Placement → Placement → ℕ → Bool
-badSize n ends starts goals lent =
-    ltb n fewest-bays or ltb most-bays n or ltb most-rails (length ends / 2) or eqb (length ends % 2) 1
-    or not (eqb (length starts) (length goals)) or ltb most-crossings lent
+unfoldable pub badSize : Order → ℕ → Bool
+badSize o lent =
+    ltb (o .bays) fewest-bays or ltb most-bays (o .bays) or ltb most-rails (length (o .ends) / 2) or eqb (length (o .ends) % 2) 1
+    or not (eqb (length (o .starts)) (length (o .goals))) or ltb most-crossings lent
 
-abbrev pub no-1 : ℕ → List Bay → Placement → Placement → ℕ → Option Refusal
-no-1 n ends starts goals lent = when (badSize n ends starts goals lent) size
+abbrev pub no-1 : Order → ℕ → Option Refusal
+no-1 o lent = when (badSize o lent) size
 
 -- 2 rail: "an end is n or more, both ends equal, or a pair given before in either direction"; the first bad rail
 unfoldable pub badRail : ℕ → List Rail → Rail → Bool
 badRail n before r =
     leb n (r .0) or leb n (r .1) or eqb (r .0) (r .1) or joined (record { bays = n; rails = before }) (r .0) (r .1)
 
-abbrev pub no-2 : ℕ → List Bay → Option Refusal
-no-2 n ends = firstBad (badRail n) 0 [] (railsOf ends) >>= λ i. some (rail i)
+abbrev pub no-2 : Order → Option Refusal
+no-2 o = firstBad (badRail (o .bays)) 0 [] (railsOf (o .ends)) >>= λ i. some (rail i)
 
 -- 3 apart: "some bay cannot be reached from bay 0"; the lowest such bay
 unfoldable pub apartBay : Yard → Option Bay
-apartBay Y = find (λ b. not (elem b (nearestFirst Y [] 0))) (upTo (Y .bays))
+apartBay Y = find (λ b. not (elem b (nearestFirst Y [] (lowestOpen Y)))) (openBays Y)
 
-abbrev pub no-3 : ℕ → List Bay → Option Refusal
-no-3 n ends = apartBay (yardOf n ends) >>= λ b. some (apart b)
+abbrev pub no-3 : Order → Option Refusal
+no-3 o = apartBay (yardOf o) >>= λ b. some (apart b)
 
 -- 4 crowd: "k + 2 > n"
-abbrev pub no-4 : ℕ → Placement → Option Refusal
-no-4 n starts = when (ltb n (length starts + kept-empty)) crowd
+abbrev pub no-4 : Order → Option Refusal
+no-4 o = when (ltb (o .bays) (length (o .starts) + kept-empty)) crowd
 
 -- 5 start, 6 goal: "a bay is n or more, or already used"; the first bad carrier
 unfoldable pub badPlace : ℕ → List Bay → Bay → Bool
 badPlace n used b = leb n b or elem b used
 
-abbrev pub no-5 : ℕ → Placement → Option Refusal
-no-5 n starts = firstBad (badPlace n) 0 [] starts >>= λ c. some (start c)
+abbrev pub no-5 : Order → Option Refusal
+no-5 o = firstBad (badPlace (o .bays)) 0 [] (o .starts) >>= λ c. some (start c)
 
-abbrev pub no-6 : ℕ → Placement → Option Refusal
-no-6 n goals = firstBad (badPlace n) 0 [] goals >>= λ c. some (goal c)
+abbrev pub no-6 : Order → Option Refusal
+no-6 o = firstBad (badPlace (o .bays)) 0 [] (o .goals) >>= λ c. some (goal c)
 
 -- 7 stopped: "the procedure below fails"; the carrier that could not step
 abbrev pub no-7 : Outcome → Option Refusal

@@ -1,6 +1,7 @@
 pub mod Basics
 pub mod Limits
 pub mod Yard
+pub mod Order
 pub mod Path
 pub mod Procedure
 pub mod Dependence

@@ -3,21 +3,19 @@
 use mathlib.Core.List.{List, [], _∷_, map}
 use Prim.Native.Nat.{ℕ}
 use Rattle.paper.specs.Basics.{if_then_else_}
-use Rattle.paper.specs.Yard.{Bay, Placement, Crossing, crossings, named}
+use Rattle.paper.specs.Yard.{Crossing, crossings, named}
+use Rattle.paper.specs.Order.{Order}
 use Rattle.paper.specs.Dependence.{fresh}
 use Rattle.paper.specs.Answers.{Report, accepts, report, marksAfter}
 
 -- A report comes with a yard, a start and a goal of its own, and a name.
 pub record Request : Type 0 where
-  pub bays : ℕ
-  pub ends : List Bay
-  pub starts : Placement
-  pub goals : Placement
+  pub order : Order
   pub name : ℕ
 
 module _ (plan : List ℕ) where
   abbrev pub answerTo : List ℕ → Request → Report
-  answerTo marks q = report (q .bays) (q .ends) (q .starts) (q .goals) plan marks (q .name)
+  answerTo marks q = report (q .order) plan marks (q .name)
 
   abbrev pub marksBy : List ℕ → Request → List ℕ
   marksBy marks q = marksAfter marks (q .name) (answerTo marks q)

@@ -9,15 +9,15 @@ use mathlib.Core.Path.{_≡_}
 use Prim.Native.Nat.{ℕ, zero, suc, min, _<_, _≤_}
 use lib.Dec.{eqb, ltb}
 use lib.ListN.{length, getD}
-use Rattle.paper.specs.Basics.{if_then_else_, if-some_then_else_, _and_, when, filter, any, firstOf, lowestOf, concat, elem, without, upTo, In, Out, NoDup}
-use Rattle.paper.specs.Yard.{Bay, Rail, Yard, Placement, joined, railsAt}
+use Rattle.paper.specs.Basics.{if_then_else_, if-some_then_else_, _and_, when, filter, any, firstOf, lowestOf, concat, elem, without, In, Out, NoDup}
+use Rattle.paper.specs.Yard.{Bay, Rail, Yard, Placement, joined, railsAt, lowestOpen, openBays}
 
 -- ## In words
 
 module _ (Y : Yard) where
   -- a bay of the yard that is not held
   abbrev pub Free : List Bay → Bay → Type 0
-  Free held b = In b (upTo (Y .bays)) × Out b held
+  Free held b = In b (openBays Y) × Out b held
 
   -- from u by a rail to the first of the list, from each to the next, and so to v; all of them free
   abbrev pub Route : List Bay → Bay → List Bay → Bay → Type 0
@@ -50,7 +50,7 @@ module _ (Y : Yard) where
 
   -- "some bay cannot be reached from bay 0": no list of rails leads there
   abbrev pub Reached : Bay → Type 0
-  Reached b = (rs : List Rail) × Along 0 rs b
+  Reached b = (rs : List Rail) × Along (lowestOpen Y) rs b
 
 -- "the lowest list of bays compared from the first bay on": s is not above t
 abbrev pub NotAbove : List Bay → List Bay → Type 0
@@ -77,7 +77,7 @@ Rather rails a b = (rails a < rails b) ⊎ ((rails a ≡ rails b) × (a ≤ b))
 module _ (Y : Yard) where
   -- the bays that are neither held nor seen yet
   abbrev pub unseen : List Bay → List Bay → List Bay
-  unseen held seen = without (held ++ seen) (upTo (Y .bays))
+  unseen held seen = without (held ++ seen) (openBays Y)
 
   -- those of them that have a neighbour in the ring
   unfoldable pub nextRing : List Bay → List Bay → List Bay → List Bay

@@ -5,6 +5,7 @@ use mathlib.Core.Option.{Option}
 use Prim.Native.Nat.{ℕ}
 use Rattle.paper.specs.Basics.{if-some_then_else_}
 use Rattle.paper.specs.Yard.{Bay}
+use Rattle.paper.specs.Order.{order}
 use Rattle.paper.specs.Docket.{no-14, no-15}
 use Rattle.paper.specs.Answers.{Answer, refused, plan}
 use Rattle.paper.specs.Text.{Text, Read, good, badLine}
@@ -23,7 +24,7 @@ readFile read file = if-some file then read else badLine 0
 -- once the map is read and the scenario too: plan
 unfoldable pub planRead : Grid → Read (List (Bay × Bay)) → Answer
 planRead G (badLine l) = refused (no-15 l)
-planRead G (good cs) = plan (bayCount G) (railEnds G) (map (λ c. c .0) cs) (map (λ c. c .1) cs) program-room
+planRead G (good cs) = plan (order (bayCount G) (railEnds G) (map (λ c. c .0) cs) (map (λ c. c .1) cs)) program-room
 
 unfoldable pub scenarioRead : Read Grid → Option Text → Answer
 scenarioRead (badLine l) file = refused (no-14 l)

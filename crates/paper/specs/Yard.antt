@@ -23,6 +23,13 @@ pub record Yard : Type 0 where
   pub bays : ℕ
   pub rails : List Rail
 
+-- The bays that carriers may stand at, rising, and the lowest of them. Today every bay is open.
+abbrev pub openBays : Yard → List Bay
+openBays Y = upTo (Y .bays)
+
+abbrev pub lowestOpen : Yard → Bay
+lowestOpen Y = 0
+
 -- A placement names the bay of each carrier.
 abbrev pub Placement : Type 0
 Placement = List Bay
@@ -94,7 +101,7 @@ module _ (Y : Yard) where
 
   -- the bays that a reaches by a rail, rising
   unfoldable pub neighbours : Bay → List Bay
-  neighbours a = filter (joined a) (upTo (Y .bays))
+  neighbours a = filter (joined a) (openBays Y)
 
   -- how many rails a bay has
   abbrev pub railsAt : Bay → ℕ
@@ -106,7 +113,7 @@ module _ (Y : Yard) where
 
   -- A carousel: "every bay has exactly two rails".
   unfoldable pub carousel : Bool
-  carousel = not (any (λ v. not (eqb (railsAt v) 2)) (upTo (Y .bays)))
+  carousel = not (any (λ v. not (eqb (railsAt v) 2)) (openBays Y))
 
   -- "It is legal at a placement if the carrier stands at from, a rail joins from and to, and to is empty."
   unfoldable pub legal : Placement → Crossing → Bool

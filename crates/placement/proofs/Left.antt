@@ -10,6 +10,7 @@ use lib.ListN.{length, take, drop}
 use lib.Seq.{take-at, drop-at}
 use Rattle.paper.specs.Basics.{orElse, when}
 use Rattle.paper.specs.Yard.{Bay, Placement, crossings, after}
+use Rattle.paper.specs.Order.{Order}
 use Rattle.paper.specs.Docket.{yardOf, badMarks, no-11, room, granted, denied, unlessDenied}
 use Rattle.paper.specs.Dependence.{doneOf, placementBy}
 use Rattle.paper.specs.Answers.{check}
@@ -26,24 +27,24 @@ pub record Stands (starts : Placement) (plan : List ℕ) (qs : List Request) (le
   pub left : take (length starts) lent′ ≡ after starts (acceptedOf plan qs)
   pub behind : drop (length starts) lent′ ≡ drop (length starts) lent
 
-module _ (n : ℕ) (ends : List Bay) (starts goals : Placement) (plan : List ℕ) (passes : check n ends starts goals plan ≡ none) (qs : List Request) where
+module _ (o : Order) (plan : List ℕ) (passes : check o plan ≡ none) (qs : List Request) where
   in-order : badMarks (crossings plan) (marksOf plan qs) ≡ false
   in-order =
-      fine (yardOf n ends) starts (crossings plan) (check-passed n ends starts goals plan passes .lawful) (marksOf plan qs) (namesOf plan qs)
-      (kept-from-fresh n ends starts goals plan passes qs)
+      fine (yardOf o) (o .starts) (crossings plan) (check-passed o plan passes .lawful) (marksOf plan qs) (namesOf plan qs)
+      (kept-from-fresh o plan passes qs)
 
-  pub granted-then : (lent : ℕ) → length starts ≤ lent → standing n ends starts goals plan (marksOf plan qs) lent ≡ granted (length starts)
+  pub granted-then : (lent : ℕ) → length (o .starts) ≤ lent → standing o plan (marksOf plan qs) lent ≡ granted (length (o .starts))
   unfolding standing refusal
-  granted-then lent h = rw (passes, in-order, le-ltb lent (length starts) h)
+  granted-then lent h = rw (passes, in-order, le-ltb lent (length (o .starts)) h)
 
-  pub stands : (lent : List Bay) → length starts ≤ length lent → (answer : Held) (lent′ : List Bay)
-      → PlacementSays n ends starts goals plan (marksOf plan qs) lent answer lent′ → Stands starts plan qs lent lent′
+  pub stands : (lent : List Bay) → length (o .starts) ≤ length lent → (answer : Held) (lent′ : List Bay)
+      → PlacementSays o plan (marksOf plan qs) lent answer lent′ → Stands (o .starts) plan qs lent lent′
   stands lent h answer lent′ says =
-      let at = placementBy starts (crossings plan) (marksOf plan qs) in
-      let end : lent′ ≡ at ++ drop (length starts) lent =
-      says .leaves ∙ ap (standingEnd n ends starts goals plan (marksOf plan qs) lent) (granted-then (length lent) h) in
-      let long = after-length starts (doneOf (crossings plan) (marksOf plan qs)) in
+      let at = placementBy (o .starts) (crossings plan) (marksOf plan qs) in
+      let end : lent′ ≡ at ++ drop (length (o .starts)) lent =
+      says .leaves ∙ ap (standingEnd o plan (marksOf plan qs) lent) (granted-then (length lent) h) in
+      let long = after-length (o .starts) (doneOf (crossings plan) (marksOf plan qs)) in
       record {
-        left = ap (take (length starts)) end ∙ take-at at (drop (length starts) lent) (length starts) long ∙ sym (demand-3 n ends starts goals plan passes qs .same);
-        behind = ap (drop (length starts)) end ∙ drop-at at (drop (length starts) lent) (length starts) long;
+        left = ap (take (length (o .starts))) end ∙ take-at at (drop (length (o .starts)) lent) (length (o .starts)) long ∙ sym (demand-3 o plan passes qs .same);
+        behind = ap (drop (length (o .starts))) end ∙ drop-at at (drop (length (o .starts)) lent) (length (o .starts)) long;
       }

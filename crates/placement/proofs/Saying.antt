@@ -10,7 +10,8 @@ use lib.Dec.{ltb}
 use lib.ListN.{length, getD, drop, length-map, length-append}
 use Rattle.paper.specs.Basics.{orElse, when}
 use Rattle.paper.specs.Limits.{most-bays}
-use Rattle.paper.specs.Yard.{Bay, Placement, crossings, named, after, unpack}
+use Rattle.paper.specs.Yard.{Bay, crossings, named, after, unpack}
+use Rattle.paper.specs.Order.{Order}
 use Rattle.paper.specs.Docket.{badMarks, no-11, room, granted, denied, unlessDenied}
 use Rattle.paper.specs.Dependence.{doneOf, placementBy}
 use Rattle.paper.specs.OnePass.{Fits}
@@ -28,47 +29,47 @@ use Rattle.docket.specs.declared.Verdict.the-variants.{Granted, Denied}
 use Rattle.placement.specs.Standing.{refusal, standing, standingEnd, PlacementSays}
 use Rattle.placement.proofs.Behind.{after-behind}
 
-module _ (n : ℕ) (ends : List Bay) (starts goals : Placement) (plan marks : List ℕ) (lent : List Bay) where
-  refused : (r : Refusal) → refusal n ends starts goals plan marks (length lent) ≡ some (refusalOf r)
-      → PlacementSays n ends starts goals plan marks lent (Denied r) lent
+module _ (o : Order) (plan marks : List ℕ) (lent : List Bay) where
+  refused : (r : Refusal) → refusal o plan marks (length lent) ≡ some (refusalOf r)
+      → PlacementSays o plan marks lent (Denied r) lent
   unfolding standing
   refused r e = record { answers = rw e; leaves = rw e }
 
-  pub says-refused : (r : Refusal) → some (refusalOf r) ≡ check n ends starts goals plan → PlacementSays n ends starts goals plan marks lent (Denied r) lent
+  pub says-refused : (r : Refusal) → some (refusalOf r) ≡ check o plan → PlacementSays o plan marks lent (Denied r) lent
   unfolding refusal
   says-refused r h = refused r (rw (← h))
 
-  module _ (passes : none ≡ check n ends starts goals plan) where
+  module _ (passes : none ≡ check o plan) where
     pub fits : Fits most-bays most-bays plan
-    fits = check-fits n ends starts goals plan (sym passes)
+    fits = check-fits o plan (sym passes)
 
-    pub says-mismarked : badMarks (crossings plan) marks ≡ true → PlacementSays n ends starts goals plan marks lent (Denied Mismarked) lent
+    pub says-mismarked : badMarks (crossings plan) marks ≡ true → PlacementSays o plan marks lent (Denied Mismarked) lent
     unfolding refusal
     says-mismarked b = refused Mismarked (rw (← passes, b))
 
     module _ (b : badMarks (crossings plan) marks ≡ false) where
-      pub says-room : length lent < length starts → PlacementSays n ends starts goals plan marks lent (Denied (Room (length starts))) lent
+      pub says-room : length lent < length (o .starts) → PlacementSays o plan marks lent (Denied (Room (length (o .starts)))) lent
       unfolding refusal
-      says-room h = refused (Room (length starts)) (rw (← passes, b, lt-ltb (length lent) (length starts) h))
+      says-room h = refused (Room (length (o .starts))) (rw (← passes, b, lt-ltb (length lent) (length (o .starts)) h))
 
       pub as-many : length marks ≡ length plan
       as-many = marks-long (crossings plan) marks b ∙ length-map plan unpack
 
-      there : (i : ℕ) → i < length (crossings plan) → named (crossings plan) i .carrier < length starts
-      there i h = carrier-there _ starts (crossings plan) i (check-passed n ends starts goals plan (sym passes) .lawful) h
+      there : (i : ℕ) → i < length (crossings plan) → named (crossings plan) i .carrier < length (o .starts)
+      there i h = carrier-there _ (o .starts) (crossings plan) i (check-passed o plan (sym passes) .lawful) h
 
       -- each crossing's carrier has its place once the start is laid out
-      pub all-there : (at : List Bay) → at ≡ starts ++ drop (length starts) lent → Fits (length at) most-bays plan
+      pub all-there : (at : List Bay) → at ≡ o .starts ++ drop (length (o .starts)) lent → Fits (length at) most-bays plan
       all-there at laid i l =
-          let low : unpack (getD plan i 0) .carrier < length starts = rw (named-is plan i) at (there i (rw length-map l)) in
-          let long : length at ≡ length starts + length (drop (length starts) lent) = ap length laid ∙ length-append starts (drop (length starts) lent) in
+          let low : unpack (getD plan i 0) .carrier < length (o .starts) = rw (named-is plan i) at (there i (rw length-map l)) in
+          let long : length at ≡ length (o .starts) + length (drop (length (o .starts)) lent) = ap length laid ∙ length-append (o .starts) (drop (length (o .starts)) lent) in
           (omega (arith, low, long), fits i l .1, fits i l .2)
 
-      pub says-placed : length starts ≤ length lent → (at at′ : List Bay) → at ≡ starts ++ drop (length starts) lent
-          → at′ ≡ after at (doneOf (crossings plan) marks) → PlacementSays n ends starts goals plan marks lent (Granted (length starts)) at′
+      pub says-placed : length (o .starts) ≤ length lent → (at at′ : List Bay) → at ≡ o .starts ++ drop (length (o .starts)) lent
+          → at′ ≡ after at (doneOf (crossings plan) marks) → PlacementSays o plan marks lent (Granted (length (o .starts))) at′
       unfolding standing refusal
       says-placed h at at′ laid moved =
-          let room-left = le-ltb (length lent) (length starts) h in
-          let there-then : at′ ≡ placementBy starts (crossings plan) marks ++ drop (length starts) lent =
-          moved ∙ ap (λ q. after q (doneOf (crossings plan) marks)) laid ∙ after-behind starts (drop (length starts) lent) (crossings plan) marks there in
+          let room-left = le-ltb (length lent) (length (o .starts)) h in
+          let there-then : at′ ≡ placementBy (o .starts) (crossings plan) marks ++ drop (length (o .starts)) lent =
+          moved ∙ ap (λ q. after q (doneOf (crossings plan) marks)) laid ∙ after-behind (o .starts) (drop (length (o .starts)) lent) (crossings plan) marks there in
           record { answers = rw (← passes, b, room-left); leaves = rw (← passes, b, room-left) there-then }

@@ -7,28 +7,29 @@ use Prim.Native.Nat.{ℕ}
 use lib.Dec.{ltb}
 use lib.ListN.{length, drop}
 use Rattle.paper.specs.Basics.{orElse, when}
-use Rattle.paper.specs.Yard.{Bay, Placement, crossings}
+use Rattle.paper.specs.Yard.{Bay, crossings}
+use Rattle.paper.specs.Order.{Order}
 use Rattle.paper.specs.Dependence.{placementBy}
 use Rattle.paper.specs.Docket.{Refusal, room, no-11, Verdict, granted, denied, unlessDenied}
 use Rattle.paper.specs.Answers.{check}
 use Rattle.docket.specs.Reading.{verdictOf}
 use Rattle.docket.specs.declared.Verdict.{Verdict as Held}
 
-module _ (n : ℕ) (ends : List Bay) (starts goals : Placement) (plan marks : List ℕ) where
+module _ (o : Order) (plan marks : List ℕ) where
   -- a report's refusals up to 11, then 8 carrying the number of carriers, if the lent list, of such a length, is shorter
   unfoldable pub refusal : ℕ → Option Refusal
   refusal lent =
-      orElse (check n ends starts goals plan)
+      orElse (check o plan)
       (orElse (no-11 (crossings plan) marks)
-      (when (ltb lent (length starts)) (room (length starts))))
+      (when (ltb lent (length (o .starts))) (room (length (o .starts)))))
 
   -- granted with the number of carriers
   unfoldable pub standing : ℕ → Verdict
-  standing lent = unlessDenied (refusal lent) (length starts)
+  standing lent = unlessDenied (refusal lent) (length (o .starts))
 
   -- what stands in the lent list at the end: the placement in its first places; a refusal leaves it as it was
   abbrev pub standingEnd : List Bay → Verdict → List Bay
-  standingEnd lent (granted k) = placementBy starts (crossings plan) marks ++ drop (length starts) lent
+  standingEnd lent (granted k) = placementBy (o .starts) (crossings plan) marks ++ drop (length (o .starts)) lent
   standingEnd lent (denied r) = lent
 
   pub record PlacementSays (lent : List Bay) (answer : Held) (lent′ : List Bay) : Type 0 where

@@ -3,6 +3,7 @@ ghost use mathlib.Core.Path.{_≡_};
 ghost use lib.ListN.{length};
 ghost use Rattle.paper.specs.Limits.{most-bays};
 ghost use Rattle.paper.specs.Yard.{crossings, after};
+ghost use Rattle.paper.specs.Order.{order};
 ghost use Rattle.paper.specs.Dependence.{doneOf};
 ghost use Rattle.paper.specs.OnePass.{Fits};
 ghost use Rattle.placement.specs.Standing.{PlacementSays};
@@ -36,7 +37,10 @@ pub fn placement(
     marks: &[u8],
     at: &mut [u16],
 ) -> Verdict
-    ensures { λ r. ⌜ PlacementSays bays (now (rails .entry)) (now (start .entry)) (now (goal .entry)) (now (plan .entry)) (now (marks .entry)) (now (at .entry)) r (now (at .exit)) ⌝ }
+    ensures { λ r. ⌜
+        PlacementSays (order bays (now (rails .entry)) (now (start .entry)) (now (goal .entry)))
+        (now (plan .entry)) (now (marks .entry)) (now (at .entry)) r (now (at .exit))
+        ⌝ }
 {
     let checked = checker::check(bays, rails, start, goal, plan);
     if let Checked::Refused(r) = checked {

@@ -4,7 +4,7 @@ use mathlib.Core.Path.{_≡_, refl, sym, ap, ap₂, _∙_}
 use mathlib.Core.List.{List}
 use Prim.Native.Nat.{ℕ}
 use lib.ListN.{length}
-use Rattle.paper.specs.Yard.{Bay, Placement}
+use Rattle.paper.specs.Order.{Order}
 use Rattle.paper.specs.Answers.{plan, planParked, planEnd}
 use Rattle.paper.proofs.Determined.{Determined, telling-by, determined-by}
 use Rattle.docket.proofs.Telling.{refusalFor, refusal-back}
@@ -23,9 +23,9 @@ unfolding plannedFor
 planned-back (Accepted m) = refl
 planned-back (Refused r) = ap Refused (refusal-back r)
 
-pub plan-determined : (n : ℕ) (ends : List Bay) (starts goals : Placement) (lent : List ℕ) → Determined (PlanSays n ends starts goals lent)
-plan-determined n ends starts goals lent a a′ l l′ s t =
-    determined-by plannedOf (telling-by plannedOf plannedFor planned-back) (told (plan n ends starts goals (length lent))) (planEnd n ends starts goals lent)
+pub plan-determined : (o : Order) (lent : List ℕ) → Determined (PlanSays o lent)
+plan-determined o lent a a′ l l′ s t =
+    determined-by plannedOf (telling-by plannedOf plannedFor planned-back) (told (plan o (length lent))) (planEnd o lent)
     a a′ l l′ (s .answers, s .leaves) (t .answers, t .leaves)
 
 -- and with the count
@@ -38,7 +38,7 @@ unfolding countedFor
 counted-back (Counts m k) = refl
 counted-back (Denies r) = refl
 
-pub count-determined : (n : ℕ) (ends : List Bay) (starts goals : Placement) (lent : List ℕ) → Determined (CountSays n ends starts goals lent)
-count-determined n ends starts goals lent a a′ l l′ s t =
-    let d = plan-determined n ends starts goals lent (uncounted a) (uncounted a′) l l′ (s .says) (t .says) in
+pub count-determined : (o : Order) (lent : List ℕ) → Determined (CountSays o lent)
+count-determined o lent a a′ l l′ s t =
+    let d = plan-determined o lent (uncounted a) (uncounted a′) l l′ (s .says) (t .says) in
     (sym (counted-back a) ∙ ap₂ countedFor (d .0) (s .parks ∙ sym (t .parks)) ∙ counted-back a′, d .1)

@@ -9,7 +9,8 @@ use native.Mathlib.Omega.{arith}
 use lib.ListN.{length, take, drop, length-map}
 use lib.Seq.{take-at}
 use Rattle.paper.specs.Procedure.{Made, Outcome, planned, stuck, procedure}
-use Rattle.paper.specs.Yard.{Bay, Placement, Crossing, pack, crossings, after, legalPlan, most-crossings}
+use Rattle.paper.specs.Yard.{Crossing, pack, crossings, after, legalPlan, most-crossings}
+use Rattle.paper.specs.Order.{Order}
 use Rattle.paper.specs.Docket.{yardOf}
 use Rattle.paper.specs.Answers.{Answer, accepted, refused, parkedOf, firstSix, within, beside, written, plan, planParked, planEnd, check}
 use Rattle.paper.proofs.Planning.{accepted-right, TooLong, within-stuck, within-fits, within-long, plan-clean, plan-unclean}
@@ -87,24 +88,24 @@ longer-unless-kept = record { done = λ a e. never (cc); longer = λ e. refl }
 
 -- ## The planner's answer
 
-module _ (n : ℕ) (ends : List Bay) (s g : Placement) where
+module _ (o : Order) where
   -- an answer of a plan's length comes of a plan of that length
   by-told : {P : Type 0} (a : Answer) (m : ℕ) → long m ≡ told a → ((xs : List Crossing) → a ≡ accepted xs → m ≡ length xs → P) → P
   by-told (accepted xs) m h f = f xs refl (cc)
   by-told (refused r) m h f = never (cc)
 
   -- a plan that stands in the lent list is legal, ends at the goals and passes the check
-  stands : (lent lent′ : List ℕ) (m : ℕ) → long m ≡ told (plan n ends s g (length lent)) → lent′ ≡ planEnd n ends s g lent
-      → (legalPlan (yardOf n ends) s (crossings (take m lent′)) ≡ true) × (after s (crossings (take m lent′)) ≡ g) × (check n ends s g (take m lent′) ≡ none)
+  stands : (lent lent′ : List ℕ) (m : ℕ) → long m ≡ told (plan o (length lent)) → lent′ ≡ planEnd o lent
+      → (legalPlan (yardOf o) (o .starts) (crossings (take m lent′)) ≡ true) × (after (o .starts) (crossings (take m lent′)) ≡ o .goals) × (check o (take m lent′) ≡ none)
   unfolding written
-  stands lent lent′ m h e = by-told (plan n ends s g (length lent)) m h (λ xs a l.
+  stands lent lent′ m h e = by-told (plan o (length lent)) m h (λ xs a l.
       let front : take m lent′ ≡ map pack xs = ap (take m) (e ∙ rw a refl) ∙ take-at (map pack xs) (drop (length xs) lent) m (length-map xs pack ∙ sym l) in
-      let right = accepted-right n ends s g (length lent) xs a in
-      let handed = handed-passes n ends s g (length lent) xs a in
+      let right = accepted-right o (length lent) xs a in
+      let handed = handed-passes o (length lent) xs a in
       rw (front, handed .1) (right .0, right .1, handed .0))
 
-  pub says-of : (lent lent′ : List ℕ) (answer : Answered) → plannedOf answer ≡ told (plan n ends s g (length lent)) → lent′ ≡ planEnd n ends s g lent
-      → PlanSays n ends s g lent answer lent′
+  pub says-of : (lent lent′ : List ℕ) (answer : Answered) → plannedOf answer ≡ told (plan o (length lent)) → lent′ ≡ planEnd o lent
+      → PlanSays o lent answer lent′
   says-of lent lent′ answer h e = record {
     answers = h;
     leaves = e;
@@ -113,15 +114,15 @@ module _ (n : ℕ) (ends : List Bay) (s g : Placement) where
     passes = λ m z. stands lent lent′ m (sym (ap plannedOf z) ∙ h) e .2;
   }
 
-  pub says-refused : (lent : List ℕ) (r : Docketed) → some (refusalOf r) ≡ firstSix n ends s g 0 → CountSays n ends s g lent (Denies r) lent
+  pub says-refused : (lent : List ℕ) (r : Docketed) → some (refusalOf r) ≡ firstSix o 0 → CountSays o lent (Denies r) lent
   unfolding written planParked beside
   says-refused lent r h =
-      let e = plan-unclean n ends s g (length lent) (refusalOf r) (sym h) in
+      let e = plan-unclean o (length lent) (refusalOf r) (sym h) in
       record { says = says-of lent lent (Refused r) (rw e refl) (rw e refl); parks = rw e refl }
 
-  pub says-handed : (lent lent′ : List ℕ) (answer : Counted) → none ≡ firstSix n ends s g 0 → Hands (procedure (yardOf n ends) g s) lent answer lent′
-      → CountSays n ends s g lent answer lent′
+  pub says-handed : (lent lent′ : List ℕ) (answer : Counted) → none ≡ firstSix o 0 → Hands (procedure (yardOf o) (o .goals) (o .starts)) lent answer lent′
+      → CountSays o lent answer lent′
   unfolding planParked
   says-handed lent lent′ answer h k =
-      let e = plan-clean n ends s g (length lent) (sym h) in
+      let e = plan-clean o (length lent) (sym h) in
       record { says = says-of lent lent′ (uncounted answer) (rw e (k .answers)) (rw e (k .leaves)); parks = rw e (k .parks) }

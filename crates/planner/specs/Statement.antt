@@ -8,7 +8,8 @@ use mathlib.Core.Option.{none}
 use Prim.Native.Nat.{ℕ, _≤_}
 use lib.ListN.{length, take}
 use Rattle.paper.specs.Procedure.{Made, Outcome, planned}
-use Rattle.paper.specs.Yard.{Bay, Placement, pack, crossings, after, legalPlan, most-crossings}
+use Rattle.paper.specs.Yard.{pack, crossings, after, legalPlan, most-crossings}
+use Rattle.paper.specs.Order.{Order}
 use Rattle.paper.specs.Docket.{Refusal, yardOf}
 use Rattle.paper.specs.Answers.{Answer, accepted, refused, parkedOf, within, beside, written, plan, planParked, planEnd, check}
 use Rattle.docket.specs.Reading.{refusalOf}
@@ -61,14 +62,14 @@ pub record HandsIfKept (o : Outcome) (lent : List ℕ) (answer : Handed) (lent�
   pub done : (a : Counted) → answer ≡ Done a → Hands o lent a lent′
   pub longer : answer ≡ Longer → lent′ ≡ lent
 
-pub record PlanSays (n : ℕ) (ends : List Bay) (starts goals : Placement) (lent : List ℕ) (answer : Planned) (lent′ : List ℕ) : Type 0 where
-  pub answers : plannedOf answer ≡ told (plan n ends starts goals (length lent))
-  pub leaves : lent′ ≡ planEnd n ends starts goals lent
-  pub legal : (m : ℕ) → answer ≡ Accepted m → legalPlan (yardOf n ends) starts (crossings (take m lent′)) ≡ true
-  pub home : (m : ℕ) → answer ≡ Accepted m → after starts (crossings (take m lent′)) ≡ goals
-  pub passes : (m : ℕ) → answer ≡ Accepted m → check n ends starts goals (take m lent′) ≡ none
+pub record PlanSays (o : Order) (lent : List ℕ) (answer : Planned) (lent′ : List ℕ) : Type 0 where
+  pub answers : plannedOf answer ≡ told (plan o (length lent))
+  pub leaves : lent′ ≡ planEnd o lent
+  pub legal : (m : ℕ) → answer ≡ Accepted m → legalPlan (yardOf o) (o .starts) (crossings (take m lent′)) ≡ true
+  pub home : (m : ℕ) → answer ≡ Accepted m → after (o .starts) (crossings (take m lent′)) ≡ o .goals
+  pub passes : (m : ℕ) → answer ≡ Accepted m → check o (take m lent′) ≡ none
 
 -- The same with the count: it is what the paper's planner carries.
-pub record CountSays (n : ℕ) (ends : List Bay) (starts goals : Placement) (lent : List ℕ) (answer : Counted) (lent′ : List ℕ) : Type 0 where
-  pub says : PlanSays n ends starts goals lent (uncounted answer) lent′
-  pub parks : parkedBy answer ≡ planParked n ends starts goals (length lent)
+pub record CountSays (o : Order) (lent : List ℕ) (answer : Counted) (lent′ : List ℕ) : Type 0 where
+  pub says : PlanSays o lent (uncounted answer) lent′
+  pub parks : parkedBy answer ≡ planParked o (length lent)

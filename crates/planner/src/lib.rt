@@ -9,6 +9,7 @@ ghost use mathlib.Core.Path.{_≡_};
 ghost use Prim.Native.Nat.{_<_};
 ghost use lib.ListN.{length};
 ghost use Rattle.paper.specs.Yard.{most-crossings};
+ghost use Rattle.paper.specs.Order.{order};
 ghost use Rattle.acting.specs.Acting.{Tabled};
 ghost use Rattle.carry.specs.Carrying.{procedures};
 ghost use Rattle.play.specs.Playing.{Admitted};
@@ -271,7 +272,7 @@ pub fn plan_counted(
     goal: &[u16],
     out: &mut [u64],
 ) -> Counted
-    ensures { λ r. ⌜ CountSays bays (now (rails .entry)) (now (start .entry)) (now (goal .entry)) (now (out .entry)) r (now (out .exit)) ⌝ }
+    ensures { λ r. ⌜ CountSays (order bays (now (rails .entry)) (now (start .entry)) (now (goal .entry))) (now (out .entry)) r (now (out .exit)) ⌝ }
 {
     let mut table = [0u64; Yard::TABLE];
     let opened = Yard::open(bays, rails, start, goal, 0, &mut table);
@@ -283,7 +284,7 @@ pub fn plan_counted(
 
 // The same for those who do not ask for the count.
 pub fn plan(bays: u64, rails: &[u16], start: &[u16], goal: &[u16], out: &mut [u64]) -> Planned
-    ensures { λ r. ⌜ PlanSays bays (now (rails .entry)) (now (start .entry)) (now (goal .entry)) (now (out .entry)) r (now (out .exit)) ⌝ }
+    ensures { λ r. ⌜ PlanSays (order bays (now (rails .entry)) (now (start .entry)) (now (goal .entry))) (now (out .entry)) r (now (out .exit)) ⌝ }
 {
     let counted = plan_counted(bays, rails, start, goal, out);
     match counted {

@@ -8,6 +8,7 @@ use lib.ListN.{length, take, length-map}
 use lib.Seq.{sets}
 use Rattle.paper.specs.Limits.{most-carriers}
 use Rattle.paper.specs.Yard.{Bay}
+use Rattle.paper.specs.Order.{order as orderOf}
 use Rattle.paper.specs.Docket.{Refusal}
 use Rattle.paper.specs.Text.{Text}
 use Rattle.paper.specs.Answers.{refused, plan}
@@ -21,7 +22,7 @@ use Rattle.scenario.specs.Under.{startsOf, goalsOf}
 use Rattle.filing.specs.declared.Order.{Order}
 use Rattle.filing.specs.declared.Ordered.{Ordered}
 use Rattle.filing.specs.declared.Ordered.the-variants as the
-use Rattle.filing.specs.Filing.{Filed, order, refusal, filed, counts, toldOf, toldBy, Files}
+use Rattle.filing.specs.Filing.{Filed, order, refusal, filed, counts, orderIn, toldOf, toldBy, Files}
 use Rattle.filing.proofs.Joining.{program-answers}
 use Rattle.filing.proofs.Fitting.{order-fits}
 
@@ -40,7 +41,7 @@ pub record Stands (mapFile scenarioFile : Option Text) (o : Order) (ends starts 
   pub rails : o .ends ≤ length ends
   pub starting : o .carriers ≤ length starts
   pub ending : o .carriers ≤ length goals
-  pub answers : plan (o .bays) (take (o .ends) ends) (take (o .carriers) starts) (take (o .carriers) goals) program-room ≡ programAnswer mapFile scenarioFile
+  pub answers : plan (orderIn o ends starts goals) program-room ≡ programAnswer mapFile scenarioFile
 
 module _ {mapFile scenarioFile : Option Text} {r : Ordered} {ends₀ ends starts₀ starts goals₀ goals : List ℕ} (f : Files mapFile scenarioFile r ends₀ ends starts₀ starts goals₀ goals) where
   pub order-stands : (o : Order) → r ≡ the.Order o → 16384 ≤ length ends₀ → most-carriers ≤ length starts₀ → most-carriers ≤ length goals₀ → Stands mapFile scenarioFile o ends starts goals
@@ -61,7 +62,7 @@ module _ {mapFile scenarioFile : Option Text} {r : Ordered} {ends₀ ends starts
         rails = E .1;
         starting = S .1;
         ending = G .1;
-        answers = (λ i. plan (a i) (E .0 i) (S .0 i) (G .0 i) program-room) ∙ sym (program-answers mapFile scenarioFile ∙ rw q refl);
+        answers = (λ i. plan (orderOf (a i) (E .0 i) (S .0 i) (G .0 i)) program-room) ∙ sym (program-answers mapFile scenarioFile ∙ rw q refl);
       })
       (λ d q. let y : counts (o .bays) (o .ends) (o .carriers) ≡ toldBy (refusal d) = rw (e, q) at (f .answer) in never (cc))
 

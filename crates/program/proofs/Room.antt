@@ -7,7 +7,8 @@ use native.Mathlib.Numerals.{add-one}
 use lib.ListN.{length, take, getD, length-append, length-map}
 use lib.Seq.{take-length}
 use Rattle.paper.specs.Limits.{most-bays}
-use Rattle.paper.specs.Yard.{Bay, Placement, Crossing, pack, unpack, crossings}
+use Rattle.paper.specs.Yard.{Crossing, pack, unpack, crossings}
+use Rattle.paper.specs.Order.{Order}
 use mathlib.Core.Option.{none}
 use Rattle.paper.specs.Answers.{Answer, accepted, refused, plan, check}
 use Rattle.paper.specs.OnePass.{Fits}
@@ -55,11 +56,11 @@ lines-fit list f (suc i) h =
     let ih = lines-fit list f i (omega arith) in
     rw (← add-one i, lines-more list i k) (simp length-append (omega arith))
 
-passing-fits : (n : ℕ) (ends : List Bay) (s g : Placement) (xs : List Crossing) → check n ends s g (map pack xs) ≡ none → crossings (map pack xs) ≡ xs
+passing-fits : (o : Order) (xs : List Crossing) → check o (map pack xs) ≡ none → crossings (map pack xs) ≡ xs
     → length xs ≤ 8192 → length (printed (accepted xs)) ≤ print-room
-passing-fits n ends s g xs passes reads h =
+passing-fits o xs passes reads h =
     let m = length-map xs pack in
-    let c = lines-fit (map pack xs) (check-fits n ends s g (map pack xs) passes) (length (map pack xs)) (omega arith) in
+    let c = lines-fit (map pack xs) (check-fits o (map pack xs) passes) (length (map pack xs)) (omega arith) in
     let t = ap actionLines (take-length (map pack xs)) in
     let k = rw t at c in
     let few : length (map pack xs) ≤ 8192 = omega arith in
@@ -67,24 +68,24 @@ passing-fits n ends s g xs passes reads h =
     ap printed (sym (handed-is (map pack xs) (omega arith) ∙ ap accepted reads)) ∙ sym (plan-parts (map pack xs) (omega arith)) in
     rw whole (simp length-append (omega (arith, cost-fits (length (map pack xs)) few)))
 
-pub plan-fits : (n : ℕ) (ends : List Bay) (s g : Placement) (xs : List Crossing) → plan n ends s g program-room ≡ accepted xs → length (printed (accepted xs)) ≤ print-room
-plan-fits n ends s g xs e =
-    let a = (accepted-exactly n ends s g program-room xs) .0 e in
-    let p = handed-passes n ends s g program-room xs e in
-    passing-fits n ends s g xs (p .0) (p .1) (omega (arith, a .2))
+pub plan-fits : (o : Order) (xs : List Crossing) → plan o program-room ≡ accepted xs → length (printed (accepted xs)) ≤ print-room
+plan-fits o xs e =
+    let a = (accepted-exactly o program-room xs) .0 e in
+    let p = handed-passes o program-room xs e in
+    passing-fits o xs (p .0) (p .1) (omega (arith, a .2))
 
 -- a shortened plan passes the check too
-pub short-fits : (n : ℕ) (ends : List Bay) (s g : Placement) (ys : List Crossing) → shortAnswer (plan n ends s g program-room) ≡ accepted ys → length (printed (accepted ys)) ≤ print-room
-short-fits n ends s g ys e =
-    by-answer (plan n ends s g program-room)
+pub short-fits : (o : Order) (ys : List Crossing) → shortAnswer (plan o program-room) ≡ accepted ys → length (printed (accepted ys)) ≤ print-room
+short-fits o ys e =
+    by-answer (plan o program-room)
     (λ xs q.
-    let a = (accepted-exactly n ends s g program-room xs) .0 q in
-    let p = handed-passes n ends s g program-room xs q in
+    let a = (accepted-exactly o program-room xs) .0 q in
+    let p = handed-passes o program-room xs q in
     let y : accepted (shorten xs) ≡ accepted ys = rw q at e in
     let is : shorten (crossings (map pack xs)) ≡ ys = ap shorten (p .1) ∙ cc in
-    let left = shortened-passes n ends s g (map pack xs) (p .0) in
-    let few : length (shorten (crossings (map pack xs))) ≤ length (map pack xs) = left-fewer n ends s g (map pack xs) (p .0) in
-    passing-fits n ends s g ys (rw is at (left .0)) (rw is at (left .1)) (omega (arith, a .2, length-map xs pack, ap length is)))
+    let left = shortened-passes o (map pack xs) (p .0) in
+    let few : length (shorten (crossings (map pack xs))) ≤ length (map pack xs) = left-fewer o (map pack xs) (p .0) in
+    passing-fits o ys (rw is at (left .0)) (rw is at (left .1)) (omega (arith, a .2, length-map xs pack, ap length is)))
     (λ d q. let y : refused d ≡ accepted ys = rw q at e in never (cc))
 
 -- an answer that fits is printed within that room
@@ -101,10 +102,10 @@ room-for {r} {list} {a} h fit {before} {after} {k} p =
     (λ c f. omega (arith, p .short c f)))
 
 -- so what the planner answers is printed within that room
-pub order-room : {n : ℕ} {ends : List Bay} {s g : Placement} {lent : List ℕ} {r : Planned} {lent′ : List ℕ} → PlanSays n ends s g lent r lent′ → program-room ≡ length lent
+pub order-room : {o : Order} {lent : List ℕ} {r : Planned} {lent′ : List ℕ} → PlanSays o lent r lent′ → program-room ≡ length lent
     → {before after : List ℕ} {k : ℕ} → Prints r lent′ before after k → k ≤ print-room
-order-room {n} {ends} {s} {g} says e p = room-for (handed-in says e) (plan-fits n ends s g) p
+order-room {o} says e p = room-for (handed-in says e) (plan-fits o) p
 
-pub short-room : {n : ℕ} {ends : List Bay} {s g : Placement} {r : Planned} {list : List ℕ} → ShortIn n ends s g r list
+pub short-room : {o : Order} {r : Planned} {list : List ℕ} → ShortIn o r list
     → {before after : List ℕ} {k : ℕ} → Prints r list before after k → k ≤ print-room
-short-room {n} {ends} {s} {g} h p = room-for (h .handed) (short-fits n ends s g) p
+short-room {o} h p = room-for (h .handed) (short-fits o) p

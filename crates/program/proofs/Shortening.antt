@@ -10,7 +10,8 @@ use lib.Dec.{ltb}
 use lib.ListN.{length, take, drop, replicate, length-map, length-append, length-drop, length-replicate}
 use lib.Seq.{take-at, length-take-le}
 use Rattle.paper.specs.Basics.{_or_, any}
-use Rattle.paper.specs.Yard.{Bay, Placement, pack, unpack, crossings, most-crossings}
+use Rattle.paper.specs.Yard.{pack, unpack, crossings, most-crossings}
+use Rattle.paper.specs.Order.{Order}
 use Rattle.paper.specs.Docket.{granted, yardOf, badMarks}
 use Rattle.paper.specs.Answers.{accepted, refused, told, unless, written, plan, check}
 use Rattle.paper.specs.Log.{marksFrom}
@@ -38,16 +39,16 @@ unfolding anyDone any
 fresh-begins-nothing zero = refl
 fresh-begins-nothing (suc k) = fresh-begins-nothing k
 
-module _ (n : ℕ) (ends : List Bay) (s g : Placement) (crossed : List ℕ) (passes : check n ends s g crossed ≡ none) where
+module _ (o : Order) (crossed : List ℕ) (passes : check o crossed ≡ none) where
   fresh-marked : badMarks (crossings crossed) (replicate (length crossed) 0) ≡ false
   unfolding marksFrom
-  fresh-marked = fine (yardOf n ends) s (crossings crossed) (check-passed n ends s g crossed passes .lawful) _ _ (kept-from-fresh n ends s g crossed passes [])
+  fresh-marked = fine (yardOf o) (o .starts) (crossings crossed) (check-passed o crossed passes .lawful) _ _ (kept-from-fresh o crossed passes [])
 
   pub left-fewer : length (shorten (crossings crossed)) ≤ length crossed
-  left-fewer = omega (arith, shorten-shortens (yardOf n ends) s (crossings crossed) (check-passed n ends s g crossed passes .lawful) .no-longer, length-map crossed unpack)
+  left-fewer = omega (arith, shorten-shortens (yardOf o) (o .starts) (crossings crossed) (check-passed o crossed passes .lawful) .no-longer, length-map crossed unpack)
 
   pub accepted-shortens : (lent : ℕ) → length crossed ≤ lent → lent ≤ most-crossings
-      → shortening n ends s g crossed (replicate (length crossed) 0) lent ≡ accepted (shorten (crossings crossed))
+      → shortening o crossed (replicate (length crossed) 0) lent ≡ accepted (shorten (crossings crossed))
   unfolding shortening shortenRefusal unless
   accepted-shortens lent h k =
       let few = left-fewer in
@@ -61,16 +62,16 @@ pub enough : (k : ℕ) → k ≤ 8192 → length {A = ℕ} (take k (replicate 81
 enough k h = ap length (take-fresh 0 k 8192 h) ∙ length-replicate {A = ℕ} k 0
 
 -- the planner's promise
-pub planned-in : {n : ℕ} {ends : List Bay} {s g : Placement} {lent : List ℕ} {r : Planned} {lent′ : List ℕ} → PlanSays n ends s g lent r lent′ → program-room ≡ length lent
-    → program-room ≡ length lent′ → PlannedIn n ends s g r lent′
+pub planned-in : {o : Order} {lent : List ℕ} {r : Planned} {lent′ : List ℕ} → PlanSays o lent r lent′ → program-room ≡ length lent
+    → program-room ≡ length lent′ → PlannedIn o r lent′
 planned-in says e h = record { handed = handed-in says e; within = within-by says (omega arith); passes = says .passes; sized = sym h }
 
 -- what the planner answers, and the list that it left
-module _ {n : ℕ} {ends : List Bay} {s g : Placement} {r : Planned} {list : List ℕ} (p : PlannedIn n ends s g r list) where
+module _ {o : Order} {r : Planned} {list : List ℕ} (p : PlannedIn o r list) where
   -- a refusal stays
-  pub refusal-stays : (f : Refusal) → r ≡ planner.Refused f → {lent : List ℕ} → length lent ≡ program-room → ShortIn n ends s g (planner.Refused f) lent
+  pub refusal-stays : (f : Refusal) → r ≡ planner.Refused f → {lent : List ℕ} → length lent ≡ program-room → ShortIn o (planner.Refused f) lent
   refusal-stays f e {lent} h =
-      by-answer (plan n ends s g program-room)
+      by-answer (plan o program-room)
       (λ xs q. let y : plannedOf (planner.Refused f) ≡ toldLong (accepted xs) = rw (e, q) at (p .handed .tells) in never (cc))
       (λ d q. record {
         handed = record { tells = rw q (rw (e, q) at (p .handed .tells)); stands = λ zs z. let y : refused d ≡ accepted zs = rw q at z in never (cc) };
@@ -86,10 +87,10 @@ module _ {n : ℕ} {ends : List Bay} {s g : Placement} {r : Planned} {list : Lis
     inside : length (take m list) ≤ length lent
     inside = omega (arith, length-take-le m list (p .within .inside m e), p .within .inside m e, p .sized)
 
-    whole : shortening n ends s g (take m list) marks (length lent) ≡ accepted (shorten (crossings (take m list)))
-    whole = rw fresh (accepted-shortens n ends s g (take m list) (p .passes m e) (length lent) inside (omega arith))
+    whole : shortening o (take m list) marks (length lent) ≡ accepted (shorten (crossings (take m list)))
+    whole = rw fresh (accepted-shortens o (take m list) (p .passes m e) (length lent) inside (omega arith))
 
-    module _ {a : Verdict} {after : List ℕ} (says : ShortenSays n ends s g (take m list) marks lent a after) where
+    module _ {a : Verdict} {after : List ℕ} (says : ShortenSays o (take m list) marks lent a after) where
       told-short : verdictOf a ≡ granted (length (shorten (crossings (take m list))))
       told-short = says .answers ∙ ap told whole
 
@@ -100,18 +101,18 @@ module _ {n : ℕ} {ends : List Bay} {s g : Placement} {r : Planned} {list : Lis
       unfolding written
       ended-short = says .ends-as ∙ ap (λ z. written z lent) whole
 
-      pub written-short : (left : ℕ) → a ≡ short.Granted left → ShortIn n ends s g (planner.Accepted left) after
+      pub written-short : (left : ℕ) → a ≡ short.Granted left → ShortIn o (planner.Accepted left) after
       written-short left q =
           let ys = shorten (crossings (take m list)) in
           let y : granted left ≡ granted (length ys) = rw q at told-short in
           let k : left ≡ length ys = cc in
           let size : length after ≡ length (map pack ys) + length (drop (length ys) lent) = ap length ended-short ∙ length-append (map pack ys) (drop (length ys) lent) in
-          let fewer = left-fewer n ends s g (take m list) (p .passes m e) in
+          let fewer = left-fewer o (take m list) (p .passes m e) in
           let reads : crossings (take (length ys) after) ≡ ys =
           ap (λ l. crossings (take (length ys) l)) ended-short
           ∙ ap crossings (take-at (map pack ys) (drop (length ys) lent) (length ys) (length-map ys pack))
-          ∙ shortened-passes n ends s g (take m list) (p .passes m e) .1 in
-          by-answer (plan n ends s g program-room)
+          ∙ shortened-passes o (take m list) (p .passes m e) .1 in
+          by-answer (plan o program-room)
           (λ xs z.
           let w : long m ≡ long (length xs) = rw (e, z) at (p .handed .tells) in
           let same : m ≡ length xs = cc in

@@ -6,7 +6,8 @@ use native.Mathlib.Omega.{arith}
 use lib.ListN.{length, take, drop, length-map, length-append}
 use lib.Seq.{length-take-le, take-at}
 use borrow.Author.Tests.{le-leb}
-use Rattle.paper.specs.Yard.{Bay, Placement, Crossing, pack, crossings, most-crossings}
+use Rattle.paper.specs.Yard.{Crossing, pack, crossings, most-crossings}
+use Rattle.paper.specs.Order.{Order}
 use Rattle.paper.specs.Answers.{Answer, accepted, refused, plan, written}
 use Rattle.paper.specs.Print.{printed}
 use Rattle.paper.specs.Program.{program-room}
@@ -61,25 +62,25 @@ module _ {r : Planned} {list : List ℕ} where
   refusal-prints f e p h = record { prints = λ a k. rw (ap printed (sym (refusal-told f e a k))) p; short = λ g q. h }
 
 -- ## The planner's promise
-module _ {n : ℕ} {ends : List Bay} {s g : Placement} {lent : List ℕ} {r : Planned} {lent′ : List ℕ} (says : PlanSays n ends s g lent r lent′) where
+module _ {o : Order} {lent : List ℕ} {r : Planned} {lent′ : List ℕ} (says : PlanSays o lent r lent′) where
   -- where a plan was accepted, its numbers begin the list
-  begun : (xs : List Crossing) → plan n ends s g (length lent) ≡ accepted xs → lent′ ≡ map pack xs ++ drop (length xs) lent
+  begun : (xs : List Crossing) → plan o (length lent) ≡ accepted xs → lent′ ≡ map pack xs ++ drop (length xs) lent
   unfolding written
   begun xs q = says .leaves ∙ rw q refl
 
-  pub handed-by : Handed r lent′ (plan n ends s g (length lent))
+  pub handed-by : Handed r lent′ (plan o (length lent))
   handed-by = record {
     tells = says .answers;
     stands = λ xs q.
         ap (λ l. crossings (take (length xs) l)) (begun xs q)
         ∙ ap crossings (take-at (map pack xs) (drop (length xs) lent) (length xs) (length-map xs pack))
-        ∙ (handed-passes n ends s g (length lent) xs q) .1;
+        ∙ (handed-passes o (length lent) xs q) .1;
   }
 
   pub within-by : length lent′ ≤ most-crossings → Within r lent′
   within-by h = record {
     inside = λ m e.
-        by-answer (plan n ends s g (length lent))
+        by-answer (plan o (length lent))
         (λ xs q.
         let y : long m ≡ long (length xs) = rw (e, q) at (says .answers) in
         let k : m ≡ length xs = cc in
@@ -89,5 +90,5 @@ module _ {n : ℕ} {ends : List Bay} {s g : Placement} {lent : List ℕ} {r : Pl
   }
 
   -- with the room that the program lends
-  pub handed-in : program-room ≡ length lent → Handed r lent′ (plan n ends s g program-room)
+  pub handed-in : program-room ≡ length lent → Handed r lent′ (plan o program-room)
   handed-in e = rw e handed-by

@@ -5,7 +5,7 @@ use mathlib.Core.List.{List}
 use mathlib.Core.Option.{Option, none}
 use Prim.Native.Nat.{ℕ}
 use lib.ListN.{length, take}
-use Rattle.paper.specs.Yard.{Bay, Placement}
+use Rattle.paper.specs.Order.{Order}
 use Rattle.paper.specs.Answers.{Answer, accepted, refused, plan, check}
 use Rattle.paper.specs.Text.{Text}
 use Rattle.paper.specs.Print.{printed}
@@ -24,15 +24,15 @@ shortAnswer (refused r) = refused r
 unfoldable pub programShort : Option Text → Option Text → Text
 programShort mapFile scenarioFile = printed (shortAnswer (programAnswer mapFile scenarioFile))
 
-module _ (n : ℕ) (ends : List Bay) (starts goals : Placement) where
+module _ (o : Order) where
   -- what the planner left in the list that the program lends
   pub record PlannedIn (r : Planned) (list : List ℕ) : Type 0 where
-    pub handed : Handed r list (plan n ends starts goals program-room)
+    pub handed : Handed r list (plan o program-room)
     pub within : Within r list
-    pub passes : (m : ℕ) → r ≡ Accepted m → check n ends starts goals (take m list) ≡ none
+    pub passes : (m : ℕ) → r ≡ Accepted m → check o (take m list) ≡ none
     pub sized : length list ≡ program-room
 
   -- and what is left of it
   pub record ShortIn (r : Planned) (list : List ℕ) : Type 0 where
-    pub handed : Handed r list (shortAnswer (plan n ends starts goals program-room))
+    pub handed : Handed r list (shortAnswer (plan o program-room))
     pub within : Within r list

@@ -6,12 +6,13 @@ use planner::Planned;
 use yard::Yard;
 ghost use mathlib.Core.Path.{_≡_};
 ghost use Prim.Native.Nat.{_≤_};
-ghost use lib.ListN.{length, take};
+ghost use lib.ListN.{length};
+ghost use Rattle.paper.specs.Order.{order as orderOf};
 ghost use Rattle.paper.specs.Answers.{plan as planned};
 ghost use Rattle.paper.specs.Print.{printed};
 ghost use Rattle.paper.specs.Program.{program as printedFor, program-room};
 ghost use Rattle.stores.specs.Writing.{Wrote};
-ghost use Rattle.filing.specs.Filing.{fileOf};
+ghost use Rattle.filing.specs.Filing.{fileOf, orderIn};
 ghost use Rattle.program.specs.Printout.{print-room, Within, Prints};
 ghost use Rattle.program.specs.Short.{shortAnswer, programShort, PlannedIn, ShortIn};
 
@@ -45,7 +46,11 @@ fn print_planned(answer: Planned, plan: &[u64], out: &mut [u8]) -> usize
 // The order's plan, or why it has none.
 fn print_order(order: Order, ends: &[u16], starts: &[u16], goals: &[u16], out: &mut [u8]) -> usize
     requires { ⌜ (order .ends ≤ length (now ends)) × (order .carriers ≤ length (now starts)) × (order .carriers ≤ length (now goals)) ⌝ }
-    ensures { λ r. ⌜ Wrote (now (out .entry)) 0 (printed (planned (order .bays) (take (order .ends) (now (ends .entry))) (take (order .carriers) (now (starts .entry))) (take (order .carriers) (now (goals .entry))) program-room)) (now (out .exit)) r × (r ≤ print-room) ⌝ }
+    ensures { λ r. ⌜
+        Wrote (now (out .entry)) 0
+        (printed (planned (orderIn order (now (ends .entry)) (now (starts .entry)) (now (goals .entry))) program-room)) (now (out .exit)) r
+        × (r ≤ print-room)
+        ⌝ }
 {
     let n = order.ends;
     let k = order.carriers;
@@ -87,8 +92,8 @@ pub fn shorten_planned(
     plan: &[u64],
     short: &mut [u64],
 ) -> Planned
-    requires { ⌜ PlannedIn bays (now ends) (now starts) (now goals) answer (now plan) × (length (now short) ≡ program-room) ⌝ }
-    ensures { λ r. ⌜ ShortIn bays (now (ends .entry)) (now (starts .entry)) (now (goals .entry)) r (now (short .exit)) ⌝ }
+    requires { ⌜ PlannedIn (orderOf bays (now ends) (now starts) (now goals)) answer (now plan) × (length (now short) ≡ program-room) ⌝ }
+    ensures { λ r. ⌜ ShortIn (orderOf bays (now (ends .entry)) (now (starts .entry)) (now (goals .entry))) r (now (short .exit)) ⌝ }
 {
     match answer {
         Planned::Accepted(m) => {
@@ -115,7 +120,11 @@ pub fn shorten_planned(
 // The order's plan, shortened, or why it has none.
 fn print_short(order: Order, ends: &[u16], starts: &[u16], goals: &[u16], out: &mut [u8]) -> usize
     requires { ⌜ (order .ends ≤ length (now ends)) × (order .carriers ≤ length (now starts)) × (order .carriers ≤ length (now goals)) ⌝ }
-    ensures { λ r. ⌜ Wrote (now (out .entry)) 0 (printed (shortAnswer (planned (order .bays) (take (order .ends) (now (ends .entry))) (take (order .carriers) (now (starts .entry))) (take (order .carriers) (now (goals .entry))) program-room))) (now (out .exit)) r × (r ≤ print-room) ⌝ }
+    ensures { λ r. ⌜
+        Wrote (now (out .entry)) 0
+        (printed (shortAnswer (planned (orderIn order (now (ends .entry)) (now (starts .entry)) (now (goals .entry))) program-room))) (now (out .exit)) r
+        × (r ≤ print-room)
+        ⌝ }
 {
     let n = order.ends;
     let k = order.carriers;

@@ -8,7 +8,8 @@ use mathlib.Core.Option.{none}
 use Prim.Native.Nat.{ℕ, _<_}
 use lib.ListN.{length}
 use Rattle.paper.specs.Basics.{if_then_else_, In, NoDup}
-use Rattle.paper.specs.Yard.{Bay, Carrier, Placement, after, legalPlan, crossings, named}
+use Rattle.paper.specs.Yard.{Carrier, after, legalPlan, crossings, named}
+use Rattle.paper.specs.Order.{Order}
 use Rattle.paper.specs.Dependence.{isDone, doneOf, countOf, fresh}
 use Rattle.paper.specs.Docket.{yardOf}
 use Rattle.paper.specs.Answers.{check, already, accepts}
@@ -22,7 +23,7 @@ use Rattle.reports.specs.Statements.{ReportSays}
 
 -- one report on a plan, as the statement of `report` has it
 abbrev pub Says : List ℕ → List ℕ → Request → Reported → List ℕ → Type 0
-Says plan marks q answer marks′ = ReportSays (q .bays) (q .ends) (q .starts) (q .goals) plan marks (q .name) answer marks′
+Says plan marks q answer marks′ = ReportSays (q .order) plan marks (q .name) answer marks′
 
 -- a run of them: each begins with the marks that the last one left
 pub data Run (plan : List ℕ) : List ℕ → List Request → List Reported → List ℕ → Type 0 where
@@ -59,30 +60,30 @@ run-is {plan} {marks} (reported {q = q} {qs = qs} {r = r} {rs = rs} s more) =
     )
 
 -- Demand 3 over a run: its requests, its answers and the marks at its end.
-pub record Demand3OfRun (n : ℕ) (ends : List Bay) (starts goals : Placement) (plan : List ℕ) (names end : List ℕ) : Type 0 where
+pub record Demand3OfRun (o : Order) (plan : List ℕ) (names end : List ℕ) : Type 0 where
   -- the accepted crossings, in the order accepted, are each legal,
-  pub lawful : legalPlan (yardOf n ends) starts (map (named (crossings plan)) names) ≡ true
+  pub lawful : legalPlan (yardOf o) (o .starts) (map (named (crossings plan)) names) ≡ true
   -- and leave the carriers where those same crossings in plan order would:
-  pub same : after starts (map (named (crossings plan)) names) ≡ after starts (doneOf (crossings plan) end)
+  pub same : after (o .starts) (map (named (crossings plan)) names) ≡ after (o .starts) (doneOf (crossings plan) end)
   -- (those marked done are the accepted ones, each accepted once).
   pub marked : (i : ℕ) → (isDone end i ≡ true) ↔ In i names
   pub once : NoDup names
   -- A repeat changes nothing, whatever it comes with, and with that check's yard, start and goal it answers "already".
   pub repeats : (q : Request) (r : Reported) (end′ : List ℕ) → Says plan end q r end′ → In (q .name) names → end′ ≡ end
-  pub answered : (i : ℕ) (r : Reported) (end′ : List ℕ) → ReportSays n ends starts goals plan end i r end′ → In i names → r ≡ Already
+  pub answered : (i : ℕ) (r : Reported) (end′ : List ℕ) → ReportSays o plan end i r end′ → In i names → r ≡ Already
   -- Whatever is not accepted changes no mark.
   pub unchanged : (q : Request) (r : Reported) (end′ : List ℕ) → Says plan end q r end′ → (r ≡ Accepted → ⊥) → end′ ≡ end
   -- While one is undone, some name would be accepted in a report with that check's yard, start and goal.
   pub goes-on : (i : ℕ) → i < length plan → isDone end i ≡ false
-      → (j : ℕ) × ((r : Reported) (end′ : List ℕ) → ReportSays n ends starts goals plan end j r end′ → r ≡ Accepted)
+      → (j : ℕ) × ((r : Reported) (end′ : List ℕ) → ReportSays o plan end j r end′ → r ≡ Accepted)
   -- With all done, every carrier is home and has made its plan's count of crossings.
   pub all-home : ((i : ℕ) → i < length plan → isDone end i ≡ true)
-      → (after starts (map (named (crossings plan)) names) ≡ goals)
+      → (after (o .starts) (map (named (crossings plan)) names) ≡ o .goals)
       × ((c : Carrier) → countOf c (map (named (crossings plan)) names) ≡ countOf c (crossings plan))
 
-module _ (n : ℕ) (ends : List Bay) (starts goals : Placement) (plan : List ℕ) where
+module _ (o : Order) (plan : List ℕ) where
   -- the paper's demand, read over a run
-  over-run : (qs : List Request) → Demand3 n ends starts goals plan qs → Demand3OfRun n ends starts goals plan (namesOf plan qs) (marksOf plan qs)
+  over-run : (qs : List Request) → Demand3 o plan qs → Demand3OfRun o plan (namesOf plan qs) (marksOf plan qs)
   over-run qs d = record {
     lawful = d .lawful;
     same = d .same;
@@ -96,8 +97,8 @@ module _ (n : ℕ) (ends : List Bay) (starts goals : Placement) (plan : List ℕ
   }
 
   -- Demand 3, of every run of `report` from fresh marks on a plan that passes the check.
-  pub demand-3-of-run : check n ends starts goals plan ≡ none → (qs : List Request) (rs : List Reported) (end : List ℕ)
-      → Run plan (fresh plan) qs rs end → Demand3OfRun n ends starts goals plan (acceptedIn qs rs) end
+  pub demand-3-of-run : check o plan ≡ none → (qs : List Request) (rs : List Reported) (end : List ℕ)
+      → Run plan (fresh plan) qs rs end → Demand3OfRun o plan (acceptedIn qs rs) end
   demand-3-of-run passes qs rs end run =
       let e = run-is run in
-      rw (e .0, e .1) (over-run qs (demand-3 n ends starts goals plan passes qs))
+      rw (e .0, e .1) (over-run qs (demand-3 o plan passes qs))

@@ -10,7 +10,8 @@ use lib.Dec.{ltb}
 use lib.ListN.{length, drop}
 use Rattle.paper.specs.Basics.{_or_}
 use Rattle.paper.specs.Limits.{most-bays}
-use Rattle.paper.specs.Yard.{Bay, Placement, crossings, most-crossings}
+use Rattle.paper.specs.Yard.{crossings, most-crossings}
+use Rattle.paper.specs.Order.{Order}
 use Rattle.paper.specs.Dependence.{slots as slotsOf}
 use Rattle.paper.specs.Answers.{accept, tell, marksAfter, check, slotsRefusal, slotsEnd, report}
 use Rattle.paper.specs.OnePass.{Fits}
@@ -34,31 +35,31 @@ has-mark plan marks name h =
     let f = tell-facts (crossings plan) marks name h in
     rw (marks-long (crossings plan) marks (f .0)) (f .1)
 
-module _ (n : ℕ) (ends : List Bay) (starts goals : Placement) (plan : List ℕ) where
-  pub slots-refused : (out : List ℕ) (r : Refusal) → some (refusalOf r) ≡ check n ends starts goals plan → SlotsSay n ends starts goals plan out (checked.Refused r) out
+module _ (o : Order) (plan : List ℕ) where
+  pub slots-refused : (out : List ℕ) (r : Refusal) → some (refusalOf r) ≡ check o plan → SlotsSay o plan out (checked.Refused r) out
   unfolding slotsRefusal slotsEnd
   slots-refused out r h = record { answers = rw (← h); leaves = rw (← h) }
 
-  pub report-refused : (marks : List ℕ) (name : ℕ) (r : Refusal) → some (refusalOf r) ≡ check n ends starts goals plan
-      → ReportSays n ends starts goals plan marks name (told.Refused r) marks
+  pub report-refused : (marks : List ℕ) (name : ℕ) (r : Refusal) → some (refusalOf r) ≡ check o plan
+      → ReportSays o plan marks name (told.Refused r) marks
   unfolding report marksAfter
   report-refused marks name r h = record { answers = rw (← h); leaves = rw (← h) }
 
-  module _ (passes : none ≡ check n ends starts goals plan) where
+  module _ (passes : none ≡ check o plan) where
     pub fits : Fits most-bays most-bays plan
-    fits = check-fits n ends starts goals plan (sym passes)
+    fits = check-fits o plan (sym passes)
 
     pub short : length plan ≤ most-crossings
-    short = clean-of n ends starts goals (length plan) (check-passed n ends starts goals plan (sym passes) .sound) .sizes .short-plan
+    short = clean-of o (length plan) (check-passed o plan (sym passes) .sound) .sizes .short-plan
 
-    pub slots-room : (out : List ℕ) → length out < length plan → SlotsSay n ends starts goals plan out (checked.Refused (Room (length plan))) out
+    pub slots-room : (out : List ℕ) → length out < length plan → SlotsSay o plan out (checked.Refused (Room (length plan))) out
     unfolding slotsRefusal slotsEnd
     slots-room out h =
         let over : (ltb (length out) (length plan) or ltb most-crossings (length plan)) ≡ true = or-left _ _ (lt-ltb (length out) (length plan) h) in
         record { answers = rw (← passes, over); leaves = rw (← passes, over) }
 
     pub slots-written : (out out′ : List ℕ) → length plan ≤ length out → out′ ≡ slotsOf (crossings plan) ++ drop (length plan) out
-        → SlotsSay n ends starts goals plan out checked.Passed out′
+        → SlotsSay o plan out checked.Passed out′
     unfolding slotsRefusal slotsEnd
     slots-written out out′ h e =
         let room : (ltb (length out) (length plan) or ltb most-crossings (length plan)) ≡ false =
@@ -67,7 +68,7 @@ module _ (n : ℕ) (ends : List Bay) (starts goals : Placement) (plan : List ℕ
 
     pub report-told : (marks : List ℕ) (name : ℕ) (answer : Reported) (marks′ : List ℕ)
         → reportOf answer ≡ tell (crossings plan) marks name → marks′ ≡ marksAfter marks name (reportOf answer)
-        → ReportSays n ends starts goals plan marks name answer marks′
+        → ReportSays o plan marks name answer marks′
     unfolding report
     report-told marks name answer marks′ e m = record {
       answers = rw (← passes) e;

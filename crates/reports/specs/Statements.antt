@@ -4,18 +4,18 @@ use mathlib.Core.Path.{_≡_}
 use mathlib.Core.List.{List}
 use Prim.Native.Nat.{ℕ}
 use lib.ListN.{length}
-use Rattle.paper.specs.Yard.{Bay, Placement}
+use Rattle.paper.specs.Order.{Order}
 use Rattle.paper.specs.Answers.{slotsRefusal, slotsEnd, report, marksEnd}
 use Rattle.checker.specs.Reading.{checkedOf}
 use Rattle.checker.specs.declared.Checked.{Checked}
 use Rattle.marks.specs.Reading.{reportOf}
 use Rattle.marks.specs.declared.Reported.{Reported}
 
-module _ (n : ℕ) (ends : List Bay) (starts goals : Placement) (plan : List ℕ) where
+module _ (o : Order) (plan : List ℕ) where
   pub record SlotsSay (out : List ℕ) (answer : Checked) (out′ : List ℕ) : Type 0 where
-    pub answers : checkedOf answer ≡ slotsRefusal n ends starts goals plan (length out)
-    pub leaves : out′ ≡ slotsEnd n ends starts goals plan out
+    pub answers : checkedOf answer ≡ slotsRefusal o plan (length out)
+    pub leaves : out′ ≡ slotsEnd o plan out
 
   pub record ReportSays (marks : List ℕ) (name : ℕ) (answer : Reported) (marks′ : List ℕ) : Type 0 where
-    pub answers : reportOf answer ≡ report n ends starts goals plan marks name
-    pub leaves : marks′ ≡ marksEnd n ends starts goals plan marks name
+    pub answers : reportOf answer ≡ report o plan marks name
+    pub leaves : marks′ ≡ marksEnd o plan marks name

@@ -1,4 +1,5 @@
 // Slots and the report log: what the other crates work out, in the document's order of tests, for any input at all.
+ghost use Rattle.paper.specs.Order.{order};
 ghost use Rattle.reports.specs.Statements.{SlotsSay, ReportSays};
 use checker::Checked;
 use docket::Refusal;
@@ -13,7 +14,10 @@ pub fn slots(
     plan: &[u64],
     out: &mut [u32],
 ) -> Checked
-    ensures { λ r. ⌜ SlotsSay bays (now (rails .entry)) (now (start .entry)) (now (goal .entry)) (now (plan .entry)) (now (out .entry)) r (now (out .exit)) ⌝ }
+    ensures { λ r. ⌜
+        SlotsSay (order bays (now (rails .entry)) (now (start .entry)) (now (goal .entry)))
+        (now (plan .entry)) (now (out .entry)) r (now (out .exit))
+        ⌝ }
 {
     let checked = checker::check(bays, rails, start, goal, plan);
     if let Checked::Refused(r) = checked {
@@ -36,7 +40,10 @@ pub fn report(
     marks: &mut [u8],
     name: u64,
 ) -> Reported
-    ensures { λ r. ⌜ ReportSays bays (now (rails .entry)) (now (start .entry)) (now (goal .entry)) (now (plan .entry)) (now (marks .entry)) name r (now (marks .exit)) ⌝ }
+    ensures { λ r. ⌜
+        ReportSays (order bays (now (rails .entry)) (now (start .entry)) (now (goal .entry)))
+        (now (plan .entry)) (now (marks .entry)) name r (now (marks .exit))
+        ⌝ }
 {
     let checked = checker::check(bays, rails, start, goal, plan);
     if let Checked::Refused(r) = checked {

@@ -9,7 +9,8 @@ use lib.Dec.{eqb}
 use lib.ListN.{length}
 use borrow.Author.Tests.{eqb-true, eq-eqb}
 use Rattle.paper.specs.Basics.{orElse, when, any, elem, _and_}
-use Rattle.paper.specs.Yard.{Bay, Placement, Crossing, crossings}
+use Rattle.paper.specs.Yard.{Crossing, crossings}
+use Rattle.paper.specs.Order.{Order}
 use Rattle.paper.specs.Docket.{Refusal, begun, number, carried}
 use Rattle.paper.specs.Answers.{accepted, refused, unless}
 use Rattle.paper.proofs.Tests.{never}
@@ -42,38 +43,38 @@ accepted-exactly t xs = (to t, λ e. rw e)
     to none h = refl
     to (some q) h = never (cc)
 
-begun-words : (n : ℕ) (ends : List Bay) (starts goals : Placement) (plan marks : List ℕ) → (anyDone marks ≡ true) ↔ Begun n ends starts goals plan marks
+begun-words : (o : Order) (plan marks : List ℕ) → (anyDone marks ≡ true) ↔ Begun o plan marks
 unfolding anyDone
-begun-words n ends starts goals plan marks =
+begun-words o plan marks =
     let e = any-exactly (λ m. eqb m 1) 0 marks in (
       λ h. let r = e .0 h in (r .0, r .1, eqb-true _ _ (r .2)),
       λ r. e .1 (r .0, r .1, eq-eqb _ _ (r .2)),
     )
 
-module _ (n : ℕ) (ends : List Bay) (starts goals : Placement) (plan marks : List ℕ) (lent : ℕ) where
+module _ (o : Order) (plan marks : List ℕ) (lent : ℕ) where
   abbrev Rows : List Row
-  Rows = shortenRows n ends starts goals plan marks lent
+  Rows = shortenRows o plan marks lent
 
-  shortening-reads : Refuses (shortenRefusal n ends starts goals plan marks lent) Rows
+  shortening-reads : Refuses (shortenRefusal o plan marks lent) Rows
   unfolding shortenRefusal
   shortening-reads =
-      after-it number carried (marks-read n ends starts goals plan marks) (λ _.
+      after-it number carried (marks-read o plan marks) (λ _.
       after-it number carried
-      (plain-test number carried (Begun n ends starts goals plan marks) (anyDone marks) begun (docket-tells begun) refl (begun-words n ends starts goals plan marks)) (λ _.
+      (plain-test number carried (Begun o plan marks) (anyDone marks) begun (docket-tells begun) refl (begun-words o plan marks)) (λ _.
       reads-8 lent (length (shorten (crossings plan)))))
 
   -- Shortening refuses exactly by the first of 1 to 6, 9, 10, 11, 25, 8 that applies.
-  pub shortening-refuses : (r : Refusal) → (shortening n ends starts goals plan marks lent ≡ refused r) ↔ Given Rows (number r) (carried r)
+  pub shortening-refuses : (r : Refusal) → (shortening o plan marks lent ≡ refused r) ↔ Given Rows (number r) (carried r)
   unfolding shortening distinct elem _and_
   shortening-refuses r =
       let e = exactly number carried shortening-reads refl r in
-      let f = refused-exactly (shortenRefusal n ends starts goals plan marks lent) (shorten (crossings plan)) r in
+      let f = refused-exactly (shortenRefusal o plan marks lent) (shorten (crossings plan)) r in
       (λ h. e .0 (f .0 h), λ g. f .1 (e .1 g))
 
   -- It answers the shorter plan exactly if none applies.
-  pub shortening-grants : (shortening n ends starts goals plan marks lent ≡ accepted (shorten (crossings plan))) ↔ NoneOf Rows
+  pub shortening-grants : (shortening o plan marks lent ≡ accepted (shorten (crossings plan))) ↔ NoneOf Rows
   unfolding shortening
   shortening-grants =
       let e = nothing-exactly number carried shortening-reads in
-      let f = accepted-exactly (shortenRefusal n ends starts goals plan marks lent) (shorten (crossings plan)) in
+      let f = accepted-exactly (shortenRefusal o plan marks lent) (shorten (crossings plan)) in
       (λ h. e .0 (f .0 h), λ g. f .1 (e .1 g))

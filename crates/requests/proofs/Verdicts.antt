@@ -11,7 +11,8 @@ use lib.Dec.{eqb, ltb, leb}
 use lib.ListN.{length}
 use borrow.Author.Tests.{not-true, ltb-true, lt-ltb, le-ltb, leb-true, leb-false, eqb-false, ne-eqb}
 use Rattle.paper.specs.Basics.{orElse, when, elem, _and_, _or_}
-use Rattle.paper.specs.Yard.{Bay, Placement, crossings, most-crossings}
+use Rattle.paper.specs.Yard.{Bay, crossings, most-crossings}
+use Rattle.paper.specs.Order.{Order, order}
 use Rattle.paper.specs.Docket.{Refusal, size, room, edition, number, carried, no-11, no-1, Verdict, granted, denied, unlessDenied}
 use Rattle.paper.specs.Answers.{check}
 use Rattle.paper.specs.Print.{printPlan}
@@ -59,28 +60,28 @@ module _ {t : Option Refusal} {rows : List Row} (m : ℕ) (reads : Refuses t row
       let f = granted-exactly t m in
       (λ h. e .0 (f .0 h), λ g. f .1 (e .1 g))
 
-module _ (n : ℕ) (ends : List Bay) (starts goals : Placement) (plan : List ℕ) where
+module _ (given : Order) (plan : List ℕ) where
   -- ## Where the carriers stand
 
   module _ (marks : List ℕ) (lent : ℕ) where
-    standing-reads : Refuses (refusal n ends starts goals plan marks lent) (standingRows n ends starts goals plan marks lent)
+    standing-reads : Refuses (refusal given plan marks lent) (standingRows given plan marks lent)
     unfolding refusal
     standing-reads =
-        after-it number carried (check-reads n ends starts goals plan) (λ _.
+        after-it number carried (check-reads given plan) (λ _.
         after-it number carried (reads-11 (crossings plan) marks) (λ _.
-        known-test number carried (λ v. (v ≡ length starts) × (lent < length starts)) (ltb lent (length starts)) room (length starts) 8
-        (docket-tells (room (length starts))) refl refl
+        known-test number carried (λ v. (v ≡ length (given .starts)) × (lent < length (given .starts))) (ltb lent (length (given .starts))) room (length (given .starts)) 8
+        (docket-tells (room (length (given .starts)))) refl refl
         (λ h. (refl, ltb-true _ _ h))
         (λ v w. (lt-ltb _ _ (w .1), w .0))))
 
-    pub standing-denies : (r : Refusal) → (standing n ends starts goals plan marks lent ≡ denied r)
-        ↔ Given (standingRows n ends starts goals plan marks lent) (number r) (carried r)
+    pub standing-denies : (r : Refusal) → (standing given plan marks lent ≡ denied r)
+        ↔ Given (standingRows given plan marks lent) (number r) (carried r)
     unfolding standing distinct elem _and_
-    standing-denies r = verdict-denies (length starts) standing-reads refl r
+    standing-denies r = verdict-denies (length (given .starts)) standing-reads refl r
 
-    pub standing-grants : (standing n ends starts goals plan marks lent ≡ granted (length starts)) ↔ NoneOf (standingRows n ends starts goals plan marks lent)
+    pub standing-grants : (standing given plan marks lent ≡ granted (length (given .starts))) ↔ NoneOf (standingRows given plan marks lent)
     unfolding standing
-    standing-grants = verdict-grants (length starts) standing-reads
+    standing-grants = verdict-grants (length (given .starts)) standing-reads
 
   -- ## Slots by an edition
 
@@ -92,20 +93,20 @@ module _ (n : ℕ) (ends : List Bay) (starts goals : Placement) (plan : List ℕ
       λ f. ap not (or-neither _ _ (ne-eqb _ _ (f .0)) (ne-eqb _ _ (f .1))),
     )
 
-    edition-reads : Refuses (slotsOfRefusal n ends starts goals plan e lent) (editionRows n ends starts goals plan e lent)
+    edition-reads : Refuses (slotsOfRefusal given plan e lent) (editionRows given plan e lent)
     unfolding slotsOfRefusal
     edition-reads =
         after-it number carried
         (plain-test number carried ((e ≡ 1 → ⊥) × (e ≡ 2 → ⊥)) (not (isKnown e)) edition (docket-tells edition) refl known-words) (λ _.
-        slots-reads n ends starts goals plan lent)
+        slots-reads given plan lent)
 
     -- 20 first, then as slots
-    pub edition-denies : (r : Refusal) → (slotsOf n ends starts goals plan e lent ≡ denied r)
-        ↔ Given (editionRows n ends starts goals plan e lent) (number r) (carried r)
+    pub edition-denies : (r : Refusal) → (slotsOf given plan e lent ≡ denied r)
+        ↔ Given (editionRows given plan e lent) (number r) (carried r)
     unfolding distinct elem _and_
     edition-denies r = verdict-denies (length plan) edition-reads refl r
 
-    pub edition-grants : (slotsOf n ends starts goals plan e lent ≡ granted (length plan)) ↔ NoneOf (editionRows n ends starts goals plan e lent)
+    pub edition-grants : (slotsOf given plan e lent ≡ granted (length plan)) ↔ NoneOf (editionRows given plan e lent)
     edition-grants = verdict-grants (length plan) edition-reads
 
 -- ## Playing backwards
@@ -177,9 +178,9 @@ module _ (n : ℕ) (ends : List Bay) where
   three-reads : Refuses (firstThree n ends) (threeRows n ends)
   unfolding firstThree
   three-reads =
-      after-it number carried (reads-1 n ends [] [] 0) (λ a.
-      after-it number carried (reads-2 n ends [] []) (λ b.
-      reads-3 n ends [] [] (some-bay n ends [] [] 0 a) b))
+      after-it number carried (reads-1 (order n ends [] []) 0) (λ a.
+      after-it number carried (reads-2 (order n ends [] [])) (λ b.
+      reads-3 (order n ends [] []) (some-bay (order n ends [] []) 0 a) b))
 
   module _ (lent : ℕ) where
     survey-reads : Refuses (readRefusal n ends lent) (surveyRows n ends lent)

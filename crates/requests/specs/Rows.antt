@@ -7,7 +7,8 @@ use mathlib.Core.Path.{_≡_}
 use Prim.Native.Nat.{ℕ, _<_, _≤_}
 use lib.ListN.{length, getD}
 use Rattle.paper.specs.Limits.{most-carriers}
-use Rattle.paper.specs.Yard.{Bay, Carrier, Placement, Crossing, most-crossings, crossings}
+use Rattle.paper.specs.Yard.{Bay, Carrier, Crossing, most-crossings, crossings}
+use Rattle.paper.specs.Order.{Order, order}
 use Rattle.paper.specs.Print.{printPlan}
 use Rattle.exactly.specs.First.{Row, plain, carrying, FirstOf}
 use Rattle.exactly.specs.Words.{WrongSize, FirstBadRail, LowestApart, mark, NotInPlan, LowestUndone}
@@ -24,27 +25,27 @@ use Rattle.link.specs.declared.Link.{Link}
 
 -- ## On a plan and marks
 
-module _ (n : ℕ) (ends : List Bay) (starts goals : Placement) (plan marks : List ℕ) where
+module _ (o : Order) (plan marks : List ℕ) where
   -- "25 if any mark is 1"
   abbrev pub Begun : Type 0
   Begun = (i : ℕ) × (i < length marks) × (mark marks i ≡ 1)
 
   -- "as the check, 11, then 25 if any mark is 1, then 8"
   abbrev pub shortenRows : ℕ → List Row
-  shortenRows lent = markRows n ends starts goals plan marks ++ (plain 25 Begun ∷ no-room lent (length (shorten (crossings plan))) ∷ [])
+  shortenRows lent = markRows o plan marks ++ (plain 25 Begun ∷ no-room lent (length (shorten (crossings plan))) ∷ [])
 
   -- "otherwise opening answers 8 carrying k, after 11": the line list has not exactly k entries
   abbrev pub openRows : ℕ → List Row
-  openRows lent = markRows n ends starts goals plan marks ++ (carrying 8 (λ v. (v ≡ length starts) × (lent ≡ length starts → ⊥)) ∷ [])
+  openRows lent = markRows o plan marks ++ (carrying 8 (λ v. (v ≡ length (o .starts)) × (lent ≡ length (o .starts) → ⊥)) ∷ [])
 
   -- "record and lines equal what plan, start and marks give worked out afresh"
   abbrev pub Afresh : Record → List Line → Type 0
-  Afresh rec lines = (rec ≡ recordOf starts (crossings plan) marks) × (lines ≡ linesOf (length starts) (crossings plan) marks)
+  Afresh rec lines = (rec ≡ recordOf (o .starts) (crossings plan) marks) × (lines ≡ linesOf (length (o .starts)) (crossings plan) marks)
 
   -- "19, record disagrees, after 11 and before 12"; then as a report
   abbrev pub billedRows : Record → List Line → ℕ → List Row
   billedRows rec lines name =
-      markRows n ends starts goals plan marks
+      markRows o plan marks
       ++ (plain 19 (Afresh rec lines → ⊥)
       ∷ plain 12 (NotInPlan (crossings plan) name)
       ∷ plain already-number (mark marks name ≡ 1)
@@ -53,13 +54,13 @@ module _ (n : ℕ) (ends : List Bay) (starts goals : Placement) (plan marks : Li
 
   -- where the carriers stand: up to 11, then 8 carrying the number of carriers if the lent list is shorter
   abbrev pub standingRows : ℕ → List Row
-  standingRows lent = markRows n ends starts goals plan marks ++ (carrying 8 (λ v. (v ≡ length starts) × (lent < length starts)) ∷ [])
+  standingRows lent = markRows o plan marks ++ (carrying 8 (λ v. (v ≡ length (o .starts)) × (lent < length (o .starts))) ∷ [])
 
 -- ## Slots by an edition
 
 -- "20, unknown edition, tested before all others"; then as slots
-abbrev pub editionRows : ℕ → List Bay → Placement → Placement → List ℕ → ℕ → ℕ → List Row
-editionRows n ends starts goals plan e lent = plain 20 ((e ≡ 1 → ⊥) × (e ≡ 2 → ⊥)) ∷ slotsRows n ends starts goals plan lent
+abbrev pub editionRows : Order → List ℕ → ℕ → ℕ → List Row
+editionRows o plan e lent = plain 20 ((e ≡ 1 → ⊥) × (e ≡ 2 → ⊥)) ∷ slotsRows o plan lent
 
 -- ## Lists of crossings alone
 
@@ -94,7 +95,7 @@ compareRows first second lent =
 
 -- "1 to 3 as before", of a yard with no carriers
 abbrev pub threeRows : ℕ → List Bay → List Row
-threeRows n ends = plain 1 (WrongSize n ends [] [] 0) ∷ carrying 2 (FirstBadRail n ends) ∷ carrying 3 (LowestApart n ends) ∷ []
+threeRows n ends = let o = order n ends [] [] in plain 1 (WrongSize o 0) ∷ carrying 2 (FirstBadRail n ends) ∷ carrying 3 (LowestApart o) ∷ []
 
 -- "then 8": in rail ends for reading, in bytes for writing
 abbrev pub surveyRows : ℕ → List Bay → ℕ → List Row

@@ -6,7 +6,8 @@ use mathlib.Core.Option.{none}
 use Prim.Native.Nat.{ℕ}
 use native.Mathlib.Omega.{arith}
 use lib.ListN.{length}
-use Rattle.paper.specs.Yard.{Bay, Placement, crossings}
+use Rattle.paper.specs.Yard.{crossings}
+use Rattle.paper.specs.Order.{Order, backwards}
 use Rattle.paper.specs.Docket.{yardOf}
 use Rattle.paper.specs.Answers.{check}
 use Rattle.paper.proofs.Admitted.{Clean, clean-of, of-clean, good-of}
@@ -15,9 +16,9 @@ use Rattle.paper.proofs.Reversing.{reverse-leads-back, reverse-legal}
 use Rattle.reversing.specs.Reversing.{reversed}
 use Rattle.reversing.proofs.Backwards.{reversed-reads, reversed-length}
 
-module _ (n : ℕ) (ends : List Bay) (starts goals : Placement) where
+module _ (o : Order) where
   -- 1 to 6 pass with start and goal exchanged, for a plan of the same length
-  clean-turned : (lent : ℕ) → Clean n ends starts goals lent → Clean n ends goals starts lent
+  clean-turned : (lent : ℕ) → Clean o lent → Clean (backwards o) lent
   clean-turned lent c = record {
     sizes = record {
       enough-bays = c .sizes .enough-bays;
@@ -34,14 +35,14 @@ module _ (n : ℕ) (ends : List Bay) (starts goals : Placement) where
     goals = c .starts;
   }
 
-  pub reversed-passes : (plan : List ℕ) → check n ends starts goals plan ≡ none → check n ends goals starts (reversed plan) ≡ none
+  pub reversed-passes : (plan : List ℕ) → check o plan ≡ none → check (backwards o) (reversed plan) ≡ none
   reversed-passes plan h =
-      let p = check-passed n ends starts goals plan h in
-      let c = clean-of n ends starts goals (length plan) (p .sound) in
+      let p = check-passed o plan h in
+      let c = clean-of o (length plan) (p .sound) in
       let xs = crossings plan in
-      let Y = yardOf n ends in
-      passed-check n ends goals starts (reversed plan) record {
-        sound = rw (reversed-length plan) (of-clean n ends goals starts (length plan) (clean-turned (length plan) c));
-        lawful = rw (reversed-reads plan, ← p .home) (reverse-legal Y starts xs (good-of n ends starts (c .starts) .apart) (p .lawful));
-        home = rw (reversed-reads plan, ← p .home) (reverse-leads-back Y starts xs (p .lawful));
+      let Y = yardOf o in
+      passed-check (backwards o) (reversed plan) record {
+        sound = rw (reversed-length plan) (of-clean (backwards o) (length plan) (clean-turned (length plan) c));
+        lawful = rw (reversed-reads plan, ← p .home) (reverse-legal Y (o .starts) xs (good-of o (o .starts) (c .starts) .apart) (p .lawful));
+        home = rw (reversed-reads plan, ← p .home) (reverse-leads-back Y (o .starts) xs (p .lawful));
       }

@@ -7,7 +7,8 @@ use Prim.Native.Nat.{ℕ, _<_, _≤_, _+_}
 use native.Mathlib.Omega.{arith}
 use lib.ListN.{length, take, drop, length-append}
 use lib.Seq.{take-at, drop-at}
-use Rattle.paper.specs.Yard.{Bay, Placement, crossings, most-crossings}
+use Rattle.paper.specs.Yard.{crossings, most-crossings}
+use Rattle.paper.specs.Order.{Order, backwards}
 use Rattle.paper.specs.Answers.{check, slotsRefusal, slotsEnd}
 use Rattle.paper.proofs.Admitted.{clean-of}
 use Rattle.paper.proofs.Checking.{check-passed}
@@ -88,16 +89,16 @@ module _ (a b : List ℕ) (out : List ℕ) (r : Verdict) (out′ : List ℕ) (ou
 
 -- ## What the reverse of a plan does
 
-module _ (n : ℕ) (ends : List Bay) (starts goals : Placement) (plan : List ℕ) (passes : check n ends starts goals plan ≡ none) where
+module _ (o : Order) (plan : List ℕ) (passes : check o plan ≡ none) where
   short-plan : length plan ≤ most-crossings
-  short-plan = clean-of n ends starts goals (length plan) (check-passed n ends starts goals plan passes .sound) .sizes .short-plan
+  short-plan = clean-of o (length plan) (check-passed o plan passes .sound) .sizes .short-plan
 
   module _ (out : List ℕ) (r : Verdict) (out′ : List ℕ) (room : length plan ≤ length out) (says : ReverseSays plan out r out′) where
     -- A plan that passes the check from start to goal has a reverse that passes from goal to start: it is granted, and what is written passes.
-    pub rollback-passes : (r ≡ Granted (length plan)) × (check n ends goals starts (take (length plan) out′) ≡ none)
+    pub rollback-passes : (r ≡ Granted (length plan)) × (check (backwards o) (take (length plan) out′) ≡ none)
     rollback-passes =
         let there = reversed-by plan out r out′ says short-plan room in
-        (there .granted, rw (there .front) (reversed-passes n ends starts goals plan passes))
+        (there .granted, rw (there .front) (reversed-passes o plan passes))
 
 -- Slots of the reverse use the same highest slot as the plan, for lists of any content:
 module _ (list out : List ℕ) (r : Verdict) (out′ : List ℕ) where
@@ -107,13 +108,13 @@ module _ (list out : List ℕ) (r : Verdict) (out′ : List ℕ) where
       rw (reversed-by list out r out′ says short room .front) (reversed-highest-slot list)
 
 -- and in the slot lists themselves, where both are given.
-module _ (n : ℕ) (ends : List Bay) (starts goals : Placement) (plan slots slots′ : List ℕ) where
-  pub slot-lists-agree : slotsRefusal n ends starts goals plan (length slots) ≡ none → slotsRefusal n ends goals starts (reversed plan) (length slots′) ≡ none
-      → highestOf (take (length plan) (slotsEnd n ends goals starts (reversed plan) slots′)) ≡ highestOf (take (length plan) (slotsEnd n ends starts goals plan slots))
+module _ (o : Order) (plan slots slots′ : List ℕ) where
+  pub slot-lists-agree : slotsRefusal o plan (length slots) ≡ none → slotsRefusal (backwards o) (reversed plan) (length slots′) ≡ none
+      → highestOf (take (length plan) (slotsEnd (backwards o) (reversed plan) slots′)) ≡ highestOf (take (length plan) (slotsEnd o plan slots))
   slot-lists-agree given given′ =
-      let there = slots-given n ends starts goals plan slots given .0 in
-      let back = slots-given n ends goals starts (reversed plan) slots′ given′ .0 in
-      ap (λ k. highestOf (take k (slotsEnd n ends goals starts (reversed plan) slots′))) (sym (reversed-length plan))
+      let there = slots-given o plan slots given .0 in
+      let back = slots-given (backwards o) (reversed plan) slots′ given′ .0 in
+      ap (λ k. highestOf (take k (slotsEnd (backwards o) (reversed plan) slots′))) (sym (reversed-length plan))
       ∙ ap highestOf back
       ∙ reversed-highest-slot plan
       ∙ sym (ap highestOf there)

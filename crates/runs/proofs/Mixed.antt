@@ -10,7 +10,8 @@ use native.Mathlib.Omega.{arith}
 use lib.ListN.{length, set}
 use borrow.Author.Tests.{eq-eqb}
 use Rattle.paper.specs.Basics.{if_then_else_, if-some_then_else_, orElse, when}
-use Rattle.paper.specs.Yard.{Bay, Placement, Crossing, pack, crossings}
+use Rattle.paper.specs.Yard.{Crossing, pack, crossings}
+use Rattle.paper.specs.Order.{Order}
 use Rattle.paper.specs.Dependence.{fresh}
 use Rattle.paper.specs.Docket.{yardOf, badMarks}
 use Rattle.paper.specs.Answers.{Report, accept, already, refuse, accepts, check, marksAfter, plan as planned, accepted}
@@ -76,9 +77,9 @@ module _ (plan : List ℕ) where
 
 -- ## The demand
 
-log-of : (n : ℕ) (ends : List Bay) (starts goals : Placement) (plan : List ℕ) (qs : List Request) → Demand3 n ends starts goals plan qs
-    → LogDemand n ends starts goals plan (marksOf plan qs) (namesOf plan qs)
-log-of n ends starts goals plan qs d = record {
+log-of : (o : Order) (plan : List ℕ) (qs : List Request) → Demand3 o plan qs
+    → LogDemand o plan (marksOf plan qs) (namesOf plan qs)
+log-of o plan qs d = record {
   lawful = d .lawful;
   same = d .same;
   marked = d .marked;
@@ -89,18 +90,18 @@ log-of n ends starts goals plan qs d = record {
   all-home = d .all-home;
 }
 
-module _ (n : ℕ) (ends : List Bay) (starts goals : Placement) (plan : List ℕ) (passes : check n ends starts goals plan ≡ none) where
+module _ (o : Order) (plan : List ℕ) (passes : check o plan ≡ none) where
   fine-marks : (qs : List Request) → badMarks (crossings plan) (marksOf plan qs) ≡ false
   fine-marks qs =
-      fine (yardOf n ends) starts (crossings plan) (plan-lawful n ends starts goals plan passes) (marksOf plan qs) (namesOf plan qs)
-      (kept-from-fresh n ends starts goals plan passes qs)
+      fine (yardOf o) (o .starts) (crossings plan) (plan-lawful o plan passes) (marksOf plan qs) (namesOf plan qs)
+      (kept-from-fresh o plan passes qs)
 
-  open-passes : (marks : List ℕ) (lent : ℕ) → badMarks (crossings plan) marks ≡ false → lent ≡ length starts → opening n ends starts goals plan marks lent ≡ none
+  open-passes : (marks : List ℕ) (lent : ℕ) → badMarks (crossings plan) marks ≡ false → lent ≡ length (o .starts) → opening o plan marks lent ≡ none
   unfolding opening
-  open-passes marks lent f e = rw (eleven-exactly n ends starts goals plan marks .1 (passes, f), eq-eqb lent (length starts) e)
+  open-passes marks lent f e = rw (eleven-exactly o plan marks .1 (passes, f), eq-eqb lent (length (o .starts)) e)
 
   -- Over any mix of calls on a plan that passes the check, from fresh marks and any record and lines.
-  pub demand-3-mixed : (b : Books) → b .marks ≡ fresh plan → (cs : List Call) → Demand3Mixed n ends starts goals plan b cs
+  pub demand-3-mixed : (b : Books) → b .marks ≡ fresh plan → (cs : List Call) → Demand3Mixed o plan b cs
   demand-3-mixed b start cs =
       let r = run-is plan b cs in
       let qs = heard plan b cs in
@@ -109,12 +110,12 @@ module _ (n : ℕ) (ends : List Bay) (starts goals : Placement) (plan : List ℕ
       let names : namesThen plan b cs ≡ namesOf plan qs = r .1 ∙ ap (λ ms. namesFrom plan ms qs) start in
       let ok : badMarks (crossings plan) (e .marks) ≡ false = ap (badMarks (crossings plan)) m ∙ fine-marks qs in
       record {
-        log = rw (m, names) (log-of n ends starts goals plan qs (demand-3 n ends starts goals plan passes qs));
+        log = rw (m, names) (log-of o plan qs (demand-3 o plan passes qs));
         unchanged = λ c h. marks-kept plan e c h;
-        opens = λ i k. opened-afresh n ends starts goals plan (e .marks) (e .running) (e .lines) (open-passes (e .marks) (length (e .lines)) ok k) .0;
-        keeps = λ q f. kept-afresh (yardOf n ends) starts plan (plan-lawful n ends starts goals plan passes) e q f;
-        agreeing = λ f. agrees-exactly n ends starts goals plan (e .marks) (e .running) (e .lines) .1 (eleven-exactly n ends starts goals plan (e .marks) .1 (passes, ok), f);
-        alike = λ i f. billing-told n ends starts goals plan (e .marks) (e .running) (e .lines) i passes ok f;
+        opens = λ i k. opened-afresh o plan (e .marks) (e .running) (e .lines) (open-passes (e .marks) (length (e .lines)) ok k) .0;
+        keeps = λ q f. kept-afresh (yardOf o) (o .starts) plan (plan-lawful o plan passes) e q f;
+        agreeing = λ f. agrees-exactly o plan (e .marks) (e .running) (e .lines) .1 (eleven-exactly o plan (e .marks) .1 (passes, ok), f);
+        alike = λ i f. billing-told o plan (e .marks) (e .running) (e .lines) i passes ok f;
       }
 
   -- ## Of a plan that was shortened before any mark
@@ -122,17 +123,17 @@ module _ (n : ℕ) (ends : List Bay) (starts goals : Placement) (plan : List ℕ
   abbrev shorter : List ℕ
   shorter = map pack (shorten (crossings plan))
 
-  pub shortened-demand-3 : (qs : List Request) → Demand3 n ends starts goals shorter qs
-  shortened-demand-3 qs = demand-3 n ends starts goals shorter (shortened-passes n ends starts goals plan passes .0) qs
+  pub shortened-demand-3 : (qs : List Request) → Demand3 o shorter qs
+  shortened-demand-3 qs = demand-3 o shorter (shortened-passes o plan passes .0) qs
 
 -- the same over any mix, of the plan that shortening gives and of every plan handed out
-pub shortened-mixed : (n : ℕ) (ends : List Bay) (starts goals : Placement) (plan : List ℕ) → check n ends starts goals plan ≡ none
+pub shortened-mixed : (o : Order) (plan : List ℕ) → check o plan ≡ none
     → (b : Books) → b .marks ≡ fresh (map pack (shorten (crossings plan))) → (cs : List Call)
-    → Demand3Mixed n ends starts goals (map pack (shorten (crossings plan))) b cs
-shortened-mixed n ends starts goals plan passes b start cs =
-    demand-3-mixed n ends starts goals (map pack (shorten (crossings plan))) (shortened-passes n ends starts goals plan passes .0) b start cs
+    → Demand3Mixed o (map pack (shorten (crossings plan))) b cs
+shortened-mixed o plan passes b start cs =
+    demand-3-mixed o (map pack (shorten (crossings plan))) (shortened-passes o plan passes .0) b start cs
 
-pub handed-mixed : (n : ℕ) (ends : List Bay) (starts goals : Placement) (lent : ℕ) (xs : List Crossing) → planned n ends starts goals lent ≡ accepted xs
-    → (b : Books) → b .marks ≡ fresh (map pack xs) → (cs : List Call) → Demand3Mixed n ends starts goals (map pack xs) b cs
-handed-mixed n ends starts goals lent xs h b start cs =
-    demand-3-mixed n ends starts goals (map pack xs) (handed-passes n ends starts goals lent xs h .0) b start cs
+pub handed-mixed : (o : Order) (lent : ℕ) (xs : List Crossing) → planned o lent ≡ accepted xs
+    → (b : Books) → b .marks ≡ fresh (map pack xs) → (cs : List Call) → Demand3Mixed o (map pack xs) b cs
+handed-mixed o lent xs h b start cs =
+    demand-3-mixed o (map pack xs) (handed-passes o lent xs h .0) b start cs

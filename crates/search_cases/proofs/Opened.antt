@@ -6,8 +6,9 @@ use Prim.Native.Nat.{ℕ, _*_, _≤_, _<_}
 use native.Mathlib.Omega.{arith}
 use lib.ListN.{length, take}
 use lib.Seq.{length-take-le}
-use Rattle.paper.specs.Yard.{Bay, Placement, bayOf}
-use Rattle.paper.specs.Docket.{yardOf}
+use Rattle.paper.specs.Yard.{bayOf}
+use Rattle.paper.specs.Order.{Order}
+use Rattle.paper.specs.Docket.{yardBy}
 use Rattle.paper.specs.Answers.{firstSix}
 use Rattle.paper.proofs.Admitted.{clean-of, good-of}
 use Rattle.paper.proofs.Members.{count-high}
@@ -23,28 +24,28 @@ use Rattle.levels.proofs.Levels.{row-take, only-rails}
 use Rattle.rings.specs.Search.{Shown}
 use Rattle.rings.proofs.Searching.{shown-any}
 
-module _ {n : ℕ} {ends : List Bay} {s g : Placement} {lent : ℕ} {o : Opened} {table : List ℕ} (w : Opens n ends s g lent o table) (y : Yard) (told : o ≡ Open y) where
-  pub opened-table : Table (yardOf (y .bays) ends) (y .bays) table
+module _ {given : Order} {lent : ℕ} {o : Opened} {table : List ℕ} (w : Opens given lent o table) (y : Yard) (told : o ≡ Open y) where
+  pub opened-table : Table (yardBy (y .bays) (given .ends)) (y .bays) table
   opened-table = rw (w .admitted y told .bays) (w .admitted y told .rows)
 
-  admitted : firstSix n ends s g lent ≡ none
+  admitted : firstSix given lent ≡ none
   admitted = sym (w .answer) ∙ ap openedOf told
 
-  pub opened-apart : Apart s
-  opened-apart = good-of n ends s (clean-of n ends s g lent admitted .starts) .apart
+  pub opened-apart : Apart (given .starts)
+  opened-apart = good-of given (given .starts) (clean-of given lent admitted .starts) .apart
 
-  pub opened-inside : (c : ℕ) → c < length s → bayOf s c < y .bays
+  pub opened-inside : (c : ℕ) → c < length (given .starts) → bayOf (given .starts) c < y .bays
   opened-inside c h =
-      let r = count-high 0 n (bayOf s c) (good-of n ends s (clean-of n ends s g lent admitted .starts) .inside c h) in
+      let r = count-high 0 (given .bays) (bayOf (given .starts) c) (good-of given (given .starts) (clean-of given lent admitted .starts) .inside c h) in
       rw (w .admitted y told .bays) (omega arith)
 
-  pub opened-few : length s ≤ y .bays
-  opened-few = let r = clean-of n ends s g lent admitted .uncrowded in rw (w .admitted y told .bays) (omega arith)
+  pub opened-few : length (given .starts) ≤ y .bays
+  opened-few = let r = clean-of given lent admitted .uncrowded in rw (w .admitted y told .bays) (omega arith)
 
   -- what vacating asks, with the first bays of a longer list for those of the yard
   pub ready : (standing : List ℕ) {held : List ℕ} {x : ℕ} → y .bays ≤ span → y .bays ≤ length standing → x < y .bays → length held ≡ words
       → (length (take (y .bays) standing) ≤ span) × (x < length (take (y .bays) standing)) × (length held ≡ words)
-      × (length s ≤ length (take (y .bays) standing)) × Apart s × ((c : ℕ) → c < length s → bayOf s c < length (take (y .bays) standing))
+      × (length (given .starts) ≤ length (take (y .bays) standing)) × Apart (given .starts) × ((c : ℕ) → c < length (given .starts) → bayOf (given .starts) c < length (take (y .bays) standing))
       × Shown (length (take (y .bays) standing)) table held
   ready standing most h hx l =
       rw (length-take-le (y .bays) standing h) (most, hx, l, opened-few, opened-apart, opened-inside, shown-any opened-table l)

@@ -9,7 +9,7 @@ use lib.Dec.{eqb}
 use lib.ListN.{length}
 use borrow.Author.Tests.{ne-eqb}
 use Rattle.paper.specs.Basics.{if_then_else_, elem}
-use Rattle.paper.specs.Yard.{Bay, Placement}
+use Rattle.paper.specs.Order.{Order}
 use Rattle.paper.specs.Dependence.{fresh}
 use Rattle.paper.specs.Docket.{Refusal, number}
 use Rattle.paper.specs.Answers.{check, Report, accept, already, refuse, accepts}
@@ -27,7 +27,7 @@ use Rattle.sejjekoru.specs.Bills.{OpenTells, ReportBilledTells}
 -- one report on a plan, as the statement of `sejjekoru_report_billed` has it
 abbrev pub Says : List ℕ → Books → Request → ℕ → ℕ → Books → Type 0
 Says plan b q number value b′ =
-    ReportBilledTells (q .bays) (q .ends) (q .starts) (q .goals) plan (b .marks) (q .name) (b .running) (b .lines) number value (b′ .marks) (b′ .running) (b′ .lines)
+    ReportBilledTells (q .order) plan (b .marks) (q .name) (b .running) (b .lines) number value (b′ .marks) (b′ .running) (b′ .lines)
 
 -- a run of them: each begins with the books that the last one left
 pub data Run (plan : List ℕ) : Books → List Request → List ℕ → Books → Type 0 where
@@ -70,15 +70,15 @@ run-is {plan} {b} (reported {b′ = b′} {q = q} {qs = qs} {number = number} {v
           ∙ ap (λ l. if accepts (answerOn plan b q) then q .name ∷ l else l) (ih .1 ∙ ap (λ x. billedFrom plan x qs) e),
     )
 
-module _ (n : ℕ) (ends : List Bay) (starts goals : Placement) (plan : List ℕ) (passes : check n ends starts goals plan ≡ none) where
+module _ (given : Order) (plan : List ℕ) (passes : check given plan ≡ none) where
   -- Demand 3, of every run of reports from an opening on fresh marks that was accepted, on a plan that passes the check.
-  pub demand-3-of-bills : (rec rec′ : Record) (lines lines′ : List Line) (value : ℕ) → OpenTells n ends starts goals plan (fresh plan) rec lines 0 value rec′ lines′
+  pub demand-3-of-bills : (rec rec′ : Record) (lines lines′ : List Line) (value : ℕ) → OpenTells given plan (fresh plan) rec lines 0 value rec′ lines′
       → (qs : List Request) (numbers : List ℕ) (end : Books) → Run plan (record { marks = fresh plan; running = rec′; lines = lines′ }) qs numbers end
-      → (end ≡ booksFrom plan (freshBooks plan starts) qs) × (acceptedIn qs numbers ≡ billedFrom plan (freshBooks plan starts) qs) × Demand3Billed n ends starts goals plan qs
+      → (end ≡ booksFrom plan (freshBooks plan (given .starts)) qs) × (acceptedIn qs numbers ≡ billedFrom plan (freshBooks plan (given .starts)) qs) × Demand3Billed given plan qs
   demand-3-of-bills rec rec′ lines lines′ value o qs numbers end run =
-      let none-refused : opening n ends starts goals plan (fresh plan) (length lines) ≡ none = open-none (opening n ends starts goals plan (fresh plan) (length lines)) (o .tells .numbered) in
-      let f = opened n ends starts goals plan (fresh plan) rec lines none-refused .0 in
-      let first : record { marks = fresh plan; running = rec′; lines = lines′ } ≡ freshBooks plan starts =
+      let none-refused : opening given plan (fresh plan) (length lines) ≡ none = open-none (opening given plan (fresh plan) (length lines)) (o .tells .numbered) in
+      let f = opened given plan (fresh plan) rec lines none-refused .0 in
+      let first : record { marks = fresh plan; running = rec′; lines = lines′ } ≡ freshBooks plan (given .starts) =
       λ i. record { marks = fresh plan; running = (o .record-then ∙ f .0) i; lines = (o .lines-then ∙ f .1) i } in
       let e = run-is run in
-      (e .0 ∙ ap (λ b. booksFrom plan b qs) first, e .1 ∙ ap (λ b. billedFrom plan b qs) first, demand-3-billed n ends starts goals plan passes qs)
+      (e .0 ∙ ap (λ b. booksFrom plan b qs) first, e .1 ∙ ap (λ b. billedFrom plan b qs) first, demand-3-billed given plan passes qs)

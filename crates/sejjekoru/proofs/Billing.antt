@@ -4,17 +4,18 @@ use mathlib.Core.Path.{refl}
 use mathlib.Core.List.{List}
 use Prim.Native.Nat.{ℕ}
 use lib.ListN.{set}
+use Rattle.paper.specs.Order.{Order}
 use Rattle.bills.specs.declared.Line.{Line}
 use Rattle.bills.specs.declared.Record.{Record}
 use Rattle.ledger.specs.Lines.{gathered}
 use Rattle.sejjekoru.specs.declared.Told.{Told}
 use Rattle.sejjekoru.specs.Bills.{AgreesOn, AgreesTells, ReportOn, ReportBilledTells}
 
-module _ (n : ℕ) (ends starts goals plan marks : List ℕ) where
-  pub agrees-says : (rec : Record) (lines : List Line) (number value : ℕ) → AgreesOn n ends starts goals plan marks rec (gathered lines) number value → AgreesTells n ends starts goals plan marks rec lines number value
+module _ (o : Order) (plan marks : List ℕ) where
+  pub agrees-says : (rec : Record) (lines : List Line) (number value : ℕ) → AgreesOn o plan marks rec (gathered lines) number value → AgreesTells o plan marks rec lines number value
   agrees-says rec lines number value on = on lines refl
 
   pub report-says : (name : ℕ) (rec : Record) (lines : List Line) (r : Told) (value : ℕ) (marks′ : List ℕ)
-      → ReportOn n ends starts goals plan marks name rec (gathered lines) r value marks′
-      → ReportBilledTells n ends starts goals plan marks name rec lines (r .number) value marks′ (r .record) (set lines (r .at) (r .line))
+      → ReportOn o plan marks name rec (gathered lines) r value marks′
+      → ReportBilledTells o plan marks name rec lines (r .number) value marks′ (r .record) (set lines (r .at) (r .line))
   report-says name rec lines r value marks′ on = on lines refl

@@ -5,7 +5,8 @@ use mathlib.Core.Bool.{Bool}
 use mathlib.Core.List.{List}
 use mathlib.Core.Option.{Option}
 use Prim.Native.Nat.{ℕ}
-use Rattle.paper.specs.Yard.{Bay, Placement}
+use Rattle.paper.specs.Yard.{Bay}
+use Rattle.paper.specs.Order.{Order}
 use Rattle.paper.specs.Text.{Text}
 use Rattle.paper.proofs.Determined.{Determined}
 use Rattle.bills.specs.declared.Line.{Line}
@@ -29,43 +30,43 @@ left-determined a a′ l l′ s t =
     let same = tells-determined (a .0) (a′ .0) (a .1) (a′ .1) (s .tells) (t .tells) in
     (λ i. (same .0 i, same .1 i), s .leaves ∙ sym (t .leaves))
 
-module _ (n : ℕ) (ends : List Bay) (starts goals : Placement) where
+module _ (o : Order) where
   -- the count stands between the two numbers
-  pub plan-determined : (lent : List ℕ) → Determined (λ (a : ℕ × ℕ × ℕ) (l : List ℕ). PlanTells n ends starts goals lent (a .0) (a .1) (a .2) l)
+  pub plan-determined : (lent : List ℕ) → Determined (λ (a : ℕ × ℕ × ℕ) (l : List ℕ). PlanTells o lent (a .0) (a .1) (a .2) l)
   plan-determined lent a a′ l l′ s t =
       let same = tells-determined (a .0) (a′ .0) (a .2) (a′ .2) (s .tells) (t .tells) in
       let counts = s .parks ∙ sym (t .parks) in
       (λ i. (same .0 i, counts i, same .1 i), s .leaves ∙ sym (t .leaves))
 
-  pub check-determined : (crossed : List ℕ) → Determined (CheckTells n ends starts goals crossed)
+  pub check-determined : (crossed : List ℕ) → Determined (CheckTells o crossed)
   check-determined crossed = tells-determined
 
-  pub slots-determined : (crossed slots : List ℕ) → Determined (Paired (SlotsTell n ends starts goals crossed slots))
+  pub slots-determined : (crossed slots : List ℕ) → Determined (Paired (SlotsTell o crossed slots))
   slots-determined crossed slots = left-determined
 
-  pub slots-of-determined : (crossed : List ℕ) (edition : ℕ) (slots : List ℕ) → Determined (Paired (SlotsOfTell n ends starts goals crossed edition slots))
+  pub slots-of-determined : (crossed : List ℕ) (edition : ℕ) (slots : List ℕ) → Determined (Paired (SlotsOfTell o crossed edition slots))
   slots-of-determined crossed edition slots = left-determined
 
-  pub report-determined : (crossed marks : List ℕ) (name : ℕ) → Determined (Paired (ReportTells n ends starts goals crossed marks name))
+  pub report-determined : (crossed marks : List ℕ) (name : ℕ) → Determined (Paired (ReportTells o crossed marks name))
   report-determined crossed marks name = left-determined
 
-  pub shorten-determined : (crossed marks out : List ℕ) → Determined (Paired (ShortenTells n ends starts goals crossed marks out))
+  pub shorten-determined : (crossed marks out : List ℕ) → Determined (Paired (ShortenTells o crossed marks out))
   shorten-determined crossed marks out = left-determined
 
   -- record and lines, and for a report the marks, are what is left
   pub open-determined : (crossed marks : List ℕ) (rec : Record) (lines : List Line)
-      → Determined (λ (a : ℕ × ℕ) (l : Record × List Line). OpenTells n ends starts goals crossed marks rec lines (a .0) (a .1) (l .0) (l .1))
+      → Determined (λ (a : ℕ × ℕ) (l : Record × List Line). OpenTells o crossed marks rec lines (a .0) (a .1) (l .0) (l .1))
   open-determined crossed marks rec lines a a′ l l′ s t =
       let same = tells-determined (a .0) (a′ .0) (a .1) (a′ .1) (s .tells) (t .tells) in
       let recs = s .record-then ∙ sym (t .record-then) in
       let lists = s .lines-then ∙ sym (t .lines-then) in
       (λ i. (same .0 i, same .1 i), λ i. (recs i, lists i))
 
-  pub agrees-determined : (crossed marks : List ℕ) (rec : Record) (lines : List Line) → Determined (AgreesTells n ends starts goals crossed marks rec lines)
+  pub agrees-determined : (crossed marks : List ℕ) (rec : Record) (lines : List Line) → Determined (AgreesTells o crossed marks rec lines)
   agrees-determined crossed marks rec lines = tells-determined
 
   pub billed-determined : (crossed marks : List ℕ) (name : ℕ) (rec : Record) (lines : List Line)
-      → Determined (λ (a : ℕ × ℕ) (l : List ℕ × (Record × List Line)). ReportBilledTells n ends starts goals crossed marks name rec lines (a .0) (a .1) (l .0) (l .1 .0) (l .1 .1))
+      → Determined (λ (a : ℕ × ℕ) (l : List ℕ × (Record × List Line)). ReportBilledTells o crossed marks name rec lines (a .0) (a .1) (l .0) (l .1 .0) (l .1 .1))
   billed-determined crossed marks name rec lines a a′ l l′ s t =
       let same = tells-determined (a .0) (a′ .0) (a .1) (a′ .1) (s .tells) (t .tells) in
       let marked = s .marks-then ∙ sym (t .marks-then) in

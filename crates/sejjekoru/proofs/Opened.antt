@@ -5,6 +5,7 @@ use mathlib.Core.List.{List, _++_}
 use Prim.Native.Nat.{ℕ, _≤_}
 use lib.ListN.{length, take, drop}
 use Rattle.paper.specs.Limits.{most-bays}
+use Rattle.paper.specs.Order.{Order}
 use Rattle.bills.specs.declared.Line.{Line}
 use Rattle.bills.specs.declared.Record.{Record}
 use Rattle.ledger.specs.declared.Held.{Held}
@@ -15,9 +16,9 @@ use Rattle.sejjekoru.specs.Bills.{OpenOn, OpenTells}
 abbrev pub filled : Held → List Line → List Line
 filled held lines = take (held .count) (held .lines) ++ drop (held .count) lines
 
-module _ (n : ℕ) (ends starts goals plan marks : List ℕ) (rec : Record) (lines : List Line) (r : Opening) (value : ℕ) where
+module _ (o : Order) (plan marks : List ℕ) (rec : Record) (lines : List Line) (r : Opening) (value : ℕ) where
   abbrev pub On : Type 0
-  On = OpenOn n ends starts goals plan marks rec (length lines) r value
+  On = OpenOn o plan marks rec (length lines) r value
 
   -- what `fill` requires of the lines held
   pub held-few : On → r .held .count ≤ most-bays
@@ -32,9 +33,9 @@ module _ (n : ℕ) (ends starts goals plan marks : List ℕ) (rec : Record) (lin
   pub may-fill : On → (r .held .count ≤ most-bays) × (r .held .count ≤ length lines) × (length (r .held .lines) ≡ most-bays)
   may-fill on = (held-few on, held-room on, held-whole on)
 
-  pub open-says : On → OpenTells n ends starts goals plan marks rec lines (r .number) value (r .record) (filled (r .held) lines)
+  pub open-says : On → OpenTells o plan marks rec lines (r .number) value (r .record) (filled (r .held) lines)
   open-says on = record { tells = on .tells; record-then = on .record-then; lines-then = on .lines-then lines refl }
 
   -- the same at lines that are known to be those
-  pub open-tells : On → (lines′ : List Line) → lines′ ≡ filled (r .held) lines → OpenTells n ends starts goals plan marks rec lines (r .number) value (r .record) lines′
-  open-tells on lines′ e = subst (λ (ls : List Line). OpenTells n ends starts goals plan marks rec lines (r .number) value (r .record) ls) (sym e) (open-says on)
+  pub open-tells : On → (lines′ : List Line) → lines′ ≡ filled (r .held) lines → OpenTells o plan marks rec lines (r .number) value (r .record) lines′
+  open-tells on lines′ e = subst (λ (ls : List Line). OpenTells o plan marks rec lines (r .number) value (r .record) ls) (sym e) (open-says on)

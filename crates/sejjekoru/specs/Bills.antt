@@ -5,7 +5,7 @@ use mathlib.Core.List.{List, _++_}
 use Prim.Native.Nat.{ℕ, _≤_}
 use lib.ListN.{length, take, drop, set}
 use Rattle.paper.specs.Limits.{most-bays}
-use Rattle.paper.specs.Yard.{Bay, Placement}
+use Rattle.paper.specs.Order.{Order}
 use Rattle.bills.specs.Answering.{opening, openedRecord, openedLines, agreement, billing, marksThen, recordThen, linesThen}
 use Rattle.bills.specs.declared.Line.{Line}
 use Rattle.bills.specs.declared.Record.{Record}
@@ -16,35 +16,35 @@ use Rattle.numbers.specs.Tells.{Tells}
 use Rattle.sejjekoru.specs.declared.Opening.{Opening}
 use Rattle.sejjekoru.specs.declared.Told.{Told}
 
-module _ (n : ℕ) (ends : List Bay) (starts goals : Placement) (plan marks : List ℕ) where
+module _ (o : Order) (plan marks : List ℕ) where
   -- ## Lent
 
   pub record OpenTells (rec : Record) (lines : List Line) (number value : ℕ) (rec′ : Record) (lines′ : List Line) : Type 0 where
-    pub tells : Tells (numberOf (opening n ends starts goals plan marks (length lines))) (valueOf 0 (opening n ends starts goals plan marks (length lines))) number value
-    pub record-then : rec′ ≡ openedRecord n ends starts goals plan marks rec (length lines)
-    pub lines-then : lines′ ≡ openedLines n ends starts goals plan marks lines
+    pub tells : Tells (numberOf (opening o plan marks (length lines))) (valueOf 0 (opening o plan marks (length lines))) number value
+    pub record-then : rec′ ≡ openedRecord o plan marks rec (length lines)
+    pub lines-then : lines′ ≡ openedLines o plan marks lines
 
   abbrev pub AgreesTells : Record → List Line → ℕ → ℕ → Type 0
   AgreesTells rec lines =
-      let answer = agreement n ends starts goals plan marks rec lines in
+      let answer = agreement o plan marks rec lines in
       Tells (agreementNumber answer) (agreementValue answer)
 
   pub record ReportBilledTells (name : ℕ) (rec : Record) (lines : List Line) (number value : ℕ) (marks′ : List ℕ) (rec′ : Record) (lines′ : List Line) : Type 0 where
-    pub tells : Tells (reportNumber (billing n ends starts goals plan marks rec lines name)) (reportValue (billing n ends starts goals plan marks rec lines name)) number value
-    pub marks-then : marks′ ≡ marksThen n ends starts goals plan marks rec lines name
-    pub record-then : rec′ ≡ recordThen n ends starts goals plan marks rec lines name
-    pub lines-then : lines′ ≡ linesThen n ends starts goals plan marks rec lines name
+    pub tells : Tells (reportNumber (billing o plan marks rec lines name)) (reportValue (billing o plan marks rec lines name)) number value
+    pub marks-then : marks′ ≡ marksThen o plan marks rec lines name
+    pub record-then : rec′ ≡ recordThen o plan marks rec lines name
+    pub lines-then : lines′ ≡ linesThen o plan marks rec lines name
 
   -- ## By value: the same of every list of lines that is held so
 
   pub record OpenOn (rec : Record) (count : ℕ) (r : Opening) (value : ℕ) : Type 0 where
-    pub tells : Tells (numberOf (opening n ends starts goals plan marks count)) (valueOf 0 (opening n ends starts goals plan marks count)) (r .number) value
-    pub record-then : r .record ≡ openedRecord n ends starts goals plan marks rec count
+    pub tells : Tells (numberOf (opening o plan marks count)) (valueOf 0 (opening o plan marks count)) (r .number) value
+    pub record-then : r .record ≡ openedRecord o plan marks rec count
     pub few : r .held .count ≤ most-bays
     pub room : r .held .count ≤ count
     pub whole : length (r .held .lines) ≡ most-bays
     pub lines-then : (lines : List Line) → length lines ≡ count
-        → take (r .held .count) (r .held .lines) ++ drop (r .held .count) lines ≡ openedLines n ends starts goals plan marks lines
+        → take (r .held .count) (r .held .lines) ++ drop (r .held .count) lines ≡ openedLines o plan marks lines
 
   abbrev pub AgreesOn : Record → Held → ℕ → ℕ → Type 0
   AgreesOn rec held number value = (lines : List Line) → held ≡ gathered lines → AgreesTells rec lines number value

@@ -8,18 +8,18 @@ use lib.Dec.{eqb, ltb}
 use lib.ListN.{length}
 use lib.Seq.{sets}
 use Rattle.paper.specs.Basics.{if_then_else_}
+use Rattle.paper.specs.Order.{Order}
 use Rattle.paper.specs.Docket.{granted, denied, room}
 use Rattle.paper.specs.Text.{Text}
-use Rattle.paper.specs.Yard.{Bay, Placement}
 use Rattle.numbers.specs.Numbers.{verdictNumber, verdictValue}
 use Rattle.editions.specs.Editions.{slotsOf, slotsOfEnd}
 use Rattle.timed.specs.Timed.{programTimed}
 use Rattle.sejjekoru.specs.Statements.{TellsAndLeaves}
 
-abbrev pub SlotsOfTell : ℕ → List Bay → Placement → Placement → List ℕ → ℕ → List ℕ → ℕ → ℕ → List ℕ → Type 0
-SlotsOfTell n ends starts goals crossed edition slots =
-    let answer = slotsOf n ends starts goals crossed edition (length slots) in
-    TellsAndLeaves (verdictNumber answer) (verdictValue answer) (slotsOfEnd n ends starts goals crossed edition slots)
+abbrev pub SlotsOfTell : Order → List ℕ → ℕ → List ℕ → ℕ → ℕ → List ℕ → Type 0
+SlotsOfTell o crossed edition slots =
+    let answer = slotsOf o crossed edition (length slots) in
+    TellsAndLeaves (verdictNumber answer) (verdictValue answer) (slotsOfEnd o crossed edition slots)
 
 -- a flag from C is yes where it is not 0
 abbrev pub given : ℕ → Bool

@@ -3,12 +3,13 @@
 use mathlib.Core.List.{List}
 use Prim.Native.Nat.{ℕ}
 use lib.ListN.{length}
-use Rattle.paper.specs.Yard.{Bay, Placement}
+use Rattle.paper.specs.Yard.{Bay}
+use Rattle.paper.specs.Order.{Order}
 use Rattle.placement.specs.Standing.{standing, standingEnd}
 use Rattle.numbers.specs.Numbers.{verdictNumber, verdictValue}
 use Rattle.sejjekoru.specs.Statements.{TellsAndLeaves}
 
-abbrev pub PlacementTells : ℕ → List Bay → Placement → Placement → List ℕ → List ℕ → List Bay → ℕ → ℕ → List Bay → Type 0
-PlacementTells n ends starts goals plan marks at =
-    let answer = standing n ends starts goals plan marks (length at) in
-    TellsAndLeaves (verdictNumber answer) (verdictValue answer) (standingEnd n ends starts goals plan marks at answer)
+abbrev pub PlacementTells : Order → List ℕ → List ℕ → List Bay → ℕ → ℕ → List Bay → Type 0
+PlacementTells o plan marks at =
+    let answer = standing o plan marks (length at) in
+    TellsAndLeaves (verdictNumber answer) (verdictValue answer) (standingEnd o plan marks at answer)

@@ -1,4 +1,5 @@
 // Slots by either edition, and the timed plan. `sejjekoru_slots` is the first edition, by which reports and bills go on.
+ghost use Rattle.paper.specs.Order.{order};
 ghost use Rattle.filing.specs.Filing.{fileOf};
 ghost use Rattle.sejjekoru.specs.ByEdition.{SlotsOfTell, TimedTells, given};
 
@@ -13,7 +14,10 @@ pub extern "C" fn sejjekoru_slots_of(
     slots: &mut [u32],
     value: &mut u64,
 ) -> u64
-    ensures { λ r. ⌜ SlotsOfTell bays (now (rails .entry)) (now (start .entry)) (now (goal .entry)) (now (plan .entry)) edition (now (slots .entry)) r (now (value .exit)) (now (slots .exit)) ⌝ }
+    ensures { λ r. ⌜
+        SlotsOfTell (order bays (now (rails .entry)) (now (start .entry)) (now (goal .entry)))
+        (now (plan .entry)) edition (now (slots .entry)) r (now (value .exit)) (now (slots .exit))
+        ⌝ }
 {
     let answer = editions::slots_of(edition, bays, rails, start, goal, plan, slots);
     numbers::told(answer, value)

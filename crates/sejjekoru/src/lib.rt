@@ -9,6 +9,7 @@ mod standing;
 mod surveys;
 mod whole;
 
+ghost use Rattle.paper.specs.Order.{order};
 ghost use Rattle.sejjekoru.specs.Statements.{PlanTells, CheckTells, SlotsTell, ReportTells, ShortenTells};
 ghost use Rattle.sejjekoru.specs.Bills.{OpenOn, AgreesOn, ReportOn, OpenTells, AgreesTells, ReportBilledTells};
 use bills::Line;
@@ -25,7 +26,10 @@ pub extern "C" fn sejjekoru_plan(
     parked: &mut u64,
     value: &mut u64,
 ) -> u64
-    ensures { λ r. ⌜ PlanTells bays (now (rails .entry)) (now (start .entry)) (now (goal .entry)) (now (plan .entry)) r (now (parked .exit)) (now (value .exit)) (now (plan .exit)) ⌝ }
+    ensures { λ r. ⌜
+        PlanTells (order bays (now (rails .entry)) (now (start .entry)) (now (goal .entry)))
+        (now (plan .entry)) r (now (parked .exit)) (now (value .exit)) (now (plan .exit))
+        ⌝ }
 {
     let answer = planner::plan_counted(bays, rails, start, goal, plan);
     numbers::told_planned(answer, parked, value)
@@ -40,7 +44,7 @@ pub extern "C" fn sejjekoru_check(
     plan: &[u64],
     value: &mut u64,
 ) -> u64
-    ensures { λ r. ⌜ CheckTells bays (now (rails .entry)) (now (start .entry)) (now (goal .entry)) (now (plan .entry)) r (now (value .exit)) ⌝ }
+    ensures { λ r. ⌜ CheckTells (order bays (now (rails .entry)) (now (start .entry)) (now (goal .entry))) (now (plan .entry)) r (now (value .exit)) ⌝ }
 {
     let answer = checker::check(bays, rails, start, goal, plan);
     numbers::told_checked(answer, 0, value)
@@ -56,7 +60,10 @@ pub extern "C" fn sejjekoru_slots(
     slots: &mut [u32],
     value: &mut u64,
 ) -> u64
-    ensures { λ r. ⌜ SlotsTell bays (now (rails .entry)) (now (start .entry)) (now (goal .entry)) (now (plan .entry)) (now (slots .entry)) r (now (value .exit)) (now (slots .exit)) ⌝ }
+    ensures { λ r. ⌜
+        SlotsTell (order bays (now (rails .entry)) (now (start .entry)) (now (goal .entry)))
+        (now (plan .entry)) (now (slots .entry)) r (now (value .exit)) (now (slots .exit))
+        ⌝ }
 {
     let answer = reports::slots(bays, rails, start, goal, plan, slots);
     numbers::told_checked(answer, plan.len() as u64, value)
@@ -73,7 +80,10 @@ pub extern "C" fn sejjekoru_report(
     name: u64,
     value: &mut u64,
 ) -> u64
-    ensures { λ r. ⌜ ReportTells bays (now (rails .entry)) (now (start .entry)) (now (goal .entry)) (now (plan .entry)) (now (marks .entry)) name r (now (value .exit)) (now (marks .exit)) ⌝ }
+    ensures { λ r. ⌜
+        ReportTells (order bays (now (rails .entry)) (now (start .entry)) (now (goal .entry)))
+        (now (plan .entry)) (now (marks .entry)) name r (now (value .exit)) (now (marks .exit))
+        ⌝ }
 {
     let answer = reports::report(bays, rails, start, goal, plan, marks, name);
     numbers::told_reported(answer, value)
@@ -90,7 +100,10 @@ pub extern "C" fn sejjekoru_shorten(
     out: &mut [u64],
     value: &mut u64,
 ) -> u64
-    ensures { λ r. ⌜ ShortenTells bays (now (rails .entry)) (now (start .entry)) (now (goal .entry)) (now (plan .entry)) (now (marks .entry)) (now (out .entry)) r (now (value .exit)) (now (out .exit)) ⌝ }
+    ensures { λ r. ⌜
+        ShortenTells (order bays (now (rails .entry)) (now (start .entry)) (now (goal .entry)))
+        (now (plan .entry)) (now (marks .entry)) (now (out .entry)) r (now (value .exit)) (now (out .exit))
+        ⌝ }
 {
     let answer = shorten::shorten(bays, rails, start, goal, plan, marks, out);
     numbers::told(answer, value)
@@ -115,7 +128,10 @@ fn open_on(
     count: usize,
     value: &mut u64,
 ) -> Opening
-    ensures { λ r. ⌜ OpenOn bays (now (rails .entry)) (now (start .entry)) (now (goal .entry)) (now (plan .entry)) (now (marks .entry)) «record» count r (now (value .exit)) ⌝ }
+    ensures { λ r. ⌜
+        OpenOn (order bays (now (rails .entry)) (now (start .entry)) (now (goal .entry)))
+        (now (plan .entry)) (now (marks .entry)) «record» count r (now (value .exit))
+        ⌝ }
 {
     let opening = ledger::open(bays, rails, start, goal, plan, marks, record, count);
     let answer = opening.answer;
@@ -140,7 +156,10 @@ pub extern "C" fn sejjekoru_open(
     lines: &mut [Line],
     value: &mut u64,
 ) -> u64
-    ensures { λ r. ⌜ OpenTells bays (now (rails .entry)) (now (start .entry)) (now (goal .entry)) (now (plan .entry)) (now (marks .entry)) (now («record» .entry)) (now (lines .entry)) r (now (value .exit)) (now («record» .exit)) (now (lines .exit)) ⌝ }
+    ensures { λ r. ⌜
+        OpenTells (order bays (now (rails .entry)) (now (start .entry)) (now (goal .entry)))
+        (now (plan .entry)) (now (marks .entry)) (now («record» .entry)) (now (lines .entry)) r (now (value .exit)) (now («record» .exit)) (now (lines .exit))
+        ⌝ }
 {
     let opening = open_on(
         bays,
@@ -170,7 +189,10 @@ fn agrees_on(
     held: Held,
     value: &mut u64,
 ) -> u64
-    ensures { λ r. ⌜ AgreesOn bays (now (rails .entry)) (now (start .entry)) (now (goal .entry)) (now (plan .entry)) (now (marks .entry)) «record» held r (now (value .exit)) ⌝ }
+    ensures { λ r. ⌜
+        AgreesOn (order bays (now (rails .entry)) (now (start .entry)) (now (goal .entry)))
+        (now (plan .entry)) (now (marks .entry)) «record» held r (now (value .exit))
+        ⌝ }
 {
     let answer = ledger::compare(bays, rails, start, goal, plan, marks, record, held);
     numbers::told_agreement(answer, value)
@@ -188,7 +210,10 @@ pub extern "C" fn sejjekoru_agrees(
     lines: &[Line],
     value: &mut u64,
 ) -> u64
-    ensures { λ r. ⌜ AgreesTells bays (now (rails .entry)) (now (start .entry)) (now (goal .entry)) (now (plan .entry)) (now (marks .entry)) (now («record» .entry)) (now (lines .entry)) r (now (value .exit)) ⌝ }
+    ensures { λ r. ⌜
+        AgreesTells (order bays (now (rails .entry)) (now (start .entry)) (now (goal .entry)))
+        (now (plan .entry)) (now (marks .entry)) (now («record» .entry)) (now (lines .entry)) r (now (value .exit))
+        ⌝ }
 {
     let held = sheets::gather(lines);
     agrees_on(bays, rails, start, goal, plan, marks, *record, held, value)
@@ -215,7 +240,10 @@ fn report_on(
     held: Held,
     value: &mut u64,
 ) -> Told
-    ensures { λ r. ⌜ ReportOn bays (now (rails .entry)) (now (start .entry)) (now (goal .entry)) (now (plan .entry)) (now (marks .entry)) name «record» held r (now (value .exit)) (now (marks .exit)) ⌝ }
+    ensures { λ r. ⌜
+        ReportOn (order bays (now (rails .entry)) (now (start .entry)) (now (goal .entry)))
+        (now (plan .entry)) (now (marks .entry)) name «record» held r (now (value .exit)) (now (marks .exit))
+        ⌝ }
 {
     let told = ledger::report(bays, rails, start, goal, plan, marks, name, record, held);
     let answer = told.answer;
@@ -243,7 +271,11 @@ pub extern "C" fn sejjekoru_report_billed(
     lines: &mut [Line],
     value: &mut u64,
 ) -> u64
-    ensures { λ r. ⌜ ReportBilledTells bays (now (rails .entry)) (now (start .entry)) (now (goal .entry)) (now (plan .entry)) (now (marks .entry)) name (now («record» .entry)) (now (lines .entry)) r (now (value .exit)) (now (marks .exit)) (now («record» .exit)) (now (lines .exit)) ⌝ }
+    ensures { λ r. ⌜
+        ReportBilledTells (order bays (now (rails .entry)) (now (start .entry)) (now (goal .entry)))
+        (now (plan .entry)) (now (marks .entry)) name (now («record» .entry)) (now (lines .entry))
+        r (now (value .exit)) (now (marks .exit)) (now («record» .exit)) (now (lines .exit))
+        ⌝ }
 {
     let held = sheets::gather(lines);
     let told = report_on(

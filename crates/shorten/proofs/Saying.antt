@@ -10,7 +10,8 @@ use lib.Dec.{ltb}
 use lib.ListN.{length, drop, length-map}
 use Rattle.paper.specs.Basics.{_or_}
 use Rattle.paper.specs.Limits.{most-bays}
-use Rattle.paper.specs.Yard.{Bay, Placement, crossings, pack, unpack, most-crossings}
+use Rattle.paper.specs.Yard.{crossings, pack, unpack, most-crossings}
+use Rattle.paper.specs.Order.{Order}
 use Rattle.paper.specs.Docket.{yardOf, badMarks}
 use Rattle.paper.specs.Answers.{unless, written, check}
 use Rattle.paper.specs.OnePass.{Fits}
@@ -64,34 +65,34 @@ module _ (plan gone out : List ℕ) (done : left gone (crossings plan) ≡ short
       or-neither _ _ (le-ltb (length out) (length ys) (rw is at h)) (le-ltb most-crossings (length ys) short) in
       record { answers = rw (room, is); ends = rw room (w ∙ ap₂ (λ a k. a ++ drop k out) numbers count) }
 
-module _ (n : ℕ) (ends : List Bay) (starts goals : Placement) (plan marks out : List ℕ) where
-  pub says-refused : (r : Refusal) → some (refusalOf r) ≡ check n ends starts goals plan → ShortenSays n ends starts goals plan marks out (Denied r) out
+module _ (o : Order) (plan marks out : List ℕ) where
+  pub says-refused : (r : Refusal) → some (refusalOf r) ≡ check o plan → ShortenSays o plan marks out (Denied r) out
   unfolding shortening shortenRefusal unless written
   says-refused r h = record { answers = rw (← h); ends-as = rw (← h) }
 
-  module _ (passes : none ≡ check n ends starts goals plan) where
+  module _ (passes : none ≡ check o plan) where
     pub fits : Fits most-bays most-bays plan
-    fits = check-fits n ends starts goals plan (sym passes)
+    fits = check-fits o plan (sym passes)
 
     pub short-plan : length plan ≤ most-crossings
-    short-plan = clean-of n ends starts goals (length plan) (check-passed n ends starts goals plan (sym passes) .sound) .sizes .short-plan
+    short-plan = clean-of o (length plan) (check-passed o plan (sym passes) .sound) .sizes .short-plan
 
     pub lawful : Lawful (crossings plan)
     lawful =
-        let p = check-passed n ends starts goals plan (sym passes) in
-        let c = clean-of n ends starts goals (length plan) (p .sound) in
-        record { yard = yardOf n ends; start = starts; apart = good-of n ends starts (c .starts) .apart; lawful = p .lawful }
+        let p = check-passed o plan (sym passes) in
+        let c = clean-of o (length plan) (p .sound) in
+        record { yard = yardOf o; start = o .starts; apart = good-of o (o .starts) (c .starts) .apart; lawful = p .lawful }
 
-    pub says-mismarked : badMarks (crossings plan) marks ≡ true → ShortenSays n ends starts goals plan marks out (Denied Mismarked) out
+    pub says-mismarked : badMarks (crossings plan) marks ≡ true → ShortenSays o plan marks out (Denied Mismarked) out
     unfolding shortening shortenRefusal unless written
     says-mismarked b = record { answers = rw (← passes, b); ends-as = rw (← passes, b) }
 
     module _ (b : badMarks (crossings plan) marks ≡ false) where
-      pub says-begun : anyDone marks ≡ true → ShortenSays n ends starts goals plan marks out (Denied Begun) out
+      pub says-begun : anyDone marks ≡ true → ShortenSays o plan marks out (Denied Begun) out
       unfolding shortening shortenRefusal unless written
       says-begun d = record { answers = rw (← passes, b, d); ends-as = rw (← passes, b, d) }
 
       pub says-room : anyDone marks ≡ false → (answer : Verdict) (out′ : List ℕ) → RoomSays plan out answer out′
-          → ShortenSays n ends starts goals plan marks out answer out′
+          → ShortenSays o plan marks out answer out′
       unfolding shortening shortenRefusal intoRoom
       says-room d answer out′ r = record { answers = rw (← passes, b, d) (r .answers); ends-as = rw (← passes, b, d) (r .ends) }

@@ -4,7 +4,8 @@ use mathlib.Core.Path.{_≡_}
 use mathlib.Core.List.{List}
 use Prim.Native.Nat.{ℕ}
 use lib.ListN.{length}
-use Rattle.paper.specs.Yard.{Bay, Placement, crossings}
+use Rattle.paper.specs.Yard.{crossings}
+use Rattle.paper.specs.Order.{Order}
 use Rattle.paper.specs.Answers.{told, written}
 use Rattle.docket.specs.Reading.{verdictOf}
 use Rattle.docket.specs.declared.Verdict.{Verdict}
@@ -16,7 +17,7 @@ pub record RoomSays (plan out : List ℕ) (answer : Verdict) (out′ : List ℕ)
   pub answers : verdictOf answer ≡ told (intoRoom (length out) (shorten (crossings plan)))
   pub ends : out′ ≡ written (intoRoom (length out) (shorten (crossings plan))) out
 
-module _ (n : ℕ) (ends : List Bay) (starts goals : Placement) (plan marks : List ℕ) where
+module _ (o : Order) (plan marks : List ℕ) where
   pub record ShortenSays (out : List ℕ) (answer : Verdict) (out′ : List ℕ) : Type 0 where
-    pub answers : verdictOf answer ≡ told (shortening n ends starts goals plan marks (length out))
-    pub ends-as : out′ ≡ shorteningEnd n ends starts goals plan marks out
+    pub answers : verdictOf answer ≡ told (shortening o plan marks (length out))
+    pub ends-as : out′ ≡ shorteningEnd o plan marks out

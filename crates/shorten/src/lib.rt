@@ -9,6 +9,7 @@ ghost use lib.Dec.{eqb};
 ghost use lib.ListN.{length, getD, drop, replicate};
 ghost use Rattle.paper.specs.Basics.{_and_, any, if_then_else_};
 ghost use Rattle.paper.specs.Yard.{crossings, named, most-crossings};
+ghost use Rattle.paper.specs.Order.{order};
 ghost use Rattle.trips.specs.Trips.{enters, isOf, shorten as shortenOf};
 ghost use Rattle.trips.specs.Names.{left, dropTrip};
 ghost use Rattle.trips.specs.Shortening.{anyDone};
@@ -475,7 +476,10 @@ pub fn shorten(
     marks: &[u8],
     out: &mut [u64],
 ) -> Verdict
-    ensures { λ r. ⌜ ShortenSays bays (now (rails .entry)) (now (start .entry)) (now (goal .entry)) (now (plan .entry)) (now (marks .entry)) (now (out .entry)) r (now (out .exit)) ⌝ }
+    ensures { λ r. ⌜
+        ShortenSays (order bays (now (rails .entry)) (now (start .entry)) (now (goal .entry)))
+        (now (plan .entry)) (now (marks .entry)) (now (out .entry)) r (now (out .exit))
+        ⌝ }
 {
     let checked = checker::check(bays, rails, start, goal, plan);
     if let Checked::Refused(r) = checked {

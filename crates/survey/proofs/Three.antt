@@ -12,6 +12,7 @@ use borrow.Author.Tests.{le-leb, lt-leb, leb-true, leb-false, le-ltb, eqb-false}
 use Rattle.paper.specs.Basics.{_or_, _>>=_, orElse, when, firstBad}
 use Rattle.paper.specs.Limits.{most-rails}
 use Rattle.paper.specs.Yard.{Bay, Rail}
+use Rattle.paper.specs.Order.{order}
 use Rattle.paper.specs.Docket.{Refusal, size, rail, railsOf, yardOf, badSize, badRail, no-1, no-2, no-3, no-4, no-5, no-6}
 use Rattle.paper.specs.Answers.{firstSix}
 use Rattle.paper.proofs.Tests.{by-cases, by-option, or-none, or-left, or-right, not-both, never-some, none-when}
@@ -21,14 +22,15 @@ use Rattle.survey.specs.Narrow.{narrow}
 use Rattle.survey.proofs.Written.{Below, Passes, passes}
 
 -- ## No carriers
-pub three-are-six : (n : ℕ) (ends : List Bay) → firstSix n ends [] [] 0 ≡ firstThree n ends
+pub three-are-six : (n : ℕ) (ends : List Bay) → firstSix (order n ends [] []) 0 ≡ firstThree n ends
 unfolding firstSix firstThree firstBad
 three-are-six n ends =
-    by-cases (badSize n ends [] [] 0) (λ e. rw e)
+    let o = order n ends [] [] in
+    by-cases (badSize o 0) (λ e. rw e)
     (λ e.
-    let s = sizes-of n ends [] [] 0 e in
+    let s = sizes-of o 0 e in
     let enough : ltb n 2 ≡ false = le-ltb n 2 (s .enough-bays) in
-    rw (e, enough) (by-option (no-2 n ends) (λ f. rw f (by-option (no-3 n ends) (λ g. rw g) (λ r g. rw g))) (λ r f. rw f)))
+    rw (e, enough) (by-option (no-2 o) (λ f. rw f (by-option (no-3 o) (λ g. rw g) (λ r g. rw g))) (λ r f. rw f)))
 
 -- ## Ends of 16 bits
 low : (n x : ℕ) → n ≤ 65535 → leb n x ≡ false → narrow x ≡ x
@@ -79,18 +81,18 @@ module _ (n : ℕ) (small : n ≤ 65535) where
 pub narrow-three : (n : ℕ) (ends : List Bay) → firstThree n (map narrow ends) ≡ firstThree n ends
 unfolding firstThree badSize
 narrow-three n ends =
-    let lengths : badSize n (map narrow ends) [] [] 0 ≡ badSize n ends [] [] 0 = sizes (length-map ends narrow) in
-    by-cases (badSize n ends [] [] 0)
+    let lengths : badSize (order n (map narrow ends) [] []) 0 ≡ badSize (order n ends [] []) 0 = sizes (length-map ends narrow) in
+    by-cases (badSize (order n ends [] []) 0)
     (λ e. rw (lengths, e))
     (λ e.
-    let s = sizes-of n ends [] [] 0 e in
+    let s = sizes-of (order n ends [] []) 0 e in
     let small : n ≤ 65535 = omega (arith, s .few-bays) in
     rw (lengths, e, ← same-first n small 0 [] ends)
     (by-option (firstBad (badRail n) 0 [] (railsOf ends))
     (λ f. rw (f, same-ends n small 0 [] ends f))
     (λ i f. rw f)))
   where
-    sizes : length (map narrow ends) ≡ length ends → badSize n (map narrow ends) [] [] 0 ≡ badSize n ends [] [] 0
+    sizes : length (map narrow ends) ≡ length ends → badSize (order n (map narrow ends) [] []) 0 ≡ badSize (order n ends [] []) 0
     sizes h = rw h
 
 -- the ends of a yard that passes 1 to 3 fit in 16 bits
@@ -109,5 +111,5 @@ narrow-same n ends h = let p = passes n ends h in each ends (p .even) (p .below)
 pub long-size : (n : ℕ) (ends : List Bay) → 2 * most-rails < length ends → firstThree n ends ≡ some size
 unfolding firstThree
 long-size n ends h =
-    by-cases (badSize n ends [] [] 0) (λ e. rw e)
-    (λ e. let s = sizes-of n ends [] [] 0 e in absurd (omega (arith, s .few-rails, eqb-false (length ends % 2) 1 (s .even-ends))))
+    by-cases (badSize (order n ends [] []) 0) (λ e. rw e)
+    (λ e. let s = sizes-of (order n ends [] []) 0 e in absurd (omega (arith, s .few-rails, eqb-false (length ends % 2) 1 (s .even-ends))))

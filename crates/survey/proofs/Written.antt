@@ -12,6 +12,7 @@ use borrow.Author.Tests.{eq-eqb, lt-ltb, le-leb, leb-false, eqb-true, eqb-false}
 use Rattle.paper.specs.Basics.{_and_, _>>=_, firstBad}
 use Rattle.paper.specs.Limits.{most-bays, most-rails}
 use Rattle.paper.specs.Yard.{Bay, Rail, joined}
+use Rattle.paper.specs.Order.{order}
 use Rattle.paper.specs.Docket.{railsOf, badRail, badSize, size, rail, no-1, no-2, no-3}
 use Rattle.paper.specs.Text.{Text, text, SPACE, lines, split, same, all, value, isNumber, Read, good, readLines}
 use Rattle.paper.specs.Print.{decimal, ended}
@@ -107,9 +108,10 @@ pub record Passes (n : ℕ) (ends : List Bay) : Type 0 where
 pub passes : (n : ℕ) (ends : List Bay) → firstThree n ends ≡ none → Passes n ends
 unfolding firstThree
 passes n ends h =
-    let p = none-both (no-1 n ends [] [] 0) _ h in
-    let q = none-both (no-2 n ends) (no-3 n ends) (p .1) in
-    let s = sizes-of n ends [] [] 0 (none-when _ size (p .0)) in
+    let o = order n ends [] [] in
+    let p = none-both (no-1 o 0) _ h in
+    let q = none-both (no-2 o) (no-3 o) (p .1) in
+    let s = sizes-of o 0 (none-when _ size (p .0)) in
     let two : length ends % 2 ≡ 0 = even-of (length ends) (s .even-ends) in
     record { few-bays = s .few-bays; few-ends = omega (arith, s .few-rails); even = two; below = below-of n 0 [] ends (none-from rail _ (q .0)) }
   where

@@ -8,6 +8,7 @@ use lib.Dec.{eqb, ltb, leb}
 use lib.ListN.{length, getD, take, drop}
 use Rattle.paper.specs.Basics.{if_then_else_, _and_, _>>=_, when, orElse}
 use Rattle.paper.specs.Yard.{Bay, Rail}
+use Rattle.paper.specs.Order.{order}
 use Rattle.paper.specs.Docket.{Refusal, railsOf, no-1, no-2, no-3, no-8}
 use Rattle.paper.specs.Text.{Text, text, SPACE, lines, split, same, value, isNumber, Read, readLines}
 use Rattle.paper.specs.Print.{decimal, ended}
@@ -72,7 +73,7 @@ surveyOf n ends = ended (headLine n (length ends / 2) ∷ map railLine (railsOf 
 
 -- 1 to 3, of a yard with no carriers and no lent plan
 unfoldable pub firstThree : ℕ → List Bay → Option Refusal
-firstThree n ends = orElse (no-1 n ends [] [] 0) (orElse (no-2 n ends) (no-3 n ends))
+firstThree n ends = let o = order n ends [] [] in orElse (no-1 o 0) (orElse (no-2 o) (no-3 o))
 
 -- then 8: for reading, in rail ends
 unfoldable pub readRefusal : ℕ → List Bay → ℕ → Option Refusal

@@ -7,7 +7,8 @@ use Prim.Native.Nat.{ℕ, _<_, _≤_}
 use native.Mathlib.Omega.{arith}
 use lib.ListN.{length, take, getD, length-map}
 use Rattle.paper.specs.Limits.{most-bays}
-use Rattle.paper.specs.Yard.{Bay, Placement, Crossing, pack, unpack, crossings, named}
+use Rattle.paper.specs.Yard.{Crossing, pack, unpack, crossings, named}
+use Rattle.paper.specs.Order.{Order}
 use Rattle.paper.specs.Answers.{Answer, accepted, refused, plan, check}
 use Rattle.paper.specs.OnePass.{Fits}
 use Rattle.paper.specs.Program.{programAnswer, program-room}
@@ -51,40 +52,40 @@ refused-ready d list h = record {
   };
 }
 
-module _ {n : ℕ} {ends : List Bay} {s g : Placement} {r : Planned} {list : List ℕ} where
-  pub plain-ready : PlannedIn n ends s g r list → Ready (plan n ends s g program-room) r list
+module _ {o : Order} {r : Planned} {list : List ℕ} where
+  pub plain-ready : PlannedIn o r list → Ready (plan o program-room) r list
   plain-ready p = record {
     handed = p .handed;
     slottable = record {
       within = p .within;
       sized = omega (arith, p .sized);
-      fits = λ m q. check-fits n ends s g (take m list) (p .passes m q);
+      fits = λ m q. check-fits o (take m list) (p .passes m q);
     };
   }
 
-  short-fits : ShortIn n ends s g r list → (m : ℕ) → r ≡ Accepted m → Fits most-bays most-bays (take m list)
+  short-fits : ShortIn o r list → (m : ℕ) → r ≡ Accepted m → Fits most-bays most-bays (take m list)
   short-fits p m e =
-      by-answer (plan n ends s g program-room)
+      by-answer (plan o program-room)
       (λ xs q.
-      let passes = handed-passes n ends s g program-room xs q in
-      let left = shortened-passes n ends s g (map pack xs) (passes .0) in
+      let passes = handed-passes o program-room xs q in
+      let left = shortened-passes o (map pack xs) (passes .0) in
       let ys = shorten (crossings (map pack xs)) in
       let is : ys ≡ shorten xs = ap shorten (passes .1) in
       let y : long m ≡ long (length (shorten xs)) = rw (e, q) at (p .handed .tells) in
       let same : m ≡ length (shorten xs) = cc in
       let reads : crossings (take m list) ≡ crossings (map pack ys) =
       ap (λ j. crossings (take j list)) same ∙ p .handed .stands (shorten xs) (ap shortAnswer q) ∙ sym is ∙ sym (left .1) in
-      fits-same (take m list) (map pack ys) reads (check-fits n ends s g (map pack ys) (left .0)))
+      fits-same (take m list) (map pack ys) reads (check-fits o (map pack ys) (left .0)))
       (λ d q. let y : long m ≡ told (refused d) = rw (e, q) at (p .handed .tells) in never (cc))
 
-  pub short-ready : ShortIn n ends s g r list → length list ≤ program-room → Ready (shortAnswer (plan n ends s g program-room)) r list
+  pub short-ready : ShortIn o r list → length list ≤ program-room → Ready (shortAnswer (plan o program-room)) r list
   short-ready p h = record { handed = p .handed; slottable = record { within = p .within; sized = h; fits = short-fits p } }
 
   -- by whether shortening is asked for
-  pub short-or-ready : {b : Bool} → b ≡ true → ShortIn n ends s g r list → length list ≤ program-room → Ready (shortOr b (plan n ends s g program-room)) r list
+  pub short-or-ready : {b : Bool} → b ≡ true → ShortIn o r list → length list ≤ program-room → Ready (shortOr b (plan o program-room)) r list
   short-or-ready e p h = rw e (short-ready p h)
 
-  pub plain-or-ready : {b : Bool} → b ≡ false → PlannedIn n ends s g r list → Ready (shortOr b (plan n ends s g program-room)) r list
+  pub plain-or-ready : {b : Bool} → b ≡ false → PlannedIn o r list → Ready (shortOr b (plan o program-room)) r list
   plain-or-ready e p = rw e (plain-ready p)
 
 pub refused-or-ready : (b : Bool) (d : Refusal) (list : List ℕ) → length list ≡ program-room → Ready (shortOr b (refused (refusalOf d))) (Refused d) list

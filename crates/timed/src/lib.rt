@@ -7,10 +7,10 @@ use planner::Planned;
 use yard::Yard;
 ghost use mathlib.Core.Path.{_≡_};
 ghost use Prim.Native.Nat.{_≤_};
-ghost use lib.ListN.{length, take};
+ghost use lib.ListN.{length};
 ghost use Rattle.paper.specs.Answers.{plan as planned};
 ghost use Rattle.paper.specs.Program.{programAnswer, program-room};
-ghost use Rattle.filing.specs.Filing.{fileOf};
+ghost use Rattle.filing.specs.Filing.{fileOf, orderIn};
 ghost use Rattle.timed.specs.Timed.{shortOr, programTimed};
 ghost use Rattle.timed.specs.Handing.{Slottable, Ready, TimedPrints, HandsOver, TimedSays};
 
@@ -58,7 +58,10 @@ fn plan_order(
     plan: &mut [u64],
 ) -> Planned
     requires { ⌜ (order .ends ≤ length (now ends)) × (order .carriers ≤ length (now starts)) × (order .carriers ≤ length (now goals)) × (length (now plan) ≡ program-room) ⌝ }
-    ensures { λ r. ⌜ Ready (shortOr shorten (planned (order .bays) (take (order .ends) (now (ends .entry))) (take (order .carriers) (now (starts .entry))) (take (order .carriers) (now (goals .entry))) program-room)) r (now (plan .exit)) ⌝ }
+    ensures { λ r. ⌜
+        Ready (shortOr shorten (planned (orderIn order (now (ends .entry)) (now (starts .entry)) (now (goals .entry)))
+        program-room)) r (now (plan .exit))
+        ⌝ }
 {
     let n = order.ends;
     let k = order.carriers;

@@ -11,7 +11,8 @@ use lib.ListN.{length, getD, take}
 use lib.Seq.{ext-getD, take-length}
 use borrow.Author.Tests.{eqb-true, eqb-false, eq-eqb, ne-eqb, ltb-true, ltb-false, leb-true, leb-false}
 use Rattle.paper.specs.Basics.{_and_, find, upTo}
-use Rattle.paper.specs.Yard.{Bay, Carrier, Yard, Placement, Crossing, bayOf, named, move, after, legalPlan, crossings}
+use Rattle.paper.specs.Yard.{Carrier, Yard, Placement, Crossing, bayOf, named, move, after, legalPlan, crossings}
+use Rattle.paper.specs.Order.{Order}
 use Rattle.paper.specs.Dependence.{slots}
 use Rattle.paper.specs.Docket.{yardOf}
 use Rattle.paper.specs.Answers.{check}
@@ -208,26 +209,26 @@ pub record TrainSlots (starts goals : Placement) (xs : List Crossing) : Type 0 w
   pub no-higher : (i : ℕ) → i < length xs → getD (trainSlots xs) i 0 ≤ getD (slots xs) i 0
   pub highest-not-higher : highestSlot (trainSlots xs) ≤ highestSlot (slots xs)
 
-pub train-slots : (n : ℕ) (ends : List Bay) (starts goals : Placement) (plan : List ℕ) → check n ends starts goals plan ≡ none
-    → TrainSlots starts goals (crossings plan)
-train-slots n ends starts goals plan passes =
+pub train-slots : (o : Order) (plan : List ℕ) → check o plan ≡ none
+    → TrainSlots (o .starts) (o .goals) (crossings plan)
+train-slots o plan passes =
     let xs = crossings plan in
-    let Y = yardOf n ends in
-    let done = check-passed n ends starts goals plan passes in
-    let apart = good-of n ends starts (clean-of n ends starts goals (length plan) (done .sound) .starts) .apart in
-    let mine = rolls Y starts xs apart (done .lawful) in
-    let same : (p : ℕ → Placement) → Rolled xs (trainSlots xs) starts p → (t : ℕ) → p t ≡ rolled Y starts xs apart (done .lawful) t =
-    λ p r. rolled-same xs (trainSlots xs) starts p (rolled Y starts xs apart (done .lawful)) r mine in
+    let Y = yardOf o in
+    let done = check-passed o plan passes in
+    let apart = good-of o (o .starts) (clean-of o (length plan) (done .sound) .starts) .apart in
+    let mine = rolls Y (o .starts) xs apart (done .lawful) in
+    let same : (p : ℕ → Placement) → Rolled xs (trainSlots xs) (o .starts) p → (t : ℕ) → p t ≡ rolled Y (o .starts) xs apart (done .lawful) t =
+    λ p r. rolled-same xs (trainSlots xs) (o .starts) p (rolled Y (o .starts) xs apart (done .lawful)) r mine in
     record {
       keep-rules = slots-keep xs;
       lowest = slots-lowest xs;
-      can-roll = (rolled Y starts xs apart (done .lawful), mine);
-      one-way = rolled-same xs (trainSlots xs) starts;
-      one-to-a-bay = λ p r t. rw (same p r t) (rolled-apart Y starts xs apart (done .lawful) t);
-      no-head-on = never-head-on Y starts xs apart (done .lawful);
+      can-roll = (rolled Y (o .starts) xs apart (done .lawful), mine);
+      one-way = rolled-same xs (trainSlots xs) (o .starts);
+      one-to-a-bay = λ p r t. rw (same p r t) (rolled-apart Y (o .starts) xs apart (done .lawful) t);
+      no-head-on = never-head-on Y (o .starts) xs apart (done .lawful);
       once = once-a-slot xs;
       ends-as-planned = λ p r t h.
-          let e = same p r t ∙ rolled-ends Y starts xs apart (done .lawful) t h in (e, e ∙ done .home);
+          let e = same p r t ∙ rolled-ends Y (o .starts) xs apart (done .lawful) t h in (e, e ∙ done .home);
       no-higher = slots-no-higher xs;
       highest-not-higher = highest-no-higher xs;
     }

@@ -7,7 +7,8 @@ use Prim.Native.Nat.{ℕ, zero, suc, _≤_, _<_}
 use native.Mathlib.Omega.{arith}
 use lib.ListN.{length, length-map}
 use Rattle.paper.specs.Basics.{filter}
-use Rattle.paper.specs.Yard.{Bay, Carrier, Yard, Placement, Crossing, after, legalPlan, pack, unpack, crossings}
+use Rattle.paper.specs.Yard.{Carrier, Yard, Placement, Crossing, after, legalPlan, pack, unpack, crossings}
+use Rattle.paper.specs.Order.{Order}
 use Rattle.paper.specs.Dependence.{countOf}
 use Rattle.paper.specs.Docket.{yardOf}
 use Rattle.paper.specs.Answers.{check, firstSix}
@@ -130,12 +131,12 @@ shorten-shortens Y p xs h =
     }
 
 -- 1 to 6 do not refuse a shorter plan where they pass a longer one
-fewer : (n : ℕ) (ends : List Bay) (s g : Placement) (l m : ℕ) → firstSix n ends s g l ≡ none → m ≤ l → firstSix n ends s g m ≡ none
-fewer n ends s g l m h k =
-    let c = clean-of n ends s g l h in
+fewer : (o : Order) (l m : ℕ) → firstSix o l ≡ none → m ≤ l → firstSix o m ≡ none
+fewer o l m h k =
+    let c = clean-of o l h in
     let z = c .sizes in
     let short = z .short-plan in
-    of-clean n ends s g m (record {
+    of-clean o m (record {
       sizes = record {
         enough-bays = z .enough-bays;
         few-bays = z .few-bays;
@@ -152,18 +153,18 @@ fewer n ends s g l m h k =
     })
 
 -- What comes out of a plan that passes the check passes it too, and its numbers read as its crossings.
-pub shortened-passes : (n : ℕ) (ends : List Bay) (s g : Placement) (plan : List ℕ) → check n ends s g plan ≡ none
-    → (check n ends s g (map pack (shorten (crossings plan))) ≡ none)
+pub shortened-passes : (o : Order) (plan : List ℕ) → check o plan ≡ none
+    → (check o (map pack (shorten (crossings plan))) ≡ none)
     × (crossings (map pack (shorten (crossings plan))) ≡ shorten (crossings plan))
-shortened-passes n ends s g plan h =
-    let p = check-passed n ends s g plan h in
+shortened-passes o plan h =
+    let p = check-passed o plan h in
     let xs = crossings plan in
-    let m = shorten-shortens (yardOf n ends) s xs (p .lawful) in
+    let m = shorten-shortens (yardOf o) (o .starts) xs (p .lawful) in
     let back = left-reads plan (shorten xs) (m .in-order) in
     let short : length (map pack (shorten xs)) ≤ length plan =
     omega (arith, m .no-longer, length-map plan unpack, length-map (shorten xs) pack) in (
-      passed-check n ends s g (map pack (shorten xs)) (record {
-        sound = fewer n ends s g (length plan) (length (map pack (shorten xs))) (p .sound) short;
+      passed-check o (map pack (shorten xs)) (record {
+        sound = fewer o (length plan) (length (map pack (shorten xs))) (p .sound) short;
         lawful = rw back (m .lawful);
         home = rw back (m .same-end ∙ p .home);
       }),

@@ -5,6 +5,7 @@ use mathlib.Core.List.{List, [], _∷_, map}
 use mathlib.Core.Option.{none, some}
 use Prim.Native.Nat.{ℕ}
 use Rattle.paper.specs.Yard.{Bay, Crossing, crossing, pack}
+use Rattle.paper.specs.Order.{order}
 use Rattle.paper.specs.Docket.{room, mismarked, missed, begun}
 use Rattle.paper.specs.Answers.{Answer, accepted, refused}
 use Rattle.paper.proofs.Worked.{computing, T, Y1-plan}
@@ -54,7 +55,7 @@ all-cut = refl
 
 -- yard "T" with one carrier, from bay 0 to bay 1 by the first plan: the order of the tests
 abbrev asked : Bay → List ℕ → ℕ → Answer
-asked goal marks lent = shortening 4 T (0 ∷ []) (goal ∷ []) (map pack thrice) marks lent
+asked goal marks lent = shortening (order 4 T (0 ∷ []) (goal ∷ [])) (map pack thrice) marks lent
 
 pub all-answered : (asked 1 (0 ∷ 0 ∷ 0 ∷ []) 1
     ∷ asked 1 (0 ∷ 0 ∷ 0 ∷ []) 0
@@ -77,7 +78,7 @@ all-answered = refl
 
 -- what stands in a lent list of three places at the end
 abbrev ends-as : List ℕ → List ℕ
-ends-as marks = shorteningEnd 4 T (0 ∷ []) (1 ∷ []) (map pack thrice) marks (7 ∷ 7 ∷ 7 ∷ [])
+ends-as marks = shorteningEnd (order 4 T (0 ∷ []) (1 ∷ [])) (map pack thrice) marks (7 ∷ 7 ∷ 7 ∷ [])
 
 pub all-left : map ends-as ((0 ∷ 0 ∷ 0 ∷ []) ∷ (1 ∷ 0 ∷ 0 ∷ []) ∷ []) ≡ (1 ∷ 7 ∷ 7 ∷ []) ∷ (7 ∷ 7 ∷ 7 ∷ []) ∷ []
 unfolding computing-trips

@@ -7,7 +7,8 @@ use Prim.Native.Nat.{ℕ}
 use lib.Dec.{eqb}
 use lib.ListN.{length}
 use Rattle.paper.specs.Basics.{orElse, when, any}
-use Rattle.paper.specs.Yard.{Bay, Placement, Crossing, crossings}
+use Rattle.paper.specs.Yard.{Crossing, crossings}
+use Rattle.paper.specs.Order.{Order}
 use Rattle.paper.specs.Docket.{Refusal, begun, no-8, no-11}
 use Rattle.paper.specs.Answers.{Answer, accepted, unless, written, check}
 use Rattle.trips.specs.Trips.{shorten}
@@ -24,11 +25,11 @@ no-25 marks = when (anyDone marks) begun
 unfoldable pub intoRoom : ℕ → List Crossing → Answer
 intoRoom lent xs = unless (no-8 lent (length xs)) (accepted xs)
 
-module _ (n : ℕ) (ends : List Bay) (starts goals : Placement) (plan marks : List ℕ) where
+module _ (o : Order) (plan marks : List ℕ) where
   -- "as the check, 11, then 25 if any mark is 1, then 8"
   unfoldable pub shortenRefusal : ℕ → Option Refusal
   shortenRefusal lent =
-      orElse (orElse (check n ends starts goals plan) (no-11 (crossings plan) marks))
+      orElse (orElse (check o plan) (no-11 (crossings plan) marks))
       (orElse (no-25 marks)
       (no-8 lent (length (shorten (crossings plan)))))
 

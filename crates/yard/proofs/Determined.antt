@@ -7,7 +7,7 @@ use Prim.Native.Nat.{ℕ, _+_, _*_, _/_, _%_, _^_, _<_}
 use native.Mathlib.Decide.{decLt}
 use native.Mathlib.Omega.{arith}
 use lib.ListN.{length, getD}
-use Rattle.paper.specs.Yard.{Bay, Placement}
+use Rattle.paper.specs.Order.{Order}
 use Rattle.paper.proofs.Tests.{never}
 use Rattle.docket.specs.Reading.{refusalOf}
 use Rattle.docket.proofs.Telling.{refusal-tells}
@@ -21,21 +21,21 @@ use Rattle.yard.specs.Opening.{Admits, Opens}
 same-numbers : (y z : Numbers) → y .bays ≡ z .bays → y .rails ≡ z .rails → y ≡ z
 same-numbers y z b r = λ i. record { bays = b i; rails = r i }
 
-module _ (n : ℕ) (ends : List Bay) where
+module _ (given : Order) where
   -- what a row of an open yard's table holds
-  same-row : (y z : Numbers) (t u : List ℕ) → Admits n ends y t → Admits n ends z u → (a b : ℕ) → b < span → memRow t a b ≡ memRow u a b
-  same-row y z t u p q a b h = elim (decLt a n) [
+  same-row : (y z : Numbers) (t u : List ℕ) → Admits given y t → Admits given z u → (a b : ℕ) → b < span → memRow t a b ≡ memRow u a b
+  same-row y z t u p q a b h = elim (decLt a (given .bays)) [
     | yes l ↦ p .rows .same a b l h ∙ sym (q .rows .same a b l h)
     | no l ↦ p .beyond a b (omega arith) h ∙ sym (q .beyond a b (omega arith) h)
   ]
 
-  same-table : (y z : Numbers) (t u : List ℕ) → Admits n ends y t → Admits n ends z u → (x : ℕ) → mem t x ≡ mem u x
+  same-table : (y z : Numbers) (t u : List ℕ) → Admits given y t → Admits given z u → (x : ℕ) → mem t x ≡ mem u x
   same-table y z t u p q x =
       let e : x / span * span + x % span ≡ x = omega arith in
       rw e at (same-row y z t u p q (x / span) (x % span) (omega arith))
 
-  module _ (s g : Placement) (lent : ℕ) where
-    same-answer : (o o′ : Opened) (t t′ : List ℕ) → Opens n ends s g lent o t → Opens n ends s g lent o′ t′
+  module _ (lent : ℕ) where
+    same-answer : (o o′ : Opened) (t t′ : List ℕ) → Opens given lent o t → Opens given lent o′ t′
         → (o ≡ o′) × ((x : ℕ) → mem t x ≡ mem t′ x)
     same-answer (Open y) (Open z) t t′ p q =
         let a = p .admitted y refl in
@@ -48,7 +48,7 @@ module _ (n : ℕ) (ends : List Bay) where
     same-answer (Refused r) (Open y) t t′ p q = let e : none ≡ some (refusalOf r) = q .answer ∙ sym (p .answer) in never (cc)
 
     -- Any two answers that the statement allows are equal, and so are any two tables of as many 64-bit words.
-    pub open-determined : (o o′ : Opened) (t t′ : List ℕ) → Opens n ends s g lent o t → Opens n ends s g lent o′ t′
+    pub open-determined : (o o′ : Opened) (t t′ : List ℕ) → Opens given lent o t → Opens given lent o′ t′
         → length t ≡ length t′ → ((i : ℕ) → getD t i 0 < 2 ^ 64) → ((i : ℕ) → getD t′ i 0 < 2 ^ 64) → (o ≡ o′) × (t ≡ t′)
     open-determined o o′ t t′ p q l f h =
         let k = same-answer o o′ t t′ p q in (k .0, same-words t t′ l f h (k .1))

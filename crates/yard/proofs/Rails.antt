@@ -12,7 +12,7 @@ use lib.Seq.{take-suc, take-all}
 use borrow.Author.Tests.{eqb-true, eq-eqb, ne-eqb, leb-false}
 use Rattle.paper.specs.Basics.{if_then_else_, _and_, _or_, any, firstBad}
 use Rattle.paper.specs.Yard.{Bay, Rail, Yard, joined}
-use Rattle.paper.specs.Docket.{railsOf, yardOf, badRail}
+use Rattle.paper.specs.Docket.{railsOf, yardBy, badRail}
 use Rattle.paper.proofs.Tests.{by-cases, not-both, and-left, and-right, or-left, or-right, or-cases, or-none, never}
 use Rattle.words.specs.Sets.{mem, memRow, span}
 use Rattle.yard.specs.Table.{Table}
@@ -118,7 +118,7 @@ bad-in-table n before table a b most l =
     settled : (p q r s t : Bool) → q ≡ true → p or q or r or s ≡ p or q or r or t
     settled p q r s t e = rw (e, or-right p true refl) (or-left _ s (or-left true r refl) ∙ sym (or-left _ t (or-left true r refl)))
 
-pub table-of : (n : ℕ) (ends : List Bay) (table : List ℕ) → Laid n (railsOf ends) table → Table (yardOf n ends) n table
+pub table-of : (n : ℕ) (ends : List Bay) (table : List ℕ) → Laid n (railsOf ends) table → Table (yardBy n ends) n table
 table-of n ends table l = record { bays = refl; same = λ a b h k. l .rows a b k; inside = l .inside }
 
 pub empty-beyond : (n : ℕ) (rails : List Rail) (table : List ℕ) → Laid n rails table → (a b : ℕ) → n ≤ a → b < span → memRow table a b ≡ false

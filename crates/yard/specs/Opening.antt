@@ -8,6 +8,7 @@ use Prim.Native.Nat.{ℕ, _/_, _≤_, _<_}
 use lib.ListN.{length}
 use Rattle.paper.specs.Basics.{firstBad, elem}
 use Rattle.paper.specs.Yard.{Bay, Rail, Yard, Placement, most-bays, occupied, emptyBays, joined}
+use Rattle.paper.specs.Order.{Order}
 use Rattle.paper.specs.Path.{nearestFirst}
 use Rattle.paper.specs.Docket.{railsOf, yardOf, badRail}
 use Rattle.paper.specs.Answers.{firstSix}
@@ -50,21 +51,21 @@ pub record Reaches (n : ℕ) (table set : List ℕ) : Type 0 where
   pub same : (Y : Yard) → Table Y n table → (b : Bay) → b < span → mem set b ≡ elem b (nearestFirst Y [] 0)
 
 -- an open yard has the numbers that were given, and the table is its table; no other row has a bay in it
-pub record Admits (n : ℕ) (ends : List Bay) (y : Numbers) (table : List ℕ) : Type 0 where
-  pub bays : y .bays ≡ n
-  pub rails : y .rails ≡ length ends / 2
-  pub rows : Table (yardOf n ends) n table
-  pub beyond : (a b : ℕ) → n ≤ a → b < span → memRow table a b ≡ false
+pub record Admits (o : Order) (y : Numbers) (table : List ℕ) : Type 0 where
+  pub bays : y .bays ≡ o .bays
+  pub rails : y .rails ≡ length (o .ends) / 2
+  pub rows : Table (yardOf o) (o .bays) table
+  pub beyond : (a b : ℕ) → o .bays ≤ a → b < span → memRow table a b ≡ false
 
 -- the first of 1 to 6, and what the table holds where there is none
-pub record Tests (n : ℕ) (ends : List Bay) (starts goals : Placement) (lent : ℕ) (o : Opened) (table : List ℕ) : Type 0 where
-  pub answer : openedOf o ≡ firstSix n ends starts goals lent
-  pub admitted : (y : Numbers) → o ≡ Open y → Admits n ends y table
+pub record Tests (given : Order) (lent : ℕ) (o : Opened) (table : List ℕ) : Type 0 where
+  pub answer : openedOf o ≡ firstSix given lent
+  pub admitted : (y : Numbers) → o ≡ Open y → Admits given y table
 
 -- the same, and a refused yard leaves an empty table
-pub record Opens (n : ℕ) (ends : List Bay) (starts goals : Placement) (lent : ℕ) (o : Opened) (table : List ℕ) : Type 0 where
-  pub answer : openedOf o ≡ firstSix n ends starts goals lent
-  pub admitted : (y : Numbers) → o ≡ Open y → Admits n ends y table
+pub record Opens (given : Order) (lent : ℕ) (o : Opened) (table : List ℕ) : Type 0 where
+  pub answer : openedOf o ≡ firstSix given lent
+  pub admitted : (y : Numbers) → o ≡ Open y → Admits given y table
   pub refused : (r : Refusal) → o ≡ Refused r → (x : ℕ) → mem table x ≡ false
 
 -- the set holds the occupied bays

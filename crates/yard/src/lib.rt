@@ -13,6 +13,7 @@ ghost use lib.Dec.{eqb, ltb, leb};
 ghost use Rattle.paper.specs.Basics.{_and_, _or_, firstBad};
 ghost use Rattle.paper.specs.Limits.{fewest-bays, most-bays, set-words, most-rails, most-carriers, most-crossings, kept-empty};
 ghost use Rattle.paper.specs.Yard.{Yard as PaperYard};
+ghost use Rattle.paper.specs.Order.{order};
 ghost use Rattle.paper.specs.Docket.{badSize, badPlace, apartBay};
 ghost use Rattle.words.specs.Sets.{mem, memRow, words, span};
 ghost use Rattle.yard.specs.Table.{Table};
@@ -74,7 +75,7 @@ impl Yard {
         crossings: u64,
         table: &mut [u64; Yard::TABLE],
     ) -> Opened
-        ensures { λ r. ⌜ Opens bays (now (rails .entry)) (now (start .entry)) (now (goal .entry)) crossings r (now (table .exit)) ⌝ }
+        ensures { λ r. ⌜ Opens (order bays (now (rails .entry)) (now (start .entry)) (now (goal .entry))) crossings r (now (table .exit)) ⌝ }
     {
         words::clear(table);
         let tested = first_six(bays as usize, rails, start, goal, crossings as usize, table);
@@ -109,7 +110,7 @@ fn first_six(
     table: &mut [u64; Yard::TABLE],
 ) -> Opened
     requires { ⌜ ((x : ℕ) → mem (now table) x ≡ false) ⌝ }
-    ensures { λ r. ⌜ Tests n (now (rails .entry)) (now (start .entry)) (now (goal .entry)) crossings r (now (table .exit)) ⌝ }
+    ensures { λ r. ⌜ Tests (order n (now (rails .entry)) (now (start .entry)) (now (goal .entry))) crossings r (now (table .exit)) ⌝ }
 {
     if bad_size(n, rails, start, goal, crossings) {
         return Opened::Refused(Refusal::Size);
@@ -142,7 +143,7 @@ fn first_six(
 
 // Refusal 1.
 fn bad_size(n: usize, rails: &[u16], start: &[u16], goal: &[u16], crossings: usize) -> bool
-    ensures { λ r. ⌜ r ≡ badSize n (now (rails .entry)) (now (start .entry)) (now (goal .entry)) crossings ⌝ }
+    ensures { λ r. ⌜ r ≡ badSize (order n (now (rails .entry)) (now (start .entry)) (now (goal .entry))) crossings ⌝ }
 {
     if n < Yard::FEWEST {
         return true;

@@ -3,6 +3,7 @@
 use mathlib.Core.Path.{sym, _∙_, ap}
 use borrow.Author.Needs.{needs}
 use denote.Ref.{now}
+use Rattle.paper.specs.Order.{order}
 use Rattle.yard.specs.Opening.{openedOf}
 use Rattle.checker.specs.Reading.{checkedOf}
 use Rattle.checker.proofs.Six.{six-refused, as-many, few-carriers, starts-inside, goals-inside, six-passed}
@@ -22,16 +23,16 @@ check-from-requires : tie.Need-check-from-requires
 check-from-requires c κs =
     let s = c .before .before .before .before .before .before .before .before .before in
     let passes = ap openedOf (sym (c .before .enum-told .given .1)) ∙ c .before .before .before .«open» .ensures .answer in
-    (as-many (s .args .bays) (now (s .args .rails)) (now (s .args .start)) (now (s .args .goal)) (now (s .args .plan)) passes, few-carriers (s .args .bays) (now (s .args .rails)) (now (s .args .start)) (now (s .args .goal)) (now (s .args .plan)) passes, starts-inside (s .args .bays) (now (s .args .rails)) (now (s .args .start)) (now (s .args .goal)) (now (s .args .plan)) passes, goals-inside (s .args .bays) (now (s .args .rails)) (now (s .args .start)) (now (s .args .goal)) (now (s .args .plan)) passes)
+    (as-many (order (s .args .bays) (now (s .args .rails)) (now (s .args .start)) (now (s .args .goal))) (now (s .args .plan)) passes, few-carriers (order (s .args .bays) (now (s .args .rails)) (now (s .args .start)) (now (s .args .goal))) (now (s .args .plan)) passes, starts-inside (order (s .args .bays) (now (s .args .rails)) (now (s .args .start)) (now (s .args .goal))) (now (s .args .plan)) passes, goals-inside (order (s .args .bays) (now (s .args .rails)) (now (s .args .start)) (now (s .args .goal))) (now (s .args .plan)) passes)
 
 returns : tie.Need-returns
-returns c = let s = c .before .before .before .before .before .before .before .before .before in six-refused (s .args .bays) (now (s .args .rails)) (now (s .args .start)) (now (s .args .goal)) (now (s .args .plan)) _ (ap openedOf (sym (c .before .opened .given .1)) ∙ c .before .before .before .«open» .ensures .answer)
+returns c = let s = c .before .before .before .before .before .before .before .before .before in six-refused (order (s .args .bays) (now (s .args .rails)) (now (s .args .start)) (now (s .args .goal))) (now (s .args .plan)) _ (ap openedOf (sym (c .before .opened .given .1)) ∙ c .before .before .before .«open» .ensures .answer)
 
 returns-2 : tie.Need-returns-2
 returns-2 c =
     let s = c .before .before .before .before .before .before .before .before .before .before in
     let o = c .before .before .before .before .«open» .ensures in
-    six-passed (s .args .bays) (now (s .args .rails)) (now (s .args .start)) (now (s .args .goal)) (now (s .args .plan)) (ap openedOf (sym (c .before .before .enum-told .given .1)) ∙ o .answer) _ (o .admitted _ (c .before .before .enum-told .given .1) .rows)
+    six-passed (order (s .args .bays) (now (s .args .rails)) (now (s .args .start)) (now (s .args .goal))) (now (s .args .plan)) (ap openedOf (sym (c .before .before .enum-told .given .1)) ∙ o .answer) _ (o .admitted _ (c .before .before .enum-told .given .1) .rows)
     (checkedOf (c .check-from .result)) (c .check-from .ensures)
 
 pub check-spec : {M : Type 1} → statement M

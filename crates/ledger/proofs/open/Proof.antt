@@ -4,6 +4,7 @@ use borrow.Author.Needs.{needs}
 use mathlib.Core.Path.{sym, _∙_, ap}
 use native.Mathlib.Omega.{arith}
 use denote.Ref.{now}
+use Rattle.paper.specs.Order.{order}
 use Rattle.checker.specs.Reading.{checkedOf}
 use Rattle.ledger.specs.Lines.{heldOf}
 use Rattle.ledger.proofs.Standing.{fits-all}
@@ -25,7 +26,7 @@ hold-requires : tie.Need-hold-requires
 hold-requires c κs = search needs
 
 returns : tie.Need-returns
-returns c = let s = c .before .before .before .before .before .before .before .before .before .before .before in open-refused (s .args .bays) (now (s .args .rails)) (now (s .args .start)) (now (s .args .goal)) (now (s .args .plan)) (now (s .args .marks)) (s .args .running) (s .args .count) (c .before .before .before .checked .given .0 .0) (c .hold .result) (c .hold .ensures ∙ ap (heldOf 0) (c .before .no-lines .ensures)) (eleven-first (s .args .bays) (now (s .args .rails)) (now (s .args .start)) (now (s .args .goal)) (now (s .args .plan)) (now (s .args .marks)) (s .args .running) (s .args .count) (c .before .before .before .checked .given .0 .0) (ap checkedOf (sym (c .before .before .before .checked .given .1)) ∙ c .before .before .before .before .before .up-to-eleven .ensures))
+returns c = let s = c .before .before .before .before .before .before .before .before .before .before .before in open-refused (order (s .args .bays) (now (s .args .rails)) (now (s .args .start)) (now (s .args .goal))) (now (s .args .plan)) (now (s .args .marks)) (s .args .running) (s .args .count) (c .before .before .before .checked .given .0 .0) (c .hold .result) (c .hold .ensures ∙ ap (heldOf 0) (c .before .no-lines .ensures)) (eleven-first (order (s .args .bays) (now (s .args .rails)) (now (s .args .start)) (now (s .args .goal))) (now (s .args .plan)) (now (s .args .marks)) (s .args .running) (s .args .count) (c .before .before .before .checked .given .0 .0) (ap checkedOf (sym (c .before .before .before .checked .given .1)) ∙ c .before .before .before .before .before .up-to-eleven .ensures))
 
 enum-told : tie.Need-enum-told
 enum-told c = search needs
@@ -37,19 +38,19 @@ hold-requires-2 : tie.Need-hold-requires-2
 hold-requires-2 c κs = search needs
 
 returns-2 : tie.Need-returns-2
-returns-2 c = let s = c .before .before .before .before .before .before .before .before .before .before .before in open-refused (s .args .bays) (now (s .args .rails)) (now (s .args .start)) (now (s .args .goal)) (now (s .args .plan)) (now (s .args .marks)) (s .args .running) (s .args .count) _ (c .hold2 .result) (c .hold2 .ensures ∙ ap (heldOf 0) (c .before .no-lines2 .ensures)) (then-room (s .args .bays) (now (s .args .rails)) (now (s .args .start)) (now (s .args .goal)) (now (s .args .plan)) (now (s .args .marks)) (s .args .running) (s .args .count) (ap checkedOf (sym (c .before .before .before .enum-told .given .1)) ∙ c .before .before .before .before .before .up-to-eleven .ensures) (c .before .before .if1 .taken))
+returns-2 c = let s = c .before .before .before .before .before .before .before .before .before .before .before in open-refused (order (s .args .bays) (now (s .args .rails)) (now (s .args .start)) (now (s .args .goal))) (now (s .args .plan)) (now (s .args .marks)) (s .args .running) (s .args .count) _ (c .hold2 .result) (c .hold2 .ensures ∙ ap (heldOf 0) (c .before .no-lines2 .ensures)) (then-room (order (s .args .bays) (now (s .args .rails)) (now (s .args .start)) (now (s .args .goal))) (now (s .args .plan)) (now (s .args .marks)) (s .args .running) (s .args .count) (ap checkedOf (sym (c .before .before .before .enum-told .given .1)) ∙ c .before .before .before .before .before .up-to-eleven .ensures) (c .before .before .if1 .taken))
 
 fresh-record-requires : tie.Need-fresh-record-requires
-fresh-record-requires c κs = let s = c .before .before .before .before .before .before .before .before .before in fit-of (s .args .bays) (now (s .args .rails)) (now (s .args .start)) (now (s .args .goal)) (now (s .args .plan)) (now (s .args .marks)) (ap checkedOf (sym (c .before .enum-told .given .1)) ∙ c .before .before .before .up-to-eleven .ensures)
+fresh-record-requires c κs = let s = c .before .before .before .before .before .before .before .before .before in fit-of (order (s .args .bays) (now (s .args .rails)) (now (s .args .start)) (now (s .args .goal))) (now (s .args .plan)) (now (s .args .marks)) (ap checkedOf (sym (c .before .enum-told .given .1)) ∙ c .before .before .before .up-to-eleven .ensures)
 
 fresh-lines-requires : tie.Need-fresh-lines-requires
 fresh-lines-requires c κs =
     let s = c .before .before .before .before .before .before .before .before .before .before in
-    let f = fit-of (s .args .bays) (now (s .args .rails)) (now (s .args .start)) (now (s .args .goal)) (now (s .args .plan)) (now (s .args .marks)) (ap checkedOf (sym (c .before .before .enum-told .given .1)) ∙ c .before .before .before .before .up-to-eleven .ensures) in
+    let f = fit-of (order (s .args .bays) (now (s .args .rails)) (now (s .args .start)) (now (s .args .goal))) (now (s .args .plan)) (now (s .args .marks)) (ap checkedOf (sym (c .before .before .enum-told .given .1)) ∙ c .before .before .before .before .up-to-eleven .ensures) in
     (omega (arith, c .before .if1 .left, f .few), f .even, f .short, fits-all _ _ _ f)
 
 returns-3 : tie.Need-returns-3
-returns-3 c = let s = c .before .before .before .before .before .before .before .before .before .before .before in open-written (s .args .bays) (now (s .args .rails)) (now (s .args .start)) (now (s .args .goal)) (now (s .args .plan)) (now (s .args .marks)) (s .args .running) (s .args .count) (ap checkedOf (sym (c .before .before .before .enum-told .given .1)) ∙ c .before .before .before .before .before .up-to-eleven .ensures) (c .before .before .if1 .left) (c .before .fresh-record .result) (c .before .fresh-record .ensures) (c .fresh-lines .result) (c .fresh-lines .ensures)
+returns-3 c = let s = c .before .before .before .before .before .before .before .before .before .before .before in open-written (order (s .args .bays) (now (s .args .rails)) (now (s .args .start)) (now (s .args .goal))) (now (s .args .plan)) (now (s .args .marks)) (s .args .running) (s .args .count) (ap checkedOf (sym (c .before .before .before .enum-told .given .1)) ∙ c .before .before .before .before .before .up-to-eleven .ensures) (c .before .before .if1 .left) (c .before .fresh-record .result) (c .before .fresh-record .ensures) (c .fresh-lines .result) (c .fresh-lines .ensures)
 
 pub open-spec : {M : Type 1} → statement M
 open-spec =

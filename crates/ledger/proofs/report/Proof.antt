@@ -4,6 +4,7 @@ use borrow.Author.Needs.{needs}
 use mathlib.Core.Path.{_≡_, refl, sym, _∙_, ap}
 use mathlib.Core.Bool.{false}
 use denote.Ref.{now}
+use Rattle.paper.specs.Order.{order}
 use Rattle.paper.specs.Docket as paper
 use Rattle.paper.specs.Answers.{refuse, accepts}
 use Rattle.docket.specs.Reading.{refusalOf}
@@ -27,7 +28,7 @@ enum-told c = search needs
 settle-requires : tie.Need-settle-requires
 settle-requires c κs =
     let s = c .before .before .before .before .before .before .before .before .before .before in
-    may-settle (s .args .bays) (now (s .args .rails)) (now (s .args .start)) (now (s .args .goal)) (now (s .args .plan)) (now (s .args .marks)) (s .args .running) (s .args .held) (ap agreementOf (sym (c .before .enum-told .given .1)) ∙ c .before .before .before .compare .ensures)
+    may-settle (order (s .args .bays) (now (s .args .rails)) (now (s .args .start)) (now (s .args .goal))) (now (s .args .plan)) (now (s .args .marks)) (s .args .running) (s .args .held) (ap agreementOf (sym (c .before .enum-told .given .1)) ∙ c .before .before .before .compare .ensures)
 
 enum-told-2 : tie.Need-enum-told-2
 enum-told-2 c = search needs
@@ -47,7 +48,7 @@ same-length c = search needs
 returns : tie.Need-returns
 returns c =
     let s = c .before .before .before .before .before .before .before .before .before .before .before .before .before in
-    billing-settled (s .args .bays) (now (s .args .rails)) (now (s .args .start)) (now (s .args .goal)) (now (s .args .plan)) (now (s .args .marks)) (s .args .running) (s .args .held) (s .args .name) (c .before .before .settle .result) _ (ap agreementOf (sym (c .before .before .before .before .enum-told .given .1)) ∙ c .before .before .before .before .before .before .compare .ensures) (c .before .before .settle .ensures)
+    billing-settled (order (s .args .bays) (now (s .args .rails)) (now (s .args .start)) (now (s .args .goal))) (now (s .args .plan)) (now (s .args .marks)) (s .args .running) (s .args .held) (s .args .name) (c .before .before .settle .result) _ (ap agreementOf (sym (c .before .before .before .before .enum-told .given .1)) ∙ c .before .before .before .before .before .before .compare .ensures) (c .before .before .settle .ensures)
 
 same-length-2 : tie.Need-same-length-2
 same-length-2 c = search needs
@@ -56,7 +57,7 @@ returns-2 : tie.Need-returns-2
 returns-2 c =
     let s = c .before .before .before .before .before .before .before .before .before .before in
     let u = c .unchanged .ensures in
-    billing-left (s .args .bays) (now (s .args .rails)) (now (s .args .start)) (now (s .args .goal)) (now (s .args .plan)) (now (s .args .marks)) (s .args .running) (s .args .held) (s .args .name) (c .unchanged .result) (now (s .args .marks)) (refuse paper.disagrees) (billing-differs (s .args .bays) (now (s .args .rails)) (now (s .args .start)) (now (s .args .goal)) (now (s .args .plan)) (now (s .args .marks)) (s .args .running) (s .args .held) (s .args .name) (c .unchanged .result) (now (s .args .marks)) (ap agreementOf (sym (c .before .enum-told2 .given .1)) ∙ c .before .before .before .compare .ensures)) (no-refusal _) (ap reportOf (u .0)) (u .1) (u .2) (u .3) refl
+    billing-left (order (s .args .bays) (now (s .args .rails)) (now (s .args .start)) (now (s .args .goal))) (now (s .args .plan)) (now (s .args .marks)) (s .args .running) (s .args .held) (s .args .name) (c .unchanged .result) (now (s .args .marks)) (refuse paper.disagrees) (billing-differs (order (s .args .bays) (now (s .args .rails)) (now (s .args .start)) (now (s .args .goal))) (now (s .args .plan)) (now (s .args .marks)) (s .args .running) (s .args .held) (s .args .name) (c .unchanged .result) (now (s .args .marks)) (ap agreementOf (sym (c .before .enum-told2 .given .1)) ∙ c .before .before .before .compare .ensures)) (no-refusal _) (ap reportOf (u .0)) (u .1) (u .2) (u .3) refl
 
 same-length-3 : tie.Need-same-length-3
 same-length-3 c = search needs
@@ -65,7 +66,7 @@ returns-3 : tie.Need-returns-3
 returns-3 c =
     let s = c .before .before .before .before .before .before .before .before .before .before .before in
     let u = c .unchanged2 .ensures in
-    billing-left (s .args .bays) (now (s .args .rails)) (now (s .args .start)) (now (s .args .goal)) (now (s .args .plan)) (now (s .args .marks)) (s .args .running) (s .args .held) (s .args .name) (c .unchanged2 .result) (now (s .args .marks)) (refuse (refusalOf (c .before .before .agreed .given .0 .0))) (billing-refused (s .args .bays) (now (s .args .rails)) (now (s .args .start)) (now (s .args .goal)) (now (s .args .plan)) (now (s .args .marks)) (s .args .running) (s .args .held) (s .args .name) (c .unchanged2 .result) (now (s .args .marks)) _ (ap agreementOf (sym (c .before .before .agreed .given .1)) ∙ c .before .before .before .before .compare .ensures)) (no-refusal _) (ap reportOf (u .0)) (u .1) (u .2) (u .3) refl
+    billing-left (order (s .args .bays) (now (s .args .rails)) (now (s .args .start)) (now (s .args .goal))) (now (s .args .plan)) (now (s .args .marks)) (s .args .running) (s .args .held) (s .args .name) (c .unchanged2 .result) (now (s .args .marks)) (refuse (refusalOf (c .before .before .agreed .given .0 .0))) (billing-refused (order (s .args .bays) (now (s .args .rails)) (now (s .args .start)) (now (s .args .goal))) (now (s .args .plan)) (now (s .args .marks)) (s .args .running) (s .args .held) (s .args .name) (c .unchanged2 .result) (now (s .args .marks)) _ (ap agreementOf (sym (c .before .before .agreed .given .1)) ∙ c .before .before .before .before .compare .ensures)) (no-refusal _) (ap reportOf (u .0)) (u .1) (u .2) (u .3) refl
 
 pub report-spec : {M : Type 1} → statement M
 report-spec =

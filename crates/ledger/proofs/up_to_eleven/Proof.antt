@@ -3,6 +3,7 @@
 use borrow.Author.Needs.{needs}
 use mathlib.Core.Path.{sym, _∙_, ap}
 use denote.Ref.{now}
+use Rattle.paper.specs.Order.{order}
 use Rattle.checker.specs.Reading.{checkedOf}
 use Rattle.ledger.proofs.Refusing.{eleven-refused, eleven-marks, eleven-none, check-gives-fits}
 use Rattle.ledger.proofs.up_to_eleven.Statement.{statement}
@@ -17,7 +18,7 @@ enum-known-checked c = search needs
 returns : tie.Need-returns
 returns c =
     let s = c .before .before .before .before .before .before .before .before .before in
-    eleven-refused (s .args .bays) (now (s .args .rails)) (now (s .args .start)) (now (s .args .goal)) (now (s .args .plan)) (now (s .args .marks)) _ (ap checkedOf (sym (c .before .checked .given .1)) ∙ c .before .before .before .check .ensures)
+    eleven-refused (order (s .args .bays) (now (s .args .rails)) (now (s .args .start)) (now (s .args .goal))) (now (s .args .plan)) (now (s .args .marks)) _ (ap checkedOf (sym (c .before .checked .given .1)) ∙ c .before .before .before .check .ensures)
 
 enum-told : tie.Need-enum-told
 enum-told c = search needs
@@ -25,17 +26,17 @@ enum-told c = search needs
 bad-marks-requires : tie.Need-bad-marks-requires
 bad-marks-requires c κs =
     let s = c .before .before .before .before .before .before .before .before in
-    check-gives-fits (s .args .bays) (now (s .args .rails)) (now (s .args .start)) (now (s .args .goal)) (now (s .args .plan)) (now (s .args .marks)) (ap checkedOf (sym (c .enum-told .given .1)) ∙ c .before .before .check .ensures)
+    check-gives-fits (order (s .args .bays) (now (s .args .rails)) (now (s .args .start)) (now (s .args .goal))) (now (s .args .plan)) (now (s .args .marks)) (ap checkedOf (sym (c .enum-told .given .1)) ∙ c .before .before .check .ensures)
 
 returns-2 : tie.Need-returns-2
 returns-2 c =
     let s = c .before .before .before .before .before .before .before .before .before .before in
-    eleven-marks (s .args .bays) (now (s .args .rails)) (now (s .args .start)) (now (s .args .goal)) (now (s .args .plan)) (now (s .args .marks)) (ap checkedOf (sym (c .before .before .enum-told .given .1)) ∙ c .before .before .before .before .check .ensures) (sym (c .before .bad-marks .ensures) ∙ c .if1 .taken)
+    eleven-marks (order (s .args .bays) (now (s .args .rails)) (now (s .args .start)) (now (s .args .goal))) (now (s .args .plan)) (now (s .args .marks)) (ap checkedOf (sym (c .before .before .enum-told .given .1)) ∙ c .before .before .before .before .check .ensures) (sym (c .before .bad-marks .ensures) ∙ c .if1 .taken)
 
 returns-3 : tie.Need-returns-3
 returns-3 c =
     let s = c .before .before .before .before .before .before .before .before .before .before in
-    eleven-none (s .args .bays) (now (s .args .rails)) (now (s .args .start)) (now (s .args .goal)) (now (s .args .plan)) (now (s .args .marks)) (ap checkedOf (sym (c .before .before .enum-told .given .1)) ∙ c .before .before .before .before .check .ensures) (sym (c .before .bad-marks .ensures) ∙ c .if1 .left)
+    eleven-none (order (s .args .bays) (now (s .args .rails)) (now (s .args .start)) (now (s .args .goal))) (now (s .args .plan)) (now (s .args .marks)) (ap checkedOf (sym (c .before .before .enum-told .given .1)) ∙ c .before .before .before .before .check .ensures) (sym (c .before .bad-marks .ensures) ∙ c .if1 .left)
 
 pub up-to-eleven-spec : {M : Type 1} → statement M
 up-to-eleven-spec =

@@ -2,6 +2,7 @@
 -- Assumes nothing.
 use mathlib.Core.Path.{sym, _∙_, ap}
 use denote.Ref.{now}
+use Rattle.paper.specs.Order.{order}
 use Rattle.checker.specs.Reading.{checkedOf}
 use Rattle.placement.proofs.Saying.{says-refused, fits, says-mismarked, says-room, as-many, all-there, says-placed}
 use borrow.Author.Needs.{needs}
@@ -26,7 +27,7 @@ enum-known-checked c = search needs
 returns : tie.Need-returns
 returns c =
     let s = c .before .before .before .before .before .before .before .before .before .before in
-    says-refused (s .args .bays) (now (s .args .rails)) (now (s .args .start)) (now (s .args .goal)) (now (s .args .plan)) (now (s .args .marks)) (now (s .args .at)) _ (ap checkedOf (sym (c .before .checked .given .1)) ∙ c .before .before .before .check .ensures)
+    says-refused (order (s .args .bays) (now (s .args .rails)) (now (s .args .start)) (now (s .args .goal))) (now (s .args .plan)) (now (s .args .marks)) (now (s .args .at)) _ (ap checkedOf (sym (c .before .checked .given .1)) ∙ c .before .before .before .check .ensures)
 
 enum-told : tie.Need-enum-told
 enum-told c = search needs
@@ -35,19 +36,19 @@ enum-told c = search needs
 bad-marks-requires : tie.Need-bad-marks-requires
 bad-marks-requires c κs =
     let s = c .before .before .before .before .before .before .before .before .before in
-    fits (s .args .bays) (now (s .args .rails)) (now (s .args .start)) (now (s .args .goal)) (now (s .args .plan)) (now (s .args .marks)) (now (s .args .at)) (ap checkedOf (sym (c .enum-told .given .1)) ∙ c .before .before .check .ensures)
+    fits (order (s .args .bays) (now (s .args .rails)) (now (s .args .start)) (now (s .args .goal))) (now (s .args .plan)) (now (s .args .marks)) (now (s .args .at)) (ap checkedOf (sym (c .enum-told .given .1)) ∙ c .before .before .check .ensures)
 
 -- src/lib.rt:45:9
 returns-2 : tie.Need-returns-2
 returns-2 c =
     let s = c .before .before .before .before .before .before .before .before .before .before .before in
-    says-mismarked (s .args .bays) (now (s .args .rails)) (now (s .args .start)) (now (s .args .goal)) (now (s .args .plan)) (now (s .args .marks)) (now (s .args .at)) (ap checkedOf (sym (c .before .before .enum-told .given .1)) ∙ c .before .before .before .before .check .ensures) (sym (c .before .bad-marks .ensures) ∙ c .if1 .taken)
+    says-mismarked (order (s .args .bays) (now (s .args .rails)) (now (s .args .start)) (now (s .args .goal))) (now (s .args .plan)) (now (s .args .marks)) (now (s .args .at)) (ap checkedOf (sym (c .before .before .enum-told .given .1)) ∙ c .before .before .before .before .check .ensures) (sym (c .before .bad-marks .ensures) ∙ c .if1 .taken)
 
 -- src/lib.rt:48:9
 returns-3 : tie.Need-returns-3
 returns-3 c =
     let s = c .before .before .before .before .before .before .before .before .before .before .before .before in
-    says-room (s .args .bays) (now (s .args .rails)) (now (s .args .start)) (now (s .args .goal)) (now (s .args .plan)) (now (s .args .marks)) (now (s .args .at)) (ap checkedOf (sym (c .before .before .before .enum-told .given .1)) ∙ c .before .before .before .before .before .check .ensures) (sym (c .before .before .bad-marks .ensures) ∙ c .before .if1 .left) (c .if2 .taken)
+    says-room (order (s .args .bays) (now (s .args .rails)) (now (s .args .start)) (now (s .args .goal))) (now (s .args .plan)) (now (s .args .marks)) (now (s .args .at)) (ap checkedOf (sym (c .before .before .before .enum-told .given .1)) ∙ c .before .before .before .before .before .check .ensures) (sym (c .before .before .bad-marks .ensures) ∙ c .before .if1 .left) (c .if2 .taken)
 
 -- src/lib.rt:50:5
 shorts-requires : tie.Need-shorts-requires
@@ -59,7 +60,7 @@ move-done-requires c κs =
     let s = c .before .before .before .before .before .before .before .before .before .before .before .before .before .before .before .before .before in
     let passes = ap checkedOf (sym (c .before .before .before .before .before .before .before .before .enum-told .given .1)) ∙ c .before .before .before .before .before .before .before .before .before .before .check .ensures in
     let b = sym (c .before .before .before .before .before .before .before .bad-marks .ensures) ∙ c .before .before .before .before .before .before .if1 .left in
-    (as-many (s .args .bays) (now (s .args .rails)) (now (s .args .start)) (now (s .args .goal)) (now (s .args .plan)) (now (s .args .marks)) (now (s .args .at)) passes b, all-there (s .args .bays) (now (s .args .rails)) (now (s .args .start)) (now (s .args .goal)) (now (s .args .plan)) (now (s .args .marks)) (now (s .args .at)) passes b _ (c .before .before .before .shorts .ensures))
+    (as-many (order (s .args .bays) (now (s .args .rails)) (now (s .args .start)) (now (s .args .goal))) (now (s .args .plan)) (now (s .args .marks)) (now (s .args .at)) passes b, all-there (order (s .args .bays) (now (s .args .rails)) (now (s .args .start)) (now (s .args .goal))) (now (s .args .plan)) (now (s .args .marks)) (now (s .args .at)) passes b _ (c .before .before .before .shorts .ensures))
 
 -- src/lib.rt:29:1
 same-length : tie.Need-same-length
@@ -70,7 +71,7 @@ returns-4 : tie.Need-returns-4
 returns-4 c =
     let s = c .before .before .before .before .before .before .before .before .before .before .before .before .before .before .before .before .before .before .before .before in
     let b = sym (c .before .before .before .before .before .before .before .before .before .before .bad-marks .ensures) ∙ c .before .before .before .before .before .before .before .before .before .if1 .left in
-    says-placed (s .args .bays) (now (s .args .rails)) (now (s .args .start)) (now (s .args .goal)) (now (s .args .plan)) (now (s .args .marks)) (now (s .args .at)) (ap checkedOf (sym (c .before .before .before .before .before .before .before .before .before .before .before .enum-told .given .1)) ∙ c .before .before .before .before .before .before .before .before .before .before .before .before .before .check .ensures) b (c .before .before .before .before .before .before .before .before .if2 .left) _ _ (c .before .before .before .before .before .before .shorts .ensures) (c .before .before .move-done .ensures)
+    says-placed (order (s .args .bays) (now (s .args .rails)) (now (s .args .start)) (now (s .args .goal))) (now (s .args .plan)) (now (s .args .marks)) (now (s .args .at)) (ap checkedOf (sym (c .before .before .before .before .before .before .before .before .before .before .before .enum-told .given .1)) ∙ c .before .before .before .before .before .before .before .before .before .before .before .before .before .check .ensures) b (c .before .before .before .before .before .before .before .before .if2 .left) _ _ (c .before .before .before .before .before .before .shorts .ensures) (c .before .before .move-done .ensures)
 
 pub placement-spec : {M : Type 1} → statement M
 placement-spec =

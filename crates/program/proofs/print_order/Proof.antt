@@ -2,10 +2,10 @@
 -- Assumes nothing.
 use mathlib.Core.Path.{sym}
 use native.Mathlib.Omega.{arith}
-use lib.ListN.{take}
 use lib.Seq.{length-take-le}
 use Rattle.paper.specs.Answers.{plan}
 use Rattle.paper.specs.Program.{program-room}
+use Rattle.filing.specs.Filing.{orderIn}
 use Rattle.program.proofs.Telling.{within-by, handed-in}
 use Rattle.program.proofs.Room.{order-room}
 use borrow.Author.Needs.{needs}
@@ -41,7 +41,9 @@ same-length : tie.Need-same-length
 same-length c = search needs
 
 returns : tie.Need-returns
-returns c = (c .before .before .print-planned .ensures .prints (plan (c .before .before .before .before .before .before .before .before .before .before .before .before .before .before .before .args .order .bays) (take (c .before .before .before .before .before .before .before .before .before .before .before .before .before .before .before .args .order .ends) (c .before .before .before .before .before .before .before .before .before .before .before .before .before .before .before .args .ends .now)) (take (c .before .before .before .before .before .before .before .before .before .before .before .before .before .before .before .args .order .carriers) (c .before .before .before .before .before .before .before .before .before .before .before .before .before .before .before .args .starts .now)) (take (c .before .before .before .before .before .before .before .before .before .before .before .before .before .before .before .args .order .carriers) (c .before .before .before .before .before .before .before .before .before .before .before .before .before .before .before .args .goals .now)) program-room) (handed-in (c .before .before .before .before .before .before .plan2 .ensures) (slice-aggregate-plan-4 (c .before .before .before .before .before .before .before))), order-room (c .before .before .before .before .before .before .plan2 .ensures) (slice-aggregate-plan-4 (c .before .before .before .before .before .before .before)) (c .before .before .print-planned .ensures))
+returns c =
+    let s = c .before .before .before .before .before .before .before .before .before .before .before .before .before .before .before .args in
+    (c .before .before .print-planned .ensures .prints (plan (orderIn (s .order) (s .ends .now) (s .starts .now) (s .goals .now)) program-room) (handed-in (c .before .before .before .before .before .before .plan2 .ensures) (slice-aggregate-plan-4 (c .before .before .before .before .before .before .before))), order-room (c .before .before .before .before .before .before .plan2 .ensures) (slice-aggregate-plan-4 (c .before .before .before .before .before .before .before)) (c .before .before .print-planned .ensures))
 
 pub print-order-spec : {M : Type 1} → statement M
 print-order-spec =

@@ -1,10 +1,10 @@
 -- `program::print_short` meets its contract: the planner's answer is shortened, and what is left is printed.
 -- Assumes nothing.
 use mathlib.Core.Path.{sym}
-use lib.ListN.{take}
 use lib.Seq.{length-take-le}
 use Rattle.paper.specs.Answers.{plan}
 use Rattle.paper.specs.Program.{program-room}
+use Rattle.filing.specs.Filing.{orderIn}
 use Rattle.program.specs.Short.{shortAnswer}
 use Rattle.program.proofs.Shortening.{planned-in}
 use Rattle.program.proofs.Room.{short-room}
@@ -64,7 +64,7 @@ returns c =
     let s = c .before .before .before .before .before .before .before .before .before .before .before .before .before .before .before .before .before .before .before .before .before .before .args in
     let short = c .before .before .before .before .before .before .shorten-planned .ensures in
     let prints = c .before .before .print-planned .ensures in
-    (prints .prints (shortAnswer (plan (s .order .bays) (take (s .order .ends) (s .ends .now)) (take (s .order .carriers) (s .starts .now)) (take (s .order .carriers) (s .goals .now)) program-room)) (short .handed), short-room short prints)
+    (prints .prints (shortAnswer (plan (orderIn (s .order) (s .ends .now) (s .starts .now) (s .goals .now)) program-room)) (short .handed), short-room short prints)
 
 pub print-short-spec : {M : Type 1} → statement M
 print-short-spec =

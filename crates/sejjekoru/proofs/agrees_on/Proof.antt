@@ -14,7 +14,7 @@ told-agreement-requires : tie.Need-told-agreement-requires
 told-agreement-requires c κs = search needs
 
 returns : tie.Need-returns
-returns c lines e = told-as agreementNumber agreementValue (agreement-of-lent _ _ _ _ _ _ _ lines _ e (c .before .before .compare .ensures)) (c .told-agreement .ensures)
+returns c lines e = told-as agreementNumber agreementValue (agreement-of-lent _ _ _ _ lines _ e (c .before .before .compare .ensures)) (c .told-agreement .ensures)
 
 pub agrees-on-spec : {M : Type 1} → statement M
 agrees-on-spec = tie.close (tie.spec compare-requires told-agreement-requires returns)

@@ -19,10 +19,10 @@ returns c =
     record {
       tells = told-as numberOf (valueOf 0) (o .answers) (c .told-checked .ensures);
       record-then = o .leaves;
-      few = held-few _ _ _ _ _ _ _ _ _ o;
-      room = held-room _ _ _ _ _ _ _ _ _ o;
-      whole = held-whole _ _ _ _ _ _ _ _ _ o;
-      lines-then = lines-filled _ _ _ _ _ _ _ _ _ o;
+      few = held-few _ _ _ _ _ _ o;
+      room = held-room _ _ _ _ _ _ o;
+      whole = held-whole _ _ _ _ _ _ o;
+      lines-then = lines-filled _ _ _ _ _ _ o;
     }
 
 pub open-on-spec : {M : Type 1} → statement M

@@ -18,7 +18,7 @@ same-length c = search needs
 
 returns : tie.Need-returns
 returns c lines e =
-    let s = settled-of-lent _ _ _ _ _ _ _ lines _ e _ _ _ (c .before .before .before .before .before .before .report .ensures) in
+    let s = settled-of-lent _ _ _ _ lines _ e _ _ _ (c .before .before .before .before .before .before .report .ensures) in
     record {
       tells = told-as reportNumber reportValue (s .answers) (c .told-reported .ensures);
       marks-then = s .marks-then;

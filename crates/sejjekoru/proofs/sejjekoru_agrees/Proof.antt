@@ -36,6 +36,7 @@ use denote.Triple.Spec.{Meets, tripleOf}
 use denote.Triple.Table.{entered, cited}
 use denote.Triple.Walked.{says, Stays, stay-dropped, gave-ref, walkOf, AllGo, goes-dropped, goes-gave-ref, Walks, ends-at, walked, walk-meets}
 use denote.Exit.{yes}
+use Rattle.paper.specs.Order.{order}
 use Rattle.bills.specs.declared.Line.{Line}
 use Rattle.bills.specs.declared.Record.{Record}
 use Rattle.ledger.specs.declared.Held.{Held}
@@ -200,7 +201,7 @@ module _ {M : Type 1} (𝓤 : URA M) (H : Heap 𝓤) (A : Atoms 𝓤) (W : Given
 
   -- what `agrees_on` says of its result r, at the last values ws
   abbrev Said : ℕ → Lasts on.ended κs′ a′ → Type 0
-  Said r ws = AgreesOn bays (rails .now) (start .now) (goal .now) (plan .now) (marks .now) (rec .now) held r (ws .1 .1 .1 .1 .1 .1 .1 .1 .0)
+  Said r ws = AgreesOn (order bays (rails .now) (start .now) (goal .now)) (plan .now) (marks .now) (rec .now) held r (ws .1 .1 .1 .1 .1 .1 .1 .1 .0)
 
   -- of `gather`'s `ensured`, the clause alone
   gather-of : (h : Held) → ent 𝓤 (ensured 𝓤 H A gather.ended (gather.clauses 𝓤 H A mem run) (κs .1 .1 .1 .1 .1 .1 .0, tt) (lines, tt) tt h) (fact 𝓤 (h ≡ held))
@@ -215,7 +216,7 @@ module _ {M : Type 1} (𝓤 : URA M) (H : Heap 𝓤) (A : Atoms 𝓤) (W : Given
   exits r v ws e =
       qed W (raw (toks 𝓤 A 6 κs′ qs′) ∷ tok₅ ∷ (tok₆ ⊛ ‵ ftrue) ∷ ‵ (lasts on.ended κs′ a′ ws) ∷ ‵ (u64 .own r (v ∷ [])) ∷ []) ∵
       suffices ! _ (ends-at 𝓤 H A agrees.ended stayed (agrees.clauses 𝓤 H A mem run) W ((κs, qs, tt, a, vss), tt) v r ws (tt, (tt, (tt, (tt, (tt, (tt, (tt, (tt, (tt, tt)))))))))) $
-      says ! (agrees-says bays (rails .now) (start .now) (goal .now) (plan .now) (marks .now) (rec .now) (lines .now) r (ws .1 .1 .1 .1 .1 .1 .1 .1 .0) e) $
+      says ! (agrees-says (order bays (rails .now) (start .now) (goal .now)) (plan .now) (marks .now) (rec .now) (lines .now) r (ws .1 .1 .1 .1 .1 .1 .1 .1 .0) e) $
       cut (raw (toks 𝓤 A 6 κs′ qs′) ∷ []) Tokens′ _ (id⊢ 𝓤 _) $ move ! (8 ∷ []) $ split ! $
       -- [the token of the lines; true; five tokens; that of the value; true; that of the record; the last values; the result]
       move ! (2 ∷ 3 ∷ 4 ∷ 5 ∷ 6 ∷ 9 ∷ 0 ∷ 7 ∷ 8 ∷ []) $ cut Tokens (raw (toks 𝓤 A 8 κs qs) ∷ []) _ (id⊢ 𝓤 _) $ keep ! (0 ∷ 2 ∷ 3 ∷ []) $ done !

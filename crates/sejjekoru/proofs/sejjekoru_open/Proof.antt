@@ -42,6 +42,7 @@ use denote.Triple.Table.{entered, cited}
 use denote.Triple.Walked.{says, Stays, stay-dropped, stay-ref, gave-ref, gave-slice, walkOf, AllGo, goes-dropped, goes-ref, goes-gave-ref, goes-gave-slice, Walks, ends-at, walked, walk-meets}
 use denote.Exit.{yes}
 use denote.Signature.{plain, shrSliceOf}
+use Rattle.paper.specs.Order.{order}
 use Rattle.bills.specs.declared.Line.{Line}
 use Rattle.bills.specs.declared.Record.{Record}
 use Rattle.ledger.specs.declared.Held.{Held}
@@ -170,7 +171,7 @@ module _ {M : Type 1} (𝓤 : URA M) (H : Heap 𝓤) (A : Atoms 𝓤) (W : Given
 
   -- what `open_on` says of what it returns and of the last value of `value`
   abbrev On : Opening → ℕ → Type 0
-  On r z = OpenOn n (rails .now) (start .now) (goal .now) (plan .now) (marks .now) (rec .now) (length (lines .now)) r z
+  On r z = OpenOn (order n (rails .now) (start .now) (goal .now)) (plan .now) (marks .now) (rec .now) (length (lines .now)) r z
 
   abbrev last : Lasts open-on.ended κs-open a-open → ℕ
   last zs = zs .1 .1 .1 .1 .1 .1 .1 .1 .0
@@ -204,7 +205,7 @@ module _ {M : Type 1} (𝓤 : URA M) (H : Heap 𝓤) (A : Atoms 𝓤) (W : Given
       goes-fill : ent 𝓤 (⋆ 𝓤 H A (‵ (flft κ₆ q₆) ∷ ‵ (MutSlice (named 6) κ₆ L.the-row .own lines (s lines ∷ [])) ∷ [])) (Fill 𝓤 H A mem′ run .pre to-fill)
       goes-fill =
           qed W (‵ (flft κ₆ q₆) ∷ ‵ (MutSlice (named 6) κ₆ L.the-row .own lines (s lines ∷ [])) ∷ []) ∵
-          says ! (may-fill n (rails .now) (start .now) (goal .now) (plan .now) (marks .now) (rec .now) (lines .now) r z on) $
+          says ! (may-fill (order n (rails .now) (start .now) (goal .now)) (plan .now) (marks .now) (rec .now) (lines .now) r z on) $
           nothing ! $ move ! (1 ∷ 0 ∷ []) $ join ! $ frame ! $
           nothing ! $ owned ! D.the-row (Is D.the-row) (LL.makes D.the-type D′.the-plain 𝓤 H A) (r .held) _ held-is $ fjoin ! $ move ! (1 ∷ 0 ∷ []) $ fjoin ! $ done !
 
@@ -219,7 +220,7 @@ module _ {M : Type 1} (𝓤 : URA M) (H : Heap 𝓤) (A : Atoms 𝓤) (W : Given
           ∷ ‵ (finally L.the-row (lines .name) ls) ∷ ‵ (fres (value .name) (u64 .coded .code z)) ∷ ‵ (flft κ₀ q₀) ∷ ‵ (flft κ₁ q₁) ∷ ‵ (flft κ₂ q₂) ∷ ‵ (flft κ₃ q₃) ∷ ‵ (flft κ₄ q₄) ∷ ‵ (flft κ₇ q₇) ∷ ‵ ftrue ∷ []) ∵
           suffices ! _ (ends-at 𝓤 H A opens′.ended stayed (opens′.clauses 𝓤 H A mem′ run) W ((κs, qs, tt, a, vals), tt) (vint w64 (r .number)) (r .number)
           (tt, (tt, (tt, (tt, (tt, (tt, (r .record, (ls, (z, tt))))))))) (tt, (tt, (tt, (tt, (tt, (tt, (tt, (l, (tt, tt)))))))))) $
-          says ! (open-tells n (rails .now) (start .now) (goal .now) (plan .now) (marks .now) (rec .now) (lines .now) r z on ls e) $
+          says ! (open-tells (order n (rails .now) (start .now) (goal .now)) (plan .now) (marks .now) (rec .now) (lines .now) r z on ls e) $
           move ! (6 ∷ 7 ∷ 8 ∷ 9 ∷ 10 ∷ 2 ∷ 3 ∷ 11 ∷ 12 ∷ []) $ group ! 9 $ frame ! $
           -- [obs; the borrow; the last lines; the last value]
           feqI ! (List Val) (p rec ∷ []) (p rec ∷ []) refl $ fjoin3 ! $ nothing ! $ nothing ! $ nothing ! $ nothing ! $ nothing ! $ nothing ! $ nothing ! $

@@ -40,6 +40,7 @@ use denote.Triple.Spec.{Meets, tripleOf}
 use denote.Triple.Table.{entered, cited}
 use denote.Triple.Walked.{says, Stays, stay-dropped, gave-ref, gave-slice, walkOf, hasOf, AllGo, goes-dropped, goes-gave-ref, goes-gave-slice, Walks, ends-at, walked, walk-meets}
 use denote.Exit.{yes}
+use Rattle.paper.specs.Order.{order}
 use Rattle.bills.specs.declared.Line.{Line}
 use Rattle.bills.specs.declared.Record.{Record}
 use Rattle.ledger.specs.declared.Held.{Held}
@@ -234,7 +235,7 @@ module _ {M : Type 1} (𝓤 : URA M) (H : Heap 𝓤) (A : Atoms 𝓤) (W : Given
 
   -- what `report_on` says of its result r, at the last values ws, and what these are
   abbrev Said : Told → Lasts on.ended κs′ a′ → Type 0
-  Said r ws = ReportOn bays (rails .now) (start .now) (goal .now) (plan .now) (marks .now) name (rec .now) held r (ws .1 .1 .1 .1 .1 .1 .1 .1 .1 .0) (ws .1 .1 .1 .1 .1 .0)
+  Said r ws = ReportOn (order bays (rails .now) (start .now) (goal .now)) (plan .now) (marks .now) name (rec .now) held r (ws .1 .1 .1 .1 .1 .1 .1 .1 .1 .0) (ws .1 .1 .1 .1 .1 .0)
 
   abbrev Last : Lasts on.ended κs′ a′ → List (Item 𝓤)
   Last ws = ‵ ftrue ∷ ‵ ftrue ∷ ‵ ftrue ∷ ‵ ftrue ∷ ‵ ftrue ∷ ‵ (fsep (finally u8 (marks .name) (ws .1 .1 .1 .1 .1 .0)) (feq ℕ (length (ws .1 .1 .1 .1 .1 .0)) (length (marks .now)))) ∷ ‵ ftrue ∷ ‵ ftrue ∷ ‵ ftrue ∷ ‵ (fres (value .name) (u64 .coded .code (ws .1 .1 .1 .1 .1 .1 .1 .1 .1 .0))) ∷ ‵ ftrue ∷ []
@@ -278,8 +279,8 @@ module _ {M : Type 1} (𝓤 : URA M) (H : Heap 𝓤) (A : Atoms 𝓤) (W : Given
       qed W (raw (toks 𝓤 A 6 κs′ qs′) ∷ tok₅ ∷ (tok₆ ⊛ ‵ ftrue) ∷ ‵ (fres (rec .name) (R.the-row .coded .code (r .record))) ∷ ‵ (finally L.the-row (lines .name) zs) ∷ ‵ (lasts on.ended κs′ a′ ws) ∷ []) ∵
       move ! (5 ∷ []) $ cut (‵ (lasts on.ended κs′ a′ ws) ∷ []) (Last ws) _ (id⊢ 𝓤 _) $ move ! (5 ∷ []) $ fsplit ! $ move ! (1 ∷ []) $ feqL ! (λ marks-long.
       suffices ! _ (ends-at 𝓤 H A report.ended stayed (report.clauses 𝓤 H A mem run) W ((κs, qs, tt, a, vss), tt) (vint w64 (r .number)) (r .number) (at-exit r ws zs) (tt, (tt, (tt, (tt, (tt, (marks-long, (tt, (tt, (long, (tt, tt))))))))))) $
-      says ! (subst (λ (z : List Line). ReportBilledTells bays (rails .now) (start .now) (goal .now) (plan .now) (marks .now) name (rec .now) (lines .now) (r .number) (ws .1 .1 .1 .1 .1 .1 .1 .1 .1 .0) (ws .1 .1 .1 .1 .1 .0) (r .record) z) (sym e)
-      (report-says bays (rails .now) (start .now) (goal .now) (plan .now) (marks .now) name (rec .now) (lines .now) r (ws .1 .1 .1 .1 .1 .1 .1 .1 .1 .0) (ws .1 .1 .1 .1 .1 .0) said)) $
+      says ! (subst (λ (z : List Line). ReportBilledTells (order bays (rails .now) (start .now) (goal .now)) (plan .now) (marks .now) name (rec .now) (lines .now) (r .number) (ws .1 .1 .1 .1 .1 .1 .1 .1 .1 .0) (ws .1 .1 .1 .1 .1 .0) (r .record) z) (sym e)
+      (report-says (order bays (rails .now) (start .now) (goal .now)) (plan .now) (marks .now) name (rec .now) (lines .now) r (ws .1 .1 .1 .1 .1 .1 .1 .1 .1 .0) (ws .1 .1 .1 .1 .1 .0) said)) $
       -- [the last marks; five true; three true; the last value; true; the six tokens; that of the record; that of the lines; the last record; the last lines]
       move ! (11 ∷ []) $ cut (raw (toks 𝓤 A 6 κs′ qs′) ∷ []) Tokens′ _ (id⊢ 𝓤 _) $ move ! (19 ∷ []) $ split ! $
       -- [the token of the lines; true; five tokens; that of the value; true; the last marks; five true; three true; the last value; true; the token of the record; the last record; the last lines]

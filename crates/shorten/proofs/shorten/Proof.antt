@@ -1,5 +1,6 @@
 -- `shorten::shorten` meets its contract. Each way out is one law of proofs/Saying.
 -- Assumes nothing.
+use Rattle.paper.specs.Order.{order}
 use Rattle.shorten.proofs.Saying.{fits, short-plan, lawful, says-refused, says-mismarked, says-begun, says-room}
 use Rattle.checker.specs.Reading.{checkedOf}
 use denote.Ref.{now}
@@ -15,34 +16,34 @@ enum-known-checked : tie.Need-enum-known-checked
 enum-known-checked c = search needs
 
 returns : tie.Need-returns
-returns c = let s = c .before .before .before .before .before .before .before .before .before .before in says-refused (s .args .bays) (now (s .args .rails)) (now (s .args .start)) (now (s .args .goal)) (now (s .args .plan)) (now (s .args .marks)) (now (s .args .out)) _ (ap checkedOf (sym (c .before .checked .given .1)) ∙ c .before .before .before .check .ensures)
+returns c = let s = c .before .before .before .before .before .before .before .before .before .before in says-refused (order (s .args .bays) (now (s .args .rails)) (now (s .args .start)) (now (s .args .goal))) (now (s .args .plan)) (now (s .args .marks)) (now (s .args .out)) _ (ap checkedOf (sym (c .before .checked .given .1)) ∙ c .before .before .before .check .ensures)
 
 enum-told : tie.Need-enum-told
 enum-told c = search needs
 
 bad-marks-requires : tie.Need-bad-marks-requires
-bad-marks-requires c κs = let s = c .before .before .before .before .before .before .before .before .before in fits (s .args .bays) (now (s .args .rails)) (now (s .args .start)) (now (s .args .goal)) (now (s .args .plan)) (now (s .args .marks)) (now (s .args .out)) (ap checkedOf (sym (c .enum-told .given .1)) ∙ c .before .before .check .ensures)
+bad-marks-requires c κs = let s = c .before .before .before .before .before .before .before .before .before in fits (order (s .args .bays) (now (s .args .rails)) (now (s .args .start)) (now (s .args .goal))) (now (s .args .plan)) (now (s .args .marks)) (now (s .args .out)) (ap checkedOf (sym (c .enum-told .given .1)) ∙ c .before .before .check .ensures)
 
 returns-2 : tie.Need-returns-2
-returns-2 c = let s = c .before .before .before .before .before .before .before .before .before .before .before in says-mismarked (s .args .bays) (now (s .args .rails)) (now (s .args .start)) (now (s .args .goal)) (now (s .args .plan)) (now (s .args .marks)) (now (s .args .out)) (ap checkedOf (sym (c .before .before .enum-told .given .1)) ∙ c .before .before .before .before .check .ensures) (sym (c .before .bad-marks .ensures) ∙ c .if1 .taken)
+returns-2 c = let s = c .before .before .before .before .before .before .before .before .before .before .before in says-mismarked (order (s .args .bays) (now (s .args .rails)) (now (s .args .start)) (now (s .args .goal))) (now (s .args .plan)) (now (s .args .marks)) (now (s .args .out)) (ap checkedOf (sym (c .before .before .enum-told .given .1)) ∙ c .before .before .before .before .check .ensures) (sym (c .before .bad-marks .ensures) ∙ c .if1 .taken)
 
 any-done-requires : tie.Need-any-done-requires
 any-done-requires c κs = search needs
 
 returns-3 : tie.Need-returns-3
-returns-3 c = let s = c .before .before .before .before .before .before .before .before .before .before .before .before .before in says-begun (s .args .bays) (now (s .args .rails)) (now (s .args .start)) (now (s .args .goal)) (now (s .args .plan)) (now (s .args .marks)) (now (s .args .out)) (ap checkedOf (sym (c .before .before .before .before .enum-told .given .1)) ∙ c .before .before .before .before .before .before .check .ensures) (sym (c .before .before .before .bad-marks .ensures) ∙ c .before .before .if1 .left) (sym (c .before .any-done .ensures) ∙ c .if2 .taken)
+returns-3 c = let s = c .before .before .before .before .before .before .before .before .before .before .before .before .before in says-begun (order (s .args .bays) (now (s .args .rails)) (now (s .args .start)) (now (s .args .goal))) (now (s .args .plan)) (now (s .args .marks)) (now (s .args .out)) (ap checkedOf (sym (c .before .before .before .before .enum-told .given .1)) ∙ c .before .before .before .before .before .before .check .ensures) (sym (c .before .before .before .bad-marks .ensures) ∙ c .before .before .if1 .left) (sym (c .before .any-done .ensures) ∙ c .if2 .taken)
 
 shorten-checked-requires : tie.Need-shorten-checked-requires
 shorten-checked-requires c κs =
     let s = c .before .before .before .before .before .before .before .before .before .before .before .before .before .before in
     let passes = ap checkedOf (sym (c .before .before .before .before .before .enum-told .given .1)) ∙ c .before .before .before .before .before .before .before .check .ensures in
-    (lawful (s .args .bays) (now (s .args .rails)) (now (s .args .start)) (now (s .args .goal)) (now (s .args .plan)) (now (s .args .marks)) (now (s .args .out)) passes, short-plan (s .args .bays) (now (s .args .rails)) (now (s .args .start)) (now (s .args .goal)) (now (s .args .plan)) (now (s .args .marks)) (now (s .args .out)) passes)
+    (lawful (order (s .args .bays) (now (s .args .rails)) (now (s .args .start)) (now (s .args .goal))) (now (s .args .plan)) (now (s .args .marks)) (now (s .args .out)) passes, short-plan (order (s .args .bays) (now (s .args .rails)) (now (s .args .start)) (now (s .args .goal))) (now (s .args .plan)) (now (s .args .marks)) (now (s .args .out)) passes)
 
 same-length : tie.Need-same-length
 same-length c = search needs
 
 returns-4 : tie.Need-returns-4
-returns-4 c = let s = c .before .before .before .before .before .before .before .before .before .before .before .before .before .before .before .before .before in says-room (s .args .bays) (now (s .args .rails)) (now (s .args .start)) (now (s .args .goal)) (now (s .args .plan)) (now (s .args .marks)) (now (s .args .out)) (ap checkedOf (sym (c .before .before .before .before .before .before .before .before .enum-told .given .1)) ∙ c .before .before .before .before .before .before .before .before .before .before .check .ensures) (sym (c .before .before .before .before .before .before .before .bad-marks .ensures) ∙ c .before .before .before .before .before .before .if1 .left) (sym (c .before .before .before .before .before .any-done .ensures) ∙ c .before .before .before .before .if2 .left) (c .before .before .shorten-checked .result) _ (c .before .before .shorten-checked .ensures)
+returns-4 c = let s = c .before .before .before .before .before .before .before .before .before .before .before .before .before .before .before .before .before in says-room (order (s .args .bays) (now (s .args .rails)) (now (s .args .start)) (now (s .args .goal))) (now (s .args .plan)) (now (s .args .marks)) (now (s .args .out)) (ap checkedOf (sym (c .before .before .before .before .before .before .before .before .enum-told .given .1)) ∙ c .before .before .before .before .before .before .before .before .before .before .check .ensures) (sym (c .before .before .before .before .before .before .before .bad-marks .ensures) ∙ c .before .before .before .before .before .before .if1 .left) (sym (c .before .before .before .before .before .any-done .ensures) ∙ c .before .before .before .before .if2 .left) (c .before .before .shorten-checked .result) _ (c .before .before .shorten-checked .ensures)
 
 pub shorten-spec : {M : Type 1} → statement M
 shorten-spec =

@@ -17,13 +17,13 @@ clear-requires-2 : tie.Need-clear-requires-2
 clear-requires-2 c κs = search needs
 
 returns : tie.Need-returns
-returns c = opens-cleared _ _ _ _ _ _ _ _ _ (c .before .before .before .before .before .first-six .ensures) (c .before .before .before .tested .given .1) (c .clear2 .ensures)
+returns c = opens-cleared _ _ _ _ _ _ (c .before .before .before .before .before .first-six .ensures) (c .before .before .before .tested .given .1) (c .clear2 .ensures)
 
 enum-told : tie.Need-enum-told
 enum-told c = search needs
 
 returns-2 : tie.Need-returns-2
-returns-2 c = opens-admitted _ _ _ _ _ _ _ _ (c .before .before .first-six .ensures) (c .enum-told .given .1)
+returns-2 c = opens-admitted _ _ _ _ _ (c .before .before .first-six .ensures) (c .enum-told .given .1)
 
 pub open-spec : {M : Type 1} → statement M
 open-spec =
