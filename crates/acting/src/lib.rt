@@ -9,7 +9,8 @@ ghost use Rattle.vacate.specs.Bounds.{room-crossing};
 ghost use Rattle.vacate.specs.Placed.{CrossAsks};
 ghost use Rattle.acting.specs.Acting.{Tabled, Ready, AsFar, Added, FilledIn, Filling, Counts, junctions, RoomAsks, RoomSays, CrossCounts, FillCounts};
 
-// What is counted: crossings, and the vacates that filled a bay of three rails or more.
+// What is counted: crossings, and the vacates that filled a bay of three rails or more. Whoever takes a tally out of an answer makes it anew from its two
+// numbers: they are then read one by one, as they were written. Copied whole, both are read at once, which waits until both are stored.
 pub struct Tally {
     pub crossings: usize,
     pub parked: usize,

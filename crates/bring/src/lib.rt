@@ -92,8 +92,12 @@ fn bring_one(
     words::alone(&mut held, u as usize);
     words::join(&mut held, w as usize);
     let vacated = acting::make_room(table, &held, x, placement, standing, empty, out, at);
-    let Tried::Done(a) = vacated else {
+    let Tried::Done(done) = vacated else {
         return Tried::Failed;
+    };
+    let a = Tally {
+        crossings: done.crossings,
+        parked: done.parked,
     };
     Tried::Done(enter(l, m, x, placement, standing, empty, out, a))
 }
@@ -130,8 +134,12 @@ pub fn bring(
     while i < path.len() {
         let x = Bay(path[i]);
         let one = bring_one(table, l, m, x, placement, standing, empty, out, count);
-        let Tried::Done(c) = one else {
+        let Tried::Done(done) = one else {
             return Tried::Failed;
+        };
+        let c = Tally {
+            crossings: done.crossings,
+            parked: done.parked,
         };
         count = c;
         i += 1;

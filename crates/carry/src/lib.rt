@@ -62,8 +62,12 @@ fn carry_along(
         out,
         at,
     );
-    let Tried::Done(m) = gone else {
+    let Tried::Done(done) = gone else {
         return Staged::Stuck(r);
+    };
+    let m = Tally {
+        crossings: done.crossings,
+        parked: done.parked,
     };
     let own = r.0 as usize;
     words::add(settled, placement[own] as usize);
@@ -208,8 +212,12 @@ pub fn carry_all(
             out,
             count,
         );
-        let Staged::Planned(m) = carried else {
+        let Staged::Planned(done) = carried else {
             return carried;
+        };
+        let m = Tally {
+            crossings: done.crossings,
+            parked: done.parked,
         };
         count = m;
         r += 1;

@@ -57,7 +57,11 @@ fn keep_one(
     while x < words::SPAN {
         let bay = Bay(x as u16);
         let vacated = acting::make_room(table, held, bay, placement, standing, empty, out, at);
-        if let Tried::Done(m) = vacated {
+        if let Tried::Done(done) = vacated {
+            let m = Tally {
+                crossings: done.crossings,
+                parked: done.parked,
+            };
             return Kept::One(bay, m);
         }
         x = words::next_from(others, x + 1);

@@ -51,8 +51,12 @@ fn vacate_both(
     words::alone(&mut held, v.0 as usize);
     words::join(&mut held, b.0 as usize);
     let vacated = acting::make_room(table, &held, x, placement, standing, empty, out, at);
-    let Tried::Done(m) = vacated else {
+    let Tried::Done(done) = vacated else {
         return Tried::Failed;
+    };
+    let m = Tally {
+        crossings: done.crossings,
+        parked: done.parked,
     };
     words::join(&mut held, x.0 as usize);
     acting::make_room(table, &held, e, placement, standing, empty, out, m)
@@ -94,8 +98,12 @@ fn go_round(
 {
     let forth = bring::enter(l, m, e, placement, standing, empty, out, at);
     let vacated = vacate_both(table, v, e, b, x, placement, standing, empty, out, forth);
-    let Tried::Done(c) = vacated else {
+    let Tried::Done(done) = vacated else {
         return Tried::Failed;
+    };
+    let c = Tally {
+        crossings: done.crossings,
+        parked: done.parked,
     };
     Tried::Done(bring::enter(m, l, b, placement, standing, empty, out, c))
 }
@@ -224,7 +232,11 @@ fn first_kept(
             empty,
             log,
         );
-        if let Tried::Done(c) = tried {
+        if let Tried::Done(done) = tried {
+            let c = Tally {
+                crossings: done.crossings,
+                parked: done.parked,
+            };
             return Kept::One(bay, c);
         }
         x = words::next_from(others, x + 1);

@@ -92,8 +92,12 @@ pub fn go(
             out,
             count,
         );
-        let Tried::Done(m) = one else {
+        let Tried::Done(done) = one else {
             return Tried::Failed;
+        };
+        let m = Tally {
+            crossings: done.crossings,
+            parked: done.parked,
         };
         count = m;
         i += 1;

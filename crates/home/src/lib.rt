@@ -86,8 +86,12 @@ fn home_at(
         out,
         at,
     );
-    let Tried::Done(m) = one else {
+    let Tried::Done(done) = one else {
         return Staged::Stuck(f);
+    };
+    let m = Tally {
+        crossings: done.crossings,
+        parked: done.parked,
     };
     Staged::Planned(m)
 }
@@ -141,8 +145,12 @@ pub fn way_home(
             out,
             count,
         );
-        let Staged::Planned(m) = homed else {
+        let Staged::Planned(done) = homed else {
             return homed;
+        };
+        let m = Tally {
+            crossings: done.crossings,
+            parked: done.parked,
         };
         count = m;
     }

@@ -43,10 +43,14 @@ fn make_way(
     words::keep(&mut held, 0, settled);
     words::add(&mut held, placement[own] as usize);
     let vacated = acting::make_room(table, &held, w, placement, standing, empty, out, at);
-    let Tried::Done(a) = vacated else {
+    let Tried::Done(done) = vacated else {
         let bay = w.0 as usize;
         let s = Carrier(standing[bay] as u32);
         return swap::swap(table, r, s, placement, standing, empty, out, at);
+    };
+    let a = Tally {
+        crossings: done.crossings,
+        parked: done.parked,
     };
     let u = Bay(placement[own]);
     Tried::Done(acting::cross(placement, standing, empty, u, w, out, a))
@@ -262,8 +266,12 @@ pub fn step(
         out,
         at,
     );
-    let Tried::Done(m) = stepped else {
+    let Tried::Done(done) = stepped else {
         return Tried::Failed;
+    };
+    let m = Tally {
+        crossings: done.crossings,
+        parked: done.parked,
     };
     settle(settled, u, w);
     Tried::Done(m)

@@ -28,11 +28,11 @@ abbrev μ-loop : tie.MeasureT-loop
 loop-holds : tie.Need-loop-holds Inv-loop μ-loop
 loop-holds c = (omega arith, omega arith, refl, refl, refl, refl, λ t. bringing-none _ _ _ _ _ _ _ _ _ _ (c .before .before .before .before .before .before .pre .0 .placed))
 
-mul-t15 : tie.Need-mul-t15 Inv-loop μ-loop
-mul-t15 c = search needs
+mul-t16 : tie.Need-mul-t16 Inv-loop μ-loop
+mul-t16 c = search needs
 
-shared-slice-read-t18 : tie.Need-shared-slice-read-t18 Inv-loop μ-loop
-shared-slice-read-t18 c = search needs
+shared-slice-read-t19 : tie.Need-shared-slice-read-t19 Inv-loop μ-loop
+shared-slice-read-t19 c = search needs
 
 bring-one-requires : tie.Need-bring-one-requires Inv-loop μ-loop
 bring-one-requires c κs =
@@ -131,8 +131,8 @@ bring-spec =
     Inv-loop
     μ-loop
     loop-holds
-    mul-t15
-    shared-slice-read-t18
+    mul-t16
+    shared-slice-read-t19
     bring-one-requires
     enum-known-one
     enum-told

@@ -32,8 +32,8 @@ next-from-requires c κs = search needs
 loop-holds : tie.Need-loop-holds Inv-loop μ-loop
 loop-holds c = let l = c .next-from .ensures in (l .upto, l .from, l .hit, refl, refl, refl, refl, record { same-placement = refl; same-standing = refl; same-empty = refl; same-list = refl }, λ v. stuck-none _ _ _ _ _ _ l)
 
-cast-t15 : tie.Need-cast-t15 Inv-loop μ-loop
-cast-t15 c = search needs
+cast-t16 : tie.Need-cast-t16 Inv-loop μ-loop
+cast-t16 c = search needs
 
 make-room-requires : tie.Need-make-room-requires Inv-loop μ-loop
 make-room-requires c κs =
@@ -130,7 +130,7 @@ keep-one-spec =
     μ-loop
     next-from-requires
     loop-holds
-    cast-t15
+    cast-t16
     make-room-requires
     enum-known-vacated
     same-length

@@ -29,8 +29,8 @@ next-from-requires c κs = search needs
 loop-holds : tie.Need-loop-holds Inv-loop μ-loop
 loop-holds c = let l = c .next-from .ensures in (l .upto, l .hit, refl, λ t j. failing-none _ _ _ _ l)
 
-cast-t18 : tie.Need-cast-t18 Inv-loop μ-loop
-cast-t18 c = search needs
+cast-t19 : tie.Need-cast-t19 Inv-loop μ-loop
+cast-t19 c = search needs
 
 attempt-requires : tie.Need-attempt-requires Inv-loop μ-loop
 attempt-requires c κs =
@@ -87,7 +87,7 @@ first-kept-spec =
     μ-loop
     next-from-requires
     loop-holds
-    cast-t18
+    cast-t19
     attempt-requires
     enum-known-tried
     same-length

@@ -26,8 +26,8 @@ slice-read-if2 c = omega (arith, c .before .if1 .left, c .before .before .before
 returns-2 : tie.Need-returns-2
 returns-2 c = (at-most (omega arith), λ t. stages-none (home-there _ _ _ _ _ _ (c .before .before .before .before .bound-for .ensures) (c .before .before .before .if1 .left) (c .if2 .taken)) (c .before .before .before .before .before .before .before .before .before .before .before .before .before .pre .0 .placed), c .before .before .before .before .before .before .before .before .before .before .before .before .before .pre .1 .7)
 
-cast-t20 : tie.Need-cast-t20
-cast-t20 c =
+cast-t21 : tie.Need-cast-t21
+cast-t21 c =
     let p = c .before .before .before .before .before .before .before .before .before .before .before .before .before .pre .0 in
     let z = c .before .before .before .before .before .before .before .before .before .before .before .before .before .pre .1 in
     omega (arith, c .before .before .before .if1 .left, z .0, z .1, p .placed .few, p .most)
@@ -95,7 +95,7 @@ home-at-spec =
     mul-if2
     slice-read-if2
     returns-2
-    cast-t20
+    cast-t21
     step-requires
     enum-known-one
     enum-told

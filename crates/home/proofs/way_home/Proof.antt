@@ -34,11 +34,11 @@ loop-holds c = (omega arith, omega arith, refl, refl, refl, refl, λ h. rw (drop
 sub-i : tie.Need-sub-i Inv-loop μ-loop
 sub-i c = search needs
 
-mul-t18 : tie.Need-mul-t18 Inv-loop μ-loop
-mul-t18 c = search needs
+mul-t19 : tie.Need-mul-t19 Inv-loop μ-loop
+mul-t19 c = search needs
 
-shared-slice-read-t20 : tie.Need-shared-slice-read-t20 Inv-loop μ-loop
-shared-slice-read-t20 c = search needs
+shared-slice-read-t21 : tie.Need-shared-slice-read-t21 Inv-loop μ-loop
+shared-slice-read-t21 c = search needs
 
 home-at-requires : tie.Need-home-at-requires Inv-loop μ-loop
 home-at-requires c κs =
@@ -154,8 +154,8 @@ way-home-spec =
     μ-loop
     loop-holds
     sub-i
-    mul-t18
-    shared-slice-read-t20
+    mul-t19
+    shared-slice-read-t21
     home-at-requires
     enum-known-homed
     enum-told

@@ -55,14 +55,14 @@ enum-told c = search needs
 cast-bay : tie.Need-cast-bay
 cast-bay c = search needs
 
-mul-t37 : tie.Need-mul-t37
-mul-t37 c = search needs
+mul-t38 : tie.Need-mul-t38
+mul-t38 c = search needs
 
-slice-read-t39 : tie.Need-slice-read-t39
-slice-read-t39 c = omega (arith, c .before .before .before .before .before .before .before .before .before .before .before .before .before .before .before .before .before .before .before .before .before .before .before .before .before .before .before .before .before .before .before .before .pre .1 .2, c .before .before .before .before .before .before .before .before .before .before .before .before .make-room .kept .1 .1 .1 .1 .0)
+slice-read-t40 : tie.Need-slice-read-t40
+slice-read-t40 c = omega (arith, c .before .before .before .before .before .before .before .before .before .before .before .before .before .before .before .before .before .before .before .before .before .before .before .before .before .before .before .before .before .before .before .before .pre .1 .2, c .before .before .before .before .before .before .before .before .before .before .before .before .make-room .kept .1 .1 .1 .1 .0)
 
-cast-t40 : tie.Need-cast-t40
-cast-t40 c =
+cast-t41 : tie.Need-cast-t41
+cast-t41 c =
     let p = c .before .before .before .before .before .before .before .before .before .before .before .before .before .before .before .before .before .before .before .before .before .before .before .before .before .before .before .before .before .before .before .before .pre .0 in
     let z = c .before .before .before .before .before .before .before .before .before .before .before .before .before .before .before .before .before .before .before .before .before .before .before .before .before .before .before .before .before .before .before .before .pre .1 in
     let e : c .before .before .before .before .before .before .before .before .before .before .before .before .make-room .result ≡ Failed = c .before .before .enum-told .given .1 in
@@ -121,11 +121,11 @@ returns c =
           ((rw (u .same-placement, u .same-standing, u .same-empty, u .same-list) at (c .before .before .before .before .before .before .swap .ensures .1)) t (met-beside t (p .most) (z .4) (c .before .before .before .before .before .before .before .before .before .before .before .before .before .before .before .before .before .before .before .before .before .before .before .before .before .before .before .before .before .before .before .before .before .before .before .before .before .before .before .before .before .before .before .args .finished) (c .before .before .before .before .before .before .before .before .before .before .before .before .before .before .before .before .before .before .before .before .before .before .before .before .before .before .before .before .before .before .before .before .before .before .before .before .before .before .before .before .before .before .before .args .r .0) (c .before .before .before .before .before .before .before .before .before .before .before .before .before .before .before .before .before .before .before .before .before .before .before .before .before .before .before .before .before .before .before .before .before .before .before .before .before .before .before .before .before .before .before .args .w .0) (c .before .before .before .before .before .before .before .before .before .before .before .before .before .before .before .before .before .before .before .before .before .before .before .before .before .before .before .before .before .before .before .before .before .before .before .before .before .before .before .before .before .before .before .args .placement .now) (p .placed) (z .0) (z .2) (z .3) f))),
     )
 
-mul-t23 : tie.Need-mul-t23
-mul-t23 c = search needs
+mul-t24 : tie.Need-mul-t24
+mul-t24 c = search needs
 
-slice-read-t25 : tie.Need-slice-read-t25
-slice-read-t25 c = omega (arith, c .before .before .before .before .before .before .before .before .before .before .before .before .before .before .before .before .before .before .before .before .before .before .before .before .before .before .before .before .before .before .before .before .pre .1 .0, c .before .before .before .before .before .before .before .before .before .before .before .before .make-room .kept .1 .1 .1 .0)
+slice-read-t26 : tie.Need-slice-read-t26
+slice-read-t26 c = omega (arith, c .before .before .before .before .before .before .before .before .before .before .before .before .before .before .before .before .before .before .before .before .before .before .before .before .before .before .before .before .before .before .before .before .pre .1 .0, c .before .before .before .before .before .before .before .before .before .before .before .before .make-room .kept .1 .1 .1 .0)
 
 cross-requires : tie.Need-cross-requires
 cross-requires c κs =
@@ -191,17 +191,17 @@ make-way-spec =
     enum-known-vacated
     enum-told
     cast-bay
-    mul-t37
-    slice-read-t39
-    cast-t40
+    mul-t38
+    slice-read-t40
+    cast-t41
     swap-requires
     same-length
     same-length-2
     same-length-3
     same-length-4
     returns
-    mul-t23
-    slice-read-t25
+    mul-t24
+    slice-read-t26
     cross-requires
     same-length-5
     same-length-6

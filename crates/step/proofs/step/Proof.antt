@@ -12,11 +12,11 @@ use Rattle.step.proofs.step.Tie as tie
 cast-own : tie.Need-cast-own
 cast-own c = search needs
 
-mul-t15 : tie.Need-mul-t15
-mul-t15 c = search needs
+mul-t16 : tie.Need-mul-t16
+mul-t16 c = search needs
 
-slice-read-t17 : tie.Need-slice-read-t17
-slice-read-t17 c = search needs
+slice-read-t18 : tie.Need-slice-read-t18
+slice-read-t18 c = search needs
 
 step-to-requires : tie.Need-step-to-requires
 step-to-requires c κs = search needs
@@ -89,8 +89,8 @@ step-spec =
     tie.close
     (tie.spec
     cast-own
-    mul-t15
-    slice-read-t17
+    mul-t16
+    slice-read-t18
     step-to-requires
     enum-known-stepped
     enum-told
