@@ -107,6 +107,18 @@ uint64_t sejjekoru_plan(uint64_t bays,
                         uint64_t *parked,
                         uint64_t *value);
 
+/*
+ * The same for a small stack: for every input the answer, `value`, `parked` and what stands in `plan` are those of sejjekoru_plan. A plan of more than
+ * 1,024 crossings is made twice, and crowded yards are searched without the help of levels, so it takes longer. Answers 0 to 8.
+ */
+uint64_t sejjekoru_plan_lean(uint64_t bays,
+                             const uint16_t *rails, size_t rails_len,
+                             const uint16_t *start, size_t start_len,
+                             const uint16_t *goal, size_t goal_len,
+                             uint64_t *plan, size_t plan_len,
+                             uint64_t *parked,
+                             uint64_t *value);
+
 /* Whether the plan is legal and brings every carrier home. Answers 0 to 6, 9, 10. */
 uint64_t sejjekoru_check(uint64_t bays,
                          const uint16_t *rails, size_t rails_len,
