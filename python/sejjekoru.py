@@ -15,7 +15,8 @@ exceptions with words. It needs Python 3.8 or later and nothing else.
 A map and a scenario are read from their bytes: `read_scenario(map_file, scenario_file)` is an Order. Functions that take a plan take any list of Crossing.
 
 The library is looked for in the file that SEJJEKORU_LIBRARY names, then in build/ beside this folder (./build-library writes it), then where the system
-keeps its libraries. Planning uses about 800 KiB of stack: see threading.stack_size before you plan in a thread with less.
+keeps its libraries. Planning uses about 800 KiB of stack: see threading.stack_size before you plan in a thread with less, or call
+plan_lean, which needs @LEAN@ KiB.
 """
 
 import ctypes

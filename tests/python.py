@@ -204,6 +204,7 @@ def files():
         due, map_file, scenario = (due_file.with_suffix(kind).read_bytes() for kind in (".out", ".map", ".scen"))
         assert s.program(map_file, scenario) == due, due_file
         assert printed(lambda: s.print_plan(s.plan(s.read_scenario(map_file, scenario)))) == due, due_file
+        assert printed(lambda: s.print_plan(s.plan_lean(s.read_scenario(map_file, scenario))[0])) == due, due_file
         assert printed(lambda: s.print_plan(s.plan(linked(map_file, scenario, 1 + run % 256)))) == due, due_file
         if not due.startswith(b"; refused"):
             plan = [tuple(map(int, move)) for move in re.findall(rb"\(move c(\d+) b(\d+) b(\d+)\)", due)]
