@@ -15,10 +15,11 @@
  *
  * Nothing is kept between calls and nothing is allocated: threads may call at the same time, each with its own of what may be written.
  *
- * Stack, measured on x86-64 and on ARM and rounded up: sejjekoru_plan needs 820 KiB, and more than 512 KiB even for no bays; sejjekoru_program and
+ * Stack, measured on x86-64 and on ARM and rounded up: sejjekoru_plan needs 820 KiB, and more than 512 KiB even for no bays;
+ * sejjekoru_plan_lean @LEAN@ KiB; sejjekoru_program and
  * sejjekoru_program_timed 1,280 KiB; sejjekoru_shorten 345 KiB; sejjekoru_agrees and sejjekoru_report_billed 40 KiB; sejjekoru_open and the functions on
- * a link 24 KiB; all others 16 KiB or less. Threads with 512 KiB of stack, as some systems give by default, cannot plan: give them a megabyte or more,
- * and two for the program. tests/stack measures it again.
+ * a link 24 KiB; all others 16 KiB or less. Threads with 512 KiB of stack, as some systems give by default, cannot call sejjekoru_plan: give them a megabyte or more,
+ * and two for the program; or call sejjekoru_plan_lean. tests/stack measures it again.
  *
  * The library of dist/ has unwind tables, so a debugger shows who called; it has no line numbers, since the prover's compiler gives none.
  */
@@ -106,6 +107,18 @@ uint64_t sejjekoru_plan(uint64_t bays,
                         uint64_t *plan, size_t plan_len,
                         uint64_t *parked,
                         uint64_t *value);
+
+/*
+ * The same for a small stack: for every input the answer, `value`, `parked` and what stands in `plan` are those of sejjekoru_plan. A plan of more than
+ * 1,024 crossings is made twice, and crowded yards are searched without the help of levels, so it takes longer. Answers 0 to 8.
+ */
+uint64_t sejjekoru_plan_lean(uint64_t bays,
+                             const uint16_t *rails, size_t rails_len,
+                             const uint16_t *start, size_t start_len,
+                             const uint16_t *goal, size_t goal_len,
+                             uint64_t *plan, size_t plan_len,
+                             uint64_t *parked,
+                             uint64_t *value);
 
 /* Whether the plan is legal and brings every carrier home. Answers 0 to 6, 9, 10. */
 uint64_t sejjekoru_check(uint64_t bays,

@@ -15,7 +15,8 @@ exceptions with words. It needs Python 3.8 or later and nothing else.
 A map and a scenario are read from their bytes: `read_scenario(map_file, scenario_file)` is an Order. Functions that take a plan take any list of Crossing.
 
 The library is looked for in the file that SEJJEKORU_LIBRARY names, then in build/ beside this folder (./build-library writes it), then where the system
-keeps its libraries. Planning uses about 800 KiB of stack: see threading.stack_size before you plan in a thread with less.
+keeps its libraries. Planning uses about 800 KiB of stack: see threading.stack_size before you plan in a thread with less, or call
+plan_lean, which needs @LEAN@ KiB.
 """
 
 import ctypes
@@ -34,6 +35,7 @@ __all__ = [
     "Link",
     "plan",
     "plan_counted",
+    "plan_lean",
     "check",
     "slots",
     "slots_of",
@@ -205,6 +207,7 @@ _link = ctypes.POINTER(_Link)
 _order = (_number, *_bays, *_bays, *_bays)
 
 _plan = _declare("sejjekoru_plan", *_order, *_long, _value, _value)
+_plan_lean = _declare("sejjekoru_plan_lean", *_order, *_long, _value, _value)
 _check = _declare("sejjekoru_check", *_order, *_long, _value)
 _slots = _declare("sejjekoru_slots", *_order, *_long, *_slot, _value)
 _slots_of = _declare("sejjekoru_slots_of", _number, *_order, *_long, *_slot, _value)
@@ -313,9 +316,18 @@ def plan(order: Order, room: int = MOST_CROSSINGS) -> List[Crossing]:
 
 def plan_counted(order: Order, room: int = MOST_CROSSINGS) -> Tuple[List[Crossing], int]:
     """The plan, and how often a carrier was moved out of the way into a bay of three rails or more, undoing left aside. Raises Refused, 1 to 8."""
+    return _planned(_plan, order, room)
+
+
+def plan_lean(order: Order, room: int = MOST_CROSSINGS) -> Tuple[List[Crossing], int]:
+    """The same as plan_counted for every order, for a thread with a small stack. It takes longer."""
+    return _planned(_plan_lean, order, room)
+
+
+def _planned(function: Callable[..., int], order: Order, room: int) -> Tuple[List[Crossing], int]:
     out, parked, value = (ctypes.c_uint64 * room)(), ctypes.c_uint64(), ctypes.c_uint64()
     words = (out, room, ctypes.byref(parked), ctypes.byref(value))
-    length = _told(_plan(*_order_words(order), *words), value)
+    length = _told(function(*_order_words(order), *words), value)
     return _unpack(out[:length]), parked.value
 
 

@@ -127,6 +127,15 @@ static uint64_t call_plan(size_t room)
     return end(sejjekoru_plan(ORDER, other, room, &parked, &value));
 }
 
+static uint64_t call_plan_lean(size_t room)
+{
+    order_arguments("sejjekoru_plan_lean");
+    LIST(other, room);
+    POINTER(&parked);
+    POINTER(&value);
+    return end(sejjekoru_plan_lean(ORDER, other, room, &parked, &value));
+}
+
 static uint64_t call_check(void)
 {
     order_arguments("sejjekoru_check");
@@ -606,6 +615,10 @@ static void plan_vector(char *text, unsigned long place)
     answer = call_plan(room);
     agree("plan", place, answer, head[0], head[1]);
     same("plan", place, memcmp(other, right, written * sizeof *right) == 0);
+    memset(other, 0xa5, room * sizeof *other);
+    answer = call_plan_lean(room);
+    agree("plan_lean", place, answer, head[0], head[1]);
+    same("plan_lean", place, memcmp(other, right, written * sizeof *right) == 0);
 }
 
 static void plan_vectors(const char *path)
@@ -717,6 +730,8 @@ static void random_order(void)
 static void random_plan(void)
 {
     uint64_t i;
+    if (roll(4) == 0)
+        call_plan_lean(roll(30) == 0 ? (size_t)roll(20) : 3000);
     crossings = call_plan(roll(30) == 0 ? (size_t)roll(20) : 3000) == 0 ? (size_t)value : (size_t)roll(4);
     memcpy(plan, other, crossings * sizeof *plan);
     if (crossings == 0 || roll(3) > 0)

@@ -39,6 +39,9 @@ static void nothing(uint64_t bays, uint64_t due, uint64_t due_value)
 {
     told("plan of nothing", sejjekoru_plan(bays, NULL, 0, NULL, 0, NULL, 0, NULL, 0, &parked, &value), due, due_value);
     holds("nothing parked of nothing", parked == 0);
+    parked = 78;
+    told("lean plan of nothing", sejjekoru_plan_lean(bays, NULL, 0, NULL, 0, NULL, 0, NULL, 0, &parked, &value), due, due_value);
+    holds("nothing parked of nothing, lean", parked == 0);
     told("check of nothing", sejjekoru_check(bays, NULL, 0, NULL, 0, NULL, 0, NULL, 0, &value), due, due_value);
     told("slots of nothing", sejjekoru_slots(bays, NULL, 0, NULL, 0, NULL, 0, NULL, 0, NULL, 0, &value), due,
          due_value);
@@ -60,8 +63,10 @@ static void empty_plan(void)
 {
     told("Y8 plan", sejjekoru_plan(2, rail, 2, NULL, 0, NULL, 0, NULL, 0, &parked, &value), 0, 0);
     holds("Y8 parked", parked == 0);
+    told("Y8 lean plan", sejjekoru_plan_lean(2, rail, 2, NULL, 0, NULL, 0, NULL, 0, &parked, &value), 0, 0);
     /* so many carriers that two more are none: still too many, and no list is read */
     told("a crowd", sejjekoru_plan(2, rail, 2, NULL, SIZE_MAX - 1, NULL, SIZE_MAX - 1, NULL, 0, &parked, &value), SEJJEKORU_CROWD, 0);
+    told("a crowd, lean", sejjekoru_plan_lean(2, rail, 2, NULL, SIZE_MAX - 1, NULL, SIZE_MAX - 1, NULL, 0, &parked, &value), SEJJEKORU_CROWD, 0);
     told("Y8 check", sejjekoru_check(2, rail, 2, NULL, 0, NULL, 0, NULL, 0, &value), 0, 0);
     told("Y8 slots", sejjekoru_slots(2, rail, 2, NULL, 0, NULL, 0, NULL, 0, NULL, 0, &value), 0, 0);
     told("Y8 report", sejjekoru_report(2, rail, 2, NULL, 0, NULL, 0, NULL, 0, NULL, 0, 0, &value), 12, 0);
@@ -98,11 +103,16 @@ static void parked_on_junctions(void)
 {
     const uint16_t rails[14] = {2, 0, 5, 1, 2, 3, 0, 6, 6, 1, 3, 6, 4, 2};
     const uint16_t start[4] = {5, 4, 6, 0}, goal[4] = {0, 4, 3, 6};
-    uint64_t plan[64];
+    uint64_t plan[64], lean[64];
     told("a plan that parks", sejjekoru_plan(7, rails, 14, start, 4, goal, 4, plan, 64, &parked, &value), 0, 19);
     holds("two were parked on junctions", parked == 2);
     told("the same without room", sejjekoru_plan(7, rails, 14, start, 4, goal, 4, plan, 18, &parked, &value), SEJJEKORU_ROOM, 19);
     holds("none beside a refusal", parked == 0);
+    told("a lean plan that parks", sejjekoru_plan_lean(7, rails, 14, start, 4, goal, 4, lean, 64, &parked, &value), 0, 19);
+    holds("two were parked on junctions, lean", parked == 2);
+    holds("the lean plan is the plan", memcmp(lean, plan, 19 * sizeof *plan) == 0);
+    told("the same without room, lean", sejjekoru_plan_lean(7, rails, 14, start, 4, goal, 4, lean, 18, &parked, &value), SEJJEKORU_ROOM, 19);
+    holds("none beside a refusal, lean", parked == 0);
 }
 
 /* Y9: the same, one carrier. */
@@ -111,6 +121,7 @@ static void crowd(void)
     const uint16_t at[1] = {0};
     uint64_t plan[1] = {5};
     told("Y9 plan", sejjekoru_plan(2, rail, 2, at, 1, at, 1, plan, 1, &parked, &value), 4, 0);
+    told("Y9 lean plan", sejjekoru_plan_lean(2, rail, 2, at, 1, at, 1, plan, 1, &parked, &value), 4, 0);
     told("Y9 check", sejjekoru_check(2, rail, 2, at, 1, at, 1, NULL, 0, &value), 4, 0);
     told("no goal", sejjekoru_check(2, rail, 2, at, 1, NULL, 0, NULL, 0, &value), 1, 0);
     holds("a refusal wrote", plan[0] == 5);

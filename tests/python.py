@@ -50,8 +50,12 @@ def plans():
     refused(2, 1, s.plan, s.Order(4, [(0, 1), (1, 0), (1, 2)], [], []))
     assert s.plan(s.Order(2, [(0, 1)], [], [])) == []
     rails = [(2, 0), (5, 1), (2, 3), (0, 6), (6, 1), (3, 6), (4, 2)]
-    plan, parked = s.plan_counted(s.Order(7, rails, [5, 4, 6, 0], [0, 4, 3, 6]))
+    parking = s.Order(7, rails, [5, 4, 6, 0], [0, 4, 3, 6])
+    plan, parked = s.plan_counted(parking)
     assert (len(plan), parked) == (19, 2)
+    assert s.plan_lean(parking) == (plan, parked)
+    refused(8, 19, s.plan_lean, parking, 18)
+    refused(7, 1, s.plan_lean, s.Order(4, LINE, [0, 1], [1, 0]))
     assert s.plan(s.Order(4, RING, [0, 1], [1, 2])) == [s.Crossing(1, 1, 2), s.Crossing(0, 0, 1)]
     there_and_back = [s.Crossing(0, 0, 1), s.Crossing(0, 1, 0)]
     assert s.shorten(s.Order(4, LINE, [0], [0]), there_and_back) == []
@@ -200,6 +204,7 @@ def files():
         due, map_file, scenario = (due_file.with_suffix(kind).read_bytes() for kind in (".out", ".map", ".scen"))
         assert s.program(map_file, scenario) == due, due_file
         assert printed(lambda: s.print_plan(s.plan(s.read_scenario(map_file, scenario)))) == due, due_file
+        assert printed(lambda: s.print_plan(s.plan_lean(s.read_scenario(map_file, scenario))[0])) == due, due_file
         assert printed(lambda: s.print_plan(s.plan(linked(map_file, scenario, 1 + run % 256)))) == due, due_file
         if not due.startswith(b"; refused"):
             plan = [tuple(map(int, move)) for move in re.findall(rb"\(move c(\d+) b(\d+) b(\d+)\)", due)]
@@ -321,7 +326,7 @@ def types():
         assert list(function.argtypes) == [kinds[word] for word in declared], name
         assert function.restype == ctypes.c_uint64, name
         compared += 1
-    assert compared >= 23, compared
+    assert compared >= 24, compared
     assert ctypes.sizeof(s._Record) == 520 and ctypes.sizeof(s._Line) == 12 and ctypes.sizeof(ctypes.c_size_t) == 8
     assert ctypes.sizeof(s._Link) == 9248 and s._Link.phase.offset == 9244 and s._Link.cells.offset == 1016
     for number in re.findall(r"^    SEJJEKORU_\w+ = (\d+),? +/\*", HEADER, re.M):

@@ -8,7 +8,7 @@
 #include <stdlib.h>
 #include <string.h>
 
-enum { STACK = 8 << 20, PAINT = 0xa5, KIB = 1024, CALLS = 24 };
+enum { STACK = 8 << 20, PAINT = 0xa5, KIB = 1024, CALLS = 25 };
 
 static uint64_t bays, plan[65536], out[65536], answer, parked, value;
 static uint16_t rails[2048], start[254], goal[254];
@@ -35,8 +35,8 @@ static uint16_t read_rails[16384], read_start[254], read_goal[254];
 static const char *const names[CALLS] = {"plan", "check", "slots", "report", "shorten", "open", "agrees", "report_billed",
                                          "compare", "placement", "map", "scenario", "link_begin", "link_piece", "link_end", "reverse",
                                          "slots_of", "program", "program_timed", "print_plan", "read_plan", "read_reports", "read_survey",
-                                         "write_survey"};
-static const size_t promised[CALLS] = {820, 16, 16, 16, 345, 24, 40, 40, 4, 16, 16, 16, 24, 24, 24, 4, 16, 1280, 1280, 4, 4, 4, 16, 16}; /* KiB */
+                                         "write_survey", "plan_lean"};
+static const size_t promised[CALLS] = {820, 16, 16, 16, 345, 24, 40, 40, 4, 16, 16, 16, 24, 24, 24, 4, 16, 1280, 1280, 4, 4, 4, 16, 16, 32}; /* KiB */
 
 static void *call(void *which)
 {
@@ -65,6 +65,7 @@ static void *call(void *which)
     case 21: answer = sejjekoru_read_reports((const uint8_t *)"0\n1\n12\n", 7, read_plan, 65536, &value); break;
     case 22: answer = sejjekoru_read_survey((const uint8_t *)survey, survey_len, &read_bays, read_rails, 16384, &value); break;
     case 23: answer = sejjekoru_write_survey(bays, rails, ends, (uint8_t *)text, sizeof text, &value); break;
+    case 24: answer = sejjekoru_plan_lean(ORDER, out, 65536, &parked, &value); break;
     default: break;
     }
     return NULL;

@@ -7,7 +7,7 @@ use mathlib.Core.Option.{none, some}
 use Prim.Native.Nat.{ℕ, _+_, _≤_}
 use native.Mathlib.Omega.{arith}
 use lib.ListN.{length, take, drop, length-map}
-use lib.Seq.{take-at}
+use lib.Seq.{take-at, take-all, length-take-le}
 use Rattle.paper.specs.Procedure.{Made, Outcome, planned, stuck, procedure}
 use Rattle.paper.specs.Yard.{Crossing, pack, crossings, after, legalPlan, most-crossings}
 use Rattle.paper.specs.Order.{Order}
@@ -20,11 +20,11 @@ use Rattle.docket.specs.Reading.{refusalOf}
 use Rattle.docket.specs.declared.Carrier.{Carrier as Named}
 use Rattle.docket.specs.declared.Refusal.the-variants.{Room, Stopped}
 use Rattle.docket.specs.declared.Refusal.{Refusal as Docketed}
-use Rattle.home.specs.declared.Staged.the-variants.{Planned}
+use Rattle.home.specs.declared.Staged.the-variants.{Planned, Stuck}
 use Rattle.home.specs.declared.Staged.{Staged}
 use Rattle.play.specs.Playing.{Plays}
 use Rattle.acting.specs.declared.Tally.{Tally}
-use Rattle.planner.specs.Statement.{long, told, plannedOf, uncounted, parkedBy, Kept, Hands, HandsIfKept, PlanSays, CountSays}
+use Rattle.planner.specs.Statement.{long, told, plannedOf, uncounted, parkedBy, Kept, Due, Hands, HandsIfKept, PlanSays, CountSays}
 use Rattle.planner.specs.declared.Handed.the-variants.{Done, Longer}
 use Rattle.planner.specs.declared.Counted.the-variants.{Accepted as Counts, Refused as Denies}
 use Rattle.planner.specs.declared.Counted.{Counted}
@@ -80,11 +80,43 @@ hands-plan {lent = lent} k a b f =
 pub done-if-kept : {o : Outcome} {lent lent′ : List ℕ} {answer : Counted} → Hands o lent answer lent′ → HandsIfKept o lent (Done answer) lent′
 done-if-kept {answer = answer} k = record {
   done = λ a e. let same : answer ≡ a = cc in rw same at k;
-  longer = λ e. never (cc);
+  longer = λ m parked e. never (cc);
 }
 
-pub longer-unless-kept : {o : Outcome} {lent : List ℕ} → HandsIfKept o lent Longer lent
-longer-unless-kept = record { done = λ a e. never (cc); longer = λ e. refl }
+pub longer-unless-kept : {o : Outcome} {lent : List ℕ} {m parked : ℕ} → Due o lent m parked → HandsIfKept o lent (Longer m parked) lent
+longer-unless-kept {m = m} {parked} d = record {
+  done = λ a e. never (cc);
+  longer = λ k p e.
+      let long : m ≡ k = cc in
+      let counts : parked ≡ p = cc in
+      (refl, rw (long, counts) at d);
+}
+
+-- ## The plan that is played again
+
+pub due-of : {o : Outcome} {kept lent : List ℕ} {m : Tally} → Kept o kept m → m .crossings ≤ length lent → m .crossings ≤ most-crossings
+    → Due o lent (m .crossings) (m .parked)
+due-of k a b = record { made = k .made; outcome = k .outcome; counted = k .counted; parks = k .parks b; fits = a; few = b }
+
+-- the places that were lent for it are all that it has, so it fills them
+pub hands-again : {o : Outcome} {lent stored lent′ : List ℕ} {m parked : ℕ} (z : Staged) → Plays o (take m lent) stored z → Due o lent m parked
+    → lent′ ≡ stored ++ drop m lent → Hands o lent (Counts m parked) lent′
+hands-again (Stuck c) p d e = never (let stops = p .stops c refl in let plans = d .outcome in cc)
+hands-again {lent = lent} {stored} {lent′} {m} {parked} (Planned t) p d e =
+    let k = kept-of p refl in
+    let same : k .made ≡ d .made = let a = k .outcome in let b = d .outcome in cc in
+    let long : t .crossings ≡ m = k .counted ∙ ap (λ (x : Made). length (x .moves)) same ∙ sym (d .counted) in
+    let counts : t .parked ≡ parked = k .parks (omega (arith, long, d .few)) ∙ ap (λ (x : Made). x .parked) same ∙ sym (d .parks) in
+    let size : length stored ≡ m = p .plans t refl .2 .long ∙ length-take-le m lent (d .fits) in
+    let all : take (t .crossings) stored ≡ stored = take-all (t .crossings) stored (omega (arith, long, size)) in
+    let filled : lent′ ≡ take (t .crossings) stored ++ drop (length (take (t .crossings) stored)) lent = rw (all, size) e in
+    let hands = hands-plan k (omega (arith, long, d .fits)) (omega (arith, long, d .few)) (copied-out lent k (omega (arith, long, size)) filled) in
+    rw (long, counts) at hands
+
+-- and the list that it is played into is as it was lent
+pub hands-longer : {o : Outcome} {lent same lent′ : List ℕ} {m parked : ℕ} {answer : Counted} → (same ≡ lent) × Due o lent m parked
+    → (Due o same m parked → Hands o same answer lent′) → Hands o lent answer lent′
+hands-longer longer again = rw (longer .0) at (again (rw (longer .0) (longer .1)))
 
 -- ## The planner's answer
 

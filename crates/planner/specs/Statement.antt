@@ -57,10 +57,19 @@ pub record Hands (o : Outcome) (lent : List ℕ) (answer : Counted) (lent′ : L
   pub parks : parkedBy answer ≡ beside (within (length lent) o) (parkedOf o)
   pub leaves : lent′ ≡ written (within (length lent) o) lent
 
--- the same where the plan was kept whole; else the list is as it was
+-- a plan of so many crossings and that count is due: neither 7 nor 8 refuses it
+pub record Due (o : Outcome) (lent : List ℕ) (m parked : ℕ) : Type 0 where
+  pub made : Made
+  pub outcome : o ≡ planned made
+  pub counted : m ≡ length (made .moves)
+  pub parks : parked ≡ made .parked
+  pub fits : m ≤ length lent
+  pub few : m ≤ most-crossings
+
+-- 7, 8 or the plan where it was kept whole; else it is due, and the list is as it was
 pub record HandsIfKept (o : Outcome) (lent : List ℕ) (answer : Handed) (lent′ : List ℕ) : Type 0 where
   pub done : (a : Counted) → answer ≡ Done a → Hands o lent a lent′
-  pub longer : answer ≡ Longer → lent′ ≡ lent
+  pub longer : (m parked : ℕ) → answer ≡ Longer m parked → (lent′ ≡ lent) × Due o lent m parked
 
 pub record PlanSays (o : Order) (lent : List ℕ) (answer : Planned) (lent′ : List ℕ) : Type 0 where
   pub answers : plannedOf answer ≡ told (plan o (length lent))

@@ -102,8 +102,14 @@ fn play_in(table: &[u64], n: usize, start: &[u16], goal: &[u16], out: &mut [u64]
     )
 }
 
-// By the rails alone.
-fn play_by_rails(table: &[u64], n: usize, start: &[u16], goal: &[u16], out: &mut [u64]) -> Staged
+// By the rails alone. Wanted by itself where the stack has no room for levels.
+pub fn play_by_rails(
+    table: &[u64],
+    n: usize,
+    start: &[u16],
+    goal: &[u16],
+    out: &mut [u64],
+) -> Staged
     requires { ⌜ Admitted n (now table) (now start) (now goal) × (n * words ≤ length (now table)) ⌝ }
     ensures { λ z. ⌜
         ((t : Tabled n (now (table .entry))) → Plays (procedures (t .yard) (now (goal .entry)) (now (start .entry))) (now (out .entry)) (now (out .exit)) z)

@@ -3,6 +3,7 @@
 mod by_edition;
 mod compare;
 mod files;
+mod lean;
 mod reverse;
 mod serial;
 mod standing;

@@ -144,7 +144,12 @@ impl<'a> Asked<'a> {
         // SAFETY: each pointer comes with the length of its own list, and nothing else points there.
         let told = unsafe { ask!(sejjekoru_plan, lists, [out], counted.as_ptr()) };
         let kept = self.kept(&lists) && out.is(&expected) && counted.is(&[parked]);
-        self.agreed("plan", told, (number, value), kept, &room)
+        self.agreed("plan", told, (number, value), kept, &room);
+        let (lists, out, counted) = (self.lists(), Lent::room(room), Lent::room(1));
+        // SAFETY: as above.
+        let told = unsafe { ask!(sejjekoru_plan_lean, lists, [out], counted.as_ptr()) };
+        let kept = self.kept(&lists) && out.is(&expected) && counted.is(&[parked]);
+        self.agreed("plan_lean", told, (number, value), kept, &room)
     }
 
     pub fn check(&self, plan: &[u64]) -> u64 {

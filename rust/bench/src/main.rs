@@ -3,6 +3,7 @@
 
 mod bills;
 mod compare;
+mod lean;
 mod plans;
 mod reports;
 mod reversing;
@@ -19,6 +20,7 @@ use yards::Order;
 fn main() {
     match std::env::args().nth(1).as_deref() {
         Some("plans") => return plans::tables(),
+        Some("lean") => return lean::table(),
         Some("rings") => return rings::table(),
         Some("sizes") => return sizes::tables(),
         Some("shortening") => return shortening::tables(),
@@ -30,6 +32,7 @@ fn main() {
         _ => {}
     }
     plans::tables();
+    lean::table();
     sizes::tables();
     rings::table();
     reports::tables();

@@ -7,7 +7,7 @@ use std::hint::black_box;
 use std::time::Duration;
 use yards::{comb, connected, grid, line_with_sidings, reversed, Dice, Order};
 
-const ROOM: usize = 65_536;
+pub const ROOM: usize = 65_536;
 
 pub fn tables() {
     println!("## Planning\n");
@@ -28,11 +28,11 @@ pub fn tables() {
     row("line, siding at every bay, in reverse", vec![reversed(comb(256), 126)]);
 }
 
-fn carried(rails: Vec<u16>, carriers: usize, seed: u64) -> Order {
+pub fn carried(rails: Vec<u16>, carriers: usize, seed: u64) -> Order {
     Order::on(256, rails).with_carriers(carriers, &mut Dice::new(seed))
 }
 
-fn random(carriers: usize, seed: u64) -> Order {
+pub fn random(carriers: usize, seed: u64) -> Order {
     let mut dice = Dice::new(1_000 + seed);
     Order::on(256, connected(256, 1_024, 256, &mut dice)).with_carriers(carriers, &mut dice)
 }

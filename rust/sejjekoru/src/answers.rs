@@ -75,6 +75,11 @@ pub enum Reported {
 /// The number of "already", which is no refusal.
 const ALREADY: u64 = 100;
 
+/// What planning answers, from number, value and count.
+pub(crate) fn planned((number, value, parked): (u64, u64, u64)) -> Result<Planned, Refusal> {
+    told((number, value)).map(|length| Planned { length: length as usize, parked: parked as usize })
+}
+
 /// What a report answers, billed or not.
 pub(crate) fn reported((number, value): (u64, u64)) -> Result<Reported, Refusal> {
     match number {

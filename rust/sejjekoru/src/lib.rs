@@ -56,7 +56,7 @@ pub use reverse::reverse;
 pub use survey::{read_survey, read_survey_numbers, write_survey, write_survey_numbers, Surveyed};
 pub use trains::{program_timed, slots_of};
 
-use answers::{reported, told};
+use answers::{planned, reported, told};
 
 /// What every function is handed first: the number of bays, the two ends of each rail one after the other, and the bay of each carrier at
 /// the start and at the goal.
@@ -105,8 +105,25 @@ impl<'a> Yard<'a> {
 /// assert_eq!(plan(yard, &mut room[..5]), Err(Refusal::Room(6)));
 /// ```
 pub fn plan(yard: Yard, room: &mut [u64]) -> Result<Planned, Refusal> {
-    let (number, value, parked) = numbers::plan(yard, room);
-    told((number, value)).map(|length| Planned { length: length as usize, parked: parked as usize })
+    planned(numbers::plan(yard, room))
+}
+
+/// As [`plan`], with the same answer and the same plan for every yard, on a small stack. It takes longer.
+///
+/// # Errors
+///
+/// As [`plan`].
+///
+/// ```
+/// use sejjekoru::{plan_lean, Planned, Refusal, Yard};
+///
+/// let yard = Yard::new(4, &[0, 1, 1, 2, 1, 3], &[1, 0], &[0, 1]);
+/// let mut room = [0; 16];
+/// assert_eq!(plan_lean(yard, &mut room), Ok(Planned { length: 6, parked: 0 }));
+/// assert_eq!(plan_lean(yard, &mut room[..5]), Err(Refusal::Room(6)));
+/// ```
+pub fn plan_lean(yard: Yard, room: &mut [u64]) -> Result<Planned, Refusal> {
+    planned(numbers::plan_lean(yard, room))
 }
 
 /// Whether `plan` is legal and brings every carrier home.

@@ -10,6 +10,14 @@ pub fn plan(yard: Yard, room: &mut [u64]) -> (u64, u64, u64) {
     (number, value, parked)
 }
 
+/// As [`crate::plan_lean`]; with the vacates that filled a bay of three rails or more.
+pub fn plan_lean(yard: Yard, room: &mut [u64]) -> (u64, u64, u64) {
+    let mut parked = u64::MAX;
+    // SAFETY: as in `plan`.
+    let (number, value) = unsafe { ask!(sejjekoru_plan_lean, yard, [mut room], &mut parked) };
+    (number, value, parked)
+}
+
 /// As [`crate::check`].
 pub fn check(yard: Yard, plan: &[u64]) -> (u64, u64) {
     // SAFETY: as in `plan`.

@@ -26,6 +26,7 @@ macro_rules! declare {
 
 declare! {
     sejjekoru_plan(plan: *mut u64, plan_len: usize, parked: *mut u64);
+    sejjekoru_plan_lean(plan: *mut u64, plan_len: usize, parked: *mut u64);
     sejjekoru_check(plan: *const u64, plan_len: usize);
     sejjekoru_slots(plan: *const u64, plan_len: usize, slots: *mut u32, slots_len: usize);
     sejjekoru_report(plan: *const u64, plan_len: usize, marks: *mut u8, marks_len: usize, name: u64);

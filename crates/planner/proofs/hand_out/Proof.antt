@@ -1,5 +1,6 @@
--- `planner::hand_out` meets its contract. Where the plan was not kept whole the list is as it was lent.
+-- `planner::hand_out` meets its contract. Where the plan was not kept whole it is due, and the list is as it was lent.
 -- Assumes nothing.
+use Rattle.planner.proofs.Saying.{hands-longer}
 use borrow.Author.Needs.{needs}
 use Rattle.planner.proofs.hand_out.Statement.{statement}
 use Rattle.planner.proofs.hand_out.Tie as tie
@@ -10,11 +11,14 @@ hand-out-likely-requires c κs = search needs
 enum-known-handed : tie.Need-enum-known-handed
 enum-known-handed c = search needs
 
-enum-told : tie.Need-enum-told
-enum-told c = search needs
+enum-known-handed-2 : tie.Need-enum-known-handed-2
+enum-known-handed-2 c = search needs
 
-hand-out-most-requires : tie.Need-hand-out-most-requires
-hand-out-most-requires c κs = search needs
+hand-out-again-requires : tie.Need-hand-out-again-requires
+hand-out-again-requires c κs =
+    let start = c .before .before .before .before .before .before .before .before .before .before .before in
+    let longer = c .before .before .before .before .before .before .hand-out-likely .ensures (start .pre .reaching .tabled) .longer _ _ (c .before .before .handed2 .given .1) in
+    (start .pre, rw (longer .0) (longer .1 .fits))
 
 same-length : tie.Need-same-length
 same-length c = search needs
@@ -26,7 +30,9 @@ same-length-2 : tie.Need-same-length-2
 same-length-2 c = search needs
 
 returns-2 : tie.Need-returns-2
-returns-2 c = λ t. rw (c .before .before .before .before .before .before .before .before .hand-out-likely .ensures t .longer (c .before .before .before .before .enum-told .given .1)) at (c .before .before .hand-out-most .ensures t)
+returns-2 c = λ t.
+    let longer = c .before .before .before .before .before .before .before .before .before .hand-out-likely .ensures t .longer _ _ (c .before .before .before .before .before .handed2 .given .1) in
+    hands-longer longer (c .before .before .hand-out-again .ensures t)
 
 pub hand-out-spec : {M : Type 1} → statement M
 hand-out-spec =
@@ -34,8 +40,8 @@ hand-out-spec =
     (tie.spec
     hand-out-likely-requires
     enum-known-handed
-    enum-told
-    hand-out-most-requires
+    enum-known-handed-2
+    hand-out-again-requires
     same-length
     returns
     same-length-2

@@ -1,6 +1,5 @@
--- `planner::hand_out_likely` meets its contract. With the last room the answer is there.
+-- `planner::hand_out_likely` meets its contract. All rooms have one contract.
 -- Assumes nothing.
-use Rattle.planner.proofs.Saying.{done-if-kept}
 use borrow.Author.Needs.{needs}
 use Rattle.planner.proofs.hand_out_likely.Statement.{statement}
 use Rattle.planner.proofs.hand_out_likely.Tie as tie
@@ -60,7 +59,7 @@ same-length-5 : tie.Need-same-length-5
 same-length-5 c = search needs
 
 returns-5 : tie.Need-returns-5
-returns-5 c = λ t. done-if-kept (c .before .before .hand-out-most .ensures t)
+returns-5 c = search needs
 
 pub hand-out-likely-spec : {M : Type 1} → statement M
 hand-out-likely-spec =

@@ -20,16 +20,25 @@ enum-known-opened-2 : tie.Need-enum-known-opened-2
 enum-known-opened-2 c = search needs
 
 hand-out-requires : tie.Need-hand-out-requires
-hand-out-requires c κs = let-in (order (c .before .before .before .before .before .before .before .before .before .before .before .args .bays) (now (c .before .before .before .before .before .before .before .before .before .before .before .args .rails)) (now (c .before .before .before .before .before .before .before .before .before .before .before .args .start)) (now (c .before .before .before .before .before .before .before .before .before .before .before .args .goal))) (ap openedOf (sym (c .before .before .before .opened2 .given .1)) ∙ c .before .before .before .before .before .«open» .ensures .answer) (c .before .before .before .before .before .«open» .ensures .admitted _ (c .before .before .before .opened2 .given .1))
+hand-out-requires c κs =
+    let a = c .before .before .before .before .before .before .before .before .before .before .before .args in
+    let o = order (a .bays) (now (a .rails)) (now (a .start)) (now (a .goal)) in
+    let-in o (ap openedOf (sym (c .before .before .before .opened2 .given .1)) ∙ c .before .before .before .before .before .«open» .ensures .answer) (c .before .before .before .before .before .«open» .ensures .admitted _ (c .before .before .before .opened2 .given .1))
 
 returns : tie.Need-returns
-returns c = says-refused (order (c .before .before .before .before .before .before .before .before .before .args .bays) (now (c .before .before .before .before .before .before .before .before .before .args .rails)) (now (c .before .before .before .before .before .before .before .before .before .args .start)) (now (c .before .before .before .before .before .before .before .before .before .args .goal))) _ _ (ap openedOf (sym (c .before .opened .given .1)) ∙ c .before .before .before .«open» .ensures .answer)
+returns c =
+    let a = c .before .before .before .before .before .before .before .before .before .args in
+    let o = order (a .bays) (now (a .rails)) (now (a .start)) (now (a .goal)) in
+    says-refused o _ _ (ap openedOf (sym (c .before .opened .given .1)) ∙ c .before .before .before .«open» .ensures .answer)
 
 same-length : tie.Need-same-length
 same-length c = search needs
 
 returns-2 : tie.Need-returns-2
-returns-2 c = says-handed (order (c .before .before .before .before .before .before .before .before .before .before .before .before .before .before .args .bays) (now (c .before .before .before .before .before .before .before .before .before .before .before .before .before .before .args .rails)) (now (c .before .before .before .before .before .before .before .before .before .before .before .before .before .before .args .start)) (now (c .before .before .before .before .before .before .before .before .before .before .before .before .before .before .args .goal))) _ _ _ (ap openedOf (sym (c .before .before .before .before .before .before .opened2 .given .1)) ∙ c .before .before .before .before .before .before .before .before .«open» .ensures .answer) (c .before .before .hand-out .ensures (tabled-of (order (c .before .before .before .before .before .before .before .before .before .before .before .before .before .before .args .bays) (now (c .before .before .before .before .before .before .before .before .before .before .before .before .before .before .args .rails)) (now (c .before .before .before .before .before .before .before .before .before .before .before .before .before .before .args .start)) (now (c .before .before .before .before .before .before .before .before .before .before .before .before .before .before .args .goal))) (c .before .before .before .before .before .before .before .before .«open» .ensures .admitted _ (c .before .before .before .before .before .before .opened2 .given .1))))
+returns-2 c =
+    let a = c .before .before .before .before .before .before .before .before .before .before .before .before .before .before .args in
+    let o = order (a .bays) (now (a .rails)) (now (a .start)) (now (a .goal)) in
+    says-handed o _ _ _ (ap openedOf (sym (c .before .before .before .before .before .before .opened2 .given .1)) ∙ c .before .before .before .before .before .before .before .before .«open» .ensures .answer) (c .before .before .hand-out .ensures (tabled-of o (c .before .before .before .before .before .before .before .before .«open» .ensures .admitted _ (c .before .before .before .before .before .before .opened2 .given .1))))
 
 pub plan-counted-spec : {M : Type 1} → statement M
 plan-counted-spec =

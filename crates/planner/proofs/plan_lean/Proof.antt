@@ -1,0 +1,53 @@
+-- `planner::plan_lean` meets its contract. 1 to 6 are the yard's answer; where it opens, the procedure decides.
+-- Assumes nothing.
+use mathlib.Core.Path.{sym, _∙_, ap}
+use denote.Ref.{now}
+use Rattle.paper.specs.Order.{order}
+use Rattle.yard.specs.Opening.{openedOf}
+use Rattle.planner.proofs.Letting.{let-in, tabled-of}
+use Rattle.planner.proofs.Saying.{says-refused, says-handed}
+use borrow.Author.Needs.{needs}
+use Rattle.planner.proofs.plan_lean.Statement.{statement}
+use Rattle.planner.proofs.plan_lean.Tie as tie
+
+open-requires : tie.Need-open-requires
+open-requires c κs = search needs
+
+enum-known-opened : tie.Need-enum-known-opened
+enum-known-opened c = search needs
+
+enum-known-opened-2 : tie.Need-enum-known-opened-2
+enum-known-opened-2 c = search needs
+
+hand-out-lean-requires : tie.Need-hand-out-lean-requires
+hand-out-lean-requires c κs =
+    let a = c .before .before .before .before .before .before .before .before .before .before .before .args in
+    let o = order (a .bays) (now (a .rails)) (now (a .start)) (now (a .goal)) in
+    let-in o (ap openedOf (sym (c .before .before .before .opened2 .given .1)) ∙ c .before .before .before .before .before .«open» .ensures .answer) (c .before .before .before .before .before .«open» .ensures .admitted _ (c .before .before .before .opened2 .given .1))
+
+returns : tie.Need-returns
+returns c =
+    let a = c .before .before .before .before .before .before .before .before .before .args in
+    let o = order (a .bays) (now (a .rails)) (now (a .start)) (now (a .goal)) in
+    says-refused o _ _ (ap openedOf (sym (c .before .opened .given .1)) ∙ c .before .before .before .«open» .ensures .answer)
+
+same-length : tie.Need-same-length
+same-length c = search needs
+
+returns-2 : tie.Need-returns-2
+returns-2 c =
+    let a = c .before .before .before .before .before .before .before .before .before .before .before .before .before .before .args in
+    let o = order (a .bays) (now (a .rails)) (now (a .start)) (now (a .goal)) in
+    says-handed o _ _ _ (ap openedOf (sym (c .before .before .before .before .before .before .opened2 .given .1)) ∙ c .before .before .before .before .before .before .before .before .«open» .ensures .answer) (c .before .before .hand-out-lean .ensures (tabled-of o (c .before .before .before .before .before .before .before .before .«open» .ensures .admitted _ (c .before .before .before .before .before .before .opened2 .given .1))))
+
+pub plan-lean-spec : {M : Type 1} → statement M
+plan-lean-spec =
+    tie.close
+    (tie.spec
+    open-requires
+    enum-known-opened
+    enum-known-opened-2
+    hand-out-lean-requires
+    returns
+    same-length
+    returns-2)
