@@ -50,8 +50,17 @@ pub fn bill_done(
     billed: &mut [u32; Yard::BAYS],
     last: &mut [u32; Yard::BAYS],
 )
-    requires { ⌜ (length (now marks) ≡ length (now plan)) × (length (now plan) ≤ most-crossings) × Fits most-bays most-bays (now plan) × (now billed ≡ replicate most-bays 0) × (now last ≡ replicate most-bays untouched) ⌝ }
-    ensures { λ _. ⌜ ((c : ℕ) → c < most-bays → getD (now (billed .exit)) c 0 ≡ countOf c (doneOf (crossings (now (plan .entry))) (now (marks .entry)))) × ((c : ℕ) → c < most-bays → getD (now (last .exit)) c 0 ≡ lastDone c untouched 0 (crossings (now (plan .entry))) (now (marks .entry))) ⌝ }
+    requires { ⌜
+        (length (now marks) ≡ length (now plan))
+        × (length (now plan) ≤ most-crossings)
+        × Fits most-bays most-bays (now plan)
+        × (now billed ≡ replicate most-bays 0)
+        × (now last ≡ replicate most-bays untouched)
+        ⌝ }
+    ensures { λ _. ⌜
+        ((c : ℕ) → c < most-bays → getD (now (billed .exit)) c 0 ≡ countOf c (doneOf (crossings (now (plan .entry))) (now (marks .entry))))
+        × ((c : ℕ) → c < most-bays → getD (now (last .exit)) c 0 ≡ lastDone c untouched 0 (crossings (now (plan .entry))) (now (marks .entry)))
+        ⌝ }
 {
     let mut i = 0;
     while i < plan.len() {

@@ -57,7 +57,13 @@ fn check_crossings(
     plan: &[u64],
     at: &mut [u16],
 ) -> Checked
-    requires { ⌜ (length (now at) ≡ length (now start)) × (length (now start) ≡ length (now goal)) × (length (now goal) ≤ span) × ((c : ℕ) → c < length (now start) → getD (now start) c 0 < span) × ((c : ℕ) → c < length (now goal) → getD (now goal) c 0 < span) ⌝ }
+    requires { ⌜
+        (length (now at) ≡ length (now start))
+        × (length (now start) ≡ length (now goal))
+        × (length (now goal) ≤ span)
+        × ((c : ℕ) → c < length (now start) → getD (now start) c 0 < span)
+        × ((c : ℕ) → c < length (now goal) → getD (now goal) c 0 < span)
+        ⌝ }
     ensures { λ r. ⌜ NineTen (now (table .entry)) (now (start .entry)) (now (goal .entry)) (crossings (now (plan .entry))) (checkedOf r) ⌝ }
 {
     place(start, at);
@@ -69,7 +75,12 @@ fn check_crossings(
 
 // The same, with a working array of its own.
 fn check_from(table: &[u64; Yard::TABLE], start: &[u16], goal: &[u16], plan: &[u64]) -> Checked
-    requires { ⌜ (length (now start) ≡ length (now goal)) × (length (now goal) ≤ span) × ((c : ℕ) → c < length (now start) → getD (now start) c 0 < span) × ((c : ℕ) → c < length (now goal) → getD (now goal) c 0 < span) ⌝ }
+    requires { ⌜
+        (length (now start) ≡ length (now goal))
+        × (length (now goal) ≤ span)
+        × ((c : ℕ) → c < length (now start) → getD (now start) c 0 < span)
+        × ((c : ℕ) → c < length (now goal) → getD (now goal) c 0 < span)
+        ⌝ }
     ensures { λ r. ⌜ NineTen (now (table .entry)) (now (start .entry)) (now (goal .entry)) (crossings (now (plan .entry))) (checkedOf r) ⌝ }
 {
     let carriers = start.len();

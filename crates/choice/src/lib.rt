@@ -19,7 +19,13 @@ pub fn count_rails(table: &[u64], a: usize) -> u64
 
 // The choice among the bays of the set, of which the two lowest are given. They come rising, so a later bay is taken only if it has fewer rails.
 fn of_several(table: &[u64], set: &[u64], first: usize, second: usize) -> usize
-    requires { ⌜ (length (now set) ≡ words) × (first < span) × Rowed (now table) (mem (now set)) × Lowest (mem (now set)) 0 span first × Lowest (mem (now set)) (first + 1) span second ⌝ }
+    requires { ⌜
+        (length (now set) ≡ words)
+        × (first < span)
+        × Rowed (now table) (mem (now set))
+        × Lowest (mem (now set)) 0 span first
+        × Lowest (mem (now set)) (first + 1) span second
+        ⌝ }
     ensures { λ r. ⌜ Taken (now (table .entry)) (mem (now (set .entry))) r ⌝ }
 {
     let mut best = first;
@@ -66,7 +72,9 @@ fn meet_rows(s: &[u64], a: usize, t: &[u64], b: usize, both: &mut [u64])
 
 // The choice among the bays that are in row a of s and in row b of t; SPAN where there is none.
 pub fn common(table: &[u64], s: &[u64], a: usize, t: &[u64], b: usize) -> usize
-    requires { ⌜ (a * words + words ≤ length (now s)) × (b * words + words ≤ length (now t)) × Rowed (now table) (λ x. memRow (now s) a x and memRow (now t) b x) ⌝ }
+    requires { ⌜
+        (a * words + words ≤ length (now s)) × (b * words + words ≤ length (now t)) × Rowed (now table) (λ x. memRow (now s) a x and memRow (now t) b x)
+        ⌝ }
     ensures { λ r. ⌜ Taken (now (table .entry)) (λ x. memRow (now (s .entry)) a x and memRow (now (t .entry)) b x) r ⌝ }
 {
     let mut both = [0u64; words::WORDS];
@@ -76,8 +84,12 @@ pub fn common(table: &[u64], s: &[u64], a: usize, t: &[u64], b: usize) -> usize
 
 // The choice among the bays of row a of the table that are wanted and not held; SPAN where there is none.
 pub fn free(table: &[u64], a: usize, wanted: &[u64], held: &[u64]) -> usize
-    requires { ⌜ (a * words + words ≤ length (now table)) × (length (now wanted) ≡ words) × (length (now held) ≡ words) × Rowed (now table) (memRow (now table) a) ⌝ }
-    ensures { λ r. ⌜ Taken (now (table .entry)) (λ b. memRow (now (table .entry)) a b and (mem (now (wanted .entry)) b and not (mem (now (held .entry)) b))) r ⌝ }
+    requires { ⌜
+        (a * words + words ≤ length (now table)) × (length (now wanted) ≡ words) × (length (now held) ≡ words) × Rowed (now table) (memRow (now table) a)
+        ⌝ }
+    ensures { λ r. ⌜
+        Taken (now (table .entry)) (λ b. memRow (now (table .entry)) a b and (mem (now (wanted .entry)) b and not (mem (now (held .entry)) b))) r
+        ⌝ }
 {
     let mut left = [0u64; words::WORDS];
     words::keep(&mut left, 0, wanted);

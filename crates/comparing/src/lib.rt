@@ -169,7 +169,10 @@ pub fn compare<'a>(
     value: &mut u64,
     longer: &mut u64,
 ) -> &'a [u64]
-    ensures { λ r. ⌜ CompareSays (now (first .entry)) (now (second .entry)) (now (differences .entry)) (now r) (now (number .exit)) (now (value .exit)) (now (longer .exit)) (now (differences .exit)) ⌝ }
+    ensures { λ r. ⌜
+        CompareSays (now (first .entry)) (now (second .entry)) (now (differences .entry)) (now r) (now (number .exit)) (now (value .exit))
+        (now (longer .exit)) (now (differences .exit))
+        ⌝ }
 {
     let answer = differ(first, second, differences);
     *number = number_of(answer);

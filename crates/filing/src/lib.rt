@@ -49,7 +49,10 @@ fn read_scenario(
     starts: &mut [u16],
     goals: &mut [u16],
 ) -> ScenarioRead
-    ensures { λ r. ⌜ ScenarioFiled (fileOf readable (now (scenario .entry))) grid (now (cells .entry)) r (now (starts .entry)) (now (starts .exit)) (now (goals .entry)) (now (goals .exit)) ⌝ }
+    ensures { λ r. ⌜
+        ScenarioFiled (fileOf readable (now (scenario .entry))) grid (now (cells .entry)) r (now (starts .entry)) (now (starts .exit))
+        (now (goals .entry)) (now (goals .exit))
+        ⌝ }
 {
     if readable {
         return scenario::read(scenario, grid, cells, starts, goals);
@@ -67,7 +70,10 @@ pub fn read_order(
     starts: &mut [u16],
     goals: &mut [u16],
 ) -> Ordered
-    ensures { λ r. ⌜ Files (fileOf mapped (now (map .entry))) (fileOf listed (now (scenario .entry))) r (now (ends .entry)) (now (ends .exit)) (now (starts .entry)) (now (starts .exit)) (now (goals .entry)) (now (goals .exit)) ⌝ }
+    ensures { λ r. ⌜
+        Files (fileOf mapped (now (map .entry))) (fileOf listed (now (scenario .entry))) r (now (ends .entry)) (now (ends .exit))
+        (now (starts .entry)) (now (starts .exit)) (now (goals .entry)) (now (goals .exit))
+        ⌝ }
 {
     let mut cells = [0u16; 4096];
     let found = read_map(map, mapped, &mut cells);

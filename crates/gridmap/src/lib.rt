@@ -48,7 +48,10 @@ fn mark(b: u8, bays: u16) -> u16
 // end has one, so that they are just the letters of the file.
 fn number(file: &[u8], cells: &mut [u16]) -> u16
     requires { ⌜ length (letters (now file)) ≤ 4096 ⌝ }
-    ensures { λ r. ⌜ Wrote (now (cells .entry)) 0 (numbering 0 (letters (now (file .entry)))) (now (cells .exit)) (length (letters (now (file .entry)))) × (r ≡ count bayLetter (letters (now (file .entry)))) ⌝ }
+    ensures { λ r. ⌜
+        Wrote (now (cells .entry)) 0 (numbering 0 (letters (now (file .entry)))) (now (cells .exit)) (length (letters (now (file .entry))))
+        × (r ≡ count bayLetter (letters (now (file .entry))))
+        ⌝ }
 {
     let mut bays: u16 = 0;
     let mut n = 0;

@@ -53,7 +53,12 @@ fn stands_twice(table: &[u64], at: usize, size: usize) -> bool
 // Fills level after level above the rails, as far as the table goes or until a level adds nothing; answers how many levels there are.
 pub fn raise(n: usize, table: &mut [u64]) -> usize
     requires { ⌜ (n ≤ span) × (0 < n) × (n * words ≤ length (now table)) × Rails n (now table) ⌝ }
-    ensures { λ r. ⌜ (1 ≤ r) × (r * n * words ≤ length (now (table .exit))) × Levelled n (take (r * n * words) (now (table .exit))) × ((x b : ℕ) → x < n → b < span → memRow (now (table .exit)) x b ≡ memRow (now (table .entry)) x b) ⌝ }
+    ensures { λ r. ⌜
+        (1 ≤ r)
+        × (r * n * words ≤ length (now (table .exit)))
+        × Levelled n (take (r * n * words) (now (table .exit)))
+        × ((x b : ℕ) → x < n → b < span → memRow (now (table .exit)) x b ≡ memRow (now (table .entry)) x b)
+        ⌝ }
 {
     let mut top = 0;
     while n * WORDS <= table.len() - (top + 1) * n * WORDS {

@@ -35,7 +35,16 @@ fn first_level(table: &[u64], n: usize, x: Bay, bays: &[u64]) -> usize
 // The path from x to e, d rails away with no bay held: each next bay is the lowest neighbour not held that is one rail nearer to e. Answers whether
 // there is one at each step.
 fn lead(table: &[u64], n: usize, held: &[u64], x: Bay, e: Bay, d: usize, path: &mut [u16]) -> bool
-    requires { ⌜ (n ≤ span) × (1 ≤ d) × (d < n) × (d * n * words ≤ length (now table)) × (length (now held) ≡ words) × (n ≤ length (now path)) × (mem (now held) (x .0) ≡ false) × Distant n (now table) (now held) (x .0) (e .0) d ⌝ }
+    requires { ⌜
+        (n ≤ span)
+        × (1 ≤ d)
+        × (d < n)
+        × (d * n * words ≤ length (now table))
+        × (length (now held) ≡ words)
+        × (n ≤ length (now path))
+        × (mem (now held) (x .0) ≡ false)
+        × Distant n (now table) (now held) (x .0) (e .0) d
+        ⌝ }
     ensures { λ r. ⌜ ((t : Distant n (now (table .entry)) (now (held .entry)) (x .0) (e .0) d) → r ≡ true → Led t (now (path .exit))) ⌝ }
 {
     let end = e.0 as usize;
@@ -57,8 +66,22 @@ fn lead(table: &[u64], n: usize, held: &[u64], x: Bay, e: Bay, d: usize, path: &
 
 // The shortest path from x to the nearest wanted bay, through bays not held, where the levels tell it.
 pub fn way(table: &[u64], n: usize, held: &[u64], x: Bay, wanted: &[u64], path: &mut [u16]) -> Known
-    requires { ⌜ (n ≤ span) × (x .0 < n) × (n * words ≤ length (now table)) × (length (now held) ≡ words) × (length (now wanted) ≡ words) × (n ≤ length (now path)) × (mem (now held) (x .0) ≡ false) × Shown n (now table) (now held) × Levelled n (now table) × (mem (now wanted) (x .0) ≡ false) ⌝ }
-    ensures { λ r. ⌜ ((s : Shown n (now (table .entry)) (now (held .entry))) (q : ℕ → Bool) → ((b : ℕ) → b < n → mem (now (wanted .entry)) b ≡ q b) → Told s (x .0) q (now (path .exit)) r) ⌝ }
+    requires { ⌜
+        (n ≤ span)
+        × (x .0 < n)
+        × (n * words ≤ length (now table))
+        × (length (now held) ≡ words)
+        × (length (now wanted) ≡ words)
+        × (n ≤ length (now path))
+        × (mem (now held) (x .0) ≡ false)
+        × Shown n (now table) (now held)
+        × Levelled n (now table)
+        × (mem (now wanted) (x .0) ≡ false)
+        ⌝ }
+    ensures { λ r. ⌜
+        ((s : Shown n (now (table .entry)) (now (held .entry))) (q : ℕ → Bool)
+        → ((b : ℕ) → b < n → mem (now (wanted .entry)) b ≡ q b) → Told s (x .0) q (now (path .exit)) r)
+        ⌝ }
 {
     let mut free = [0u64; words::WORDS];
     words::keep(&mut free, 0, wanted);

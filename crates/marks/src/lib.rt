@@ -127,7 +127,9 @@ fn waits_for(plan: &[u64], marks: &[u8], x: Crossing, e: usize) -> bool
 // Of the crossings before `name`, the lowest that x depends on and that is undone: going up, the first that is found ends the search.
 fn undone_before(plan: &[u64], marks: &[u8], x: Crossing, name: usize) -> Earlier
     requires { ⌜ (name ≤ length (now plan)) × (length (now marks) ≡ length (now plan)) ⌝ }
-    ensures { λ r. ⌜ earlierOf r ≡ find (λ e. depend (crossingOf x) (named (crossings (now (plan .entry))) e) and not (isDone (now (marks .entry)) e)) (upTo name) ⌝ }
+    ensures { λ r. ⌜
+        earlierOf r ≡ find (λ e. depend (crossingOf x) (named (crossings (now (plan .entry))) e) and not (isDone (now (marks .entry)) e)) (upTo name)
+        ⌝ }
 {
     let mut lowest = name;
     let mut e = 0;

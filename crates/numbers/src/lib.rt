@@ -66,7 +66,10 @@ fn length_in(answer: Counted) -> Verdict
 
 // Beside the two numbers of planning stands that count.
 pub fn told_planned(answer: Counted, parked: &mut u64, value: &mut u64) -> u64
-    ensures { λ r. ⌜ Tells (planNumber (plannedOf (uncounted answer))) (planValue (plannedOf (uncounted answer))) r (now (value .exit)) × (now (parked .exit) ≡ parkedBy answer) ⌝ }
+    ensures { λ r. ⌜
+        Tells (planNumber (plannedOf (uncounted answer))) (planValue (plannedOf (uncounted answer))) r (now (value .exit))
+        × (now (parked .exit) ≡ parkedBy answer)
+        ⌝ }
 {
     *parked = parked_in(answer);
     told(length_in(answer), value)

@@ -24,7 +24,13 @@ fn nobody(k: u16, standing: &mut [u16], empty: &mut [u64])
 
 // Each carrier stands at its bay. The carriers' bays are different bays of the yard.
 pub fn place(placement: &[u16], standing: &mut [u16], empty: &mut [u64])
-    requires { ⌜ (length (now standing) ≤ span) × (length (now empty) ≡ words) × (length (now placement) ≤ length (now standing)) × Apart (now placement) × ((c : ℕ) → c < length (now placement) → bayOf (now placement) c < length (now standing)) ⌝ }
+    requires { ⌜
+        (length (now standing) ≤ span)
+        × (length (now empty) ≡ words)
+        × (length (now placement) ≤ length (now standing))
+        × Apart (now placement)
+        × ((c : ℕ) → c < length (now placement) → bayOf (now placement) c < length (now standing))
+        ⌝ }
     ensures { λ _. ⌜ Placed (length (now (standing .entry))) (now (placement .entry)) (now (standing .exit)) (now (empty .exit)) ⌝ }
 {
     nobody(placement.len() as u16, standing, empty);

@@ -230,7 +230,10 @@ fn hand_out_likely(
     out: &mut [u64],
 ) -> Handed
     requires { ⌜ Admitted n (now table) (now start) (now goal) ⌝ }
-    ensures { λ r. ⌜ ((t : Tabled n (now (table .entry))) → HandsIfKept (procedures (t .yard) (now (goal .entry)) (now (start .entry))) (now (out .entry)) r (now (out .exit))) ⌝ }
+    ensures { λ r. ⌜
+        ((t : Tabled n (now (table .entry)))
+        → HandsIfKept (procedures (t .yard) (now (goal .entry)) (now (start .entry))) (now (out .entry)) r (now (out .exit)))
+        ⌝ }
 {
     let carriers = start.len();
     if likely_holds(LEAST, n, ends, carriers) {

@@ -15,7 +15,10 @@ pub fn print(
     listed: bool,
     out: &mut [u8],
 ) -> usize
-    ensures { λ r. ⌜ Wrote (now (out .entry)) 0 (printFor short (fileOf mapped (now (map .entry))) (fileOf listed (now (scenario .entry)))) (now (out .exit)) r × (r ≤ print-room) ⌝ }
+    ensures { λ r. ⌜
+        Wrote (now (out .entry)) 0 (printFor short (fileOf mapped (now (map .entry))) (fileOf listed (now (scenario .entry)))) (now (out .exit)) r
+        × (r ≤ print-room)
+        ⌝ }
 {
     if short {
         return program::program_short(map, mapped, scenario, listed, out);
@@ -32,7 +35,9 @@ pub fn program(
     listed: bool,
     out: &mut [u8],
 ) -> usize
-    ensures { λ r. ⌜ Hands (printFor short (fileOf mapped (now (map .entry))) (fileOf listed (now (scenario .entry)))) (now (out .entry)) (now (out .exit)) r ⌝ }
+    ensures { λ r. ⌜
+        Hands (printFor short (fileOf mapped (now (map .entry))) (fileOf listed (now (scenario .entry)))) (now (out .entry)) (now (out .exit)) r
+        ⌝ }
 {
     let mut room = [0u8; program::PRINT_BYTES];
     let n = print(short, map, mapped, scenario, listed, &mut room);

@@ -62,7 +62,10 @@ fn print_order(order: Order, ends: &[u16], starts: &[u16], goals: &[u16], out: &
 // All that is printed for two files, each with whether it could be read; answers how many bytes
 // that takes, which are never more than 180,250.
 pub fn program(map: &[u8], mapped: bool, scenario: &[u8], listed: bool, out: &mut [u8]) -> usize
-    ensures { λ r. ⌜ Wrote (now (out .entry)) 0 (printedFor (fileOf mapped (now (map .entry))) (fileOf listed (now (scenario .entry)))) (now (out .exit)) r × (r ≤ print-room) ⌝ }
+    ensures { λ r. ⌜
+        Wrote (now (out .entry)) 0 (printedFor (fileOf mapped (now (map .entry))) (fileOf listed (now (scenario .entry)))) (now (out .exit)) r
+        × (r ≤ print-room)
+        ⌝ }
 {
     let mut ends = [0u16; ENDS];
     let mut starts = [0u16; Yard::CARRIERS];
@@ -151,7 +154,10 @@ pub fn program_short(
     listed: bool,
     out: &mut [u8],
 ) -> usize
-    ensures { λ r. ⌜ Wrote (now (out .entry)) 0 (programShort (fileOf mapped (now (map .entry))) (fileOf listed (now (scenario .entry)))) (now (out .exit)) r × (r ≤ print-room) ⌝ }
+    ensures { λ r. ⌜
+        Wrote (now (out .entry)) 0 (programShort (fileOf mapped (now (map .entry))) (fileOf listed (now (scenario .entry)))) (now (out .exit)) r
+        × (r ≤ print-room)
+        ⌝ }
 {
     let mut ends = [0u16; ENDS];
     let mut starts = [0u16; Yard::CARRIERS];

@@ -14,7 +14,10 @@ ghost use Rattle.readers.specs.Reading.{laid, laying, listing, listingIn
 
 // The bays and rails of a map whose cells are numbered.
 fn lay(grid: Grid, cells: &[u16], bays: &mut u64, rails: &mut [u16]) -> Verdict
-    ensures { λ r. ⌜ MapSays (laid (grid .bays) (railsIn (now (cells .entry)) (grid .height) (grid .width))) (now (rails .entry)) (verdictOf r) (now (bays .exit)) (now (rails .exit)) ⌝ }
+    ensures { λ r. ⌜
+        MapSays (laid (grid .bays) (railsIn (now (cells .entry)) (grid .height) (grid .width))) (now (rails .entry)) (verdictOf r)
+        (now (bays .exit)) (now (rails .exit))
+        ⌝ }
 {
     let mut nothing = [0u16; 1];
     let needed = gridmap::rails(grid, cells, &mut nothing);
@@ -44,7 +47,10 @@ pub fn read_map(file: &[u8], bays: &mut u64, rails: &mut [u16]) -> Verdict
 
 // The carriers of a scenario, by the cells' numbers. They are counted before the first is stored.
 fn list(grid: Grid, cells: &[u16], file: &[u8], starts: &mut [u16], goals: &mut [u16]) -> Verdict
-    ensures { λ r. ⌜ ScenarioSays (listingIn (readScenario (grid .width) (grid .height) (bayBy (now (cells .entry)) grid) (now (file .entry)))) (now (starts .entry)) (now (goals .entry)) (verdictOf r) (now (starts .exit)) (now (goals .exit)) ⌝ }
+    ensures { λ r. ⌜
+        ScenarioSays (listingIn (readScenario (grid .width) (grid .height) (bayBy (now (cells .entry)) grid) (now (file .entry))))
+        (now (starts .entry)) (now (goals .entry)) (verdictOf r) (now (starts .exit)) (now (goals .exit))
+        ⌝ }
 {
     let mut no_start = [0u16; 1];
     let mut no_goal = [0u16; 1];
@@ -67,7 +73,10 @@ fn list(grid: Grid, cells: &[u16], file: &[u8], starts: &mut [u16], goals: &mut 
 
 // The scenario on its map: 14, then 15, then the number of carriers, with their starts and goals in the lists.
 pub fn read_scenario(map: &[u8], file: &[u8], starts: &mut [u16], goals: &mut [u16]) -> Verdict
-    ensures { λ r. ⌜ ScenarioSays (listing (readMap (now (map .entry))) (now (file .entry))) (now (starts .entry)) (now (goals .entry)) (verdictOf r) (now (starts .exit)) (now (goals .exit)) ⌝ }
+    ensures { λ r. ⌜
+        ScenarioSays (listing (readMap (now (map .entry))) (now (file .entry))) (now (starts .entry)) (now (goals .entry)) (verdictOf r)
+        (now (starts .exit)) (now (goals .exit))
+        ⌝ }
 {
     let mut cells = [0u16; 4096];
     let found = gridmap::read(map, &mut cells);

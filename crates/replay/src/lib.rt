@@ -53,7 +53,9 @@ pub fn play(
     occupied: &mut [u8; SPAN],
     plan: &[u64],
 ) -> Legality
-    ensures { λ r. ⌜ PlayedFrom (now (table .entry)) (now (at .entry)) (now (occupied .entry)) (crossings (now (plan .entry))) (legalityOf r) (now (at .exit)) ⌝ }
+    ensures { λ r. ⌜
+        PlayedFrom (now (table .entry)) (now (at .entry)) (now (occupied .entry)) (crossings (now (plan .entry))) (legalityOf r) (now (at .exit))
+        ⌝ }
 {
     let mut i = 0;
     while i < plan.len() {

@@ -1,7 +1,7 @@
 -- What is read from the rows of a search: the nearest bay of a set, and the shortest path.
 -- Assumes nothing.
 use mathlib.Core.Path.{_≡_}
-use mathlib.Core.Bool.{Bool}
+use mathlib.Core.Bool.{Bool, false}
 use mathlib.Core.List.{List}
 use mathlib.Core.Option.{Option, none, some}
 use Prim.Native.Nat.{ℕ, _-_, _*_, _≤_, _<_}
@@ -138,3 +138,35 @@ module _ {n : ℕ} {table held : List ℕ} (s : Shown n table held) where
     pub found : (e : Held) (m : ℕ) → r ≡ Found e m → WayFound x q room (To e m)
     pub nowhere : r ≡ Nowhere → WayFound x q room NoWay
     pub few : r ≡ Farther → length rows < n * words
+
+-- ## What is asked, what is said
+
+-- the path from u to v, in room for every bay
+abbrev pub PathAsks : ℕ → (table held path : List ℕ) → (u v : Bay) → Type 0
+PathAsks n table held path u v =
+    (n ≤ span)
+    × (u < n)
+    × (v < n)
+    × (n * words ≤ length table)
+    × (length held ≡ words)
+    × (n ≤ length path)
+    × Shown n table held
+
+abbrev pub PathSays : ℕ → (table held : List ℕ) → (u v : Bay) → (path : List ℕ) → Path → Type 0
+PathSays n table held u v path r = (s : Shown n table held) → PathFound s u v path r
+
+-- the way from x, which is not held, to the nearest wanted bay, in room for every bay
+abbrev pub WayAsks : ℕ → (table held wanted path : List ℕ) → Bay → Type 0
+WayAsks n table held wanted path x =
+    (n ≤ span)
+    × (x < n)
+    × (n * words ≤ length table)
+    × (length held ≡ words)
+    × (length wanted ≡ words)
+    × (n ≤ length path)
+    × (mem held x ≡ false)
+    × Shown n table held
+
+abbrev pub WaySays : ℕ → (table held wanted : List ℕ) → Bay → (path : List ℕ) → Way → Type 0
+WaySays n table held wanted x path r =
+    (s : Shown n table held) (q : ℕ → Bool) → ((b : ℕ) → b < n → mem wanted b ≡ q b) → WayFound s x q path r

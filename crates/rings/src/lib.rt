@@ -9,7 +9,8 @@ ghost use Rattle.paper.specs.Basics.{_and_};
 ghost use Rattle.words.specs.Sets.{mem, memRow, words, span};
 ghost use Rattle.rings.specs.Search.{NextRing, Shown, Searched};
 ghost use Rattle.rings.specs.Widening.{Widened};
-ghost use Rattle.rings.specs.Ways.{Inside, pathIn, Ended, Narrowed, Outside, pathOut, KeptBeside, PathFound, WayFound, PathNear, WayNear, Ends, pathBy, wayBy};
+ghost use Rattle.rings.specs.Ways.{Inside, pathIn, Ended, Narrowed, Outside, pathOut, KeptBeside};
+ghost use Rattle.rings.specs.Ways.{PathNear, WayNear, Ends, pathBy, wayBy, PathAsks, PathSays, WayAsks, WaySays};
 
 // Words of the rows that a search has at first: 32 rings, which do in most yards and are soon cleared.
 const NEAR: usize = 32 * words::WORDS;
@@ -46,8 +47,17 @@ fn next_ring(
     ring: &mut [u64],
     rows: &mut [u64],
 )
-    requires { ⌜ (n * words ≤ length (now table)) × (length (now seen) ≡ words) × (length (now ring) ≡ words) × ((d + 2) * words ≤ length (now rows)) × (d + 1 < n) × ((b : ℕ) → b < span → mem (now ring) b ≡ true → b < n) ⌝ }
-    ensures { λ _. ⌜ NextRing (now (table .entry)) d (now (seen .entry)) (now (ring .entry)) (now (rows .entry)) (now (seen .exit)) (now (ring .exit)) (now (rows .exit)) ⌝ }
+    requires { ⌜
+        (n * words ≤ length (now table))
+        × (length (now seen) ≡ words)
+        × (length (now ring) ≡ words)
+        × ((d + 2) * words ≤ length (now rows))
+        × (d + 1 < n)
+        × ((b : ℕ) → b < span → mem (now ring) b ≡ true → b < n)
+        ⌝ }
+    ensures { λ _. ⌜
+        NextRing (now (table .entry)) d (now (seen .entry)) (now (ring .entry)) (now (rows .entry)) (now (seen .exit)) (now (ring .exit)) (now (rows .exit))
+        ⌝ }
 {
     let mut next = [0u64; words::WORDS];
     words::beside(table, ring, &mut next);
@@ -64,7 +74,15 @@ pub fn search(
     wanted: &[u64],
     rows: &mut [u64],
 ) -> usize
-    requires { ⌜ (n ≤ span) × (x .0 < n) × (n * words ≤ length (now table)) × (length (now held) ≡ words) × (length (now wanted) ≡ words) × (words ≤ length (now rows)) × Shown n (now table) (now held) ⌝ }
+    requires { ⌜
+        (n ≤ span)
+        × (x .0 < n)
+        × (n * words ≤ length (now table))
+        × (length (now held) ≡ words)
+        × (length (now wanted) ≡ words)
+        × (words ≤ length (now rows))
+        × Shown n (now table) (now held)
+        ⌝ }
     ensures { λ r. ⌜ ((s : Shown n (now (table .entry)) (now (held .entry))) → Searched s (x .0) (now (wanted .entry)) (now (rows .exit)) r) ⌝ }
 {
     let middle = x.0 as usize;
@@ -95,7 +113,14 @@ pub fn search(
 
 // The path from x, d rails from the bay in the middle of the rows: each next bay is the lowest neighbour in the ring one nearer.
 fn inward(table: &[u64], n: usize, rows: &[u64], d: usize, x: Bay, path: &mut [u16])
-    requires { ⌜ (n ≤ span) × (d < n) × (n * words ≤ length (now table)) × ((d + 1) * words ≤ length (now rows)) × (n ≤ length (now path)) × Inside n (now table) (now rows) d (x .0) ⌝ }
+    requires { ⌜
+        (n ≤ span)
+        × (d < n)
+        × (n * words ≤ length (now table))
+        × ((d + 1) * words ≤ length (now rows))
+        × (n ≤ length (now path))
+        × Inside n (now table) (now rows) d (x .0)
+        ⌝ }
     ensures { λ _. ⌜ ((t : Inside n (now (table .entry)) (now (rows .entry)) d (x .0)) → take (d + 1) (now (path .exit)) ≡ pathIn t) ⌝ }
 {
     let mut u = x.0 as usize;
@@ -122,7 +147,11 @@ fn meet_row(set: &mut [u64], rows: &[u64], i: usize)
 
 // Row i keeps only the bays beside those kept, and these are the kept ones now.
 fn keep_beside(table: &[u64], i: usize, rows: &mut [u64], kept: &mut [u64])
-    requires { ⌜ (length (now kept) ≡ words) × (i * words + words ≤ length (now rows)) × ((a : ℕ) → a < span → mem (now kept) a ≡ true → a * words + words ≤ length (now table)) ⌝ }
+    requires { ⌜
+        (length (now kept) ≡ words)
+        × (i * words + words ≤ length (now rows))
+        × ((a : ℕ) → a < span → mem (now kept) a ≡ true → a * words + words ≤ length (now table))
+        ⌝ }
     ensures { λ _. ⌜ KeptBeside (now (table .entry)) i (now (rows .entry)) (now (kept .entry)) (now (rows .exit)) (now (kept .exit)) ⌝ }
 {
     let mut found = [0u64; words::WORDS];
@@ -134,7 +163,9 @@ fn keep_beside(table: &[u64], i: usize, rows: &mut [u64], kept: &mut [u64])
 
 // From e back, each ring keeps only the bays beside those kept in the ring after it: the bays on the shortest paths to e.
 fn narrow(table: &[u64], n: usize, rows: &mut [u64], d: usize, e: Bay)
-    requires { ⌜ (n ≤ span) × (d < n) × (e .0 < n) × (n * words ≤ length (now table)) × ((d + 1) * words ≤ length (now rows)) × Ended n (now table) (now rows) d (e .0) ⌝ }
+    requires { ⌜
+        (n ≤ span) × (d < n) × (e .0 < n) × (n * words ≤ length (now table)) × ((d + 1) * words ≤ length (now rows)) × Ended n (now table) (now rows) d (e .0)
+        ⌝ }
     ensures { λ _. ⌜ ((t : Ended n (now (table .entry)) (now (rows .entry)) d (e .0)) → Narrowed t 1 (now (rows .exit))) ⌝ }
 {
     let last = e.0 as usize;
@@ -150,7 +181,14 @@ fn narrow(table: &[u64], n: usize, rows: &mut [u64], d: usize, e: Bay)
 
 // The path from x through the kept bays: each next bay is the lowest neighbour in the row one further.
 fn outward(table: &[u64], n: usize, rows: &[u64], d: usize, x: Bay, path: &mut [u16])
-    requires { ⌜ (n ≤ span) × (d < n) × (n * words ≤ length (now table)) × ((d + 1) * words ≤ length (now rows)) × (n ≤ length (now path)) × Outside n (now table) (now rows) d (x .0) ⌝ }
+    requires { ⌜
+        (n ≤ span)
+        × (d < n)
+        × (n * words ≤ length (now table))
+        × ((d + 1) * words ≤ length (now rows))
+        × (n ≤ length (now path))
+        × Outside n (now table) (now rows) d (x .0)
+        ⌝ }
     ensures { λ _. ⌜ ((t : Outside n (now (table .entry)) (now (rows .entry)) d (x .0)) → take (d + 1) (now (path .exit)) ≡ pathOut t) ⌝ }
 {
     let mut u = x.0 as usize;
@@ -173,7 +211,16 @@ fn path_near(
     rows: &mut [u64],
     path: &mut [u16],
 ) -> Near
-    requires { ⌜ (n ≤ span) × (u .0 < n) × (v .0 < n) × (n * words ≤ length (now table)) × (length (now held) ≡ words) × (words ≤ length (now rows)) × (n ≤ length (now path)) × Shown n (now table) (now held) ⌝ }
+    requires { ⌜
+        (n ≤ span)
+        × (u .0 < n)
+        × (v .0 < n)
+        × (n * words ≤ length (now table))
+        × (length (now held) ≡ words)
+        × (words ≤ length (now rows))
+        × (n ≤ length (now path))
+        × Shown n (now table) (now held)
+        ⌝ }
     ensures { λ r. ⌜ ((s : Shown n (now (table .entry)) (now (held .entry))) → PathNear s (u .0) (v .0) (now (rows .entry)) (now (path .exit)) r) ⌝ }
 {
     let from = u.0 as usize;
@@ -223,8 +270,8 @@ fn way_of(near: Near) -> Way
 
 // The shortest path from u to v through bays not held. Few rows do mostly, and are soon cleared; where they don't, all are taken.
 pub fn path_between(table: &[u64], n: usize, held: &[u64], u: Bay, v: Bay, path: &mut [u16]) -> Path
-    requires { ⌜ (n ≤ span) × (u .0 < n) × (v .0 < n) × (n * words ≤ length (now table)) × (length (now held) ≡ words) × (n ≤ length (now path)) × Shown n (now table) (now held) ⌝ }
-    ensures { λ r. ⌜ ((s : Shown n (now (table .entry)) (now (held .entry))) → PathFound s (u .0) (v .0) (now (path .exit)) r) ⌝ }
+    requires { ⌜ PathAsks n (now table) (now held) (now path) (u .0) (v .0) ⌝ }
+    ensures { λ r. ⌜ PathSays n (now (table .entry)) (now (held .entry)) (u .0) (v .0) (now (path .exit)) r ⌝ }
 {
     let mut rows = [0u64; NEAR];
     let near = path_near(table, n, held, u, v, &mut rows, path);
@@ -248,8 +295,21 @@ fn way_near(
     rows: &mut [u64],
     path: &mut [u16],
 ) -> Near
-    requires { ⌜ (n ≤ span) × (x .0 < n) × (n * words ≤ length (now table)) × (length (now held) ≡ words) × (length (now wanted) ≡ words) × (words ≤ length (now rows)) × (n ≤ length (now path)) × (mem (now held) (x .0) ≡ false) × Shown n (now table) (now held) ⌝ }
-    ensures { λ r. ⌜ ((s : Shown n (now (table .entry)) (now (held .entry))) (q : ℕ → Bool) → ((b : ℕ) → b < n → mem (now (wanted .entry)) b ≡ q b) → WayNear s (x .0) q (now (rows .entry)) (now (path .exit)) r) ⌝ }
+    requires { ⌜
+        (n ≤ span)
+        × (x .0 < n)
+        × (n * words ≤ length (now table))
+        × (length (now held) ≡ words)
+        × (length (now wanted) ≡ words)
+        × (words ≤ length (now rows))
+        × (n ≤ length (now path))
+        × (mem (now held) (x .0) ≡ false)
+        × Shown n (now table) (now held)
+        ⌝ }
+    ensures { λ r. ⌜
+        ((s : Shown n (now (table .entry)) (now (held .entry))) (q : ℕ → Bool)
+        → ((b : ℕ) → b < n → mem (now (wanted .entry)) b ≡ q b) → WayNear s (x .0) q (now (rows .entry)) (now (path .exit)) r)
+        ⌝ }
 {
     let d = search(table, n, held, x, wanted, rows);
     let b = choice::common(table, rows, d, wanted, 0);
@@ -271,8 +331,8 @@ pub fn way_to_nearest(
     wanted: &[u64],
     path: &mut [u16],
 ) -> Way
-    requires { ⌜ (n ≤ span) × (x .0 < n) × (n * words ≤ length (now table)) × (length (now held) ≡ words) × (length (now wanted) ≡ words) × (n ≤ length (now path)) × (mem (now held) (x .0) ≡ false) × Shown n (now table) (now held) ⌝ }
-    ensures { λ r. ⌜ ((s : Shown n (now (table .entry)) (now (held .entry))) (q : ℕ → Bool) → ((b : ℕ) → b < n → mem (now (wanted .entry)) b ≡ q b) → WayFound s (x .0) q (now (path .exit)) r) ⌝ }
+    requires { ⌜ WayAsks n (now table) (now held) (now wanted) (now path) (x .0) ⌝ }
+    ensures { λ r. ⌜ WaySays n (now (table .entry)) (now (held .entry)) (now (wanted .entry)) (x .0) (now (path .exit)) r ⌝ }
 {
     let mut rows = [0u64; NEAR];
     let near = way_near(table, n, held, x, wanted, &mut rows, path);
@@ -288,7 +348,9 @@ pub fn way_to_nearest(
 
 // One ring more, of which no row is kept.
 pub fn widen(table: &[u64], seen: &mut [u64], ring: &mut [u64])
-    requires { ⌜ (length (now seen) ≡ words) × (length (now ring) ≡ words) × ((b : ℕ) → b < span → mem (now ring) b ≡ true → b * words + words ≤ length (now table)) ⌝ }
+    requires { ⌜
+        (length (now seen) ≡ words) × (length (now ring) ≡ words) × ((b : ℕ) → b < span → mem (now ring) b ≡ true → b * words + words ≤ length (now table))
+        ⌝ }
     ensures { λ _. ⌜ Widened (now (table .entry)) (now (seen .entry)) (now (ring .entry)) (now (seen .exit)) (now (ring .exit)) ⌝ }
 {
     let mut next = [0u64; words::WORDS];

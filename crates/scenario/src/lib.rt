@@ -263,7 +263,9 @@ fn feed_on(
     starts: &mut [u16],
     goals: &mut [u16],
 ) -> Reading
-    ensures { λ r. ⌜ FeedsOn (now (cells .entry)) grid s (now (bytes .entry)) r (now (starts .entry)) (now (starts .exit)) (now (goals .entry)) (now (goals .exit)) ⌝ }
+    ensures { λ r. ⌜
+        FeedsOn (now (cells .entry)) grid s (now (bytes .entry)) r (now (starts .entry)) (now (starts .exit)) (now (goals .entry)) (now (goals .exit))
+        ⌝ }
 {
     let mut at = s;
     let mut i = 0;
@@ -285,7 +287,9 @@ pub fn feed(
     starts: &mut [u16],
     goals: &mut [u16],
 ) -> Reading
-    ensures { λ r. ⌜ Feeds (now (cells .entry)) grid s (now (bytes .entry)) r (now (starts .entry)) (now (starts .exit)) (now (goals .entry)) (now (goals .exit)) ⌝ }
+    ensures { λ r. ⌜
+        Feeds (now (cells .entry)) grid s (now (bytes .entry)) r (now (starts .entry)) (now (starts .exit)) (now (goals .entry)) (now (goals .exit))
+        ⌝ }
 {
     feed_on(taken(s), bytes, grid, cells, starts, goals)
 }
@@ -320,7 +324,9 @@ pub fn finish(
 
 // All bytes of the scenario, and its end.
 fn fold(file: &[u8], grid: Grid, cells: &[u16], starts: &mut [u16], goals: &mut [u16]) -> Reading
-    ensures { λ r. ⌜ Ended (now (file .entry)) grid (now (cells .entry)) r (now (starts .entry)) (now (starts .exit)) (now (goals .entry)) (now (goals .exit)) ⌝ }
+    ensures { λ r. ⌜
+        Ended (now (file .entry)) grid (now (cells .entry)) r (now (starts .entry)) (now (starts .exit)) (now (goals .entry)) (now (goals .exit))
+        ⌝ }
 {
     let s = feed_on(start(), file, grid, cells, starts, goals);
     finish_on(s, grid, cells, starts, goals)
@@ -334,7 +340,9 @@ pub fn read(
     starts: &mut [u16],
     goals: &mut [u16],
 ) -> ScenarioRead
-    ensures { λ r. ⌜ Reads (now (file .entry)) grid (now (cells .entry)) r (now (starts .entry)) (now (starts .exit)) (now (goals .entry)) (now (goals .exit)) ⌝ }
+    ensures { λ r. ⌜
+        Reads (now (file .entry)) grid (now (cells .entry)) r (now (starts .entry)) (now (starts .exit)) (now (goals .entry)) (now (goals .exit))
+        ⌝ }
 {
     let mut no_start = [0u16; 1];
     let mut no_goal = [0u16; 1];

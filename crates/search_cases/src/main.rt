@@ -168,7 +168,15 @@ fn vacated_by_rails(
     empty: &mut [u64],
     out: &mut [u64],
 ) -> Vacated
-    requires { ⌜ (length (now standing) ≤ span) × (x .0 < length (now standing)) × (length (now standing) * words ≤ length (now table)) × (length (now held) ≡ words) × (length (now empty) ≡ words) × Placed (length (now standing)) (now placement) (now standing) (now empty) × Shown (length (now standing)) (now table) (now held) ⌝ }
+    requires { ⌜
+        (length (now standing) ≤ span)
+        × (x .0 < length (now standing))
+        × (length (now standing) * words ≤ length (now table))
+        × (length (now held) ≡ words)
+        × (length (now empty) ≡ words)
+        × Placed (length (now standing)) (now placement) (now standing) (now empty)
+        × Shown (length (now standing)) (now table) (now held)
+        ⌝ }
 {
     let rails = standing.len() * WORDS;
     vacate::vacate(&table[..rails], held, x, placement, standing, empty, out, 0)
@@ -183,7 +191,15 @@ fn vacated(
     standing: &mut [u16],
     out: &mut [u64],
 ) -> Code
-    requires { ⌜ (length (now standing) ≤ span) × (x < length (now standing)) × (length (now held) ≡ words) × (length (now placement) ≤ length (now standing)) × Apart (now placement) × ((c : ℕ) → c < length (now placement) → bayOf (now placement) c < length (now standing)) × Shown (length (now standing)) (now table) (now held) ⌝ }
+    requires { ⌜
+        (length (now standing) ≤ span)
+        × (x < length (now standing))
+        × (length (now held) ≡ words)
+        × (length (now placement) ≤ length (now standing))
+        × Apart (now placement)
+        × ((c : ℕ) → c < length (now placement) → bayOf (now placement) c < length (now standing))
+        × Shown (length (now standing)) (now table) (now held)
+        ⌝ }
 {
     let mut empty = [0u64; WORDS];
     placing::place(placement, standing, &mut empty);

@@ -35,7 +35,10 @@ pub extern "C" fn sejjekoru_program_timed(
     out: &mut [u8],
     value: &mut u64,
 ) -> u64
-    ensures { λ r. ⌜ TimedTells edition (fileOf (given «map_read») (now (map .entry))) (fileOf (given «scenario_read») (now (scenario .entry))) (given shorten) (now (out .entry)) r (now (value .exit)) (now (out .exit)) ⌝ }
+    ensures { λ r. ⌜
+        TimedTells edition (fileOf (given «map_read») (now (map .entry))) (fileOf (given «scenario_read») (now (scenario .entry)))
+        (given shorten) (now (out .entry)) r (now (value .exit)) (now (out .exit))
+        ⌝ }
 {
     let answer = timed::program(
         edition,

@@ -9,7 +9,9 @@ pub extern "C" fn sejjekoru_compare<'a>(
     longer: &mut u64,
     value: &mut u64,
 ) -> u64
-    ensures { λ r. ⌜ CompareTells (now (first .entry)) (now (second .entry)) (now (differences .entry)) r (now (value .exit)) (now (longer .exit)) (now (differences .exit)) ⌝ }
+    ensures { λ r. ⌜
+        CompareTells (now (first .entry)) (now (second .entry)) (now (differences .entry)) r (now (value .exit)) (now (longer .exit)) (now (differences .exit))
+        ⌝ }
 {
     let mut number = 0;
     comparing::compare(first, second, differences, &mut number, value, longer);

@@ -24,7 +24,10 @@ pub extern "C" fn sejjekoru_scenario(
     goal: &mut [u16],
     value: &mut u64,
 ) -> u64
-    ensures { λ r. ⌜ ScenarioTells (listing (readMap (now (map .entry))) (now (scenario .entry))) (now (start .entry)) (now (goal .entry)) r (now (value .exit)) (now (start .exit)) (now (goal .exit)) ⌝ }
+    ensures { λ r. ⌜
+        ScenarioTells (listing (readMap (now (map .entry))) (now (scenario .entry))) (now (start .entry)) (now (goal .entry)) r
+        (now (value .exit)) (now (start .exit)) (now (goal .exit))
+        ⌝ }
 {
     let answer = readers::read_scenario(map, scenario, start, goal);
     numbers::told(answer, value)

@@ -15,7 +15,9 @@ pub extern "C" fn sejjekoru_program(
     out: &mut [u8],
     value: &mut u64,
 ) -> u64
-    ensures { λ r. ⌜ ProgramTells (now (map .entry)) «map_read» (now (scenario .entry)) «scenario_read» shorten (now (out .entry)) r (now (value .exit)) (now (out .exit)) ⌝ }
+    ensures { λ r. ⌜
+        ProgramTells (now (map .entry)) «map_read» (now (scenario .entry)) «scenario_read» shorten (now (out .entry)) r (now (value .exit)) (now (out .exit))
+        ⌝ }
 {
     let has = out.len();
     let needed = printout::program(

@@ -144,7 +144,9 @@ fn in_block(
     key: usize,
 ) -> usize
     requires { ⌜ (m ≤ end) × (end ≤ length (now plan)) × (length (now gone) ≡ length (now plan)) × (kind < 3) × Settled (now plan) (now gone) (now known) ⌝ }
-    ensures { λ r. ⌜ (m ≤ r) × (r ≤ end) × Passed (now (plan .entry)) (now (gone .entry)) kind key m r × Settled (now (plan .entry)) (now (gone .entry)) (now (known .exit)) ⌝ }
+    ensures { λ r. ⌜
+        (m ≤ r) × (r ≤ end) × Passed (now (plan .entry)) (now (gone .entry)) kind key m r × Settled (now (plan .entry)) (now (gone .entry)) (now (known .exit))
+        ⌝ }
 {
     let slot = slot_of(m, end, kind, key, known.len());
     if slot >= known.len() {
@@ -181,7 +183,12 @@ fn next_like(
     key: usize,
 ) -> usize
     requires { ⌜ (from ≤ to) × (to ≤ length (now plan)) × (length (now gone) ≡ length (now plan)) × (kind < 3) × Settled (now plan) (now gone) (now known) ⌝ }
-    ensures { λ r. ⌜ (from ≤ r) × (r ≤ to) × Passed (now (plan .entry)) (now (gone .entry)) kind key from r × Settled (now (plan .entry)) (now (gone .entry)) (now (known .exit)) ⌝ }
+    ensures { λ r. ⌜
+        (from ≤ r)
+        × (r ≤ to)
+        × Passed (now (plan .entry)) (now (gone .entry)) kind key from r
+        × Settled (now (plan .entry)) (now (gone .entry)) (now (known .exit))
+        ⌝ }
 {
     let mut m = from;
     while m < to {
@@ -198,7 +205,9 @@ fn next_like(
 // The name down to which whole blocks below `name` have no such crossing.
 fn below(plan: &[u64], gone: &[u8], known: &mut [u8], name: usize, kind: usize, key: usize) -> usize
     requires { ⌜ (name ≤ length (now plan)) × (length (now gone) ≡ length (now plan)) × (kind < 3) × Settled (now plan) (now gone) (now known) ⌝ }
-    ensures { λ r. ⌜ (r ≤ name) × Passed (now (plan .entry)) (now (gone .entry)) kind key r name × Settled (now (plan .entry)) (now (gone .entry)) (now (known .exit)) ⌝ }
+    ensures { λ r. ⌜
+        (r ≤ name) × Passed (now (plan .entry)) (now (gone .entry)) kind key r name × Settled (now (plan .entry)) (now (gone .entry)) (now (known .exit))
+        ⌝ }
 {
     let mut m = name;
     while m >= Yard::BAYS {
@@ -225,7 +234,11 @@ fn chosen(test: bool, name: usize, other: usize) -> usize
 // The name of the last return of the carrier that crosses at `name`, or `name` itself where it does not return.
 fn last_return(plan: &[u64], gone: &[u8], known: &mut [u8], name: usize) -> usize
     requires { ⌜ (name < length (now plan)) × (length (now gone) ≡ length (now plan)) × Settled (now plan) (now gone) (now known) ⌝ }
-    ensures { λ r. ⌜ (r < length (now (plan .entry))) × (r ≡ lastFrom (named (crossings (now (plan .entry))) name) (crossings (now (plan .entry))) (now (gone .entry)) name (suc name)) × Settled (now (plan .entry)) (now (gone .entry)) (now (known .exit)) ⌝ }
+    ensures { λ r. ⌜
+        (r < length (now (plan .entry)))
+        × (r ≡ lastFrom (named (crossings (now (plan .entry))) name) (crossings (now (plan .entry))) (now (gone .entry)) name (suc name))
+        × Settled (now (plan .entry)) (now (gone .entry)) (now (known .exit))
+        ⌝ }
 {
     let x = plans::crossing_at(plan, name);
     let key = bay_key(x.from);
@@ -246,7 +259,11 @@ fn last_return(plan: &[u64], gone: &[u8], known: &mut [u8], name: usize) -> usiz
 // The last crossing before `name` that leaves the bay, or `name` itself where none does.
 fn last_leaving(plan: &[u64], gone: &[u8], known: &mut [u8], name: usize, bay: Bay) -> usize
     requires { ⌜ (name < length (now plan)) × (length (now gone) ≡ length (now plan)) × Settled (now plan) (now gone) (now known) ⌝ }
-    ensures { λ r. ⌜ (r ≤ name) × ((k : ℕ) → LastLeaving (now (gone .entry)) (crossings (now (plan .entry))) (bay .0) name k → r ≡ k) × Settled (now (plan .entry)) (now (gone .entry)) (now (known .exit)) ⌝ }
+    ensures { λ r. ⌜
+        (r ≤ name)
+        × ((k : ℕ) → LastLeaving (now (gone .entry)) (crossings (now (plan .entry))) (bay .0) name k → r ≡ k)
+        × Settled (now (plan .entry)) (now (gone .entry)) (now (known .exit))
+        ⌝ }
 {
     let key = bay_key(bay);
     let mut m = below(plan, gone, known, name, 2, key);
@@ -270,8 +287,17 @@ fn note_one(
     carrier: Carrier,
     low: usize,
 ) -> usize
-    requires { ⌜ (name < length (now plan)) × (length (now gone) ≡ length (now plan)) × (length (now todo) ≡ length (now plan)) × Settled (now plan) (now gone) (now known) ⌝ }
-    ensures { λ r. ⌜ (r ≤ low) × Noted (now (gone .entry)) (crossings (now (plan .entry))) (carrier .0) name 1 (now (todo .entry)) (now (todo .exit)) r × Settled (now (plan .entry)) (now (gone .entry)) (now (known .exit)) ⌝ }
+    requires { ⌜
+        (name < length (now plan))
+        × (length (now gone) ≡ length (now plan))
+        × (length (now todo) ≡ length (now plan))
+        × Settled (now plan) (now gone) (now known)
+        ⌝ }
+    ensures { λ r. ⌜
+        (r ≤ low)
+        × Noted (now (gone .entry)) (crossings (now (plan .entry))) (carrier .0) name 1 (now (todo .entry)) (now (todo .exit)) r
+        × Settled (now (plan .entry)) (now (gone .entry)) (now (known .exit))
+        ⌝ }
 {
     if gone[name] != 0 {
         return low;
@@ -295,8 +321,18 @@ fn note_leavings(
     last: usize,
     carrier: Carrier,
 ) -> usize
-    requires { ⌜ (name ≤ last) × (last < length (now plan)) × (length (now gone) ≡ length (now plan)) × (length (now todo) ≡ length (now plan)) × Settled (now plan) (now gone) (now known) ⌝ }
-    ensures { λ r. ⌜ (r ≤ name) × Noted (now (gone .entry)) (crossings (now (plan .entry))) (carrier .0) name (suc last - name) (now (todo .entry)) (now (todo .exit)) r × Settled (now (plan .entry)) (now (gone .entry)) (now (known .exit)) ⌝ }
+    requires { ⌜
+        (name ≤ last)
+        × (last < length (now plan))
+        × (length (now gone) ≡ length (now plan))
+        × (length (now todo) ≡ length (now plan))
+        × Settled (now plan) (now gone) (now known)
+        ⌝ }
+    ensures { λ r. ⌜
+        (r ≤ name)
+        × Noted (now (gone .entry)) (crossings (now (plan .entry))) (carrier .0) name (suc last - name) (now (todo .entry)) (now (todo .exit)) r
+        × Settled (now (plan .entry)) (now (gone .entry)) (now (known .exit))
+        ⌝ }
 {
     let key = carrier_key(carrier);
     let mut low = name;
@@ -324,8 +360,18 @@ fn drop_trip(
     last: usize,
     carrier: Carrier,
 )
-    requires { ⌜ (isOf (carrier .0) (named (crossings (now plan)) name) ≡ true) × (name ≤ last) × (last < length (now plan)) × (length (now gone) ≡ length (now plan)) × Settled (now plan) (now gone) (now known) × (getD (now gone) name 0 ≡ 0) ⌝ }
-    ensures { λ _. ⌜ (now (gone .exit) ≡ dropTrip (carrier .0) name (suc last - name) (now (gone .entry)) (crossings (now (plan .entry)))) × Settled (now (plan .entry)) (now (gone .exit)) (now (known .exit)) ⌝ }
+    requires { ⌜
+        (isOf (carrier .0) (named (crossings (now plan)) name) ≡ true)
+        × (name ≤ last)
+        × (last < length (now plan))
+        × (length (now gone) ≡ length (now plan))
+        × Settled (now plan) (now gone) (now known)
+        × (getD (now gone) name 0 ≡ 0)
+        ⌝ }
+    ensures { λ _. ⌜
+        (now (gone .exit) ≡ dropTrip (carrier .0) name (suc last - name) (now (gone .entry)) (crossings (now (plan .entry))))
+        × Settled (now (plan .entry)) (now (gone .exit)) (now (known .exit))
+        ⌝ }
 {
     let key = carrier_key(carrier);
     let mut m = next_like(plan, gone, known, name + 1, last + 1, 1, key);
@@ -339,7 +385,11 @@ fn drop_trip(
 // One look: at a name where a trip begins it is cut, and the look goes back to the lowest name that this may have freed.
 fn look(plan: &[u64], gone: &mut [u8], todo: &mut [u8], known: &mut [u8], name: usize) -> usize
     requires { ⌜ (name < length (now plan)) × Going (now plan) (now gone) (now todo) name × Settled (now plan) (now gone) (now known) ⌝ }
-    ensures { λ r. ⌜ Going (now (plan .entry)) (now (gone .exit)) (now (todo .exit)) r × (rank (now (plan .entry)) (now (gone .exit)) r < rank (now (plan .entry)) (now (gone .entry)) name) × Settled (now (plan .entry)) (now (gone .exit)) (now (known .exit)) ⌝ }
+    ensures { λ r. ⌜
+        Going (now (plan .entry)) (now (gone .exit)) (now (todo .exit)) r
+        × (rank (now (plan .entry)) (now (gone .exit)) r < rank (now (plan .entry)) (now (gone .entry)) name)
+        × Settled (now (plan .entry)) (now (gone .exit)) (now (known .exit))
+        ⌝ }
 {
     if gone[name] != 0 {
         return name + 1;
@@ -361,7 +411,10 @@ fn look(plan: &[u64], gone: &mut [u8], todo: &mut [u8], known: &mut [u8], name: 
 // Cut after cut, the lowest name first, until there is none.
 fn drop_trips(plan: &[u64], gone: &mut [u8], todo: &mut [u8], known: &mut [u8])
     requires { ⌜ Going (now plan) (now gone) (now todo) 0 × Settled (now plan) (now gone) (now known) ⌝ }
-    ensures { λ _. ⌜ (length (now (gone .exit)) ≡ length (now (plan .entry))) × (left (now (gone .exit)) (crossings (now (plan .entry))) ≡ shortenOf (crossings (now (plan .entry)))) ⌝ }
+    ensures { λ _. ⌜
+        (length (now (gone .exit)) ≡ length (now (plan .entry)))
+        × (left (now (gone .exit)) (crossings (now (plan .entry))) ≡ shortenOf (crossings (now (plan .entry))))
+        ⌝ }
 {
     let mut name = 0;
     while name < plan.len() {
@@ -393,7 +446,9 @@ fn count_left(plan: &[u64], gone: &[u8]) -> usize
 // What is still in the plan, into the first places of `out`; what stands beyond stays.
 fn write_left(plan: &[u64], gone: &[u8], out: &mut [u64])
     requires { ⌜ (length (now gone) ≡ length (now plan)) × (length (left (now gone) (now plan)) ≤ length (now out)) ⌝ }
-    ensures { λ _. ⌜ now (out .exit) ≡ left (now (gone .entry)) (now (plan .entry)) ++ drop (length (left (now (gone .entry)) (now (plan .entry)))) (now (out .entry)) ⌝ }
+    ensures { λ _. ⌜
+        now (out .exit) ≡ left (now (gone .entry)) (now (plan .entry)) ++ drop (length (left (now (gone .entry)) (now (plan .entry)))) (now (out .entry))
+        ⌝ }
 {
     let mut n = 0;
     let mut m = 0;
@@ -408,7 +463,11 @@ fn write_left(plan: &[u64], gone: &[u8], out: &mut [u64])
 
 // 8 where the shorter plan is longer than the lent list; else it is written.
 fn finish(plan: &[u64], gone: &[u8], out: &mut [u64]) -> Verdict
-    requires { ⌜ (length (now gone) ≡ length (now plan)) × (left (now gone) (crossings (now plan)) ≡ shortenOf (crossings (now plan))) × (length (now plan) ≤ most-crossings) ⌝ }
+    requires { ⌜
+        (length (now gone) ≡ length (now plan))
+        × (left (now gone) (crossings (now plan)) ≡ shortenOf (crossings (now plan)))
+        × (length (now plan) ≤ most-crossings)
+        ⌝ }
     ensures { λ r. ⌜ RoomSays (now (plan .entry)) (now (out .entry)) r (now (out .exit)) ⌝ }
 {
     let count = count_left(plan, gone);
@@ -427,7 +486,13 @@ fn shorten_in(
     known: &mut [u8],
     out: &mut [u64],
 ) -> Verdict
-    requires { ⌜ Lawful (crossings (now plan)) × (length (now plan) ≤ most-crossings) × (now gone ≡ replicate (length (now plan)) 0) × (now todo ≡ replicate (length (now plan)) 1) × Settled (now plan) (now gone) (now known) ⌝ }
+    requires { ⌜
+        Lawful (crossings (now plan))
+        × (length (now plan) ≤ most-crossings)
+        × (now gone ≡ replicate (length (now plan)) 0)
+        × (now todo ≡ replicate (length (now plan)) 1)
+        × Settled (now plan) (now gone) (now known)
+        ⌝ }
     ensures { λ r. ⌜ RoomSays (now (plan .entry)) (now (out .entry)) r (now (out .exit)) ⌝ }
 {
     drop_trips(plan, gone, todo, known);

@@ -21,7 +21,12 @@ pub fn higher(x: u32, y: u32) -> u32
 
 // The slot of the crossing after those that the tables have met; it becomes the last of its carrier and of both its bays.
 pub fn next_slot(x: Crossing, carriers: &mut [u32; BAYS], bays: &mut [u32; BAYS]) -> u32
-    requires { ⌜ (crossingOf x .carrier < most-bays) × (crossingOf x .from < most-bays) × (crossingOf x .to < most-bays) × (slotAfter (now carriers) (now bays) (crossingOf x) < 4294967296) ⌝ }
+    requires { ⌜
+        (crossingOf x .carrier < most-bays)
+        × (crossingOf x .from < most-bays)
+        × (crossingOf x .to < most-bays)
+        × (slotAfter (now carriers) (now bays) (crossingOf x) < 4294967296)
+        ⌝ }
     ensures { λ r. ⌜ Turned (now (carriers .entry)) (now (bays .entry)) (crossingOf x) r (now (carriers .exit)) (now (bays .exit)) ⌝ }
 {
     let carrier = x.carrier.0 as usize;

@@ -57,7 +57,12 @@ fn plan_order(
     goals: &[u16],
     plan: &mut [u64],
 ) -> Planned
-    requires { ⌜ (order .ends ≤ length (now ends)) × (order .carriers ≤ length (now starts)) × (order .carriers ≤ length (now goals)) × (length (now plan) ≡ program-room) ⌝ }
+    requires { ⌜
+        (order .ends ≤ length (now ends))
+        × (order .carriers ≤ length (now starts))
+        × (order .carriers ≤ length (now goals))
+        × (length (now plan) ≡ program-room)
+        ⌝ }
     ensures { λ r. ⌜
         Ready (shortOr shorten (planned (orderIn order (now (ends .entry)) (now (starts .entry)) (now (goals .entry)))
         program-room)) r (now (plan .exit))
@@ -122,7 +127,10 @@ pub fn program(
     shorten: bool,
     out: &mut [u8],
 ) -> Verdict
-    ensures { λ r. ⌜ TimedSays (programTimed edition shorten (fileOf mapped (now (map .entry))) (fileOf listed (now (scenario .entry)))) (now (out .entry)) r (now (out .exit)) ⌝ }
+    ensures { λ r. ⌜
+        TimedSays (programTimed edition shorten (fileOf mapped (now (map .entry))) (fileOf listed (now (scenario .entry))))
+        (now (out .entry)) r (now (out .exit))
+        ⌝ }
 {
     let mut plan = [0u64; CROSSINGS];
     let fits = editions::known(edition);

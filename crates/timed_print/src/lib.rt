@@ -37,7 +37,9 @@ fn line(out: &mut [u8], at: usize, slot: u32, x: Crossing) -> usize
 // One line for each crossing, in plan order.
 fn lines(plan: &[u64], slots: &[u32], out: &mut [u8]) -> usize
     requires { ⌜ (length (now plan) ≤ most-crossings) × (length (now slots) ≡ length (now plan)) ⌝ }
-    ensures { λ r. ⌜ Wrote (now (out .entry)) 0 (linesOf (now (slots .entry)) (now (plan .entry))) (now (out .exit)) r × (r ≤ 100 * length (now (plan .entry))) ⌝ }
+    ensures { λ r. ⌜
+        Wrote (now (out .entry)) 0 (linesOf (now (slots .entry)) (now (plan .entry))) (now (out .exit)) r × (r ≤ 100 * length (now (plan .entry)))
+        ⌝ }
 {
     let mut at = 0;
     let mut i = 0;

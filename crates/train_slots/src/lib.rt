@@ -15,7 +15,12 @@ use paper::BAYS;
 
 // The slot of the crossing after those that the tables have met; it becomes its carrier's last, and that of the latest leaving of its `from`.
 pub fn next_slot(x: Crossing, carriers: &mut [u32; BAYS], left: &mut [u32; BAYS]) -> u32
-    requires { ⌜ (crossingOf x .carrier < most-bays) × (crossingOf x .from < most-bays) × (crossingOf x .to < most-bays) × (slotAfter (now carriers) (now left) (crossingOf x) < 4294967296) ⌝ }
+    requires { ⌜
+        (crossingOf x .carrier < most-bays)
+        × (crossingOf x .from < most-bays)
+        × (crossingOf x .to < most-bays)
+        × (slotAfter (now carriers) (now left) (crossingOf x) < 4294967296)
+        ⌝ }
     ensures { λ r. ⌜ Turned (now (carriers .entry)) (now (left .entry)) (crossingOf x) r (now (carriers .exit)) (now (left .exit)) ⌝ }
 {
     let carrier = x.carrier.0 as usize;

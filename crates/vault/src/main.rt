@@ -86,7 +86,12 @@ fn print(
     listed: bool,
     out: &mut [u8],
 ) -> usize
-    ensures { λ r. ⌜ Wrote (now (out .entry)) 0 (printFor (same (now (word .entry)) (text "--shorten")) (fileOf mapped (now (map .entry))) (fileOf listed (now (scenario .entry)))) (now (out .exit)) r × (r ≤ print-room) ⌝ }
+    ensures { λ r. ⌜
+        Wrote (now (out .entry)) 0
+        (printFor (same (now (word .entry)) (text "--shorten")) (fileOf mapped (now (map .entry))) (fileOf listed (now (scenario .entry))))
+        (now (out .exit)) r
+        × (r ≤ print-room)
+        ⌝ }
 {
     let short = is_flag(word);
     printout::print(short, map, mapped, scenario, listed, out)

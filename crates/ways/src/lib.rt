@@ -11,7 +11,7 @@ ghost use lib.ListN.{length, take};
 ghost use Rattle.paper.specs.Basics.{_and_};
 ghost use Rattle.words.specs.Sets.{mem, words, span};
 ghost use Rattle.rings.specs.Search.{Shown};
-ghost use Rattle.rings.specs.Ways.{PathFound, WayFound};
+ghost use Rattle.rings.specs.Ways.{PathAsks, PathSays, WayAsks, WaySays};
 ghost use Rattle.ways.specs.Meeting.{few, inWord, newIn, new, Queued, Meets, back};
 ghost use Rattle.ways.specs.Queue.{Low, Met, Standing, Passed};
 
@@ -50,8 +50,17 @@ fn meet_word(
     before: &mut [u16],
     count: usize,
 ) -> usize
-    requires { ⌜ (i < words) × (a * words + words ≤ length (now table)) × (length (now seen) ≡ words) × (length (now before) ≡ span) × (count + length (newIn (now table) (now seen) a i) ≤ length (now met)) ⌝ }
-    ensures { λ r. ⌜ Meets (newIn (now (table .entry)) (now (seen .entry)) a i) a count (now (seen .entry)) (now (met .entry)) (now (before .entry)) (now (seen .exit)) (now (met .exit)) (now (before .exit)) r ⌝ }
+    requires { ⌜
+        (i < words)
+        × (a * words + words ≤ length (now table))
+        × (length (now seen) ≡ words)
+        × (length (now before) ≡ span)
+        × (count + length (newIn (now table) (now seen) a i) ≤ length (now met))
+        ⌝ }
+    ensures { λ r. ⌜
+        Meets (newIn (now (table .entry)) (now (seen .entry)) a i) a count (now (seen .entry)) (now (met .entry)) (now (before .entry))
+        (now (seen .exit)) (now (met .exit)) (now (before .exit)) r
+        ⌝ }
 {
     let word = table[a as usize * words::WORDS + i] & !seen[i];
     if word == 0 {
@@ -70,8 +79,16 @@ fn meet(
     before: &mut [u16],
     count: usize,
 ) -> usize
-    requires { ⌜ (a * words + words ≤ length (now table)) × (length (now seen) ≡ words) × (length (now before) ≡ span) × (count + length (new (now table) (now seen) a) ≤ length (now met)) ⌝ }
-    ensures { λ r. ⌜ Meets (new (now (table .entry)) (now (seen .entry)) a) a count (now (seen .entry)) (now (met .entry)) (now (before .entry)) (now (seen .exit)) (now (met .exit)) (now (before .exit)) r ⌝ }
+    requires { ⌜
+        (a * words + words ≤ length (now table))
+        × (length (now seen) ≡ words)
+        × (length (now before) ≡ span)
+        × (count + length (new (now table) (now seen) a) ≤ length (now met))
+        ⌝ }
+    ensures { λ r. ⌜
+        Meets (new (now (table .entry)) (now (seen .entry)) a) a count (now (seen .entry)) (now (met .entry)) (now (before .entry))
+        (now (seen .exit)) (now (met .exit)) (now (before .exit)) r
+        ⌝ }
 {
     let mut c = count;
     let mut i = 0;
@@ -92,8 +109,21 @@ fn pass(
     met: &mut [u16],
     before: &mut [u16],
 ) -> usize
-    requires { ⌜ (n ≤ span) × (n * words ≤ length (now table)) × (start < count) × (count ≤ n) × (length (now seen) ≡ words) × (n ≤ length (now met)) × (length (now before) ≡ span) × Standing n (now table) (now seen) (now met) (now before) start count ⌝ }
-    ensures { λ r. ⌜ ((held : List ℕ) (x : ℕ) → Met n (now (table .entry)) held x (now (seen .entry)) (take count (now (met .entry))) (now (before .entry)) start → Passed n (now (table .entry)) held x (now (met .entry)) count (now (seen .exit)) (now (met .exit)) (now (before .exit)) count r) ⌝ }
+    requires { ⌜
+        (n ≤ span)
+        × (n * words ≤ length (now table))
+        × (start < count)
+        × (count ≤ n)
+        × (length (now seen) ≡ words)
+        × (n ≤ length (now met))
+        × (length (now before) ≡ span)
+        × Standing n (now table) (now seen) (now met) (now before) start count
+        ⌝ }
+    ensures { λ r. ⌜
+        ((held : List ℕ) (x : ℕ)
+        → Met n (now (table .entry)) held x (now (seen .entry)) (take count (now (met .entry))) (now (before .entry)) start
+        → Passed n (now (table .entry)) held x (now (met .entry)) count (now (seen .exit)) (now (met .exit)) (now (before .exit)) count r)
+        ⌝ }
 {
     let mut done = start;
     let mut c = count;
@@ -129,8 +159,8 @@ fn one_by_one(
     wanted: &[u64],
     path: &mut [u16],
 ) -> Way
-    requires { ⌜ (n ≤ span) × (x .0 < n) × (n * words ≤ length (now table)) × (length (now held) ≡ words) × (length (now wanted) ≡ words) × (n ≤ length (now path)) × (mem (now held) (x .0) ≡ false) × Shown n (now table) (now held) ⌝ }
-    ensures { λ r. ⌜ ((s : Shown n (now (table .entry)) (now (held .entry))) (q : ℕ → Bool) → ((b : ℕ) → b < n → mem (now (wanted .entry)) b ≡ q b) → WayFound s (x .0) q (now (path .exit)) r) ⌝ }
+    requires { ⌜ WayAsks n (now table) (now held) (now wanted) (now path) (x .0) ⌝ }
+    ensures { λ r. ⌜ WaySays n (now (table .entry)) (now (held .entry)) (now (wanted .entry)) (x .0) (now (path .exit)) r ⌝ }
 {
     let middle = x.0 as usize;
     if words::is_in(wanted, middle) {
@@ -173,8 +203,8 @@ pub fn way_to_nearest(
     wanted: &[u64],
     path: &mut [u16],
 ) -> Way
-    requires { ⌜ (n ≤ span) × (x .0 < n) × (n * words ≤ length (now table)) × (length (now held) ≡ words) × (length (now wanted) ≡ words) × (n ≤ length (now path)) × (mem (now held) (x .0) ≡ false) × Shown n (now table) (now held) ⌝ }
-    ensures { λ r. ⌜ ((s : Shown n (now (table .entry)) (now (held .entry))) (q : ℕ → Bool) → ((b : ℕ) → b < n → mem (now (wanted .entry)) b ≡ q b) → WayFound s (x .0) q (now (path .exit)) r) ⌝ }
+    requires { ⌜ WayAsks n (now table) (now held) (now wanted) (now path) (x .0) ⌝ }
+    ensures { λ r. ⌜ WaySays n (now (table .entry)) (now (held .entry)) (now (wanted .entry)) (x .0) (now (path .exit)) r ⌝ }
 {
     if few_rails(table, x.0 as usize) {
         return one_by_one(table, n, held, x, wanted, path);
@@ -184,8 +214,18 @@ pub fn way_to_nearest(
 
 // The shortest path from u to v, neither of them held, by a queue.
 fn path_by_queue(table: &[u64], n: usize, held: &[u64], u: Bay, v: Bay, path: &mut [u16]) -> Path
-    requires { ⌜ (n ≤ span) × (u .0 < n) × (v .0 < n) × (n * words ≤ length (now table)) × (length (now held) ≡ words) × (n ≤ length (now path)) × (mem (now held) (u .0) ≡ false) × (mem (now held) (v .0) ≡ false) × Shown n (now table) (now held) ⌝ }
-    ensures { λ r. ⌜ ((s : Shown n (now (table .entry)) (now (held .entry))) → PathFound s (u .0) (v .0) (now (path .exit)) r) ⌝ }
+    requires { ⌜
+        (n ≤ span)
+        × (u .0 < n)
+        × (v .0 < n)
+        × (n * words ≤ length (now table))
+        × (length (now held) ≡ words)
+        × (n ≤ length (now path))
+        × (mem (now held) (u .0) ≡ false)
+        × (mem (now held) (v .0) ≡ false)
+        × Shown n (now table) (now held)
+        ⌝ }
+    ensures { λ r. ⌜ PathSays n (now (table .entry)) (now (held .entry)) (u .0) (v .0) (now (path .exit)) r ⌝ }
 {
     let mut goal = [0u64; words::WORDS];
     words::alone(&mut goal, v.0 as usize);
@@ -198,7 +238,9 @@ fn path_by_queue(table: &[u64], n: usize, held: &[u64], u: Bay, v: Bay, path: &m
 // Whether a queue serves from u to v: few rails lead to both, and neither is held.
 fn by_queue(table: &[u64], held: &[u64], u: usize, v: usize) -> bool
     requires { ⌜ (u * words + words ≤ length (now table)) × (v * words + words ≤ length (now table)) × (length (now held) ≡ words) × (u < span) × (v < span) ⌝ }
-    ensures { λ r. ⌜ r ≡ (few (now (table .entry)) u and few (now (table .entry)) v) and (not (mem (now (held .entry)) u) and not (mem (now (held .entry)) v)) ⌝ }
+    ensures { λ r. ⌜
+        r ≡ (few (now (table .entry)) u and few (now (table .entry)) v) and (not (mem (now (held .entry)) u) and not (mem (now (held .entry)) v))
+        ⌝ }
 {
     if !few_rails(table, u) {
         return false;
@@ -214,8 +256,8 @@ fn by_queue(table: &[u64], held: &[u64], u: usize, v: usize) -> bool
 
 // The shortest path from u to v through bays not held.
 pub fn path_between(table: &[u64], n: usize, held: &[u64], u: Bay, v: Bay, path: &mut [u16]) -> Path
-    requires { ⌜ (n ≤ span) × (u .0 < n) × (v .0 < n) × (n * words ≤ length (now table)) × (length (now held) ≡ words) × (n ≤ length (now path)) × Shown n (now table) (now held) ⌝ }
-    ensures { λ r. ⌜ ((s : Shown n (now (table .entry)) (now (held .entry))) → PathFound s (u .0) (v .0) (now (path .exit)) r) ⌝ }
+    requires { ⌜ PathAsks n (now table) (now held) (now path) (u .0) (v .0) ⌝ }
+    ensures { λ r. ⌜ PathSays n (now (table .entry)) (now (held .entry)) (u .0) (v .0) (now (path .exit)) r ⌝ }
 {
     if by_queue(table, held, u.0 as usize, v.0 as usize) {
         return path_by_queue(table, n, held, u, v, path);

@@ -252,7 +252,13 @@ pub fn next_from(ws: &[u64], a: usize) -> usize
 
 // The rows of the bays of word i join what is found; each time its lowest bit is taken off what is left of the word.
 fn join_word(table: &[u64], set: &[u64], i: usize, found: &mut [u64])
-    requires { ⌜ (i < words) × (length (now set) ≡ words) × (length (now found) ≡ words) × ((a : ℕ) → a < span → mem (now set) a ≡ true → a * words + words ≤ length (now table)) × Beside (now table) (now set) (now found) (i * 64) ⌝ }
+    requires { ⌜
+        (i < words)
+        × (length (now set) ≡ words)
+        × (length (now found) ≡ words)
+        × ((a : ℕ) → a < span → mem (now set) a ≡ true → a * words + words ≤ length (now table))
+        × Beside (now table) (now set) (now found) (i * 64)
+        ⌝ }
     ensures { λ _. ⌜ Beside (now (table .entry)) (now (set .entry)) (now (found .exit)) (i * 64 + 64) ⌝ }
 {
     let mut left = set[i];
@@ -265,7 +271,9 @@ fn join_word(table: &[u64], set: &[u64], i: usize, found: &mut [u64])
 // The bays that stand in the rows of the set's members. They are gathered in an array of its own, which the compiler holds in registers. The set is
 // asked for its length, so that the compiler keeps this short enough to put it into its callers.
 pub fn beside(table: &[u64], set: &[u64], found: &mut [u64])
-    requires { ⌜ (length (now set) ≡ words) × (length (now found) ≡ words) × ((a : ℕ) → a < span → mem (now set) a ≡ true → a * words + words ≤ length (now table)) ⌝ }
+    requires { ⌜
+        (length (now set) ≡ words) × (length (now found) ≡ words) × ((a : ℕ) → a < span → mem (now set) a ≡ true → a * words + words ≤ length (now table))
+        ⌝ }
     ensures { λ _. ⌜ Beside (now (table .entry)) (now (set .entry)) (now (found .exit)) span ⌝ }
 {
     let mut all = [0u64; WORDS];
