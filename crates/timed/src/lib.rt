@@ -64,8 +64,8 @@ fn plan_order(
         × (length (now plan) ≡ program-room)
         ⌝ }
     ensures { λ r. ⌜
-        Ready (shortOr shorten (planned (orderIn order (now (ends .entry)) (now (starts .entry)) (now (goals .entry)))
-        program-room)) r (now (plan .exit))
+        Ready (shortOr shorten (planned (orderIn order (now (ends .entry)) (now (starts .entry)) (now (goals .entry))) program-room))
+        r (now (plan .exit))
         ⌝ }
 {
     let n = order.ends;
