@@ -15,11 +15,11 @@
  *
  * Nothing is kept between calls and nothing is allocated: threads may call at the same time, each with its own of what may be written.
  *
- * Stack, measured on x86-64 and on ARM and rounded up: sejjekoru_plan needs 820 KiB, and more than 512 KiB even for no bays;
- * sejjekoru_plan_lean @LEAN@ KiB; sejjekoru_program and
- * sejjekoru_program_timed 1,280 KiB; sejjekoru_shorten 345 KiB; sejjekoru_agrees and sejjekoru_report_billed 40 KiB; sejjekoru_open and the functions on
- * a link 24 KiB; all others 16 KiB or less. Threads with 512 KiB of stack, as some systems give by default, cannot call sejjekoru_plan: give them a megabyte or more,
- * and two for the program; or call sejjekoru_plan_lean. tests/stack measures it again.
+ * Stack, measured on x86-64 and on ARM and rounded up: sejjekoru_plan needs 820 KiB, and more than 512 KiB even for no bays; sejjekoru_plan_lean 40 KiB
+ * (measured on x86-64 alone); sejjekoru_program and sejjekoru_program_timed 1,280 KiB; sejjekoru_shorten 345 KiB; sejjekoru_agrees and
+ * sejjekoru_report_billed 40 KiB; sejjekoru_open and the functions on a link 24 KiB; all others 16 KiB or less. Threads with 512 KiB of stack, as some
+ * systems give by default, cannot call sejjekoru_plan: give them a megabyte or more, and two for the program; or call sejjekoru_plan_lean. tests/stack
+ * measures it again.
  *
  * The library of dist/ has unwind tables, so a debugger shows who called; it has no line numbers, since the prover's compiler gives none.
  */

@@ -36,7 +36,7 @@ static const char *const names[CALLS] = {"plan", "check", "slots", "report", "sh
                                          "compare", "placement", "map", "scenario", "link_begin", "link_piece", "link_end", "reverse",
                                          "slots_of", "program", "program_timed", "print_plan", "read_plan", "read_reports", "read_survey",
                                          "write_survey", "plan_lean"};
-static const size_t promised[CALLS] = {820, 16, 16, 16, 345, 24, 40, 40, 4, 16, 16, 16, 24, 24, 24, 4, 16, 1280, 1280, 4, 4, 4, 16, 16, 32}; /* KiB */
+static const size_t promised[CALLS] = {820, 16, 16, 16, 345, 24, 40, 40, 4, 16, 16, 16, 24, 24, 24, 4, 16, 1280, 1280, 4, 4, 4, 16, 16, 40}; /* KiB */
 
 static void *call(void *which)
 {

@@ -9,4 +9,4 @@ pub mod Compared
 pub mod Placed
 mod Handed
 pub mod Linked
-pub mod Lean
+pub mod Alike
