@@ -1,3 +1,4 @@
 pub mod Seeking
 pub mod Committing
 pub mod Besides
+pub mod Foreseeing

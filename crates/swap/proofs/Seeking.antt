@@ -91,6 +91,15 @@ tried-at Y r s v p {log} {log′} j w = record {
 pub tried-not : (Y : Yard) (r s : Carrier) (v : Bay) (p log : List ℕ) → junction Y v ≡ false → TriedAt Y r s v p log Failed
 tried-not Y r s v p log j = record { fails = λ e. fitting-not Y r s p v j; fits = λ m e. never (cc); logged = λ m e. never (cc) }
 
+-- a trial that is bound to fail is not made
+pub tried-never : (Y : Yard) (r s : Carrier) (v : Bay) (p log : List ℕ) → trial Y r s v p ≡ none → TriedAt Y r s v p log Failed
+unfolding fitting
+tried-never Y r s v p log h = record {
+  fails = λ e. by-cases (junction Y v and isSome (trial Y r s v p)) (λ f. not-both (rw h at (and-right _ _ f)) refl) (λ f. f);
+  fits = λ m e. never (cc);
+  logged = λ m e. never (cc);
+}
+
 -- ## Ring by ring
 
 module _ (q : ℕ → Bool) where

@@ -79,6 +79,10 @@ Spares table empty u w Fewer = Unit {0}
 
 -- ## What is asked, what is said
 
+-- no trial at v succeeds
+abbrev pub SurelyFails : (r s : Carrier) (v : Bay) (table p standing : List ℕ) → Type 0
+SurelyFails r s v table p standing = (t : Tabled (length standing) table) → Near (t .yard) r s v p → trial (t .yard) r s v p ≡ none
+
 -- the trial at v, if v is a junction
 abbrev pub TryJunctionSays : (r s : Carrier) (v : Bay) (table p standing log′ : List ℕ) → Tried → Type 0
 TryJunctionSays r s v table p standing log′ z =

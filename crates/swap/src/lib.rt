@@ -4,13 +4,14 @@ use acting::Tried;
 use docket::Bay;
 use docket::Carrier;
 ghost use mathlib.Core.Path.{_≡_};
+ghost use mathlib.Core.Bool.{true};
 ghost use Prim.Native.Nat.{_+_, _*_, _≤_, _<_};
 ghost use lib.ListN.{length, getD};
 ghost use Rattle.words.specs.Sets.{words, span};
 ghost use Rattle.vacate.specs.Bounds.{room-step};
 ghost use Rattle.acting.specs.Acting.{Ready};
 ghost use Rattle.trial.specs.Trying.{Noted, exchanges};
-ghost use Rattle.swap.specs.Seeking.{placementTraded, standingTraded, Spares, TryJunctionSays, SeekSays, TradeAsks, SwapAsks, SwapSays};
+ghost use Rattle.swap.specs.Seeking.{placementTraded, standingTraded, Spares, SurelyFails, TryJunctionSays, SeekSays, TradeAsks, SwapAsks, SwapSays};
 
 // The junction of a swap and the tally of its trial, or that there is none.
 pub enum Junction {
@@ -22,6 +23,37 @@ pub enum Junction {
 pub enum Spare {
     Both(Bay, Bay),
     Fewer,
+}
+
+// Whether the trial at v, which is not r's own bay, is bound to fail: v is blocked.
+fn surely_fails(
+    table: &[u64],
+    v: Bay,
+    r: Carrier,
+    s: Carrier,
+    placement: &[u16],
+    standing: &[u16],
+    empty: &[u64],
+) -> bool
+    requires { ⌜ Ready (now table) (now placement) (now standing) (now empty) ⌝ }
+    requires { ⌜
+        (r .0 < length (now placement))
+        × (s .0 < length (now placement))
+        × (s .0 ≡ r .0 → ⊥)
+        × (v .0 < length (now standing))
+        ⌝ }
+    ensures { λ z. ⌜
+        (z ≡ true → SurelyFails (r .0) (s .0) (v .0) (now (table .entry)) (now (placement .entry)) (now (standing .entry)))
+        ⌝ }
+{
+    let first = r.0 as usize;
+    let second = s.0 as usize;
+    let u = Bay(placement[first]);
+    let w = Bay(placement[second]);
+    if u.0 == v.0 {
+        return false;
+    }
+    outlook::is_blocked(table, standing.len(), v, u, w, empty)
 }
 
 // The trial at v, if v is a junction. Its crossings go to the log, which is the rest of the list, as far as that is so long.
@@ -49,6 +81,9 @@ fn try_junction(
 {
     let n = standing.len();
     if acting::is_junction(table, n, v) {
+        if surely_fails(table, v, r, s, placement, standing, empty) {
+            return Tried::Failed;
+        }
         let from = Tally {
             crossings: 0,
             parked: 0,
