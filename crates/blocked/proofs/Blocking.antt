@@ -3,28 +3,27 @@
 -- So a trial that succeeds has three neighbours of v that are not behind it: the follower's bay and the two kept.
 -- Assumes nothing.
 use mathlib.Core.Path.{_≡_, refl, sym, _∙_, ap}
-use mathlib.Core.Bool.{Bool, true, false, not}
+use mathlib.Core.Bool.{Bool, true, false}
 use mathlib.Core.List.{List, [], _∷_, _++_}
 use mathlib.Core.Option.{none, some}
-use Prim.Native.Nat.{ℕ, _<_}
-use native.Mathlib.Omega.{arith}
+use Prim.Native.Nat.{_<_}
 use lib.Dec.{eqb, ltb, leb}
 use lib.ListN.{length, getD, take, drop, length-set}
 use lib.Seq.{getD-set-same, getD-set-other}
-use borrow.Author.Tests.{not-true, not-false, eqb-true, eqb-false, ne-eqb}
-use Rattle.paper.specs.Basics.{_and_, filter, elem, without, upTo, In, Out, NoDup}
-use Rattle.paper.specs.Yard.{Bay, Carrier, Yard, Placement, Crossing, crossing, bayOf, carrierAt, isEmpty, move, after, joined, neighbours}
-use Rattle.paper.specs.Path.{rings, ringOf, shortestPath, Free, Route, Way}
-use Rattle.paper.specs.Procedure.{Made, only, together, _then_, cross, shift, Cleared, following, nearestEmpty, parking, vacate, theirBays, clearingHeld, bring, clearing, clearOnce, aside, around, firstKept, goOn, goneOn, clear, finish, trialLed, trial}
+use borrow.Author.Tests.{not-true, eqb-true, eqb-false}
+use Rattle.paper.specs.Basics.{_and_, filter, elem, without, upTo, In, NoDup}
+use Rattle.paper.specs.Yard.{Bay, Carrier, Yard, Placement, crossing, bayOf, carrierAt, isEmpty, move, after, joined, neighbours}
+use Rattle.paper.specs.Path.{rings, ringOf, shortestPath, Route, Way}
+use Rattle.paper.specs.Procedure.{Made, only, together, _then_, cross, shift, Cleared, nearestEmpty, parking, vacate, theirBays, clearingHeld, bring, clearing, clearOnce, aside, around, firstKept, goOn, goneOn, clear, finish, trialLed, trial}
 use Rattle.paper.proofs.Tests.{by-cases, by-option, either, some-from, not-both, never-some, and-left, and-right}
-use Rattle.paper.proofs.Members.{first-of, In-head, In-tail, In-cases, In-one, In-append, take-in, filter-in, filter-passes, without-in, Out-head}
+use Rattle.paper.proofs.Members.{first-of, In-head, In-tail, In-cases, In-one, In-append, take-in, filter-passes, without-in, Out-head}
 use Rattle.paper.proofs.Rings.{joined-sym}
 use Rattle.paper.proofs.Nearest.{none-near-exactly}
-use Rattle.paper.proofs.Playing.{Apart, Legal, Sound, after-append, after-length, bay-in, placeOf-bay, placeOf-there, move-self, move-other}
-use Rattle.paper.proofs.Vacating.{Shiftable, Shifted, plan-apart, shift-one, shift-cons, shift-shifts, vacate-vacates, path-shiftable}
-use Rattle.paper.proofs.Actions.{eqb-comm, same-moves, then-split, cross-split, Pulled, pulled}
+use Rattle.paper.proofs.Playing.{Apart, Sound, after-append, after-length, bay-in, placeOf-bay, placeOf-there}
+use Rattle.paper.proofs.Vacating.{Shiftable, plan-apart, shift-one, shift-cons, shift-shifts, vacate-vacates, path-shiftable}
+use Rattle.paper.proofs.Actions.{eqb-comm, same-moves, then-split, cross-split, pulled}
 use Rattle.paper.proofs.Shortest.{inward-head}
-use Rattle.paper.proofs.Swapping.{Chain, way-tail, Brought, bring-brings, ClearedIs, once-clears, clear-clears}
+use Rattle.paper.proofs.Swapping.{Chain, way-tail, bring-brings, once-clears, clear-clears}
 use Rattle.blocked.specs.Blocked.{Blocked}
 
 -- ## A vacate leaves every bay occupied but the one that it vacates

@@ -2,22 +2,20 @@
 -- start and never passed.
 -- Assumes nothing.
 use mathlib.Core.Path.{_≡_, refl, sym, _∙_, ap}
-use mathlib.Core.Bool.{Bool, true, false, not}
+use mathlib.Core.Bool.{true, false, not}
 use mathlib.Core.List.{List}
 use Prim.Native.Nat.{ℕ, _*_, _+_, _≤_, _<_}
 use native.Mathlib.Omega.{arith}
 use lib.Dec.{eqb, ltb}
 use lib.ListN.{length}
 use borrow.Author.Tests.{eqb-true, eqb-false, eq-eqb, ne-eqb, not-true, ltb-true, ltb-false}
-use Rattle.paper.specs.Basics.{_and_, _or_, upTo, In, Out}
-use Rattle.paper.specs.Yard.{Bay, Yard, Placement, isEmpty, joined}
+use Rattle.paper.specs.Basics.{_and_, _or_}
+use Rattle.paper.specs.Yard.{Bay, joined}
 use Rattle.paper.proofs.Members.{count-high}
 use Rattle.paper.proofs.Tests.{by-cases, not-both, and-left, and-right, and-both, or-left, or-right, or-cases}
-use Rattle.blocked.specs.Blocked.{Blocked}
 use Rattle.words.specs.Sets.{mem, memRow, words, span, anyBelow, reaches, Lowest, Kept}
 use Rattle.words.proofs.Besides.{anyBelow-some, anyBelow-of}
-use Rattle.words.proofs.Sets.{zeros, mem-zeros, row-zero}
-use Rattle.yard.specs.Table.{Table}
+use Rattle.words.proofs.Sets.{zeros, row-zero}
 use Rattle.rings.specs.Widening.{Widened}
 use Rattle.outlook.specs.Outlook.{SeenBeside, AtMostTwo, Charted, OutlookSays}
 
