@@ -1,5 +1,6 @@
 -- What carrying asks and says: distinct goals among the bays, one for each carrier; the finished ones at home; a path.
 -- Assumes nothing.
+use mathlib.Core.Bool.{Bool}
 use mathlib.Core.Path.{_≡_}
 use mathlib.Core.List.{List, [], _∷_}
 use mathlib.Core.Option.{some}
@@ -13,6 +14,7 @@ use Rattle.paper.proofs.Playing.{Apart}
 use Rattle.rings.specs.Search.{Shown}
 use Rattle.rings.specs.Ways.{pathOf, pathLength}
 use Rattle.rings.specs.declared.Path.{Path}
+use Rattle.yard.specs.Table.{Table}
 use Rattle.vacate.specs.Bounds.{carrier-most}
 use Rattle.acting.specs.Acting.{Tabled, nothing}
 use Rattle.acting.specs.declared.Tally.{Tally}
@@ -48,6 +50,10 @@ pub record OnPath (n : ℕ) (table : List ℕ) (u v : Bay) (path : List Bay) : T
 pub record Reaching (n : ℕ) (table : List ℕ) : Type 0 where
   pub tabled : Tabled n table
   pub reached : (a b : ℕ) → a < n → b < n → In a (nearestFirst (tabled .yard) [] b)
+
+-- the answer to whether the yard that the table shows is a carousel
+abbrev pub KindTold : (n : ℕ) (table : List ℕ) → Bool → Type 0
+KindTold n table answer = (Y : Yard) → Table Y n table → answer ≡ carousel Y
 
 -- The path past the bays held, if the yard is a carousel; else past none.
 pub record PathPast {n : ℕ} {table held : List ℕ} (s : Shown n table held) (u v : Bay) (room : List ℕ) (r : Path) : Type 0 where

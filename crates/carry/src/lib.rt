@@ -14,7 +14,7 @@ ghost use Rattle.vacate.specs.Bounds.{room-carrier};
 ghost use Rattle.acting.specs.Acting.{Ready};
 ghost use Rattle.step.specs.Asking.{Loopless, BaysBelow};
 ghost use Rattle.home.specs.Homing.{Owners};
-ghost use Rattle.carry.specs.Carrying.{Goals, OnPath, Reaching, HomeBelow, PathPast, CarryAlongSays, CarrySays, CarryAllSays};
+ghost use Rattle.carry.specs.Carrying.{Goals, OnPath, Reaching, HomeBelow, KindTold, PathPast, CarryAlongSays, CarrySays, CarryAllSays};
 
 // Carrier r goes the path, whose first bay is its own, then those that it displaced go home. At its goal r is finished, and its bay settled.
 fn carry_along(
@@ -91,9 +91,16 @@ fn carry_along(
     )
 }
 
-// The shortest path from u to v past the bays avoided: in a carousel the settled ones, elsewhere none. Asking what the yard is takes no longer than
-// the search in a carousel, and elsewhere a few bays tell.
-fn path_past(table: &[u64], n: usize, settled: &[u64], u: Bay, v: Bay, path: &mut [u16]) -> Path
+// The shortest path from u to v past the bays avoided: in a carousel the settled ones, elsewhere none.
+fn path_past(
+    table: &[u64],
+    n: usize,
+    in_carousel: bool,
+    settled: &[u64],
+    u: Bay,
+    v: Bay,
+    path: &mut [u16],
+) -> Path
     requires { ⌜
         (n ≤ span)
         × (u .0 < n)
@@ -102,13 +109,14 @@ fn path_past(table: &[u64], n: usize, settled: &[u64], u: Bay, v: Bay, path: &mu
         × (length (now settled) ≡ words)
         × (n ≤ length (now path))
         × Shown n (now table) (now settled)
+        × KindTold n (now table) in_carousel
         ⌝ }
     ensures { λ r. ⌜
         ((s : Shown n (now (table .entry)) (now (settled .entry))) → PathPast s (u .0) (v .0) (now (path .exit)) r)
         ⌝ }
 {
     let none = [0u64; words::WORDS];
-    if kinds::is_carousel(table, n) {
+    if in_carousel {
         return ways::path_between(table, n, settled, u, v, path);
     }
     ways::path_between(table, n, &none, u, v, path)
@@ -119,6 +127,7 @@ fn carry(
     table: &[u64],
     goals: &[u16],
     owner: &[u16],
+    in_carousel: bool,
     r: Carrier,
     placement: &mut [u16],
     standing: &mut [u16],
@@ -137,6 +146,7 @@ fn carry(
         × (at .crossings < room-carrier)
         × Owners (length (now standing)) (now goals) (now owner)
         × BaysBelow (r .0) (now placement) (now settled)
+        × KindTold (length (now standing)) (now table) in_carousel
         ⌝ }
     ensures { λ z. ⌜
         CarrySays (now (goals .entry)) (r .0)
@@ -149,7 +159,7 @@ fn carry(
     let mut path = [0u16; words::SPAN];
     let u = Bay(placement[own]);
     let v = Bay(goals[own]);
-    let Path::First(k) = path_past(table, n, settled, u, v, &mut path) else {
+    let Path::First(k) = path_past(table, n, in_carousel, settled, u, v, &mut path) else {
         return Staged::Stuck(r);
     };
     carry_along(
@@ -167,7 +177,7 @@ fn carry(
     )
 }
 
-// All carriers by rising number.
+// All carriers by rising number. What the yard is, is asked once, since in a carousel every bay must tell.
 pub fn carry_all(
     table: &[u64],
     goals: &[u16],
@@ -192,6 +202,7 @@ pub fn carry_all(
         (now (placement .exit)) (now (standing .exit)) (now (empty .exit)) (now (settled .exit)) (now (out .exit)) z
         ⌝ }
 {
+    let in_carousel = kinds::is_carousel(table, standing.len());
     let mut count = Tally {
         crossings: 0,
         parked: 0,
@@ -204,6 +215,7 @@ pub fn carry_all(
             table,
             goals,
             owner,
+            in_carousel,
             carrier,
             placement,
             standing,

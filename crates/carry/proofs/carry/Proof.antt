@@ -14,17 +14,17 @@ use Rattle.carry.proofs.carry.Tie as tie
 cast-own : tie.Need-cast-own
 cast-own c = search needs
 
-mul-t17 : tie.Need-mul-t17
-mul-t17 c = search needs
+mul-t18 : tie.Need-mul-t18
+mul-t18 c = search needs
 
-slice-read-t19 : tie.Need-slice-read-t19
-slice-read-t19 c = search needs
+slice-read-t20 : tie.Need-slice-read-t20
+slice-read-t20 c = search needs
 
-mul-t17-2 : tie.Need-mul-t17-2
-mul-t17-2 c = search needs
+mul-t18-2 : tie.Need-mul-t18-2
+mul-t18-2 c = search needs
 
-shared-slice-read-t19 : tie.Need-shared-slice-read-t19
-shared-slice-read-t19 c = search needs
+shared-slice-read-t20 : tie.Need-shared-slice-read-t20
+shared-slice-read-t20 c = search needs
 
 slice-aggregate-path-past : tie.Need-slice-aggregate-path-past
 slice-aggregate-path-past c = search needs
@@ -34,7 +34,7 @@ path-past-requires c κs =
     let p = c .before .before .before .before .before .before .before .before .before .before .before .before .before .pre .0 in
     let z = c .before .before .before .before .before .before .before .before .before .before .before .before .before .pre .1 in
     let r = c .before .before .before .before .before .before .before .before .before .before .before .before .before .args .r .0 in
-    (p .most, p .placed .inside r (z .0), z .1 .inside r (omega (arith, z .0, z .1 .many)), omega (arith, p .table-size), z .7 .size, omega (arith, p .most), settledShown (p .tabled) r _ (z .7))
+    (p .most, p .placed .inside r (z .0), z .1 .inside r (omega (arith, z .0, z .1 .many)), omega (arith, p .table-size), z .7 .size, omega (arith, p .most), settledShown (p .tabled) r _ (z .7), z .8)
 
 enum-known-k : tie.Need-enum-known-k
 enum-known-k c = search needs
@@ -58,7 +58,7 @@ array-share-prefix-path c =
     let p = c .before .before .before .before .before .before .before .before .before .before .before .before .before .before .before .before .before .before .pre .0 in
     let z = c .before .before .before .before .before .before .before .before .before .before .before .before .before .before .before .before .before .before .pre .1 in
     let f = rw (c .before .k .given .1) at (c .before .before .before .before .path-past .ensures (settledShown (p .tabled) (c .before .before .before .before .before .before .before .before .before .before .before .before .before .before .before .before .before .before .args .r .0) _ (z .7))) in
-    let kept : length (c .before .before .before .before .path-past .last .1 .1 .1 .1 .1 .0) ≡ span = c .before .before .before .before .path-past .kept .1 .1 .1 .1 .1 .0 in
+    let kept : length (c .before .before .before .before .path-past .last .1 .1 .1 .1 .1 .1 .0) ≡ span = c .before .before .before .before .path-past .kept .1 .1 .1 .1 .1 .1 .0 in
     omega (arith, f .fits, p .most, kept)
 
 slice-aggregate-carry-along : tie.Need-slice-aggregate-carry-along
@@ -66,7 +66,7 @@ slice-aggregate-carry-along c =
     let p = c .before .before .before .before .before .before .before .before .before .before .before .before .before .before .before .before .before .before .before .pre .0 in
     let z = c .before .before .before .before .before .before .before .before .before .before .before .before .before .before .before .before .before .before .before .pre .1 in
     let f = rw (c .before .before .k .given .1) at (c .before .before .before .before .before .path-past .ensures (settledShown (p .tabled) (c .before .before .before .before .before .before .before .before .before .before .before .before .before .before .before .before .before .before .before .args .r .0) _ (z .7))) in
-    let kept : length (c .before .before .before .before .before .path-past .last .1 .1 .1 .1 .1 .0) ≡ span = c .before .before .before .before .before .path-past .kept .1 .1 .1 .1 .1 .0 in
+    let kept : length (c .before .before .before .before .before .path-past .last .1 .1 .1 .1 .1 .1 .0) ≡ span = c .before .before .before .before .before .path-past .kept .1 .1 .1 .1 .1 .1 .0 in
     sym (length-take-le _ _ (omega (arith, f .fits, p .most, kept)))
 
 carry-along-requires : tie.Need-carry-along-requires
@@ -74,8 +74,8 @@ carry-along-requires c κs =
     let p = c .before .before .before .before .before .before .before .before .before .before .before .before .before .before .before .before .before .before .before .before .before .before .before .before .pre .0 in
     let z = c .before .before .before .before .before .before .before .before .before .before .before .before .before .before .before .before .before .before .before .before .before .before .before .before .pre .1 in
     let f = rw (c .before .before .before .before .before .before .before .k .given .1) at (c .before .before .before .before .before .before .before .before .before .before .path-past .ensures (settledShown (p .tabled) (c .before .before .before .before .before .before .before .before .before .before .before .before .before .before .before .before .before .before .before .before .before .before .before .before .args .r .0) _ (z .7))) in
-    let kept : length (c .before .before .before .before .before .before .before .before .before .before .path-past .last .1 .1 .1 .1 .1 .0) ≡ span = c .before .before .before .before .before .before .before .before .before .before .path-past .kept .1 .1 .1 .1 .1 .0 in
-    let len : length (take (c .before .before .before .before .before .before .before .k .given .0 .0) (c .before .before .before .before .before .before .before .before .before .before .path-past .last .1 .1 .1 .1 .1 .0)) ≡ c .before .before .before .before .before .before .before .k .given .0 .0 = length-take-le _ _ (omega (arith, f .fits, p .most, kept)) in
+    let kept : length (c .before .before .before .before .before .before .before .before .before .before .path-past .last .1 .1 .1 .1 .1 .1 .0) ≡ span = c .before .before .before .before .before .before .before .before .before .before .path-past .kept .1 .1 .1 .1 .1 .1 .0 in
+    let len : length (take (c .before .before .before .before .before .before .before .k .given .0 .0) (c .before .before .before .before .before .before .before .before .before .before .path-past .last .1 .1 .1 .1 .1 .1 .0)) ≡ c .before .before .before .before .before .before .before .k .given .0 .0 = length-take-le _ _ (omega (arith, f .fits, p .most, kept)) in
     (p, (z .0, z .1, z .2, z .3, omega (arith, len, f .fits, p .most), on-path (p .tabled) (p .most) (z .2) _ _ _ (p .placed) (z .1) (z .0) (z .3) _ (f .same), z .5, z .6, z .7))
 
 same-length-2 : tie.Need-same-length-2
@@ -106,10 +106,10 @@ carry-spec =
     tie.close
     (tie.spec
     cast-own
-    mul-t17
-    slice-read-t19
-    mul-t17-2
-    shared-slice-read-t19
+    mul-t18
+    slice-read-t20
+    mul-t18-2
+    shared-slice-read-t20
     slice-aggregate-path-past
     path-past-requires
     enum-known-k

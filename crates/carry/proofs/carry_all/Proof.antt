@@ -18,32 +18,37 @@ use Rattle.carry.proofs.carry_all.Statement.{statement}
 use Rattle.carry.proofs.carry_all.Tie as tie
 
 abbrev Inv-loop : tie.InvT-loop
-Inv-loop table goals owner placement₀ standing₀ empty₀ settled₀ out₀ count₀ r₀ placement standing empty settled out count r =
+Inv-loop table goals owner placement₀ standing₀ empty₀ settled₀ out₀ kind count₀ r₀ placement standing empty settled out count r =
     (r ≤ length goals) × (count .crossings ≤ carrier-most * r) × (length placement ≡ length placement₀) × (length standing ≡ length standing₀) × (length empty ≡ length empty₀) × (length out ≡ length out₀)
     × HomeBelow r goals placement × ((t : Tabled (length standing₀) table) → Served (t .yard) goals (length standing₀) placement₀ out₀ r placement standing empty out count)
     × (length settled ≡ length settled₀) × BaysBelow r placement settled
 
 abbrev μ-loop : tie.MeasureT-loop
-μ-loop table goals owner placement₀ standing₀ empty₀ settled₀ out₀ count₀ r₀ placement standing empty settled out count r =
+μ-loop table goals owner placement₀ standing₀ empty₀ settled₀ out₀ kind count₀ r₀ placement standing empty settled out count r =
     length goals - r
 
+is-carousel-requires : tie.Need-is-carousel-requires Inv-loop μ-loop
+is-carousel-requires c κs =
+    let p = c .before .before .before .before .before .before .before .before .pre .0 in
+    (p .most, omega (arith, p .table-size))
+
 loop-holds : tie.Need-loop-holds Inv-loop μ-loop
-loop-holds c = (omega arith, omega arith, refl, refl, refl, refl, record { home = λ i h. absurd (omega arith) }, λ t. served-none _ _ _ _ _ _ _ (c .before .before .before .before .before .before .before .before .pre .0 .placed), refl, c .before .before .before .before .before .before .before .before .pre .1 .4)
+loop-holds c = (omega arith, omega arith, refl, refl, refl, refl, record { home = λ i h. absurd (omega arith) }, λ t. served-none _ _ _ _ _ _ _ (c .before .before .before .before .before .before .before .before .before .pre .0 .placed), refl, c .before .before .before .before .before .before .before .before .before .pre .1 .4)
 
 cast-number : tie.Need-cast-number Inv-loop μ-loop
 cast-number c =
-    let p = c .before .before .before .before .before .before .before .before .before .before .pre .0 in
-    let z = c .before .before .before .before .before .before .before .before .before .before .pre .1 in
+    let p = c .before .before .before .before .before .before .before .before .before .before .before .pre .0 in
+    let z = c .before .before .before .before .before .before .before .before .before .before .before .pre .1 in
     omega (arith, c .loop-test .taken, z .0 .many, p .placed .few, p .most)
 
 carry-requires : tie.Need-carry-requires Inv-loop μ-loop
 carry-requires c κs =
-    let p = c .before .before .before .before .before .before .before .before .before .before .before .before .before .before .before .pre .0 in
-    let z = c .before .before .before .before .before .before .before .before .before .before .before .before .before .before .before .pre .1 in
+    let p = c .before .before .before .before .before .before .before .before .before .before .before .before .before .before .before .before .pre .0 in
+    let z = c .before .before .before .before .before .before .before .before .before .before .before .before .before .before .before .before .pre .1 in
     let l = c .before .before .before .before .before .before .loop in
     let v = l .inv in
     let b = v .7 (p .tabled) in
-    let e : length (l .standing) ≡ length (c .before .before .before .before .before .before .before .before .before .before .before .before .before .before .before .args .standing .now) = v .3 in (
+    let e : length (l .standing) ≡ length (c .before .before .before .before .before .before .before .before .before .before .before .before .before .before .before .before .args .standing .now) = v .3 in (
       record {
         most = omega (arith, p .most, e);
         table-size = rw e (p .table-size);
@@ -52,7 +57,7 @@ carry-requires c κs =
         tabled = rw e (p .tabled);
         levelled = rw e (p .levelled);
       },
-      (omega (arith, c .before .before .before .before .before .loop-test .taken, v .2, z .0 .many), record { many = omega (arith, v .2, z .0 .many); apart = z .0 .apart; inside = rw e (z .0 .inside) }, rw e (z .1), v .6, rw e (z .2), omega (arith, v .1, c .before .before .before .before .before .loop-test .taken, z .0 .many, p .placed .few, p .most), rw e (z .3), v .9),
+      (omega (arith, c .before .before .before .before .before .loop-test .taken, v .2, z .0 .many), record { many = omega (arith, v .2, z .0 .many); apart = z .0 .apart; inside = rw e (z .0 .inside) }, rw e (z .1), v .6, rw e (z .2), omega (arith, v .1, c .before .before .before .before .before .loop-test .taken, z .0 .many, p .placed .few, p .most), rw e (z .3), v .9, rw e (c .before .before .before .before .before .before .before .is-carousel .ensures)),
     )
 
 enum-known-carried : tie.Need-enum-known-carried Inv-loop μ-loop
@@ -80,15 +85,15 @@ returns : tie.Need-returns Inv-loop μ-loop
 returns c =
     let l = c .before .before .before .before .before .before .before .before .before .before .before .before .before .before .before .before .before .before .before .loop in
     let v = l .inv in
-    let kw : length (l .standing) ≡ length (c .before .before .before .before .before .before .before .before .before .before .before .before .before .before .before .before .before .before .before .before .before .before .before .before .before .before .before .before .args .standing .now) = v .3 in
+    let kw : length (l .standing) ≡ length (c .before .before .before .before .before .before .before .before .before .before .before .before .before .before .before .before .before .before .before .before .before .before .before .before .before .before .before .before .before .args .standing .now) = v .3 in
     let e : c .before .before .before .before .before .before .before .before .before .before .before .before .carry .result ≡ Stuck (c .enum-told .given .0 .0) = c .enum-told .given .1 in
     let f = rw kw at (c .before .before .before .before .before .before .before .before .before .before .before .before .carry .ensures .1) in
     rw e (λ t. stages-stuck (served-stuck (v .7 t) (c .before .before .before .before .before .before .before .before .before .before .before .before .before .before .before .before .before .before .loop-test .taken) (rw e at (f t))), settles-stuck)
 
 add-r : tie.Need-add-r Inv-loop μ-loop
 add-r c =
-    let p = c .before .before .before .before .before .before .before .before .before .before .before .before .before .before .before .before .before .before .before .before .before .before .before .before .before .before .before .before .before .pre .0 in
-    let z = c .before .before .before .before .before .before .before .before .before .before .before .before .before .before .before .before .before .before .before .before .before .before .before .before .before .before .before .before .before .pre .1 in
+    let p = c .before .before .before .before .before .before .before .before .before .before .before .before .before .before .before .before .before .before .before .before .before .before .before .before .before .before .before .before .before .before .pre .0 in
+    let z = c .before .before .before .before .before .before .before .before .before .before .before .before .before .before .before .before .before .before .before .before .before .before .before .before .before .before .before .before .before .before .pre .1 in
     omega (arith, c .before .before .before .before .before .before .before .before .before .before .before .before .before .before .before .before .before .before .before .loop-test .taken, z .0 .many, p .placed .few, p .most)
 
 loop-less : tie.Need-loop-less Inv-loop μ-loop
@@ -96,27 +101,27 @@ loop-less c = search needs
 
 loop-again : tie.Need-loop-again Inv-loop μ-loop
 loop-again c =
-    let p = c .before .before .before .before .before .before .before .before .before .before .before .before .before .before .before .before .before .before .before .before .before .before .before .before .before .before .before .before .before .pre .0 in
-    let z = c .before .before .before .before .before .before .before .before .before .before .before .before .before .before .before .before .before .before .before .before .before .before .before .before .before .before .before .before .before .pre .1 in
+    let p = c .before .before .before .before .before .before .before .before .before .before .before .before .before .before .before .before .before .before .before .before .before .before .before .before .before .before .before .before .before .before .pre .0 in
+    let z = c .before .before .before .before .before .before .before .before .before .before .before .before .before .before .before .before .before .before .before .before .before .before .before .before .before .before .before .before .before .before .pre .1 in
     let l = c .before .before .before .before .before .before .before .before .before .before .before .before .before .before .before .before .before .before .before .before .loop in
     let v = l .inv in
     let b = v .7 (p .tabled) in
     let k = c .before .before .before .before .before .before .before .before .before .before .before .before .before .carry .kept in
-    let kw : length (l .standing) ≡ length (c .before .before .before .before .before .before .before .before .before .before .before .before .before .before .before .before .before .before .before .before .before .before .before .before .before .before .before .before .before .args .standing .now) = v .3 in
+    let kw : length (l .standing) ≡ length (c .before .before .before .before .before .before .before .before .before .before .before .before .before .before .before .before .before .before .before .before .before .before .before .before .before .before .before .before .before .before .args .standing .now) = v .3 in
     let e : c .before .before .before .before .before .before .before .before .before .before .before .before .before .carry .result ≡ Planned (c .before .carried .given .0 .0) = c .before .carried .given .1 in
     let few = c .before .before .before .before .before .before .before .before .before .before .before .before .before .carry .ensures .0 .few _ e in
     let f = rw kw at (c .before .before .before .before .before .before .before .before .before .before .before .before .before .carry .ensures .1) in
-    let g : Goals (length (c .before .before .before .before .before .before .before .before .before .before .before .before .before .before .before .before .before .before .before .before .before .before .before .before .before .before .before .before .before .args .standing .now)) (c .before .before .before .before .before .before .before .before .before .before .before .before .before .before .before .before .before .before .before .before .before .before .before .before .before .before .before .before .before .args .goals .now) (l .placement) = record { many = omega (arith, v .2, z .0 .many); apart = z .0 .apart; inside = z .0 .inside } in
+    let g : Goals (length (c .before .before .before .before .before .before .before .before .before .before .before .before .before .before .before .before .before .before .before .before .before .before .before .before .before .before .before .before .before .before .args .standing .now)) (c .before .before .before .before .before .before .before .before .before .before .before .before .before .before .before .before .before .before .before .before .before .before .before .before .before .before .before .before .before .before .args .goals .now) (l .placement) = record { many = omega (arith, v .2, z .0 .many); apart = z .0 .apart; inside = z .0 .inside } in
     let hr : l .r < length (l .placement) = omega (arith, c .before .before .before .before .before .before .before .before .before .before .before .before .before .before .before .before .before .before .before .loop-test .taken, v .2, z .0 .many) in (
       omega (arith, c .before .before .before .before .before .before .before .before .before .before .before .before .before .before .before .before .before .before .before .loop-test .taken),
       omega (arith, few, v .1),
-      omega (arith, k .1 .1 .1 .1 .0, v .2),
-      omega (arith, k .1 .1 .1 .1 .1 .0, v .3),
-      omega (arith, k .1 .1 .1 .1 .1 .1 .0, v .4),
-      omega (arith, k .1 .1 .1 .1 .1 .1 .1 .1 .0, v .5),
-      home-more (p .tabled) (p .most) (z .1) (c .before .before .before .before .before .before .before .before .before .before .before .before .before .before .before .before .before .before .before .before .before .before .before .before .before .before .before .before .before .args .goals .now) (l .r) (l .placement) (b .played .placed) g hr (v .6) (rw e at (f (p .tabled))),
+      omega (arith, k .1 .1 .1 .1 .1 .0, v .2),
+      omega (arith, k .1 .1 .1 .1 .1 .1 .0, v .3),
+      omega (arith, k .1 .1 .1 .1 .1 .1 .1 .0, v .4),
+      omega (arith, k .1 .1 .1 .1 .1 .1 .1 .1 .1 .0, v .5),
+      home-more (p .tabled) (p .most) (z .1) (c .before .before .before .before .before .before .before .before .before .before .before .before .before .before .before .before .before .before .before .before .before .before .before .before .before .before .before .before .before .before .args .goals .now) (l .r) (l .placement) (b .played .placed) g hr (v .6) (rw e at (f (p .tabled))),
       λ t. served-more (v .7 t) (c .before .before .before .before .before .before .before .before .before .before .before .before .before .before .before .before .before .before .before .loop-test .taken) (rw e at (f t)),
-      omega (arith, k .1 .1 .1 .1 .1 .1 .1 .0, v .8),
+      omega (arith, k .1 .1 .1 .1 .1 .1 .1 .1 .0, v .8),
       c .before .before .before .before .before .before .before .before .before .before .before .before .before .carry .ensures .2 .below _ e,
     )
 
@@ -138,7 +143,7 @@ same-length-10 c = search needs
 returns-2 : tie.Need-returns-2 Inv-loop μ-loop
 returns-2 c =
     let v = c .before .loop .inv in
-    let all : c .before .loop .r ≡ length (c .before .before .before .before .before .before .before .before .before .before .args .goals .now) = omega (arith, v .0, c .loop-test .left) in
+    let all : c .before .loop .r ≡ length (c .before .before .before .before .before .before .before .before .before .before .before .args .goals .now) = omega (arith, v .0, c .loop-test .left) in
     (λ t. served-all (v .7 t) (c .loop-test .left), settles (rw all at (v .9)))
 
 pub carry-all-spec : {M : Type 1} → statement M
@@ -147,6 +152,7 @@ carry-all-spec =
     (tie.spec
     Inv-loop
     μ-loop
+    is-carousel-requires
     loop-holds
     cast-number
     carry-requires

@@ -7,9 +7,6 @@ use Rattle.carry.proofs.Carrying.{past-held, past-none}
 use Rattle.carry.proofs.path_past.Statement.{statement}
 use Rattle.carry.proofs.path_past.Tie as tie
 
-is-carousel-requires : tie.Need-is-carousel-requires
-is-carousel-requires c κs = search needs
-
 path-between-requires : tie.Need-path-between-requires
 path-between-requires c κs = search needs
 
@@ -18,14 +15,14 @@ same-length c = search needs
 
 returns : tie.Need-returns
 returns c =
-    λ s. past-held s _ _ _ _ (sym (c .before .before .before .before .if1 .taken) ∙ c .before .before .before .before .before .is-carousel .ensures (s .yard) (s .joins)) (c .before .before .path-between .ensures s)
+    λ s. past-held s _ _ _ _ (sym (c .before .before .before .before .if1 .taken) ∙ c .before .before .before .before .before .before .before .before .pre .7 (s .yard) (s .joins)) (c .before .before .path-between .ensures s)
 
 slice-aggregate-path-between : tie.Need-slice-aggregate-path-between
 slice-aggregate-path-between c = search needs
 
 path-between-requires-2 : tie.Need-path-between-requires-2
 path-between-requires-2 c κs =
-    let p = c .before .before .before .before .before .before .before .pre in
+    let p = c .before .before .before .before .before .before .pre in
     (p .0, p .1, p .2, p .3, refl, p .5, freeShown (record { yard = p .6 .yard; joins = p .6 .joins }))
 
 same-length-2 : tie.Need-same-length-2
@@ -35,13 +32,12 @@ returns-2 : tie.Need-returns-2
 returns-2 c =
     λ s.
     let bare = freeShown (record { yard = s .yard; joins = s .joins }) in
-    past-none s bare _ _ _ _ refl refl (sym (c .before .before .before .before .before .if1 .left) ∙ c .before .before .before .before .before .before .is-carousel .ensures (s .yard) (s .joins)) (c .before .before .path-between2 .ensures bare)
+    past-none s bare _ _ _ _ refl refl (sym (c .before .before .before .before .before .if1 .left) ∙ c .before .before .before .before .before .before .before .before .before .pre .7 (s .yard) (s .joins)) (c .before .before .path-between2 .ensures bare)
 
 pub path-past-spec : {M : Type 1} → statement M
 path-past-spec =
     tie.close
     (tie.spec
-    is-carousel-requires
     path-between-requires
     same-length
     returns
