@@ -12,7 +12,7 @@ use Rattle.paper.specs.Dependence.{slots, fresh}
 use Rattle.paper.specs.Docket.{mismarked, unknown, early, disagrees, room, missed}
 use Rattle.paper.specs.Answers.{Report, accept, already, refuse, check}
 use Rattle.paper.specs.Log.{Request}
-use Rattle.paper.proofs.Worked.{computing}
+use Rattle.worked.proofs.Worked.{computing}
 use Rattle.bills.specs.Billing
 use Rattle.bills.specs.Billing.{untouched, recordOf, linesOf, posted, entered}
 use Rattle.bills.specs.Answering

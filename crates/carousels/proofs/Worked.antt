@@ -6,7 +6,7 @@ use mathlib.Core.List.{List, [], _∷_}
 use Rattle.paper.specs.Yard.{Bay, Yard, crossing}
 use Rattle.paper.specs.Procedure.{only, planned, stuck, procedure}
 use Rattle.paper.specs.Docket.{yardBy}
-use Rattle.paper.proofs.Worked.{computing}
+use Rattle.worked.proofs.Worked.{computing}
 
 abbrev ring : Yard
 ring = yardBy 4 (0 ∷ 1 ∷ 1 ∷ 2 ∷ 2 ∷ 3 ∷ 3 ∷ 0 ∷ [])

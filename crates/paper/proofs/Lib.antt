@@ -1,6 +1,7 @@
 pub mod Tests
 pub mod Members
 pub mod Firsts
+pub mod Limits
 pub mod Choosing
 pub mod Rings
 pub mod Reach
@@ -26,8 +27,6 @@ pub mod Reporting
 pub mod Packing
 pub mod Logging
 pub mod Handing
-pub mod Demands
-pub mod Nailed
 pub mod Determined
 pub mod Fed
 pub mod Fields
@@ -35,6 +34,3 @@ pub mod Stepping
 pub mod Buffering
 pub mod Printing
 pub mod Railing
-pub mod Worked
-pub mod Read
-pub mod Harder

@@ -2,21 +2,21 @@
 -- when the document says, and after 1 to 6.
 use mathlib.Core.Path.{_≡_, refl, _∙_, ap}
 use mathlib.Core.Bool.{true}
-use mathlib.Core.List.{List}
+use mathlib.Core.List.{List, _++_, map}
 use mathlib.Core.Logic.{_↔_, _⊎_, inl, inr, ⊎-elim}
 use mathlib.Core.Option.{none, some}
 use Prim.Native.Nat.{ℕ, _<_, _≤_}
 use native.Mathlib.Omega.{arith}
 use lib.Dec.{ltb}
-use lib.ListN.{length}
+use lib.ListN.{length, drop}
 use borrow.Author.Tests.{ltb-true, ltb-false, le-ltb, lt-ltb}
 use Rattle.paper.specs.Basics.{_or_}
-use Rattle.paper.specs.Yard.{Carrier, Crossing, after, legalPlan, most-crossings}
+use Rattle.paper.specs.Yard.{Carrier, Crossing, after, legalPlan, pack, most-crossings}
 use Rattle.paper.specs.Order.{Order}
 use Rattle.paper.specs.Procedure.{Made, Outcome, planned, stuck, procedure}
 use Rattle.paper.specs.Docket.{Refusal, number, apart, stopped, room, yardOf}
-use Rattle.paper.specs.Answers.{accepted, refused, crossingsOf, parkedOf, within, unless, plan, beside, planParked, firstSix}
-pub use Rattle.paper.specs.Demands.{TooLong, Gives}
+use Rattle.paper.specs.Answers.{accepted, refused, crossingsOf, parkedOf, within, unless, plan, beside, planParked, written, planEnd, firstSix}
+pub use Rattle.paper.specs.Answers.{TooLong, Gives}
 use Rattle.paper.proofs.Tests.{by-cases, by-option, or-neither, or-left, or-right, never}
 use Rattle.paper.proofs.Carrying.{procedure-right}
 use Rattle.paper.proofs.Admitted.{clean-of, sound-of, good-of, six-number}
@@ -137,3 +137,9 @@ module _ (given : Order) (lent : ℕ) where
   pub refused-parked : (r : Refusal) → plan given lent ≡ refused r → planParked given lent ≡ 0
   unfolding planParked beside
   refused-parked r e = rw e
+
+-- "Acceptance by the planner writes the plan and nothing beyond its length."
+pub plan-written : (o : Order) (lent : List ℕ) (xs : List Crossing) → plan o (length lent) ≡ accepted xs
+    → planEnd o lent ≡ map pack xs ++ drop (length xs) lent
+unfolding written
+plan-written o lent xs h = rw h

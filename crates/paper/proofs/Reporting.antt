@@ -16,7 +16,7 @@ use Rattle.paper.specs.Order.{Order}
 use Rattle.paper.specs.Dependence.{depend, isDone, undoneBefore}
 use Rattle.paper.specs.Docket.{Refusal, unknown, early, badMarks}
 use Rattle.paper.specs.Answers.{check, Report, accept, already, refuse, tell, report, marksAfter, marksEnd}
-pub use Rattle.paper.specs.Demands.{Ready}
+pub use Rattle.paper.specs.Dependence.{Ready}
 use Rattle.paper.proofs.Tests.{by-cases, by-option, not-both, and-left, and-right, and-both, or-none, or-neither}
 use Rattle.paper.proofs.Members.{any-of, in-count, count-high, find-none, none-find, find-upTo}
 use Rattle.paper.proofs.Playing.{bay-in}

@@ -17,7 +17,7 @@ use Rattle.paper.specs.Dependence.{depend, highest, slotsAfter, slots}
 use Rattle.paper.specs.Docket.{Refusal}
 use Rattle.paper.specs.Answers.{slotsRefusal, slotsEnd}
 use Rattle.paper.specs.OnePass.{put, slotsPass}
-pub use Rattle.paper.specs.Demands.{Numbering}
+pub use Rattle.paper.specs.Dependence.{Numbering}
 use Rattle.paper.proofs.Tests.{by-cases}
 
 highest-above : (x : Crossing) (es : List Crossing) (ss : List ℕ) (e : ℕ) → e < length es → e < length ss

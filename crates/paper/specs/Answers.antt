@@ -1,14 +1,16 @@
 -- What planning, check, slots and report answer, in which order they test, and what they leave in the lent lists.
 -- Assumes nothing.
+use mathlib.Core.Path.{_≡_}
 use mathlib.Core.Bool.{Bool, true, false}
+use mathlib.Core.Logic.{_⊎_}
 use mathlib.Core.List.{List, [], _++_, map}
 use mathlib.Core.Option.{Option, none, some}
-use Prim.Native.Nat.{ℕ}
+use Prim.Native.Nat.{ℕ, _<_}
 use lib.ListN.{length, set, drop}
 use Rattle.paper.specs.Basics.{if_then_else_, if-some_then_else_, orElse}
-use Rattle.paper.specs.Yard.{Crossing, pack, crossings, after}
+use Rattle.paper.specs.Yard.{Crossing, pack, crossings, after, most-crossings}
 use Rattle.paper.specs.Order.{Order}
-use Rattle.paper.specs.Procedure.{Outcome, planned, stuck, procedure}
+use Rattle.paper.specs.Procedure.{Made, Outcome, planned, stuck, procedure}
 use Rattle.paper.specs.Dependence.{slots, isDone}
 use Rattle.paper.specs.Docket.{Refusal, Verdict, granted, denied, yardOf, no-1, no-2, no-3, no-4, no-5, no-6, no-7, no-8, no-9, no-10, no-11, no-12, no-13}
 
@@ -40,6 +42,14 @@ crossingsOf (stuck c) = []
 unfoldable pub parkedOf : Outcome → ℕ
 parkedOf (planned m) = m .parked
 parkedOf (stuck c) = 0
+
+-- the outcome is a plan of these crossings
+abbrev pub Gives : Outcome → List Crossing → Type 0
+Gives o xs = (m : Made) × (o ≡ planned m) × (m .moves ≡ xs)
+
+-- longer than the lent list, or over 65,536
+abbrev pub TooLong : ℕ → ℕ → Type 0
+TooLong lent needed = (lent < needed) ⊎ (most-crossings < needed)
 
 -- 7, then 8 for a list of so many places
 unfoldable pub within : ℕ → Outcome → Answer

@@ -1,9 +1,10 @@
 -- Dependence, slots and marks.
 -- Assumes nothing.
-use mathlib.Core.Bool.{Bool, not}
+use mathlib.Core.Path.{_≡_}
+use mathlib.Core.Bool.{Bool, true, not}
 use mathlib.Core.List.{List, [], _∷_, _++_}
 use mathlib.Core.Option.{Option}
-use Prim.Native.Nat.{ℕ, zero, suc, max}
+use Prim.Native.Nat.{ℕ, zero, suc, max, _<_, _≤_}
 use lib.Dec.{eqb}
 use lib.ListN.{length, getD, replicate}
 use Rattle.paper.specs.Basics.{if_then_else_, _and_, _or_, any, find, upTo}
@@ -33,6 +34,11 @@ slotsAfter earlier given (x ∷ xs) =
 unfoldable pub slots : List Crossing → List ℕ
 slots xs = slotsAfter [] [] xs
 
+-- a numbering "from 1 that rises strictly along dependence"
+pub record Numbering (xs : List Crossing) (t : ℕ → ℕ) : Type 0 where
+  pub from-one : (i : ℕ) → i < length xs → 1 ≤ t i
+  pub rises : (e i : ℕ) → e < i → i < length xs → depend (named xs i) (named xs e) ≡ true → t e < t i
+
 -- ## Marks: one byte a crossing; 1 is done
 
 abbrev pub done : ℕ → Bool
@@ -48,6 +54,10 @@ fresh plan = replicate (length plan) 0
 -- the lowest name of an earlier crossing that crossing i depends on and that is undone
 unfoldable pub undoneBefore : List Crossing → List ℕ → ℕ → Option ℕ
 undoneBefore xs marks i = find (λ e. depend (named xs i) (named xs e) and not (isDone marks e)) (upTo i)
+
+-- each earlier crossing that it depends on is done
+abbrev pub Ready : List Crossing → List ℕ → ℕ → Type 0
+Ready xs ms i = (e : ℕ) → e < i → depend (named xs i) (named xs e) ≡ true → isDone ms e ≡ true
 
 -- "a crossing is marked done before an earlier one it depends on"
 unfoldable pub outOfOrder : List Crossing → List ℕ → Bool

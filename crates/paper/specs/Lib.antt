@@ -11,7 +11,6 @@ pub mod Scenario
 pub mod Docket
 pub mod Answers
 pub mod Log
-pub mod Demands
 pub mod Print
 pub mod Program
 pub mod OnePass

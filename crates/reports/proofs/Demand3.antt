@@ -14,7 +14,7 @@ use Rattle.paper.specs.Dependence.{isDone, doneOf, countOf, fresh}
 use Rattle.paper.specs.Docket.{yardOf}
 use Rattle.paper.specs.Answers.{check, already, accepts}
 use Rattle.paper.specs.Log.{Request, answerTo, marksFrom, namesFrom, marksOf, namesOf}
-use Rattle.paper.proofs.Demands.{Demand3, demand-3}
+use Rattle.demands.proofs.Demands.{Demand3, demand-3}
 use Rattle.marks.specs.Reading.{reportOf}
 use Rattle.marks.specs.declared.Reported.{Reported}
 use Rattle.marks.specs.declared.Reported.the-variants.{Accepted, Already, Refused}

@@ -18,7 +18,7 @@ use Rattle.paper.specs.Answers.{Report, accept, already, refuse, accepts, check
 use Rattle.paper.specs.Log.{Request, answerTo, marksBy, marksFrom, namesFrom, marksOf, namesOf}
 use Rattle.paper.proofs.Tests.{by-cases, not-both}
 use Rattle.paper.proofs.Logging.{fine, plan-lawful, kept-from-fresh}
-use Rattle.paper.proofs.Demands.{Demand3, demand-3}
+use Rattle.demands.proofs.Demands.{Demand3, demand-3}
 use Rattle.paper.proofs.Handing.{handed-passes}
 use Rattle.trips.specs.Trips.{shorten}
 use Rattle.trips.proofs.Shortened.{shortened-passes}

@@ -6,7 +6,7 @@ use Prim.Native.Nat.{ℕ}
 use Prim.Native.String.{String}
 use Rattle.paper.specs.Yard.{Bay}
 use Rattle.paper.specs.Text.{Text, text, Read, good, badLine}
-use Rattle.paper.proofs.Read.{reading}
+use Rattle.worked.proofs.Read.{reading}
 use Rattle.survey.specs.Survey.{readSurvey, surveyOf}
 use Rattle.survey.specs.Survey
 

@@ -8,7 +8,7 @@ use Rattle.paper.specs.Yard.{Bay, Crossing, crossing, pack}
 use Rattle.paper.specs.Order.{order}
 use Rattle.paper.specs.Docket.{room, mismarked, missed, begun}
 use Rattle.paper.specs.Answers.{Answer, accepted, refused}
-use Rattle.paper.proofs.Worked.{computing, T, Y1-plan}
+use Rattle.worked.proofs.Worked.{computing, T, Y1-plan}
 use Rattle.trips.specs.Trips.{cut, shorten}
 use Rattle.trips.specs.Shortening.{shortening, shorteningEnd}
 use Rattle.trips.specs.Trips

@@ -3,36 +3,19 @@
 -- Assumes nothing.
 use mathlib.Core.Path.{_≡_}
 use mathlib.Core.Bool.{true, false}
-use mathlib.Core.Logic.{_↔_, _⊎_}
+use mathlib.Core.Logic.{_↔_}
 use mathlib.Core.List.{List, _++_, map}
 use mathlib.Core.Option.{none, some}
 use Prim.Native.Nat.{ℕ, _<_, _≤_}
 use lib.ListN.{length, drop, getD}
 use Rattle.paper.specs.Basics.{In, NoDup}
-use Rattle.paper.specs.Yard.{Carrier, Crossing, after, legalPlan, crossings, named, pack, most-crossings}
+use Rattle.paper.specs.Yard.{Carrier, Crossing, after, legalPlan, crossings, pack, most-crossings}
 use Rattle.paper.specs.Order.{Order}
-use Rattle.paper.specs.Procedure.{Made, Outcome, planned, stuck, procedure}
-use Rattle.paper.specs.Dependence.{depend, isDone, countOf, slots, placementBy}
+use Rattle.paper.specs.Procedure.{stuck, procedure}
+use Rattle.paper.specs.Dependence.{isDone, countOf, slots, Numbering, Ready, placementBy}
 use Rattle.paper.specs.Docket.{yardOf, badMarks, stopped, room, Refusal}
-use Rattle.paper.specs.Answers.{check, accept, already, report, accepted, refused, plan, planEnd, firstSix, slotsRefusal, slotsEnd, marksEnd}
+use Rattle.paper.specs.Answers.{check, accept, already, report, accepted, refused, plan, planEnd, firstSix, Gives, TooLong, slotsRefusal, slotsEnd, marksEnd}
 use Rattle.paper.specs.Log.{Request, answerTo, marksBy, marksOf, namesOf, acceptedOf}
-
--- longer than the lent list, or over 65,536
-abbrev pub TooLong : ℕ → ℕ → Type 0
-TooLong lent needed = (lent < needed) ⊎ (most-crossings < needed)
-
--- the outcome is a plan of these crossings
-abbrev pub Gives : Outcome → List Crossing → Type 0
-Gives o xs = (m : Made) × (o ≡ planned m) × (m .moves ≡ xs)
-
--- each earlier crossing that it depends on is done
-abbrev pub Ready : List Crossing → List ℕ → ℕ → Type 0
-Ready xs ms i = (e : ℕ) → e < i → depend (named xs i) (named xs e) ≡ true → isDone ms e ≡ true
-
--- a numbering "from 1 that rises strictly along dependence"
-pub record Numbering (xs : List Crossing) (t : ℕ → ℕ) : Type 0 where
-  pub from-one : (i : ℕ) → i < length xs → 1 ≤ t i
-  pub rises : (e i : ℕ) → e < i → i < length xs → depend (named xs i) (named xs e) ≡ true → t e < t i
 
 -- ## Demand 1: "Each refusal has its number and order, and leaves the lent lists unchanged."
 -- Every definition answers every input; the order of the tests is Answers', the numbers are the table's.

@@ -9,16 +9,16 @@ use native.Mathlib.Omega.{arith}
 use lib.Dec.{ltb}
 use lib.ListN.{length, drop, getD}
 use borrow.Author.Tests.{ltb-true, ltb-false}
 use Rattle.paper.specs.Basics.{In, NoDup}
 use Rattle.paper.specs.Yard.{Carrier, Crossing, after, legalPlan, crossings, pack, most-crossings}
 use Rattle.paper.specs.Order.{Order}
 use Rattle.paper.specs.Procedure.{Outcome, planned, stuck, procedure}
-use Rattle.paper.specs.Dependence.{isDone, countOf, slots, placementBy}
+use Rattle.paper.specs.Dependence.{isDone, countOf, slots, Numbering, Ready, placementBy}
 use Rattle.paper.specs.Docket.{yardOf, badMarks, stopped, room, Refusal}
-use Rattle.paper.specs.Answers.{Answer, check, Report, accept, already, refuse, report, accepted, refused, plan, planEnd, firstSix, slotsRefusal, slotsEnd, marksEnd}
+use Rattle.paper.specs.Answers.{Answer, check, Report, accept, already, refuse, report, accepted, refused, plan, planEnd, firstSix, Gives, TooLong, slotsRefusal, slotsEnd, marksEnd}
 use Rattle.paper.specs.Log.{Request, answerTo, marksBy, marksOf, namesOf, acceptedOf}
-use Rattle.paper.specs.Demands.{TooLong, Gives, Ready, Numbering, Demand1, Demand2, Demand3}
+use Rattle.demands.specs.Demands.{Demand1, Demand2, Demand3}
 use Rattle.paper.proofs.Tests.{by-cases, by-option, not-both, never}
 
 by-answer : {P : Type 0} (a : Answer) → ((xs : List Crossing) → a ≡ accepted xs → P) → ((r : Refusal) → a ≡ refused r → P) → P
 by-answer (accepted xs) f g = f xs refl

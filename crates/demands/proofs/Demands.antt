@@ -7,22 +7,22 @@ use mathlib.Core.Option.{none, some}
 use Prim.Native.Nat.{ℕ, suc, _<_, _≤_}
 use native.Mathlib.Omega.{arith}
 use lib.ListN.{length, length-map, drop, getD}
 use Rattle.paper.specs.Basics.{In, NoDup}
 use Rattle.paper.specs.Yard.{Carrier, Crossing, after, legalPlan, unpack, crossings, pack, most-crossings}
 use Rattle.paper.specs.Order.{Order}
 use Rattle.paper.specs.Procedure.{stuck, procedure}
 use Rattle.paper.specs.Dependence.{isDone, countOf, slots, placementBy}
 use Rattle.paper.specs.Docket.{yardOf, badMarks, stopped, room, Refusal}
 use Rattle.paper.specs.Answers.{check, accept, already, report, accepted, refused, plan, planEnd, written, firstSix, slotsRefusal, slotsEnd, marksEnd}
 use Rattle.paper.specs.Log.{Request, answerTo, marksBy, marksOf, namesOf, acceptedOf}
-pub use Rattle.paper.specs.Demands.{Demand1, Demand2, Demand3}
+pub use Rattle.demands.specs.Demands.{Demand1, Demand2, Demand3}
 use Rattle.paper.proofs.Tests.{not-both}
-use Rattle.paper.proofs.Planning.{accepted-exactly, stopped-exactly, room-exactly, accepted-right}
+use Rattle.paper.proofs.Planning.{accepted-exactly, stopped-exactly, room-exactly, accepted-right, plan-written}
 use Rattle.paper.proofs.Slotting.{Numbering, slots-rise, slots-lowest}
 use Rattle.paper.proofs.Checking.{check-passed}
 use Rattle.paper.proofs.Reporting.{Ready, accept-facts, facts-accept, done-already, report-accepts}
 use Rattle.paper.proofs.Logging.{fine, some-ready, all-done, unaccepted, plan-lawful, kept-from-fresh}
 use Rattle.paper.proofs.Handing.{handed-passes}
 
 pub demand-1 : (o : Order) → Demand1 o
 unfolding written slotsEnd
@@ -30,7 +30,7 @@ demand-1 o = record {
   plan-refused = λ lent r h. rw h;
   slots-refused = λ crossed lent r h. rw h;
   not-accepted = λ crossed marks name h. unaccepted marks name (report o crossed marks name) h;
-  plan-written = λ lent xs h. rw h;
+  plan-written = plan-written o;
   slots-written = λ crossed lent h. rw h;
 }
 

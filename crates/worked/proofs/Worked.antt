@@ -1,24 +1,23 @@
--- The yards worked by hand: Y1 to Y9, which the document marks *, computed together; then Y10, Y11 and cases of our own, where the
--- lowest and the first differ from the highest and the last. Assumes nothing.
+-- The yards worked by hand: Y1 to Y9, which the document marks *, computed together; then Y11 and cases of our own, where the lowest
+-- and the first differ from the highest and the last. Y10 is crates/paper/proofs/Limits. Assumes nothing.
 use mathlib.Core.Path.{_≡_, refl}
 use mathlib.Core.List.{List, [], _∷_, _++_, map}
 use mathlib.Core.Option.{Option, none, some}
 use Prim.Native.Nat.{ℕ}
-use Rattle.paper.specs.Basics.{upTo}
 use Rattle.paper.specs.Yard.{Bay, Placement, Crossing, crossing, pack}
 use Rattle.paper.specs.Dependence.{slots, fresh}
-use Rattle.paper.specs.Docket.{crowd, stopped, unknown, early, Refusal, mismarked, missed, no-4, illegal, no-1, size}
+use Rattle.paper.specs.Docket.{crowd, stopped, unknown, early, Refusal, mismarked, missed, illegal}
 use Rattle.paper.specs.Answers.{Answer, accepted, refused, plan, planEnd, check, Report, accept, already, refuse, report}
 use Rattle.paper.specs.Log.{Request, reports}
 use Rattle.paper.specs.Basics
 use Rattle.paper.specs.Yard
 use Rattle.paper.specs.Order.{Order, order}
 use Rattle.paper.specs.Path
 use Rattle.paper.specs.Procedure
 use Rattle.paper.specs.Dependence
 use Rattle.paper.specs.Docket
 use Rattle.paper.specs.Answers
 use Rattle.paper.specs.Log
 
 -- every definition of the rules, opened, so that the checker computes with them
 unfoldable pub computing : Unit {0}
@@ -118,30 +117,6 @@ yards = Y1 ∷ Y2 ∷ Y3 ∷ Y4 ∷ Y5 ∷ Y6 ∷ Y7 ∷ Y8 ∷ Y9 ∷ []
 pub all-worked : map (λ w. computed (w .given)) yards ≡ map (λ w. w .said) yards
 unfolding computing
 all-worked = refl
-
--- Y10: 256 bays and 254 carriers pass 1 and 4; 257 bays are 1; 255 carriers on 256 bays are 4. The other limits likewise.
-abbrev numbers : ℕ → List ℕ
-numbers k = upTo k
-
-abbrev sizeOf : ℕ → ℕ → ℕ → ℕ → ℕ → Option Refusal
-sizeOf n e k l lent = no-1 (order n (numbers e) (numbers k) (numbers l)) lent
-
-pub limits : (sizeOf 256 0 254 254 0
-    ∷ no-4 (order 256 [] (numbers 254) [])
-    ∷ sizeOf 257 0 0 0 0
-    ∷ no-4 (order 256 [] (numbers 255) [])
-    ∷ sizeOf 2 2 0 0 0
-    ∷ sizeOf 1 0 0 0 0
-    ∷ sizeOf 2 2048 0 0 0
-    ∷ sizeOf 2 2050 0 0 0
-    ∷ sizeOf 2 3 0 0 0
-    ∷ sizeOf 4 2 1 2 0
-    ∷ sizeOf 2 2 0 0 65536
-    ∷ sizeOf 2 2 0 0 65537
-    ∷ [])
-    ≡ none ∷ none ∷ some size ∷ some crowd ∷ none ∷ some size ∷ none ∷ some size ∷ some size ∷ some size ∷ none ∷ some size ∷ []
-unfolding computing
-limits = refl
 
 -- Y11: Y1 with room for five is 8 carrying 6, list unchanged; with room for seven the last place is left alone.
 pub room-for-five : (planEnd (order 4 T (1 ∷ 0 ∷ []) (0 ∷ 1 ∷ [])) (7 ∷ 7 ∷ 7 ∷ 7 ∷ 7 ∷ [])

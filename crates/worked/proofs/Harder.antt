@@ -4,11 +4,11 @@
 use mathlib.Core.Path.{_≡_, refl}
 use mathlib.Core.List.{List, [], _∷_, map}
 use Prim.Native.Nat.{ℕ}
 use Rattle.paper.specs.Yard.{Bay, Placement, crossing}
 use Rattle.paper.specs.Order.{Order, order}
 use Rattle.paper.specs.Docket.{stopped, room}
 use Rattle.paper.specs.Answers.{Answer, accepted, refused, plan, planParked}
-use Rattle.paper.proofs.Worked.{computing}
+use Rattle.worked.proofs.Worked.{computing}
 
 pub record Hard : Type 0 where
   pub order : Order

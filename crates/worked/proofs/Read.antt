@@ -6,22 +6,22 @@ use mathlib.Core.Option.{none, some}
 use Prim.Native.Nat.{ℕ}
 use Prim.Native.String.{String}
 use lib.ListN.{replicate}
 use Rattle.paper.specs.Basics.{concat}
 use Rattle.paper.specs.Yard.{Bay}
 use Rattle.paper.specs.Text.{Text, text, Read, good, badLine}
 use Rattle.paper.specs.Map.{Grid, readMap, bayCount, bayIn, railEnds}
 use Rattle.paper.specs.Scenario.{readScenario}
 use Rattle.paper.specs.Docket.{crowd, room}
 use Rattle.paper.specs.Answers.{refused}
 use Rattle.paper.specs.Print.{printed}
 use Rattle.paper.specs.Program.{program}
-use Rattle.paper.proofs.Worked.{computing}
+use Rattle.worked.proofs.Worked.{computing}
 use Rattle.paper.specs.Basics
 use Rattle.paper.specs.Text
 use Rattle.paper.specs.Map
 use Rattle.paper.specs.Scenario
 use Rattle.paper.specs.Print
 use Rattle.paper.specs.Program
 
 -- every definition of files and print, opened
 unfoldable pub reading : Unit {0}
