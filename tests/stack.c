@@ -140,15 +140,18 @@ int main(void)
     static const size_t counts[] = {0, 6, 128, 240};
     size_t most[CALLS] = {0}, base, need;
     int size, which, bad = 0;
+    /* the first thread of all needs more than others, to find the functions that it calls */
+    used(-1);
     base = used(-1);
     for (size = 0; size < 4; size++) {
         yard(sides[size], counts[size]);
         crossings = 0;
-        memset(marks, 0, sizeof marks);
         for (which = 0; which < CALLS; which++) {
-            need = used(which) - base;
-            if (need > most[which])
-                most[which] = need;
+            /* no crossing is done: of a plan that is begun nothing is shortened */
+            memset(marks, 0, sizeof marks);
+            need = used(which);
+            if (need > base && need - base > most[which])
+                most[which] = need - base;
             if (which == 0 && answer == SEJJEKORU_ACCEPTED) {
                 crossings = (size_t)value;
                 memcpy(plan, out, sizeof plan);
