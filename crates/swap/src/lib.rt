@@ -8,7 +8,7 @@ ghost use mathlib.Core.Bool.{true};
 ghost use Prim.Native.Nat.{_+_, _*_, _≤_, _<_};
 ghost use lib.ListN.{length, getD};
 ghost use Rattle.words.specs.Sets.{words, span};
-ghost use Rattle.vacate.specs.Bounds.{room-step};
+ghost use Rattle.moving.specs.Bounds.{room-step};
 ghost use Rattle.acting.specs.Acting.{Ready};
 ghost use Rattle.trial.specs.Trying.{Noted, exchanges};
 ghost use Rattle.swap.specs.Seeking.{placementTraded, standingTraded, Spares, SurelyFails, TryJunctionSays, SeekSays, TradeAsks, SwapAsks, SwapSays};

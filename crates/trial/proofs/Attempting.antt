@@ -20,8 +20,8 @@ use Rattle.paper.proofs.Tests.{never-some, never}
 use Rattle.paper.proofs.Vacating.{plan-apart}
 use Rattle.words.specs.Sets.{span}
 use Rattle.yard.specs.Table.{Table}
-use Rattle.vacate.specs.Placed.{Placed, Stored}
-use Rattle.vacate.proofs.Playing.{sets-append, stored-exact, stored-then}
+use Rattle.moving.specs.Placed.{Placed, Stored}
+use Rattle.moving.proofs.Playing.{sets-append, stored-exact, stored-then}
 use Rattle.acting.specs.Acting.{Tallied, Tries}
 use Rattle.acting.specs.declared.Tally.{Tally}
 use Rattle.bring.specs.Turning.{Small, Holds, numbers}

@@ -14,7 +14,7 @@ use Rattle.paper.specs.Yard.{Bay, Carrier, Yard, Placement, bayOf, Crossing, pa
 use Rattle.paper.proofs.Playing.{Sound}
 use Rattle.paper.proofs.Swapping.{Chain}
 use Rattle.words.specs.Sets.{span}
-use Rattle.vacate.specs.Bounds.{set-up-most, swap-most, room-step}
+use Rattle.moving.specs.Bounds.{set-up-most, swap-most, room-step}
 use Rattle.acting.specs.Acting.{Tabled, Within}
 use Rattle.clear_on.specs.Going.{Listed, PairBy}
 use Rattle.clear_on.specs.declared.Pair.the-variants.{Both, Missing}

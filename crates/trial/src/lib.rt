@@ -15,7 +15,7 @@ ghost use lib.ListN.{length, getD};
 ghost use Rattle.paper.specs.Basics.{_and_};
 ghost use Rattle.docket.specs.Reading.{crossingOf};
 ghost use Rattle.words.specs.Sets.{span};
-ghost use Rattle.vacate.specs.Bounds.{room-crossing, room-step};
+ghost use Rattle.moving.specs.Bounds.{room-crossing, room-step};
 ghost use Rattle.acting.specs.Acting.{Ready};
 ghost use Rattle.trial.specs.Trying.{Noted, exchanges, LedAsks, SetUpSays, LedSays, TrialAsks, TrialOnSays, TrialSays};
 
