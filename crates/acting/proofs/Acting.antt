@@ -15,11 +15,11 @@ use Rattle.paper.proofs.Playing.{Apart, after-append}
 use Rattle.paper.proofs.Tests.{by-option, never-some, some-same, none-from, some-from, never}
 use Rattle.paper.proofs.Vacating.{vacate-parks, filled-inside}
 use Rattle.words.specs.Sets.{span}
-use Rattle.vacate.specs.Placed.{Placed, Played, Unchanged}
+use Rattle.moving.specs.Placed.{Placed, Played, Unchanged}
 use Rattle.rings.specs.Search.{Shown}
 use Rattle.vacate.specs.Answer.{countAfter, filled, vacating, Vacates}
 use Rattle.vacate.proofs.Answers.{answered-count}
-use Rattle.vacate.proofs.Playing.{stored-none, stored-then}
+use Rattle.moving.proofs.Playing.{stored-none, stored-then}
 use Rattle.acting.specs.declared.Tally.{Tally}
 use Rattle.acting.specs.declared.Tried.the-variants.{Done}
 use Rattle.acting.specs.declared.Tried.the-variants.{Failed}

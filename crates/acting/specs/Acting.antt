@@ -12,8 +12,8 @@ use Rattle.words.specs.Sets.{words, span}
 use Rattle.yard.specs.Table.{Table}
 use Rattle.levels.specs.Levels.{Levelled}
 use Rattle.rings.specs.Search.{Shown}
-use Rattle.vacate.specs.Bounds.{vacate-most, room-vacate}
-use Rattle.vacate.specs.Placed.{Placed, Stored, Unchanged}
+use Rattle.moving.specs.Bounds.{vacate-most, room-vacate}
+use Rattle.moving.specs.Placed.{Placed, Stored, Unchanged}
 use Rattle.vacate.specs.declared.Vacated.{Vacated}
 use Rattle.vacate.specs.declared.Vacated.the-variants.{Empty, Filled, Failed as NotVacated}
 use Rattle.acting.specs.declared.Tally.{Tally}

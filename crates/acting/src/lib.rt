@@ -5,8 +5,8 @@ ghost use mathlib.Core.Path.{_≡_};
 ghost use Prim.Native.Nat.{_+_, _*_, _≤_, _<_};
 ghost use lib.ListN.{length};
 ghost use Rattle.words.specs.Sets.{words, span};
-ghost use Rattle.vacate.specs.Bounds.{room-crossing};
-ghost use Rattle.vacate.specs.Placed.{CrossAsks};
+ghost use Rattle.moving.specs.Bounds.{room-crossing};
+ghost use Rattle.moving.specs.Placed.{CrossAsks};
 ghost use Rattle.acting.specs.Acting.{Tabled, Ready, AsFar, Added, FilledIn, Filling, Counts, junctions, RoomAsks, RoomSays, CrossCounts, FillCounts};
 
 // What is counted: crossings, and the vacates that filled a bay of three rails or more. Whoever takes a tally out of an answer makes it anew from its two
@@ -136,7 +136,7 @@ pub fn cross(
 {
     let before = at.crossings;
     let parked = at.parked;
-    let crossings = vacate::cross(placement, standing, empty, a, b, out, before);
+    let crossings = moving::cross(placement, standing, empty, a, b, out, before);
     Tally { crossings, parked }
 }
 
@@ -160,6 +160,6 @@ pub fn fill(
 {
     let n = standing.len();
     let before = at.crossings;
-    let crossings = vacate::cross(placement, standing, empty, a, b, out, before);
+    let crossings = moving::cross(placement, standing, empty, a, b, out, before);
     tally_filled(table, n, b, crossings, at)
 }

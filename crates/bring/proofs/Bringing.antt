@@ -21,9 +21,9 @@ use Rattle.paper.proofs.Playing.{Apart, after-append, after-length, bay-in, out
 use Rattle.paper.proofs.Tests.{by-option, not-both, never-some}
 use Rattle.paper.proofs.Vacating.{Vacated, vacate-vacates, vacate-empty}
 use Rattle.words.specs.Sets.{mem}
-use Rattle.vacate.specs.Placed.{Placed}
+use Rattle.moving.specs.Placed.{Placed}
 use Rattle.rings.specs.Search.{Shown}
-use Rattle.vacate.proofs.Playing.{carrier-is}
+use Rattle.moving.proofs.Playing.{carrier-is}
 use Rattle.paper.proofs.Making.{same-made, together-assoc, together-none, none-together}
 use Rattle.acting.specs.Acting.{Tabled, Tallied, Acts, Tries}
 use Rattle.bring.specs.Bringing.{entering}

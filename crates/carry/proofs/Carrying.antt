@@ -31,7 +31,7 @@ use Rattle.rings.specs.declared.Path.{Path}
 use Rattle.rings.proofs.Searching.{elem-append, elem-one}
 use Rattle.home.specs.Homing.{Settled, AtMost, Stages, Homeward}
 use Rattle.paper.proofs.Making.{together-assoc, together-none, none-together}
-use Rattle.vacate.specs.Placed.{Placed}
+use Rattle.moving.specs.Placed.{Placed}
 use Rattle.acting.specs.Acting.{Tabled, Tallied, nothing}
 use Rattle.acting.specs.declared.Tally.{Tally}
 use Rattle.acting.proofs.Acting.{tallied-none, tallied-then}

@@ -15,7 +15,7 @@ use Rattle.rings.specs.Search.{Shown}
 use Rattle.rings.specs.Ways.{pathOf, pathLength}
 use Rattle.rings.specs.declared.Path.{Path}
 use Rattle.yard.specs.Table.{Table}
-use Rattle.vacate.specs.Bounds.{carrier-most}
+use Rattle.moving.specs.Bounds.{carrier-most}
 use Rattle.acting.specs.Acting.{Tabled, nothing}
 use Rattle.acting.specs.declared.Tally.{Tally}
 use Rattle.step.specs.Asking.{BaysBelow}

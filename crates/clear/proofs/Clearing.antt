@@ -22,7 +22,7 @@ use Rattle.paper.proofs.Vacating.{vacate-vacates}
 use Rattle.paper.proofs.Tests.{by-cases, not-both, never, and-left, and-right, and-both}
 use Rattle.words.specs.Sets.{mem, words, span, memRow, Lowest}
 use Rattle.words.proofs.Sets.{zeros, mem-zeros, row-zero}
-use Rattle.vacate.specs.Placed.{Placed, Unchanged}
+use Rattle.moving.specs.Placed.{Placed, Unchanged}
 use Rattle.rings.specs.Search.{Shown}
 use Rattle.acting.proofs.Acting.{tallied-none, tallied-then, acted-done, acted-failed}
 use Rattle.bring.proofs.Bringing.{pair-view}

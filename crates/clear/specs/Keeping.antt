@@ -11,7 +11,7 @@ use Rattle.paper.specs.Procedure.{Made, only, vacate, Cleared, clearing, clearO
 use Rattle.paper.specs.Yard.{Bay, Yard, Placement}
 use Rattle.words.specs.Sets.{mem, span}
 use Rattle.rings.specs.Search.{Shown}
-use Rattle.vacate.specs.Bounds.{vacate-most, clear-once-most}
+use Rattle.moving.specs.Bounds.{vacate-most, clear-once-most}
 use Rattle.acting.specs.Acting.{Tabled, Tallied}
 use Rattle.acting.specs.declared.Tally.{Tally}
 use Rattle.clear.specs.declared.Kept.{Kept}

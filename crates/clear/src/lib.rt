@@ -9,7 +9,7 @@ ghost use lib.ListN.{length};
 ghost use Rattle.paper.specs.Basics.{Out};
 ghost use Rattle.words.specs.Sets.{words, span};
 ghost use Rattle.rings.specs.Search.{Shown};
-ghost use Rattle.vacate.specs.Bounds.{room-vacate, room-clear};
+ghost use Rattle.moving.specs.Bounds.{room-vacate, room-clear};
 ghost use Rattle.acting.specs.Acting.{Ready};
 ghost use Rattle.clear.specs.Keeping.{Among, HoldsTwo, KeepSays, KeepSecondSays, ClearSays};
 

@@ -25,8 +25,8 @@ use Rattle.paper.proofs.Swapping.{once-clears}
 use Rattle.words.specs.Sets.{mem, words, span, memRow, Lowest}
 use Rattle.words.proofs.Sets.{zeros, mem-zeros}
 use Rattle.paper.proofs.Making.{same-made}
-use Rattle.vacate.specs.Placed.{Placed, Stored}
-use Rattle.vacate.proofs.Playing.{stored-then}
+use Rattle.moving.specs.Placed.{Placed, Stored}
+use Rattle.moving.proofs.Playing.{stored-then}
 use Rattle.acting.specs.Acting.{Ready, Tabled, nothing, Tallied, Within, Tries, Acts}
 use Rattle.bring.specs.Bringing.{entering}
 use Rattle.acting.specs.declared.Tally.{Tally}

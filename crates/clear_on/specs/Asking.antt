@@ -10,7 +10,7 @@ use Rattle.paper.specs.Procedure.{aside, around, firstKept, goOn}
 use Rattle.paper.specs.Yard.{Bay, Carrier}
 use Rattle.paper.proofs.Playing.{Sound}
 use Rattle.words.specs.Sets.{mem, words}
-use Rattle.vacate.specs.Bounds.{clear-once-most, attempt-most, clear-most}
+use Rattle.moving.specs.Bounds.{clear-once-most, attempt-most, clear-most}
 use Rattle.acting.specs.Acting.{Tabled, nothing, Within, Tries, TriesAs}
 use Rattle.acting.specs.declared.Tally.{Tally}
 use Rattle.acting.specs.declared.Tried.{Tried}

@@ -10,7 +10,7 @@ use Rattle.paper.specs.Basics.{without}
 use Rattle.paper.specs.Yard.{Bay, Carrier, Yard, Placement, bayOf, pack, after, neighbours}
 use Rattle.paper.specs.Procedure.{Made, Action, Cleared, clearOnce, aside, around, clear}
 use Rattle.words.specs.Sets.{mem}
-use Rattle.vacate.specs.Placed.{Stored}
+use Rattle.moving.specs.Placed.{Stored}
 use Rattle.acting.specs.Acting.{AsFar}
 use Rattle.acting.specs.declared.Tally.{Tally}
 use Rattle.acting.specs.declared.Tried.{Tried}

@@ -10,7 +10,7 @@ ghost use mathlib.Core.Path.{_≡_};
 ghost use Prim.Native.Nat.{min, _≤_, _<_};
 ghost use lib.ListN.{length, take};
 ghost use Rattle.paper.specs.Basics.{Out};
-ghost use Rattle.vacate.specs.Bounds.{room-vacate, room-clear, room-step};
+ghost use Rattle.moving.specs.Bounds.{room-vacate, room-clear, room-step};
 ghost use Rattle.acting.specs.Acting.{Ready};
 ghost use Rattle.clear_on.specs.Asking.{OthersAsk, AsideSays, AroundSays, AttemptSays, FirstKeptSays, EitherSays, GoOnSays, ClearTwoSays};
 

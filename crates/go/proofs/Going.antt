@@ -15,7 +15,7 @@ use Rattle.step.proofs.Settling.{stepped-of}
 use Rattle.go.specs.Going.{planOf, Linked}
 use Rattle.words.specs.Sets.{span, memRow}
 use Rattle.paper.proofs.Making.{together-assoc, together-none, none-together}
-use Rattle.vacate.specs.Placed.{Placed}
+use Rattle.moving.specs.Placed.{Placed}
 use Rattle.acting.specs.Acting.{Tabled, Tallied, Proceeds, Tries}
 use Rattle.acting.specs.declared.Tally.{Tally}
 use Rattle.acting.proofs.Acting.{tallied-none, tallied-then, tries-some, tried-done, tried-failed}

@@ -9,7 +9,7 @@ use lib.ListN.{length}
 use Rattle.paper.specs.Procedure.{Made, Outcome, planned, stuck, go}
 use Rattle.paper.specs.Yard.{Bay, Carrier}
 use Rattle.words.specs.Sets.{memRow}
-use Rattle.vacate.specs.Bounds.{swap-most}
+use Rattle.moving.specs.Bounds.{swap-most}
 use Rattle.acting.specs.Acting.{Tabled, Within, Tries}
 use Rattle.acting.specs.declared.Tally.{Tally}
 use Rattle.acting.specs.declared.Tried.{Tried}

@@ -5,7 +5,7 @@ use docket::Bay;
 use docket::Carrier;
 ghost use Prim.Native.Nat.{_+_, _*_, _<_};
 ghost use lib.ListN.{length, getD};
-ghost use Rattle.vacate.specs.Bounds.{swap-most, room-step};
+ghost use Rattle.moving.specs.Bounds.{swap-most, room-step};
 ghost use Rattle.acting.specs.Acting.{Ready};
 ghost use Rattle.step.specs.Asking.{Loopless, BaysBelow, StepAsks, StepSettles};
 ghost use Rattle.go.specs.Going.{Linked, GoSays};

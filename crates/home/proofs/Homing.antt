@@ -16,7 +16,7 @@ use Rattle.paper.specs.Yard.{Bay, Carrier, Yard, Placement, bayOf, carrierAt, a
 use Rattle.paper.proofs.Playing.{Apart}
 use Rattle.paper.proofs.Tests.{never, by-cases}
 use Rattle.words.specs.Sets.{span}
-use Rattle.vacate.specs.Placed.{Placed}
+use Rattle.moving.specs.Placed.{Placed}
 use Rattle.acting.specs.Acting.{Tabled, Tallied, Proceeds}
 use Rattle.acting.specs.declared.Tally.{Tally}
 use Rattle.acting.proofs.Acting.{tallied-none, tallied-then, tried-done, tried-failed}

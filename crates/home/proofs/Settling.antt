@@ -21,7 +21,7 @@ use Rattle.paper.proofs.Members.{out-cons}
 use Rattle.paper.proofs.Playing.{Apart, placeOf-there, bay-in}
 use Rattle.paper.proofs.Tests.{by-cases, not-both, and-left, and-right, and-both}
 use Rattle.words.specs.Sets.{span, memRow}
-use Rattle.vacate.specs.Placed.{Placed}
+use Rattle.moving.specs.Placed.{Placed}
 use Rattle.acting.specs.Acting.{Tabled}
 use Rattle.step.specs.Asking.{Loopless}
 use Rattle.go.specs.Going.{Linked}

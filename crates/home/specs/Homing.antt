@@ -11,7 +11,7 @@ use Rattle.paper.specs.Procedure.{Made, Outcome, planned, stuck, homeAt, wayHom
 use Rattle.paper.specs.Yard.{Bay, Carrier, Yard, Placement, bayOf, carrierAt}
 use Rattle.paper.proofs.Carrying.{Pair}
 use Rattle.words.specs.Sets.{memRow}
-use Rattle.vacate.specs.Bounds.{swap-most}
+use Rattle.moving.specs.Bounds.{swap-most}
 use Rattle.acting.specs.Acting.{Tabled, Tallied}
 use Rattle.acting.specs.declared.Tally.{Tally}
 use Rattle.step.specs.Asking.{BaysBelow}

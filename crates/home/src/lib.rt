@@ -8,7 +8,7 @@ ghost use Prim.Native.Nat.{_+_, _*_, _≤_, _<_};
 ghost use lib.ListN.{length, getD, take};
 ghost use Rattle.paper.specs.Yard.{carrierAt};
 ghost use Rattle.paper.proofs.Playing.{Apart};
-ghost use Rattle.vacate.specs.Bounds.{swap-most, room-step};
+ghost use Rattle.moving.specs.Bounds.{swap-most, room-step};
 ghost use Rattle.acting.specs.Acting.{Ready};
 ghost use Rattle.step.specs.Asking.{Loopless, BaysBelow};
 ghost use Rattle.home.specs.Homing.{Owners, Due, Homeward, HomeSays, WayHomeSays};

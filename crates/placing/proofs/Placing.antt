@@ -17,8 +17,8 @@ use Rattle.paper.proofs.Tests.{by-cases}
 use Rattle.paper.proofs.Playing.{Apart}
 use Rattle.words.specs.Sets.{mem}
 use Rattle.yard.proofs.Places.{elem-last}
-use Rattle.vacate.specs.Placed.{Placed}
-use Rattle.vacate.proofs.Playing.{carrier-is, carrier-none}
+use Rattle.moving.specs.Placed.{Placed}
+use Rattle.moving.proofs.Playing.{carrier-is, carrier-none}
 use Rattle.placing.specs.Nobody.{Nobody}
 
 pub nobody-none : (k : ℕ) (standing empty : List ℕ) → Nobody 0 k standing empty

@@ -5,7 +5,7 @@ ghost use lib.ListN.{length};
 ghost use Rattle.paper.specs.Yard.{bayOf};
 ghost use Rattle.paper.proofs.Playing.{Apart};
 ghost use Rattle.words.specs.Sets.{words, span};
-ghost use Rattle.vacate.specs.Placed.{Placed};
+ghost use Rattle.moving.specs.Placed.{Placed};
 ghost use Rattle.placing.specs.Nobody.{Nobody};
 
 // Nobody stands anywhere, and every bay is empty. No carrier has the number k.

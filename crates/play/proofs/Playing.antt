@@ -11,7 +11,7 @@ use Rattle.paper.specs.Basics.{elem}
 use Rattle.words.specs.Sets.{words, span}
 use Rattle.words.proofs.Sets.{mem-zeros}
 use Rattle.levels.specs.Levels.{Levelled}
-use Rattle.vacate.specs.Placed.{Placed}
+use Rattle.moving.specs.Placed.{Placed}
 use Rattle.acting.specs.Acting.{Ready, nothing}
 use Rattle.step.specs.Asking.{BaysBelow}
 use Rattle.home.specs.Homing.{Owners, Stages}

@@ -8,7 +8,7 @@ use Rattle.paper.specs.Procedure.{Made, Outcome, planned, stuck}
 use Rattle.paper.specs.Yard.{Placement, pack, bayOf}
 use Rattle.paper.proofs.Playing.{Apart}
 use Rattle.words.specs.Sets.{span}
-use Rattle.vacate.specs.Placed.{Stored}
+use Rattle.moving.specs.Placed.{Stored}
 use Rattle.acting.specs.Acting.{AsFar}
 use Rattle.acting.specs.declared.Tally.{Tally}
 use Rattle.step.specs.Asking.{Loopless}

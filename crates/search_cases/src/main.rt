@@ -16,7 +16,7 @@ ghost use Rattle.paper.specs.Yard.{bayOf};
 ghost use Rattle.paper.proofs.Playing.{Apart};
 ghost use Rattle.words.specs.Sets.{words, span};
 ghost use Rattle.rings.specs.Search.{Shown};
-ghost use Rattle.vacate.specs.Placed.{Placed};
+ghost use Rattle.moving.specs.Placed.{Placed};
 
 // Whether a case agreed, and the place after it.
 struct Outcome {

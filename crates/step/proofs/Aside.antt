@@ -20,8 +20,8 @@ use Rattle.words.specs.Sets.{mem, span, memRow}
 use Rattle.choice.specs.Taking.{Taken}
 use Rattle.choice.proofs.Taking.{rather-paper}
 use Rattle.words.proofs.Sets.{row-zero}
-use Rattle.vacate.specs.Placed.{Placed}
-use Rattle.vacate.proofs.Playing.{carrier-is}
+use Rattle.moving.specs.Placed.{Placed}
+use Rattle.moving.proofs.Playing.{carrier-is}
 use Rattle.vacate.proofs.Beside.{beside-nearest, beside-path}
 use Rattle.acting.specs.Acting.{Tabled}
 use Rattle.step.specs.Asking.{Loopless}

@@ -21,8 +21,8 @@ use Rattle.paper.proofs.Tests.{by-cases, not-both}
 use Rattle.paper.proofs.Trading.{trade-first, trade-second, trade-other, trade-twice, which}
 use Rattle.words.specs.Sets.{mem, memRow, span}
 use Rattle.words.proofs.Besides.{equal-tests}
-use Rattle.vacate.specs.Placed.{Placed}
-use Rattle.vacate.proofs.Playing.{carrier-is}
+use Rattle.moving.specs.Placed.{Placed}
+use Rattle.moving.proofs.Playing.{carrier-is}
 use Rattle.clear_on.proofs.Attempting.{in-bays}
 use Rattle.acting.specs.Acting.{Tabled, Tallied, Proceeds}
 use Rattle.acting.specs.declared.Tally.{Tally}

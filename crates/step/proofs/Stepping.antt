@@ -22,8 +22,8 @@ use Rattle.words.specs.Sets.{mem, span, memRow, Kept}
 use Rattle.words.proofs.Sets.{row-zero, or-false}
 use Rattle.swap.specs.Seeking.{Beside}
 use Rattle.rings.specs.Search.{Shown}
-use Rattle.vacate.specs.Placed.{Placed}
-use Rattle.vacate.proofs.Playing.{carrier-is, carrier-none}
+use Rattle.moving.specs.Placed.{Placed}
+use Rattle.moving.proofs.Playing.{carrier-is, carrier-none}
 use Rattle.acting.specs.Acting.{Tabled, Tallied, Proceeds}
 use Rattle.acting.specs.declared.Tally.{Tally}
 use Rattle.acting.proofs.Acting.{tallied-none, tallied-then, proceeds-some}

@@ -9,7 +9,7 @@ use Rattle.paper.specs.Basics.{elem}
 use Rattle.paper.specs.Procedure.{step}
 use Rattle.paper.specs.Yard.{Bay, Carrier}
 use Rattle.words.specs.Sets.{mem, memRow, words}
-use Rattle.vacate.specs.Bounds.{swap-most, room-step}
+use Rattle.moving.specs.Bounds.{swap-most, room-step}
 use Rattle.acting.specs.Acting.{Within, ProceedsAs}
 use Rattle.acting.specs.declared.Tally.{Tally}
 use Rattle.acting.specs.declared.Tried.{Tried}

@@ -11,8 +11,8 @@ ghost use Rattle.paper.specs.Basics.{_and_};
 ghost use Rattle.paper.specs.Procedure.{trade};
 ghost use Rattle.words.specs.Sets.{mem, memRow, words, span};
 ghost use Rattle.choice.specs.Taking.{Taken};
-ghost use Rattle.vacate.specs.Bounds.{room-step};
-ghost use Rattle.vacate.specs.Placed.{Placed};
+ghost use Rattle.moving.specs.Bounds.{room-step};
+ghost use Rattle.moving.specs.Placed.{Placed};
 ghost use Rattle.acting.specs.Acting.{Ready, CrossCounts};
 ghost use Rattle.step.specs.Asking.{Loopless, BaysBelow, StepAsks, StepSays, StepSettles};
 

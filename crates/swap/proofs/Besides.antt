@@ -23,7 +23,7 @@ use Rattle.words.specs.Sets.{mem, words, span, memRow, Lowest}
 use Rattle.words.proofs.Sets.{zeros, row-zero}
 use Rattle.rings.proofs.Searching.{ring-first}
 use Rattle.rings.specs.Search.{around}
-use Rattle.vacate.specs.Placed.{Placed}
+use Rattle.moving.specs.Placed.{Placed}
 use Rattle.acting.specs.Acting.{Tabled}
 use Rattle.clear.proofs.Clearing.{lowest-in, clear-two, around-of, inside-of, inside-less}
 use Rattle.trial.specs.Trying.{Near}

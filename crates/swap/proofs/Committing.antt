@@ -24,8 +24,8 @@ use Rattle.paper.proofs.Vacating.{plan-apart}
 use Rattle.docket.specs.Reading.{isSome}
 use Rattle.swap.specs.Seeking.{Beside, standingTraded, fitting}
 use Rattle.words.proofs.Besides.{equal-tests}
-use Rattle.vacate.specs.Placed.{Placed, Stored}
-use Rattle.vacate.proofs.Playing.{carrier-is, carrier-none}
+use Rattle.moving.specs.Placed.{Placed, Stored}
+use Rattle.moving.proofs.Playing.{carrier-is, carrier-none}
 use Rattle.acting.specs.Acting.{Tabled, Added, Proceeds}
 use Rattle.acting.specs.declared.Tally.{Tally}
 use Rattle.acting.proofs.Acting.{proceeds-none, proceeds-some}

@@ -13,7 +13,7 @@ use Rattle.paper.proofs.Members.{nothing-in-nil}
 use Rattle.paper.proofs.Shortest.{shortest-path}
 use Rattle.blocked.proofs.Blocking.{blocked-fails}
 use Rattle.outlook.specs.Outlook.{OutlookAsks, OutlookSays}
-use Rattle.vacate.specs.Placed.{Placed}
+use Rattle.moving.specs.Placed.{Placed}
 use Rattle.acting.specs.Acting.{Tabled, Ready}
 use Rattle.trial.specs.Trying.{Near}
 use Rattle.clear_on.proofs.Attempting.{in-bays}

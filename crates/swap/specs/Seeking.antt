@@ -13,8 +13,8 @@ use Rattle.paper.specs.Yard.{Bay, Carrier, Yard, Placement, bayOf, joined, junc
 use Rattle.paper.proofs.Playing.{Sound}
 use Rattle.docket.specs.Reading.{isSome}
 use Rattle.words.specs.Sets.{span}
-use Rattle.vacate.specs.Bounds.{swap-most, room-step}
-use Rattle.vacate.specs.Placed.{Placed}
+use Rattle.moving.specs.Bounds.{swap-most, room-step}
+use Rattle.moving.specs.Placed.{Placed}
 use Rattle.acting.specs.Acting.{Tabled, nothing, Within, Proceeds}
 use Rattle.acting.specs.declared.Tally.{Tally}
 use Rattle.acting.specs.declared.Tried.{Tried}

@@ -8,9 +8,9 @@ ghost use mathlib.Core.Bool.{true};
 ghost use Prim.Native.Nat.{_+_, _*_, _≤_, _<_};
 ghost use lib.ListN.{length, getD};
 ghost use Rattle.words.specs.Sets.{words, span};
-ghost use Rattle.vacate.specs.Bounds.{room-step};
+ghost use Rattle.moving.specs.Bounds.{room-step};
 ghost use Rattle.acting.specs.Acting.{Ready};
-ghost use Rattle.trial.specs.Trying.{Noted, exchanges};
+ghost use Rattle.exchange.specs.Exchanging.{Noted, exchanges};
 ghost use Rattle.swap.specs.Seeking.{placementTraded, standingTraded, Spares, SurelyFails, TryJunctionSays, SeekSays, TradeAsks, SwapAsks, SwapSays};
 
 // The junction of a swap and the tally of its trial, or that there is none.
@@ -234,7 +234,7 @@ fn swap_beside(
 {
     let before = at.crossings;
     let parked = at.parked;
-    let crossings = trial::exchange(out, before, r, s, u, w, x, y);
+    let crossings = exchange::exchange(out, before, r, s, u, w, x, y);
     trade(placement, standing, r, s);
     Tally { crossings, parked }
 }

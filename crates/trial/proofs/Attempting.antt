@@ -20,30 +20,19 @@ use Rattle.paper.proofs.Tests.{never-some, never}
 use Rattle.paper.proofs.Vacating.{plan-apart}
 use Rattle.words.specs.Sets.{span}
 use Rattle.yard.specs.Table.{Table}
-use Rattle.vacate.specs.Placed.{Placed, Stored}
-use Rattle.vacate.proofs.Playing.{sets-append, stored-exact, stored-then}
+use Rattle.moving.specs.Placed.{Placed, Stored}
+use Rattle.moving.proofs.Playing.{stored-exact, stored-then}
 use Rattle.acting.specs.Acting.{Tallied, Tries}
 use Rattle.acting.specs.declared.Tally.{Tally}
 use Rattle.bring.specs.Turning.{Small, Holds, numbers}
 use Rattle.acting.proofs.Acting.{as-far-then, tried-done}
 use Rattle.clear_on.specs.Going.{Listed, AtJunction, ClearsTwo}
-use Rattle.trial.specs.Trying.{Noted, Prepared, SetsUp, Wrote, Led}
+use Rattle.exchange.specs.Exchanging.{Noted}
+use Rattle.trial.specs.Trying.{Prepared, SetsUp, Wrote, Led}
 use Rattle.acting.specs.declared.Tried.the-variants.{Done}
 use Rattle.acting.specs.declared.Tried.the-variants.{Failed}
 use Rattle.clear_on.specs.declared.Pair.the-variants.{Missing}
 use Rattle.clear_on.specs.declared.Pair.{Pair}
-
-pub noted-then : {xs ys : List Crossing} {out out₁ out′ : List ℕ} {at m r : ℕ} → Noted xs out at out₁ m → Noted ys out₁ m out′ r → Noted (xs ++ ys) out at out′ r
-noted-then {xs} {ys} {out} {at = at} a b = record {
-  stored = b .stored ∙ rw (a .stored, a .counted, map-append, sets-append, length-map);
-  counted = b .counted ∙ rw (a .counted, length-append) (omega arith);
-}
-
-pub exchanged : {L M v b x y : ℕ} {out out₁ out′ : List ℕ} {at m r : ℕ}
-    → Noted (crossing L v x ∷ crossing M b v ∷ crossing M v y ∷ []) out at out₁ m → Noted (crossing L x v ∷ crossing L v b ∷ crossing M y v ∷ []) out₁ m out′ r
-    → Noted (exchange L M v b x y) out at out′ r
-unfolding exchange
-exchanged a b = noted-then a b
 
 too-few : (Y : Yard) (L M : Carrier) (v b : Bay) (done : Made) (kept : List Bay) → length kept < 2 → finish Y L M v b done kept ≡ none
 unfolding finish
@@ -114,10 +103,6 @@ stored-at {vs} {out} {out′} {at} k fits j h =
     let size : length (take at out) ≡ at = length-take-le at out (omega arith) in
     sym (getD-take (at + length vs) out′ (at + j) 0 (omega arith)) ∙ ap (λ (o : List ℕ). getD o (at + j) 0) (k .front fits)
     ∙ (rw size at (getD-append-add (take at out) vs j 0))
-
-pub length-exchange : (L M v b x y : ℕ) → length (exchange L M v b x y) ≡ 6
-unfolding exchange
-length-exchange L M v b x y = refl
 
 length-undo : (L M : Carrier) (xs : List Crossing) → length (undo L M xs) ≡ length xs
 unfolding undo reverseOf

@@ -2,19 +2,18 @@
 -- Assumes nothing.
 use mathlib.Core.Path.{_≡_}
 use mathlib.Core.Bool.{true}
-use mathlib.Core.List.{List, [], _∷_, map}
+use mathlib.Core.List.{List, [], _∷_}
 use mathlib.Core.Option.{Option, none, some}
-use Prim.Native.Nat.{ℕ, _+_, _≤_, _<_}
+use Prim.Native.Nat.{ℕ, _≤_, _<_}
 use lib.ListN.{length, getD}
-use lib.Seq.{sets}
 use Rattle.paper.specs.Basics.{In}
 use Rattle.paper.specs.Path.{nearestFirst, shortestPath}
-use Rattle.paper.specs.Procedure.{Made, together, exchange, bring, clearOnce, clear, trialLed, trial}
-use Rattle.paper.specs.Yard.{Bay, Carrier, Yard, Placement, bayOf, Crossing, pack, after, joined}
+use Rattle.paper.specs.Procedure.{Made, together, bring, clearOnce, clear, trialLed, trial}
+use Rattle.paper.specs.Yard.{Bay, Carrier, Yard, Placement, bayOf, after, joined}
 use Rattle.paper.proofs.Playing.{Sound}
 use Rattle.paper.proofs.Swapping.{Chain}
 use Rattle.words.specs.Sets.{span}
-use Rattle.vacate.specs.Bounds.{set-up-most, swap-most, room-step}
+use Rattle.moving.specs.Bounds.{set-up-most, swap-most, room-step}
 use Rattle.acting.specs.Acting.{Tabled, Within}
 use Rattle.clear_on.specs.Going.{Listed, PairBy}
 use Rattle.clear_on.specs.declared.Pair.the-variants.{Both, Missing}
@@ -23,15 +22,6 @@ use Rattle.acting.specs.declared.Tally.{Tally}
 use Rattle.acting.specs.declared.Tried.{Tried}
 use Rattle.acting.specs.declared.Tried.the-variants.{Done, Failed}
 use Rattle.docket.specs.declared.Bay.{Bay as Numbered}
-
--- the crossings were counted from `at` on, and each stored at its count where the list is so long
-pub record Noted (xs : List Crossing) (out : List ℕ) (at : ℕ) (out′ : List ℕ) (r : ℕ) : Type 0 where
-  pub stored : out′ ≡ sets out at (map pack xs)
-  pub counted : r ≡ at + length xs
-
--- (the code's function has the same name)
-abbrev pub exchanges : Carrier → Carrier → Bay → Bay → Bay → Bay → List Crossing
-exchanges L M v b x y = exchange L M v b x y
 
 -- ## Bring and clear
 

@@ -5,96 +5,16 @@ use acting::Tried;
 use clear_on::Pair;
 use docket::Bay;
 use docket::Carrier;
-use docket::Crossing;
 use rings::Path;
 ghost use mathlib.Core.Path.{_≡_};
-ghost use mathlib.Core.List.{[], _∷_};
-ghost use Prim.Native.Nat.{ℕ, min, max, _+_, _≤_, _<_};
+ghost use Prim.Native.Nat.{ℕ, min, max, _≤_, _<_};
 ghost use lib.Dec.{eqb, ltb};
 ghost use lib.ListN.{length, getD};
 ghost use Rattle.paper.specs.Basics.{_and_};
-ghost use Rattle.docket.specs.Reading.{crossingOf};
 ghost use Rattle.words.specs.Sets.{span};
-ghost use Rattle.vacate.specs.Bounds.{room-crossing, room-step};
+ghost use Rattle.moving.specs.Bounds.{room-step};
 ghost use Rattle.acting.specs.Acting.{Ready};
-ghost use Rattle.trial.specs.Trying.{Noted, exchanges, LedAsks, SetUpSays, LedSays, TrialAsks, TrialOnSays, TrialSays};
-
-// The crossing goes to its place in the list where the list is so long; answers the next place.
-fn note(out: &mut [u64], at: usize, x: Crossing) -> usize
-    requires { ⌜ at < room-crossing ⌝ }
-    ensures { λ r. ⌜ Noted (crossingOf x ∷ []) (now (out .entry)) at (now (out .exit)) r ⌝ }
-{
-    bring::put(out, at, docket::pack(x));
-    at + 1
-}
-
-// Three crossings.
-fn note_three(out: &mut [u64], at: usize, x: Crossing, y: Crossing, z: Crossing) -> usize
-    requires { ⌜ at + 3 < room-crossing ⌝ }
-    ensures { λ r. ⌜
-        Noted (crossingOf x ∷ crossingOf y ∷ crossingOf z ∷ []) (now (out .entry)) at (now (out .exit)) r
-        ⌝ }
-{
-    let i = note(out, at, x);
-    let j = note(out, i, y);
-    note(out, j, z)
-}
-
-// Exchange: l v→x, m b→v, m v→y, l x→v, l v→b, m y→v.
-pub fn exchange(
-    out: &mut [u64],
-    at: usize,
-    l: Carrier,
-    m: Carrier,
-    v: Bay,
-    b: Bay,
-    x: Bay,
-    y: Bay,
-) -> usize
-    requires { ⌜ at + 6 < room-crossing ⌝ }
-    ensures { λ r. ⌜
-        Noted (exchanges (l .0) (m .0) (v .0) (b .0) (x .0) (y .0)) (now (out .entry)) at (now (out .exit)) r
-        ⌝ }
-{
-    let i = note_three(
-        out,
-        at,
-        Crossing {
-            carrier: l,
-            from: v,
-            to: x,
-        },
-        Crossing {
-            carrier: m,
-            from: b,
-            to: v,
-        },
-        Crossing {
-            carrier: m,
-            from: v,
-            to: y,
-        },
-    );
-    note_three(
-        out,
-        i,
-        Crossing {
-            carrier: l,
-            from: x,
-            to: v,
-        },
-        Crossing {
-            carrier: l,
-            from: v,
-            to: b,
-        },
-        Crossing {
-            carrier: m,
-            from: y,
-            to: v,
-        },
-    )
-}
+ghost use Rattle.trial.specs.Trying.{LedAsks, SetUpSays, LedSays, TrialAsks, TrialOnSays, TrialSays};
 
 // Bring and clear.
 fn set_up(
@@ -174,7 +94,7 @@ fn attempt_on(
     let from = at.crossings;
     let made = c.crossings;
     let parked = c.parked;
-    let d = exchange(out, made, l, m, v, b, lower(x, y), higher(x, y));
+    let d = exchange::exchange(out, made, l, m, v, b, lower(x, y), higher(x, y));
     bring::undo(out, from, made - from, d, l, m);
     let many = made - from;
     let crossings = d + many;

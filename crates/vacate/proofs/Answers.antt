@@ -8,7 +8,7 @@ use lib.ListN.{length}
 use Rattle.paper.specs.Yard.{Bay, Crossing}
 use Rattle.paper.proofs.Tests.{none-from, some-from}
 use Rattle.rings.specs.Search.{Shown}
-use Rattle.vacate.specs.Placed.{Played}
+use Rattle.moving.specs.Placed.{Played}
 use Rattle.vacate.specs.Answer.{Vacates, vacating, countAfter}
 use Rattle.vacate.specs.declared.Vacated.{Vacated}
 use Rattle.vacate.specs.declared.Vacated.the-variants.{Failed}

@@ -22,12 +22,12 @@ use Rattle.words.specs.Sets.{mem, memRow, span}
 use Rattle.choice.specs.Taking.{Taken}
 use Rattle.choice.proofs.Taking.{rather-paper}
 use Rattle.rings.specs.Search.{Shown}
-use Rattle.vacate.specs.Placed.{Placed, Played, Acted, CanShift}
+use Rattle.moving.specs.Placed.{Placed, Played, Acted, CanShift}
 use Rattle.vacate.specs.Answer.{Vacates, vacating, bayFilled, countAfter, filled}
 use Rattle.vacate.specs.declared.Vacated.{Vacated}
 use Rattle.vacate.specs.declared.Vacated.the-variants.{Empty, Failed}
-use Rattle.vacate.proofs.Playing.{played-none, unchanged}
-use Rattle.vacate.proofs.Shifting.{shift-length, shift-some, two-bays}
+use Rattle.moving.proofs.Playing.{played-none, unchanged}
+use Rattle.moving.proofs.Shifting.{shift-length, shift-some, two-bays}
 use Rattle.vacate.proofs.Beside.{beside-nearest, beside-path}
 
 acted-none : {o : Option (List Crossing)} {n : ℕ} {p standing empty out : List ℕ} {at : ℕ} → o ≡ none → Acted o n p standing empty out at p standing empty out

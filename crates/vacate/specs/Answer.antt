@@ -11,8 +11,8 @@ use Rattle.paper.specs.Procedure.{filledBy, vacate}
 use Rattle.words.specs.Sets.{words, span}
 use Rattle.levels.specs.Levels.{Levelled}
 use Rattle.rings.specs.Search.{Shown}
-use Rattle.vacate.specs.Bounds.{room-vacate}
-use Rattle.vacate.specs.Placed.{Placed, Unchanged, Acted}
+use Rattle.moving.specs.Bounds.{room-vacate}
+use Rattle.moving.specs.Placed.{Placed, Unchanged, Acted}
 use Rattle.vacate.specs.declared.Vacated.{Vacated}
 use Rattle.vacate.specs.declared.Vacated.the-variants.{Empty, Filled, Failed}
 

@@ -1,3 +1,1 @@
-pub mod Bounds
-pub mod Placed
 pub mod Answer

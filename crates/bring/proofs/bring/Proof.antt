@@ -6,7 +6,7 @@ use native.Mathlib.Omega.{arith}
 use lib.ListN.{length}
 use borrow.Author.Needs.{needs}
 use Rattle.paper.specs.Text.{count}
-use Rattle.vacate.specs.Bounds.{entry-most}
+use Rattle.moving.specs.Bounds.{entry-most}
 use Rattle.acting.specs.Acting.{Tabled}
 use Rattle.acting.proofs.Acting.{tries-none}
 use Rattle.bring.proofs.Bringing.{bay-low, Bringing, bringing-none, bringing-all, bringing-more, bringing-stops}

@@ -7,7 +7,7 @@ use lib.ListN.{length}
 use borrow.Author.Needs.{needs}
 use Rattle.paper.specs.Text.{count}
 use Rattle.acting.specs.Acting.{Tabled}
-use Rattle.vacate.specs.Bounds.{carrier-most}
+use Rattle.moving.specs.Bounds.{carrier-most}
 use Rattle.step.specs.Asking.{BaysBelow}
 use Rattle.home.proofs.Homing.{stages-stuck}
 use Rattle.carry.specs.Carrying.{Goals, HomeBelow}

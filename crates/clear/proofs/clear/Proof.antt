@@ -4,7 +4,7 @@ use mathlib.Core.Path.{_≡_}
 use native.Mathlib.Omega.{arith}
 use lib.ListN.{length}
 use borrow.Author.Needs.{needs}
-use Rattle.vacate.specs.Bounds.{vacate-most}
+use Rattle.moving.specs.Bounds.{vacate-most}
 use Rattle.clear.proofs.Clearing.{lowest-in, two-short, two-both, two-from, two-within, clears-short, clears-as, twoShown, first-none, first-then, clear-none, clear-one, clear-two, around-of, inside-of, inside-less, holdsTwo, lowest-free, kept-free, ready-again, clears-both}
 use Rattle.clear.specs.declared.Kept.the-variants.{Nothing}
 use Rattle.clear.specs.declared.Kept.the-variants.{One}

@@ -8,7 +8,7 @@ use lib.ListN.{length}
 use borrow.Author.Needs.{needs}
 use Rattle.words.specs.Sets.{mem, span}
 use Rattle.rings.specs.Search.{Shown}
-use Rattle.vacate.specs.Placed.{Unchanged}
+use Rattle.moving.specs.Placed.{Unchanged}
 use Rattle.acting.proofs.Acting.{acted-done, acted-failed}
 use Rattle.clear.specs.Keeping.{Stuck}
 use Rattle.clear.proofs.Clearing.{same-again, unchanged-played, stuck-none, stuck-more, keeps-here, ready-again}

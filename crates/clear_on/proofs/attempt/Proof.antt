@@ -3,7 +3,7 @@
 use mathlib.Core.Path.{sym, ap}
 use native.Mathlib.Omega.{arith}
 use lib.ListN.{length}
-use Rattle.vacate.specs.Bounds.{clear-once-most, attempt-most}
+use Rattle.moving.specs.Bounds.{clear-once-most, attempt-most}
 use Rattle.acting.specs.Acting.{nothing}
 use Rattle.clear_on.proofs.Attempting.{ready-copy, attempted, within-more}
 use borrow.Author.Needs.{needs}

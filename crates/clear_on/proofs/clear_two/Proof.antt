@@ -4,7 +4,7 @@ use mathlib.Core.Path.{_≡_}
 use native.Mathlib.Omega.{arith}
 use lib.ListN.{length}
 use Rattle.clear.proofs.Clearing.{ready-again}
-use Rattle.vacate.specs.Bounds.{clear-once-most}
+use Rattle.moving.specs.Bounds.{clear-once-most}
 use Rattle.clear_on.proofs.Attempting.{pair-none, pair-both, pair-from, still-there, two-at-once, two-few, two-in-time}
 use borrow.Author.Needs.{needs}
 use Rattle.clear_on.proofs.clear_two.Statement.{statement}

@@ -3,7 +3,7 @@
 use mathlib.Core.Path.{_≡_}
 use native.Mathlib.Omega.{arith}
 use lib.ListN.{length}
-use Rattle.vacate.specs.Bounds.{vacate-most}
+use Rattle.moving.specs.Bounds.{vacate-most}
 use Rattle.acting.proofs.Acting.{tries-none, acted-done, acted-failed}
 use Rattle.clear.proofs.Clearing.{twoShown, heldShown, holdsTwo, ready-again}
 use Rattle.clear_on.proofs.Attempting.{both-tries, aside-fails, within-from}

@@ -9,7 +9,7 @@ use borrow.Author.Needs.{needs}
 use Rattle.paper.specs.Text.{count}
 use Rattle.acting.specs.Acting.{Tabled}
 use Rattle.acting.proofs.Acting.{tries-none}
-use Rattle.vacate.specs.Bounds.{swap-most}
+use Rattle.moving.specs.Bounds.{swap-most}
 use Rattle.step.specs.Asking.{BaysBelow}
 use Rattle.go.specs.Going.{Linked}
 use Rattle.go.proofs.Going.{Going, going-none, going-all, going-more, going-stops, linked-here, arrived}

@@ -7,7 +7,7 @@ use lib.ListN.{length, drop, drop-of-length-le}
 use mathlib.Core.List.{[], _∷_, _++_}
 use borrow.Author.Needs.{needs}
 use Rattle.paper.specs.Text.{count}
-use Rattle.vacate.specs.Bounds.{swap-most}
+use Rattle.moving.specs.Bounds.{swap-most}
 use Rattle.step.specs.Asking.{BaysBelow}
 use Rattle.home.specs.Homing.{Settled, Homeward}
 use Rattle.acting.specs.Acting.{Tabled}

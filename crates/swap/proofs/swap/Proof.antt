@@ -3,8 +3,8 @@
 use mathlib.Core.Path.{_≡_, refl}
 use native.Mathlib.Omega.{arith}
 use borrow.Author.Needs.{needs}
-use Rattle.vacate.proofs.Playing.{stored-exact}
-use Rattle.trial.proofs.Attempting.{length-exchange}
+use Rattle.moving.proofs.Playing.{stored-exact}
+use Rattle.exchange.proofs.Exchanging.{length-exchange}
 use Rattle.swap.specs.declared.Spare.the-variants.{Both}
 use Rattle.swap.proofs.Committing.{traded-proceeds}
 use Rattle.swap.proofs.Besides.{swap-own}

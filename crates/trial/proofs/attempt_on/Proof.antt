@@ -2,7 +2,8 @@
 -- Assumes nothing.
 use native.Mathlib.Omega.{arith}
 use borrow.Author.Needs.{needs}
-use Rattle.trial.proofs.Attempting.{wrote-none, length-exchange, attempted}
+use Rattle.exchange.proofs.Exchanging.{length-exchange}
+use Rattle.trial.proofs.Attempting.{wrote-none, attempted}
 use Rattle.trial.proofs.attempt_on.Statement.{statement}
 use Rattle.trial.proofs.attempt_on.Tie as tie
 

@@ -14,7 +14,7 @@ use Rattle.vacate.proofs.fill_nearest.Statement.{statement}
 use Rattle.vacate.proofs.fill_nearest.Tie as tie
 use Rattle.vacate.proofs.fill_nearest.Reads as reads
 use Rattle.vacate.proofs.fill_nearest.Lts as lts
-use Rattle.vacate.proofs.shift.Reads as shift-reads
+use Rattle.moving.proofs.shift.Reads as shift-reads
 
 slice-aggregate-way-out : tie.Need-slice-aggregate-way-out
 slice-aggregate-way-out c = search needs

@@ -1,12 +1,12 @@
--- `vacate::store` meets its contract. Setting a place past the end changes nothing, so both branches set the number.
+-- `moving::store` meets its contract. Setting a place past the end changes nothing, so both branches set the number.
 -- Assumes nothing.
 use mathlib.Core.Path.{refl, sym}
 use lib.Seq.{set-out}
 use borrow.Author.Needs.{needs}
-use Rattle.vacate.proofs.store.Statement.{statement}
-use Rattle.vacate.proofs.store.Tie as tie
-use Rattle.vacate.proofs.store.Reads as reads
-use Rattle.vacate.proofs.store.Lts as lts
+use Rattle.moving.proofs.store.Statement.{statement}
+use Rattle.moving.proofs.store.Tie as tie
+use Rattle.moving.proofs.store.Reads as reads
+use Rattle.moving.proofs.store.Lts as lts
 
 mul-out : tie.Need-mul-out
 mul-out c = search needs

@@ -13,9 +13,9 @@ use Rattle.paper.specs.Procedure.{shift}
 use Rattle.paper.proofs.Members.{take-in, Out-left, Out-right}
 use Rattle.paper.proofs.Playing.{Apart}
 use Rattle.paper.proofs.Vacating.{Shiftable, shift-cons, shift-one}
-use Rattle.vacate.specs.Placed.{Played, CanShift}
-use Rattle.vacate.proofs.Playing.{played-then}
-use Rattle.vacate.proofs.Shifting.{shift-length, can-drop, Ahead, ahead-of}
+use Rattle.moving.specs.Placed.{Played, CanShift}
+use Rattle.moving.proofs.Playing.{played-then}
+use Rattle.moving.proofs.Shifting.{shift-length, can-drop, Ahead, ahead-of}
 
 -- the path from place j on, as the code lends it
 abbrev pub rest : ℕ → List ℕ → List ℕ

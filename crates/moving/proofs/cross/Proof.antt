@@ -1,10 +1,10 @@
--- `vacate::cross` meets its contract. One carrier changes its bay: its own entry, the entries of the two bays, and the two bays in the set of empty ones.
+-- `moving::cross` meets its contract. One carrier changes its bay: its own entry, the entries of the two bays, and the two bays in the set of empty ones.
 -- Assumes nothing.
 use native.Mathlib.Omega.{arith}
 use borrow.Author.Needs.{needs}
-use Rattle.vacate.proofs.Playing.{stands-there, crossed, moved-length}
-use Rattle.vacate.proofs.cross.Statement.{statement}
-use Rattle.vacate.proofs.cross.Tie as tie
+use Rattle.moving.proofs.Playing.{stands-there, crossed, moved-length}
+use Rattle.moving.proofs.cross.Statement.{statement}
+use Rattle.moving.proofs.cross.Tie as tie
 
 cast-from : tie.Need-cast-from
 cast-from c = search needs

@@ -1,13 +1,13 @@
--- `vacate::shift_stretch` meets its contract. From the path's end to place i the carriers have moved on; the set of empty bays follows when all have.
+-- `moving::shift_stretch` meets its contract. From the path's end to place i the carriers have moved on; the set of empty bays follows when all have.
 -- Assumes nothing.
 use mathlib.Core.Path.{_≡_, refl, _∙_}
 use Prim.Native.Nat.{_<_, _-_}
 use native.Mathlib.Omega.{arith}
 use lib.ListN.{length, drop}
 use borrow.Author.Needs.{needs}
-use Rattle.vacate.proofs.Shifting.{shift-none, first-low, last-low, Shifting, shifting-none, shifting-asks, shifting-on, shifting-all}
-use Rattle.vacate.proofs.shift_stretch.Statement.{statement}
-use Rattle.vacate.proofs.shift_stretch.Tie as tie
+use Rattle.moving.proofs.Shifting.{shift-none, first-low, last-low, Shifting, shifting-none, shifting-asks, shifting-on, shifting-all}
+use Rattle.moving.proofs.shift_stretch.Statement.{statement}
+use Rattle.moving.proofs.shift_stretch.Tie as tie
 
 abbrev Inv-loop : tie.InvT-loop
 Inv-loop path placement₀ standing₀ empty out₀ at last count₀ i₀ placement standing out count i =

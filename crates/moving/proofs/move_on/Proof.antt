@@ -1,11 +1,11 @@
--- `vacate::move_on` meets its contract. The carrier is read before anything is written, and each list is set at one place.
+-- `moving::move_on` meets its contract. The carrier is read before anything is written, and each list is set at one place.
 -- Assumes nothing.
 use mathlib.Core.Path.{refl, ap, _∙_}
 use native.Mathlib.Omega.{arith}
 use lib.ListN.{set}
 use borrow.Author.Needs.{needs}
-use Rattle.vacate.proofs.move_on.Statement.{statement}
-use Rattle.vacate.proofs.move_on.Tie as tie
+use Rattle.moving.proofs.move_on.Statement.{statement}
+use Rattle.moving.proofs.move_on.Tie as tie
 
 cast-c : tie.Need-cast-c
 cast-c c = search needs

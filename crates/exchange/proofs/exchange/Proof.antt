@@ -1,9 +1,9 @@
--- `trial::exchange` meets its contract. The six crossings in their order.
+-- `exchange::exchange` meets its contract. The six crossings in their order.
 -- Assumes nothing.
 use borrow.Author.Needs.{needs}
-use Rattle.trial.proofs.Attempting.{exchanged}
-use Rattle.trial.proofs.exchange.Statement.{statement}
-use Rattle.trial.proofs.exchange.Tie as tie
+use Rattle.exchange.proofs.Exchanging.{exchanged}
+use Rattle.exchange.proofs.exchange.Statement.{statement}
+use Rattle.exchange.proofs.exchange.Tie as tie
 
 note-three-requires : tie.Need-note-three-requires
 note-three-requires c κs = search needs

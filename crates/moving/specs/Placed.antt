@@ -12,7 +12,7 @@ use Rattle.paper.specs.Procedure.{shift}
 use Rattle.paper.proofs.Playing.{Apart}
 use Rattle.paper.proofs.Vacating.{Shiftable}
 use Rattle.words.specs.Sets.{mem, words, span}
-use Rattle.vacate.specs.Bounds.{room-crossing}
+use Rattle.moving.specs.Bounds.{room-crossing}
 
 -- Who stands at each of the n bays and which are empty say the same as the placement; at an empty bay stands the carrier `length p`,
 -- which there is not.

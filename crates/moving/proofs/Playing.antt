@@ -17,7 +17,7 @@ use Rattle.paper.proofs.Tests.{by-cases, not-both}
 use Rattle.paper.proofs.Members.{Out-head, Out-tail}
 use Rattle.paper.proofs.Playing.{Apart, Legal, after-append, placeOf-bay, placeOf-there, bay-in, move-self, move-other, move-apart, move-empties, move-out}
 use Rattle.words.specs.Sets.{mem}
-use Rattle.vacate.specs.Placed.{Placed, Stored, Played, MovedOn, Unchanged}
+use Rattle.moving.specs.Placed.{Placed, Stored, Played, MovedOn, Unchanged}
 
 pub sets-append : (l : List ℕ) (i : ℕ) (xs ys : List ℕ) → sets l i (xs ++ ys) ≡ sets (sets l i xs) (i + length xs) ys
 sets-append l i [] ys = let e : i ≡ i + 0 = omega arith in ap (λ (k : ℕ). sets l k ys) e

@@ -1,9 +1,9 @@
--- `trial::note_three` meets its contract. Three crossings one after the other.
+-- `exchange::note_three` meets its contract. Three crossings one after the other.
 -- Assumes nothing.
 use borrow.Author.Needs.{needs}
-use Rattle.trial.proofs.Attempting.{noted-then}
-use Rattle.trial.proofs.note_three.Statement.{statement}
-use Rattle.trial.proofs.note_three.Tie as tie
+use Rattle.exchange.proofs.Exchanging.{noted-then}
+use Rattle.exchange.proofs.note_three.Statement.{statement}
+use Rattle.exchange.proofs.note_three.Tie as tie
 
 note-requires : tie.Need-note-requires
 note-requires c κs = search needs

@@ -1,4 +1,4 @@
--- `vacate::shift` meets its contract. The rest of the path has moved on, so the stretch before it can be shifted, and both are the path's shift.
+-- `moving::shift` meets its contract. The rest of the path has moved on, so the stretch before it can be shifted, and both are the path's shift.
 -- Assumes nothing.
 use mathlib.Core.Path.{_≡_, sym}
 use mathlib.Core.List.{List}
@@ -6,17 +6,17 @@ use native.Mathlib.Omega.{arith}
 use lib.ListN.{length, take}
 use lib.Seq.{length-take-le}
 use borrow.Author.Needs.{needs}
-use Rattle.vacate.specs.Placed.{CanShift}
-use Rattle.vacate.proofs.Stretches.{rest-length, can-rest, can-stretch, stretch-fits, shift-both}
+use Rattle.moving.specs.Placed.{CanShift}
+use Rattle.moving.proofs.Stretches.{rest-length, can-rest, can-stretch, stretch-fits, shift-both}
 use Prim.Native.Nat.{ℕ, _<_}
 use borrow.Fn.Kinds.{In}
 use borrow.Fn.PlainCycle.{Measures, is, falls, and}
-use Rattle.vacate.proofs.shift.Reads as shift
-use Rattle.vacate.proofs.shift.Kinds as shift-kinds
-use Rattle.vacate.proofs.+shift.Lts-shift as shift-lts
-use Rattle.vacate.proofs.shift_stretch.Reads as shift-stretch-reads
-use Rattle.vacate.proofs.+shift.{statement}
-use Rattle.vacate.proofs.+shift.Tie.{close}
+use Rattle.moving.proofs.shift.Reads as shift
+use Rattle.moving.proofs.shift.Kinds as shift-kinds
+use Rattle.moving.proofs.+shift.Lts-shift as shift-lts
+use Rattle.moving.proofs.shift_stretch.Reads as shift-stretch-reads
+use Rattle.moving.proofs.+shift.{statement}
+use Rattle.moving.proofs.+shift.Tie.{close}
 
 abbrev μ-shift : Measures 5 shift-kinds.ps ℕ
 μ-shift κs a = length (a .0 .now)

@@ -1,0 +1,27 @@
+-- Crossings written down one after another are their lists joined, and an exchange is two lists of three.
+-- Assumes nothing.
+use mathlib.Core.Path.{_≡_, refl, _∙_}
+use mathlib.Core.List.{List, [], _∷_, _++_, map-append}
+use Prim.Native.Nat.{ℕ}
+use native.Mathlib.Omega.{arith}
+use lib.ListN.{length, length-map, length-append}
+use Rattle.paper.specs.Procedure.{exchange}
+use Rattle.paper.specs.Yard.{Crossing, crossing}
+use Rattle.moving.proofs.Playing.{sets-append}
+use Rattle.exchange.specs.Exchanging.{Noted}
+
+pub noted-then : {xs ys : List Crossing} {out out₁ out′ : List ℕ} {at m r : ℕ} → Noted xs out at out₁ m → Noted ys out₁ m out′ r → Noted (xs ++ ys) out at out′ r
+noted-then {xs} {ys} {out} {at = at} a b = record {
+  stored = b .stored ∙ rw (a .stored, a .counted, map-append, sets-append, length-map);
+  counted = b .counted ∙ rw (a .counted, length-append) (omega arith);
+}
+
+pub exchanged : {L M v b x y : ℕ} {out out₁ out′ : List ℕ} {at m r : ℕ}
+    → Noted (crossing L v x ∷ crossing M b v ∷ crossing M v y ∷ []) out at out₁ m → Noted (crossing L x v ∷ crossing L v b ∷ crossing M y v ∷ []) out₁ m out′ r
+    → Noted (exchange L M v b x y) out at out′ r
+unfolding exchange
+exchanged a b = noted-then a b
+
+pub length-exchange : (L M v b x y : ℕ) → length (exchange L M v b x y) ≡ 6
+unfolding exchange
+length-exchange L M v b x y = refl
