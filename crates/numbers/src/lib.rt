@@ -13,7 +13,7 @@ use docket::Refusal;
 use docket::Verdict;
 use ledger::Agreement;
 use marks::Reported;
-use planner::Counted;
+use outcome::Counted;
 
 // "already" is no refusal, so the table has no number for it.
 const ALREADY: u64 = 100;

@@ -1,19 +1,18 @@
 // The planner: refusals 1 to 6 by the yard's opening, then the procedure, then 7 and 8.
 use docket::Refusal;
-use home::Staged;
+use lean::LEAST;
+use outcome::Counted;
+use outcome::Handed;
 use play::DENSE;
 use play::GRID;
 use yard::Opened;
 use yard::Yard;
-ghost use mathlib.Core.List.{List};
-ghost use Prim.Native.Nat.{ℕ, _≤_};
-ghost use lib.ListN.{length};
 ghost use Rattle.paper.specs.Order.{order};
-ghost use Rattle.paper.specs.Procedure.{Outcome};
 ghost use Rattle.acting.specs.Acting.{Tabled};
 ghost use Rattle.carry.specs.Carrying.{procedures};
-ghost use Rattle.play.specs.Playing.{Admitted, Plays};
-ghost use Rattle.planner.specs.Statement.{Due, Hands, HandsIfKept, CountSays, PlanSays};
+ghost use Rattle.play.specs.Playing.{Admitted};
+ghost use Rattle.outcome.specs.Handing.{Hands, HandsIfKept};
+ghost use Rattle.planner.specs.Statement.{CountSays, PlanSays};
 
 // What the planner answers: the plan's length, or why there is none.
 pub enum Planned {
@@ -21,17 +20,8 @@ pub enum Planned {
     Refused(Refusal),
 }
 
-// The same, with how many vacates of the plan, undoing left aside, filled a bay of three rails or more, beside its length.
-pub enum Counted {
-    Accepted(u64, u64),
-    Refused(Refusal),
-}
-
 // Clearing room takes time, and a plan longer than its room is played twice. So there are five rooms, and the one taken is the least that holds a plan as
-// long as it is likely to be.
-
-// Crossings that the least room holds.
-const LEAST: usize = 1024;
+// long as it is likely to be. The least holds LEAST crossings.
 
 // Crossings that the second holds.
 const LESS: usize = 4096;
@@ -41,61 +31,6 @@ const HALF: usize = 8192;
 
 // Crossings that the fourth holds. The last holds Yard::CROSSINGS, more than which no plan may have.
 const MORE: usize = 16384;
-
-// What comes of a plan in the room that it was kept in.
-enum Handed {
-    Done(Counted),
-    // neither 7 nor 8 refuses it, and it is longer than that room: its length and its count
-    Longer(usize, usize),
-}
-
-// 7, then 8, else the plan, of what was played while its crossings were kept. They are copied where all were kept.
-fn hand_out_kept(played: Staged, kept: &[u64], out: &mut [u64]) -> Handed
-    ensures { λ r. ⌜
-        ((o : Outcome) (before : List ℕ)
-        → Plays o before (now (kept .entry)) played
-        → HandsIfKept o (now (out .entry)) r (now (out .exit)))
-        ⌝ }
-{
-    match played {
-        Staged::Stuck(c) => Handed::Done(Counted::Refused(Refusal::Stopped(c))),
-        Staged::Planned(tally) => {
-            let m = tally.crossings;
-            let parked = tally.parked;
-            if out.len() < m {
-                return Handed::Done(Counted::Refused(Refusal::Room(m as u64)));
-            }
-            if Yard::CROSSINGS < m {
-                return Handed::Done(Counted::Refused(Refusal::Room(m as u64)));
-            }
-            if kept.len() < m {
-                return Handed::Longer(m, parked);
-            }
-            copies::longs(out, &kept[..m]);
-            Handed::Done(Counted::Accepted(m as u64, parked as u64))
-        }
-    }
-}
-
-// The same for a yard and placements that pass 1 to 6, in lent room.
-fn hand_out_in(
-    table: &[u64; Yard::TABLE],
-    n: usize,
-    ends: usize,
-    start: &[u16],
-    goal: &[u16],
-    kept: &mut [u64],
-    out: &mut [u64],
-) -> Handed
-    requires { ⌜ Admitted n (now table) (now start) (now goal) ⌝ }
-    ensures { λ r. ⌜
-        ((t : Tabled n (now (table .entry)))
-        → HandsIfKept (procedures (t .yard) (now (goal .entry)) (now (start .entry))) (now (out .entry)) r (now (out .exit)))
-        ⌝ }
-{
-    let played = play::play(table, n, ends, start, goal, kept);
-    hand_out_kept(played, kept, out)
-}
 
 // With the least room.
 fn hand_out_least(
@@ -113,7 +48,7 @@ fn hand_out_least(
         ⌝ }
 {
     let mut kept = [0u64; LEAST];
-    hand_out_in(table, n, ends, start, goal, &mut kept, out)
+    rooms::hand_out_in(table, n, ends, start, goal, &mut kept, out)
 }
 
 // With the second.
@@ -132,7 +67,7 @@ fn hand_out_less(
         ⌝ }
 {
     let mut kept = [0u64; LESS];
-    hand_out_in(table, n, ends, start, goal, &mut kept, out)
+    rooms::hand_out_in(table, n, ends, start, goal, &mut kept, out)
 }
 
 // With the third.
@@ -151,7 +86,7 @@ fn hand_out_half(
         ⌝ }
 {
     let mut kept = [0u64; HALF];
-    hand_out_in(table, n, ends, start, goal, &mut kept, out)
+    rooms::hand_out_in(table, n, ends, start, goal, &mut kept, out)
 }
 
 // With the fourth.
@@ -170,7 +105,7 @@ fn hand_out_more(
         ⌝ }
 {
     let mut kept = [0u64; MORE];
-    hand_out_in(table, n, ends, start, goal, &mut kept, out)
+    rooms::hand_out_in(table, n, ends, start, goal, &mut kept, out)
 }
 
 // With the last, than which no plan is longer that passes 8.
@@ -189,7 +124,7 @@ fn hand_out_most(
         ⌝ }
 {
     let mut kept = [0u64; Yard::CROSSINGS];
-    hand_out_in(table, n, ends, start, goal, &mut kept, out)
+    rooms::hand_out_in(table, n, ends, start, goal, &mut kept, out)
 }
 
 // Whether so much room is likely to hold the plan: what a carrier has of it, in sixteenths of a crossing, is held to what a carrier needs. The crowd counts, which
@@ -251,28 +186,6 @@ fn hand_out_likely(
     hand_out_most(table, n, ends, start, goal, out)
 }
 
-// A plan of m crossings that is due, played once more, straight into the lent list. It has that many places, and nothing is refused any more.
-fn hand_out_again(
-    table: &[u64; Yard::TABLE],
-    n: usize,
-    ends: usize,
-    start: &[u16],
-    goal: &[u16],
-    m: usize,
-    parked: usize,
-    out: &mut [u64],
-) -> Counted
-    requires { ⌜ Admitted n (now table) (now start) (now goal) × (m ≤ length (now out)) ⌝ }
-    ensures { λ r. ⌜
-        ((t : Tabled n (now (table .entry)))
-        → Due (procedures (t .yard) (now (goal .entry)) (now (start .entry))) (now (out .entry)) m parked
-        → Hands (procedures (t .yard) (now (goal .entry)) (now (start .entry))) (now (out .entry)) r (now (out .exit)))
-        ⌝ }
-{
-    play::play(table, n, ends, start, goal, &mut out[..m]);
-    Counted::Accepted(m as u64, parked as u64)
-}
-
 // With the likely room, and played again where the plan is longer than that.
 fn hand_out(
     table: &[u64; Yard::TABLE],
@@ -290,7 +203,9 @@ fn hand_out(
     let handed = hand_out_likely(table, n, ends, start, goal, out);
     match handed {
         Handed::Done(answer) => answer,
-        Handed::Longer(m, parked) => { hand_out_again(table, n, ends, start, goal, m, parked, out) }
+        Handed::Longer(m, parked) => {
+            rooms::hand_out_again(table, n, ends, start, goal, m, parked, out)
+        }
     }
 }
 
@@ -323,68 +238,6 @@ pub fn plan(bays: u64, rails: &[u16], start: &[u16], goal: &[u16], out: &mut [u6
     }
 }
 
-// By the rails alone, and with the least room.
-fn hand_out_by_rails(
-    table: &[u64; Yard::TABLE],
-    n: usize,
-    start: &[u16],
-    goal: &[u16],
-    out: &mut [u64],
-) -> Handed
-    requires { ⌜ Admitted n (now table) (now start) (now goal) ⌝ }
-    ensures { λ r. ⌜
-        ((t : Tabled n (now (table .entry)))
-        → HandsIfKept (procedures (t .yard) (now (goal .entry)) (now (start .entry))) (now (out .entry)) r (now (out .exit)))
-        ⌝ }
-{
-    let mut kept = [0u64; LEAST];
-    let played = play::play_by_rails(table, n, start, goal, &mut kept);
-    hand_out_kept(played, &kept, out)
-}
-
-// A plan that is due, played again by the rails alone.
-fn hand_out_again_by_rails(
-    table: &[u64; Yard::TABLE],
-    n: usize,
-    start: &[u16],
-    goal: &[u16],
-    m: usize,
-    parked: usize,
-    out: &mut [u64],
-) -> Counted
-    requires { ⌜ Admitted n (now table) (now start) (now goal) × (m ≤ length (now out)) ⌝ }
-    ensures { λ r. ⌜
-        ((t : Tabled n (now (table .entry)))
-        → Due (procedures (t .yard) (now (goal .entry)) (now (start .entry))) (now (out .entry)) m parked
-        → Hands (procedures (t .yard) (now (goal .entry)) (now (start .entry))) (now (out .entry)) r (now (out .exit)))
-        ⌝ }
-{
-    play::play_by_rails(table, n, start, goal, &mut out[..m]);
-    Counted::Accepted(m as u64, parked as u64)
-}
-
-// With the least room, and played again where the plan is longer than that.
-fn hand_out_lean(
-    table: &[u64; Yard::TABLE],
-    n: usize,
-    start: &[u16],
-    goal: &[u16],
-    out: &mut [u64],
-) -> Counted
-    requires { ⌜ Admitted n (now table) (now start) (now goal) ⌝ }
-    ensures { λ r. ⌜
-        ((t : Tabled n (now (table .entry))) → Hands (procedures (t .yard) (now (goal .entry)) (now (start .entry))) (now (out .entry)) r (now (out .exit)))
-        ⌝ }
-{
-    let handed = hand_out_by_rails(table, n, start, goal, out);
-    match handed {
-        Handed::Done(answer) => answer,
-        Handed::Longer(m, parked) => {
-            hand_out_again_by_rails(table, n, start, goal, m, parked, out)
-        }
-    }
-}
-
 // Planning on a small stack: no levels, and no room but the least. The answer is the same.
 pub fn plan_lean(bays: u64, rails: &[u16], start: &[u16], goal: &[u16], out: &mut [u64]) -> Counted
     ensures { λ r. ⌜ CountSays (order bays (now (rails .entry)) (now (start .entry)) (now (goal .entry))) (now (out .entry)) r (now (out .exit)) ⌝ }
@@ -393,6 +246,6 @@ pub fn plan_lean(bays: u64, rails: &[u16], start: &[u16], goal: &[u16], out: &mu
     let opened = Yard::open(bays, rails, start, goal, 0, &mut table);
     match opened {
         Opened::Refused(r) => Counted::Refused(r),
-        Opened::Open(yard) => hand_out_lean(&table, yard.bays, start, goal, out),
+        Opened::Open(yard) => lean::hand_out_lean(&table, yard.bays, start, goal, out),
     }
 }

@@ -1,6 +1,6 @@
 -- `planner::hand_out` meets its contract. Where the plan was not kept whole it is due, and the list is as it was lent.
 -- Assumes nothing.
-use Rattle.planner.proofs.Saying.{hands-longer}
+use Rattle.outcome.proofs.Handing.{hands-longer}
 use borrow.Author.Needs.{needs}
 use Rattle.planner.proofs.hand_out.Statement.{statement}
 use Rattle.planner.proofs.hand_out.Tie as tie

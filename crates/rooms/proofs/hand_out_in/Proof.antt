@@ -1,8 +1,8 @@
--- `planner::hand_out_in` meets its contract. What was played is handed out.
+-- `rooms::hand_out_in` meets its contract. What was played is handed out.
 -- Assumes nothing.
 use borrow.Author.Needs.{needs}
-use Rattle.planner.proofs.hand_out_in.Statement.{statement}
-use Rattle.planner.proofs.hand_out_in.Tie as tie
+use Rattle.rooms.proofs.hand_out_in.Statement.{statement}
+use Rattle.rooms.proofs.hand_out_in.Tie as tie
 
 play-requires : tie.Need-play-requires
 play-requires c κs = search needs

@@ -1,9 +1,9 @@
--- `planner::hand_out_lean` meets its contract. Where the plan was not kept whole it is due, and the list is as it was lent.
+-- `lean::hand_out_lean` meets its contract. Where the plan was not kept whole it is due, and the list is as it was lent.
 -- Assumes nothing.
-use Rattle.planner.proofs.Saying.{hands-longer}
+use Rattle.outcome.proofs.Handing.{hands-longer}
 use borrow.Author.Needs.{needs}
-use Rattle.planner.proofs.hand_out_lean.Statement.{statement}
-use Rattle.planner.proofs.hand_out_lean.Tie as tie
+use Rattle.lean.proofs.hand_out_lean.Statement.{statement}
+use Rattle.lean.proofs.hand_out_lean.Tie as tie
 
 hand-out-by-rails-requires : tie.Need-hand-out-by-rails-requires
 hand-out-by-rails-requires c κs = search needs

@@ -1,11 +1,11 @@
--- `planner::hand_out_again` meets its contract. The plan is the one that was counted, and it fills the places that are lent for it.
+-- `rooms::hand_out_again` meets its contract. The plan is the one that was counted, and it fills the places that are lent for it.
 -- Assumes nothing.
 use mathlib.Core.Path.{refl, sym}
 use lib.Seq.{length-take-le}
-use Rattle.planner.proofs.Saying.{hands-again}
+use Rattle.outcome.proofs.Handing.{hands-again}
 use borrow.Author.Needs.{needs}
-use Rattle.planner.proofs.hand_out_again.Statement.{statement}
-use Rattle.planner.proofs.hand_out_again.Tie as tie
+use Rattle.rooms.proofs.hand_out_again.Statement.{statement}
+use Rattle.rooms.proofs.hand_out_again.Tie as tie
 
 slice-relend-prefix-play : tie.Need-slice-relend-prefix-play
 slice-relend-prefix-play c = search needs

@@ -1,11 +1,11 @@
--- `planner::hand_out_again_by_rails` meets its contract. The plan is the one that was counted, and it fills the places that are lent for it.
+-- `lean::hand_out_again_by_rails` meets its contract. The plan is the one that was counted, and it fills the places that are lent for it.
 -- Assumes nothing.
 use mathlib.Core.Path.{refl, sym}
 use lib.Seq.{length-take-le}
-use Rattle.planner.proofs.Saying.{hands-again}
+use Rattle.outcome.proofs.Handing.{hands-again}
 use borrow.Author.Needs.{needs}
-use Rattle.planner.proofs.hand_out_again_by_rails.Statement.{statement}
-use Rattle.planner.proofs.hand_out_again_by_rails.Tie as tie
+use Rattle.lean.proofs.hand_out_again_by_rails.Statement.{statement}
+use Rattle.lean.proofs.hand_out_again_by_rails.Tie as tie
 
 slice-relend-prefix-play-by-rails : tie.Need-slice-relend-prefix-play-by-rails
 slice-relend-prefix-play-by-rails c = search needs

@@ -1,8 +1,8 @@
--- `planner::hand_out_by_rails` meets its contract. What was played is handed out.
+-- `lean::hand_out_by_rails` meets its contract. What was played is handed out.
 -- Assumes nothing.
 use borrow.Author.Needs.{needs}
-use Rattle.planner.proofs.hand_out_by_rails.Statement.{statement}
-use Rattle.planner.proofs.hand_out_by_rails.Tie as tie
+use Rattle.lean.proofs.hand_out_by_rails.Statement.{statement}
+use Rattle.lean.proofs.hand_out_by_rails.Tie as tie
 
 slice-aggregate-play-by-rails : tie.Need-slice-aggregate-play-by-rails
 slice-aggregate-play-by-rails c = search needs

@@ -1,12 +1,12 @@
--- `planner::hand_out_kept` meets its contract. What was played decides 7 and 8, and what was kept is the plan.
+-- `outcome::hand_out_kept` meets its contract. What was played decides 7 and 8, and what was kept is the plan.
 -- Assumes nothing.
 use mathlib.Core.Logic.{inl, inr}
 use mathlib.Core.Path.{sym}
 use lib.Seq.{length-take-le}
-use Rattle.planner.proofs.Saying.{kept-of, due-of, copied-out, hands-stopped, hands-long, hands-plan, done-if-kept, longer-unless-kept}
+use Rattle.outcome.proofs.Handing.{kept-of, due-of, copied-out, hands-stopped, hands-long, hands-plan, done-if-kept, longer-unless-kept}
 use borrow.Author.Needs.{needs}
-use Rattle.planner.proofs.hand_out_kept.Statement.{statement}
-use Rattle.planner.proofs.hand_out_kept.Tie as tie
+use Rattle.outcome.proofs.hand_out_kept.Statement.{statement}
+use Rattle.outcome.proofs.hand_out_kept.Tie as tie
 
 enum-known-played : tie.Need-enum-known-played
 enum-known-played c = search needs
