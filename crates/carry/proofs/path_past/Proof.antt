@@ -11,7 +11,7 @@ path-between-requires : tie.Need-path-between-requires
 path-between-requires c κs = search needs
 
 same-length : tie.Need-same-length
-same-length c = search needs
+same-length c = c .before .before .path-between .kept .1 .1 .1 .1 .1 .0
 
 returns : tie.Need-returns
 returns c =
@@ -26,7 +26,7 @@ path-between-requires-2 c κs =
     (p .0, p .1, p .2, p .3, refl, p .5, freeShown (record { yard = p .6 .yard; joins = p .6 .joins }))
 
 same-length-2 : tie.Need-same-length-2
-same-length-2 c = search needs
+same-length-2 c = c .before .before .path-between2 .kept .1 .1 .1 .1 .1 .0
 
 returns-2 : tie.Need-returns-2
 returns-2 c =

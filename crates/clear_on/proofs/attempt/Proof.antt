@@ -52,7 +52,7 @@ go-round-requires c κs =
     (ready-copy p _ _ _ e d (search needs) (c .before .before .before .before .before .before .keep .ensures .row), (rw e (z .0), rw e (z .1), z .2, rw d (z .3), rw d (z .4), rw d (z .5), rw d (z .6), omega arith, rw e (z .7)))
 
 same-length : tie.Need-same-length
-same-length c = search needs
+same-length c = c .before .before .before .before .before .go-round .kept .1 .1 .1 .1 .1 .1 .1 .1 .1 .1 .0
 
 returns : tie.Need-returns
 returns c =
@@ -84,7 +84,7 @@ vacate-both-requires c κs =
     (ready-copy p _ _ _ e d (search needs) (c .before .before .before .before .before .before .keep .ensures .row), (rw d (z .3), rw d (z .4), rw d (z .5), rw d (z .6), omega arith))
 
 same-length-2 : tie.Need-same-length-2
-same-length-2 c = search needs
+same-length-2 c = c .before .before .before .before .before .vacate-both .kept .1 .1 .1 .1 .1 .1 .1 .1 .0
 
 returns-2 : tie.Need-returns-2
 returns-2 c =

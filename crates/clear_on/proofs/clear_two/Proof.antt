@@ -1,12 +1,11 @@
 -- `clear_on::clear_two` meets its contract. Going on starts where clearing once ended, and there the two still stand at v and b.
 -- Assumes nothing.
-use mathlib.Core.Path.{_≡_}
+use mathlib.Core.Path.{_∙_, _≡_}
 use native.Mathlib.Omega.{arith}
 use lib.ListN.{length}
 use Rattle.clear.proofs.Clearing.{ready-again}
 use Rattle.moving.specs.Bounds.{clear-once-most}
 use Rattle.clear_on.proofs.Attempting.{pair-none, pair-both, pair-from, still-there, two-at-once, two-few, two-in-time}
-use borrow.Author.Needs.{needs}
 use Rattle.clear_on.proofs.clear_two.Statement.{statement}
 use Rattle.clear_on.proofs.clear_two.Tie as tie
 
@@ -16,10 +15,10 @@ clear-requires c κs =
     (c .before .before .before .before .before .before .before .before .before .pre .0, (z .3, z .4, z .5))
 
 enum-known-cleared : tie.Need-enum-known-cleared
-enum-known-cleared c = search needs
+enum-known-cleared c = c .match .keys1
 
 enum-known-cleared-2 : tie.Need-enum-known-cleared-2
-enum-known-cleared-2 c = search needs
+enum-known-cleared-2 c = c .match .keys2
 
 go-on-requires : tie.Need-go-on-requires
 go-on-requires c κs =
@@ -32,19 +31,19 @@ go-on-requires c κs =
     (ready-again p _ _ _ kw (c .before .before .before .before .before .before .before .before .before .before .before .before .before .before .before .clear .kept .1 .1 .1 .1 .1 .0) (k .played .placed), (rw kp (z .0), rw kp (z .1), z .2, rw kw (z .3), rw kw (z .4), rw kw (k .low), omega (arith, f .1, z .5), k .free))
 
 enum-told : tie.Need-enum-told
-enum-told c = search needs
+enum-told c = c .match .keys3
 
 same-length : tie.Need-same-length
-same-length c = search needs
+same-length c = c .before .before .before .before .before .before .before .before .before .before .before .clear .kept .1 .1 .1 .0
 
 same-length-2 : tie.Need-same-length-2
-same-length-2 c = search needs
+same-length-2 c = c .before .before .before .before .before .before .before .before .before .before .before .clear .kept .1 .1 .1 .1 .0
 
 same-length-3 : tie.Need-same-length-3
-same-length-3 c = search needs
+same-length-3 c = c .before .before .before .before .before .before .before .before .before .before .before .clear .kept .1 .1 .1 .1 .1 .0
 
 same-length-4 : tie.Need-same-length-4
-same-length-4 c = search needs
+same-length-4 c = c .before .before .before .before .before .before .before .before .before .before .before .clear .kept .1 .1 .1 .1 .1 .1 .0
 
 returns : tie.Need-returns
 returns c =
@@ -52,16 +51,16 @@ returns c =
     (pair-both (omega (arith, f .2)) (f .3), λ t s j. two-at-once (t .yard) _ _ _ _ _ (c .before .before .before .before .before .before .before .before .before .before .before .clear .ensures .1 t .both _ _ _ (c .before .cleared .given .1)))
 
 same-length-5 : tie.Need-same-length-5
-same-length-5 c = search needs
+same-length-5 c = c .before .before .before .before .before .before .before .before .before .before .before .before .before .before .before .before .before .before .clear .kept .1 .1 .1 .0
 
 same-length-6 : tie.Need-same-length-6
-same-length-6 c = search needs
+same-length-6 c = c .before .before .before .before .before .before .before .before .before .before .before .before .before .before .before .before .before .before .clear .kept .1 .1 .1 .1 .0
 
 same-length-7 : tie.Need-same-length-7
-same-length-7 c = search needs
+same-length-7 c = c .before .before .before .before .before .before .before .before .before .before .before .before .before .before .before .before .before .before .clear .kept .1 .1 .1 .1 .1 .0
 
 same-length-8 : tie.Need-same-length-8
-same-length-8 c = search needs
+same-length-8 c = c .before .before .go-on .kept .1 .1 .1 .1 .1 .1 .1 .1 .1 .0 ∙ c .before .before .before .before .before .before .before .before .before .before .before .before .before .before .before .before .before .before .clear .kept .1 .1 .1 .1 .1 .1 .0
 
 returns-2 : tie.Need-returns-2
 returns-2 c =
@@ -76,16 +75,16 @@ returns-2 c =
     )
 
 same-length-9 : tie.Need-same-length-9
-same-length-9 c = search needs
+same-length-9 c = c .before .before .before .before .before .before .before .before .before .before .clear .kept .1 .1 .1 .0
 
 same-length-10 : tie.Need-same-length-10
-same-length-10 c = search needs
+same-length-10 c = c .before .before .before .before .before .before .before .before .before .before .clear .kept .1 .1 .1 .1 .0
 
 same-length-11 : tie.Need-same-length-11
-same-length-11 c = search needs
+same-length-11 c = c .before .before .before .before .before .before .before .before .before .before .clear .kept .1 .1 .1 .1 .1 .0
 
 same-length-12 : tie.Need-same-length-12
-same-length-12 c = search needs
+same-length-12 c = c .before .before .before .before .before .before .before .before .before .before .clear .kept .1 .1 .1 .1 .1 .1 .0
 
 returns-3 : tie.Need-returns-3
 returns-3 c =

@@ -1,10 +1,9 @@
 -- `clear_on::either_way` meets its contract. The second way is tried where the first never works.
 -- Assumes nothing.
-use mathlib.Core.Path.{_≡_}
+use mathlib.Core.Path.{_∙_, _≡_}
 use lib.ListN.{length}
 use Rattle.clear_on.proofs.Attempting.{first-way, second-way}
 use Rattle.clear.specs.declared.Kept.the-variants.{One, Nothing}
-use borrow.Author.Needs.{needs}
 use Rattle.clear_on.proofs.either_way.Statement.{statement}
 use Rattle.clear_on.proofs.either_way.Tie as tie
 
@@ -12,10 +11,10 @@ first-kept-requires : tie.Need-first-kept-requires
 first-kept-requires c κs = (c .before .before .before .before .before .before .before .pre .0, c .before .before .before .before .before .before .before .pre .1)
 
 enum-known-first : tie.Need-enum-known-first
-enum-known-first c = search needs
+enum-known-first c = c .match .keys1
 
 same-length : tie.Need-same-length
-same-length c = search needs
+same-length c = c .before .before .before .before .before .first-kept .kept .1 .1 .1 .1 .1 .1 .1 .1 .1 .1 .1 .0
 
 returns : tie.Need-returns
 returns c =
@@ -23,13 +22,13 @@ returns c =
     (rw e at (c .before .before .before .before .before .first-kept .ensures .0), λ t j o. first-way (t .yard) (c .before .before .before .before .before .before .before .before .before .before .before .before .before .args .l .0) (c .before .before .before .before .before .before .before .before .before .before .before .before .before .args .m .0) (c .before .before .before .before .before .before .before .before .before .before .before .before .before .args .v .0) (c .before .before .before .before .before .before .before .before .before .before .before .before .before .args .b .0) (c .before .before .before .before .before .before .before .before .before .before .before .before .before .args .e .0) (c .before .before .before .before .before .before .before .before .before .before .before .before .before .args .placement .now) (length (c .before .before .before .before .before .before .before .before .before .before .before .before .before .args .standing .now)) (c .before .before .before .before .before .before .before .before .before .before .before .before .before .args .others .now) o (rw e at (c .before .before .before .before .before .first-kept .ensures .1 t j)))
 
 enum-told : tie.Need-enum-told
-enum-told c = search needs
+enum-told c = c .match .keys2
 
 first-kept-requires-2 : tie.Need-first-kept-requires-2
 first-kept-requires-2 c κs = (c .before .before .before .before .before .before .before .before .before .before .before .before .before .pre .0, c .before .before .before .before .before .before .before .before .before .before .before .before .before .pre .1)
 
 same-length-2 : tie.Need-same-length-2
-same-length-2 c = search needs
+same-length-2 c = c .before .before .first-kept2 .kept .1 .1 .1 .1 .1 .1 .1 .1 .1 .1 .1 .0 ∙ c .before .before .before .before .before .before .before .before .first-kept .kept .1 .1 .1 .1 .1 .1 .1 .1 .1 .1 .1 .0
 
 returns-2 : tie.Need-returns-2
 returns-2 c =

@@ -1,6 +1,6 @@
 -- `clear_on::first_kept` meets its contract. The placement does not change, so all attempts before x failed from where this one starts.
 -- Assumes nothing.
-use mathlib.Core.Path.{_≡_, refl}
+use mathlib.Core.Path.{_∙_, _≡_, refl}
 use mathlib.Core.Bool.{true}
 use Prim.Native.Nat.{_≤_, _<_, _-_}
 use native.Mathlib.Omega.{arith}
@@ -40,10 +40,10 @@ attempt-requires c κs =
     (p, (z .0, z .1, z .2, z .3, z .4, z .5, z .7 .low _ t (c .before .before .loop .inv .1 t), z .8))
 
 enum-known-tried : tie.Need-enum-known-tried Inv-loop μ-loop
-enum-known-tried c = search needs
+enum-known-tried c = c .match .keys1
 
 same-length : tie.Need-same-length Inv-loop μ-loop
-same-length c = search needs
+same-length c = c .before .before .before .before .before .attempt .kept .1 .1 .1 .1 .1 .1 .1 .1 .1 .1 .1 .0 ∙ c .before .before .before .before .before .before .before .before .loop .inv .2
 
 returns : tie.Need-returns Inv-loop μ-loop
 returns c =
@@ -55,7 +55,7 @@ returns c =
     (omega (arith, few), λ w j. kept-one _ _ _ _ (z .7 .low _ t (v .1 t)) (v .1 t) (v .3 w j) (c .before .before .before .before .before .attempt .ensures .1 w j .done _ e))
 
 enum-told : tie.Need-enum-told Inv-loop μ-loop
-enum-told c = search needs
+enum-told c = c .match .keys2
 
 add-next-from : tie.Need-add-next-from Inv-loop μ-loop
 add-next-from c = search needs
@@ -74,7 +74,7 @@ loop-again c =
     (n .upto, n .hit, search needs, λ w j. failing-more _ _ _ _ _ (v .3 w j) (c .before .before .before .before .before .attempt .ensures .1 w j .fails e) n)
 
 same-length-2 : tie.Need-same-length-2 Inv-loop μ-loop
-same-length-2 c = search needs
+same-length-2 c = c .before .loop .inv .2
 
 returns-2 : tie.Need-returns-2 Inv-loop μ-loop
 returns-2 c = (tt, λ w j. kept-none _ _ _ _ (omega (arith, c .before .before .before .before .before .before .before .before .before .pre .0 .most, c .loop-test .left)) (c .before .loop .inv .3 w j))

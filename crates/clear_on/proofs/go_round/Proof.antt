@@ -8,7 +8,6 @@ use Rattle.acting.proofs.Acting.{tries-none}
 use Rattle.clear.proofs.Clearing.{ready-again}
 use Rattle.clear_on.proofs.Attempting.{round-ready, round-done, round-fails}
 use Rattle.acting.specs.declared.Tried.the-variants.{Done, Failed}
-use borrow.Author.Needs.{needs}
 use Rattle.clear_on.proofs.go_round.Statement.{statement}
 use Rattle.clear_on.proofs.go_round.Tie as tie
 
@@ -28,22 +27,22 @@ vacate-both-requires c κs =
     (ready-again p _ _ _ kw (c .before .before .before .before .before .before .before .before .before .before .before .before .enter .kept .1 .1 .1 .1 .1 .0) (f .placed), (rw kw (z .3), rw kw (z .5), rw kw (z .4), rw kw (z .6), omega (arith, two, z .7)))
 
 enum-known-vacated : tie.Need-enum-known-vacated
-enum-known-vacated c = search needs
+enum-known-vacated c = c .match .keys1
 
 enum-told : tie.Need-enum-told
-enum-told c = search needs
+enum-told c = c .match .keys2
 
 same-length : tie.Need-same-length
-same-length c = search needs
+same-length c = c .before .before .before .before .before .before .before .before .before .before .vacate-both .kept .1 .1 .1 .1 .1 .0 ∙ c .before .before .before .before .before .before .before .before .before .before .before .before .before .before .before .before .before .before .before .before .before .before .before .enter .kept .1 .1 .1 .0
 
 same-length-2 : tie.Need-same-length-2
-same-length-2 c = search needs
+same-length-2 c = c .before .before .before .before .before .before .before .before .before .before .vacate-both .kept .1 .1 .1 .1 .1 .1 .0 ∙ c .before .before .before .before .before .before .before .before .before .before .before .before .before .before .before .before .before .before .before .before .before .before .before .enter .kept .1 .1 .1 .1 .0
 
 same-length-3 : tie.Need-same-length-3
-same-length-3 c = search needs
+same-length-3 c = c .before .before .before .before .before .before .before .before .before .before .vacate-both .kept .1 .1 .1 .1 .1 .1 .1 .0 ∙ c .before .before .before .before .before .before .before .before .before .before .before .before .before .before .before .before .before .before .before .before .before .before .before .enter .kept .1 .1 .1 .1 .1 .0
 
 same-length-4 : tie.Need-same-length-4
-same-length-4 c = search needs
+same-length-4 c = c .before .before .before .before .before .before .before .before .before .before .vacate-both .kept .1 .1 .1 .1 .1 .1 .1 .1 .0 ∙ c .before .before .before .before .before .before .before .before .before .before .before .before .before .before .before .before .before .before .before .before .before .before .before .enter .kept .1 .1 .1 .1 .1 .1 .0
 
 returns : tie.Need-returns
 returns c =

@@ -1,5 +1,6 @@
 -- `exchange::note_three` meets its contract. Three crossings one after the other.
 -- Assumes nothing.
+use mathlib.Core.Path.{_∙_}
 use borrow.Author.Needs.{needs}
 use Rattle.exchange.proofs.Exchanging.{noted-then}
 use Rattle.exchange.proofs.note_three.Statement.{statement}
@@ -15,7 +16,7 @@ note-requires-3 : tie.Need-note-requires-3
 note-requires-3 c κs = search needs
 
 same-length : tie.Need-same-length
-same-length c = search needs
+same-length c = c .before .before .note3 .kept .0 ∙ c .before .before .before .before .before .before .note2 .kept .0 ∙ c .before .before .before .before .before .before .before .before .before .before .note .kept .0
 
 returns : tie.Need-returns
 returns c = noted-then (c .before .before .before .before .before .before .before .before .before .before .note .ensures) (noted-then (c .before .before .before .before .before .before .note2 .ensures) (c .before .before .note3 .ensures))

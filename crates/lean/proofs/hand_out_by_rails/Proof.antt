@@ -17,7 +17,7 @@ hand-out-kept-requires : tie.Need-hand-out-kept-requires
 hand-out-kept-requires c κs = search needs
 
 same-length : tie.Need-same-length
-same-length c = search needs
+same-length c = c .before .before .hand-out-kept .kept .1 .1 .0
 
 returns : tie.Need-returns
 returns c = λ t. c .before .before .hand-out-kept .ensures _ _ (c .before .before .before .before .before .before .play-by-rails .ensures t)

@@ -1,5 +1,6 @@
 -- `lean::hand_out_lean` meets its contract. Where the plan was not kept whole it is due, and the list is as it was lent.
 -- Assumes nothing.
+use mathlib.Core.Path.{_∙_}
 use Rattle.outcome.proofs.Handing.{hands-longer}
 use borrow.Author.Needs.{needs}
 use Rattle.lean.proofs.hand_out_lean.Statement.{statement}
@@ -9,10 +10,10 @@ hand-out-by-rails-requires : tie.Need-hand-out-by-rails-requires
 hand-out-by-rails-requires c κs = search needs
 
 enum-known-handed : tie.Need-enum-known-handed
-enum-known-handed c = search needs
+enum-known-handed c = c .match .keys1
 
 enum-known-handed-2 : tie.Need-enum-known-handed-2
-enum-known-handed-2 c = search needs
+enum-known-handed-2 c = c .match .keys2
 
 hand-out-again-by-rails-requires : tie.Need-hand-out-again-by-rails-requires
 hand-out-again-by-rails-requires c κs =
@@ -21,13 +22,13 @@ hand-out-again-by-rails-requires c κs =
     (start .pre, rw (longer .0) (longer .1 .fits))
 
 same-length : tie.Need-same-length
-same-length c = search needs
+same-length c = c .before .before .before .before .before .hand-out-by-rails .kept .1 .1 .1 .1 .0
 
 returns : tie.Need-returns
 returns c = λ t. c .before .before .before .before .before .hand-out-by-rails .ensures t .done _ (c .before .handed .given .1)
 
 same-length-2 : tie.Need-same-length-2
-same-length-2 c = search needs
+same-length-2 c = c .before .before .hand-out-again-by-rails .kept .1 .1 .1 .1 .1 .1 .0 ∙ c .before .before .before .before .before .before .before .before .before .hand-out-by-rails .kept .1 .1 .1 .1 .0
 
 returns-2 : tie.Need-returns-2
 returns-2 c = λ t.

@@ -1,6 +1,6 @@
 -- `moving::shift` meets its contract. The rest of the path has moved on, so the stretch before it can be shifted, and both are the path's shift.
 -- Assumes nothing.
-use mathlib.Core.Path.{_≡_, sym}
+use mathlib.Core.Path.{_∙_, _≡_, sym}
 use mathlib.Core.List.{List}
 use native.Mathlib.Omega.{arith}
 use lib.ListN.{length, take}
@@ -41,7 +41,7 @@ shift-same-length : (t : ℕ) → shift-lts.Need-same-length (
   shift-below t,
   shift.Post,
 ) (shift-at t) shift.Post
-shift-same-length t c = search needs
+shift-same-length t c = c .before .before .before .before .before .before .before .before .shift-stretch .kept .1 .0
 
 shift-same-length-2 : (t : ℕ) → shift-lts.Need-same-length-2 (
   shift-stretch-reads.Asked,
@@ -49,7 +49,7 @@ shift-same-length-2 : (t : ℕ) → shift-lts.Need-same-length-2 (
   shift-below t,
   shift.Post,
 ) (shift-at t) shift.Post
-shift-same-length-2 t c = search needs
+shift-same-length-2 t c = c .before .before .before .before .before .before .before .before .shift-stretch .kept .1 .1 .0
 
 shift-same-length-3 : (t : ℕ) → shift-lts.Need-same-length-3 (
   shift-stretch-reads.Asked,
@@ -57,7 +57,7 @@ shift-same-length-3 : (t : ℕ) → shift-lts.Need-same-length-3 (
   shift-below t,
   shift.Post,
 ) (shift-at t) shift.Post
-shift-same-length-3 t c = search needs
+shift-same-length-3 t c = c .before .before .before .before .before .before .before .before .shift-stretch .kept .1 .1 .1 .0
 
 shift-same-length-4 : (t : ℕ) → shift-lts.Need-same-length-4 (
   shift-stretch-reads.Asked,
@@ -65,7 +65,7 @@ shift-same-length-4 : (t : ℕ) → shift-lts.Need-same-length-4 (
   shift-below t,
   shift.Post,
 ) (shift-at t) shift.Post
-shift-same-length-4 t c = search needs
+shift-same-length-4 t c = c .before .before .before .before .before .before .before .before .shift-stretch .kept .1 .1 .1 .1 .0
 
 shift-returns : (t : ℕ) → shift-lts.Need-returns (
   shift-stretch-reads.Asked,
@@ -163,7 +163,7 @@ shift-same-length-5 : (t : ℕ) → shift-lts.Need-same-length-5 (
   shift-below t,
   shift.Post,
 ) (shift-at t) shift.Post
-shift-same-length-5 t c = search needs
+shift-same-length-5 t c = c .before .before .before .before .before .before .before .before .shift-stretch2 .kept .1 .0 ∙ c .before .before .before .before .before .before .before .before .before .before .before .before .before .before .before .before .before .before .before .before .before .before .shift .kept .1 .0
 
 shift-same-length-6 : (t : ℕ) → shift-lts.Need-same-length-6 (
   shift-stretch-reads.Asked,
@@ -171,7 +171,7 @@ shift-same-length-6 : (t : ℕ) → shift-lts.Need-same-length-6 (
   shift-below t,
   shift.Post,
 ) (shift-at t) shift.Post
-shift-same-length-6 t c = search needs
+shift-same-length-6 t c = c .before .before .before .before .before .before .before .before .shift-stretch2 .kept .1 .1 .0 ∙ c .before .before .before .before .before .before .before .before .before .before .before .before .before .before .before .before .before .before .before .before .before .before .shift .kept .1 .1 .0
 
 shift-same-length-7 : (t : ℕ) → shift-lts.Need-same-length-7 (
   shift-stretch-reads.Asked,
@@ -179,7 +179,7 @@ shift-same-length-7 : (t : ℕ) → shift-lts.Need-same-length-7 (
   shift-below t,
   shift.Post,
 ) (shift-at t) shift.Post
-shift-same-length-7 t c = search needs
+shift-same-length-7 t c = c .before .before .before .before .before .before .before .before .shift-stretch2 .kept .1 .1 .1 .0 ∙ c .before .before .before .before .before .before .before .before .before .before .before .before .before .before .before .before .before .before .before .before .before .before .shift .kept .1 .1 .1 .0
 
 shift-same-length-8 : (t : ℕ) → shift-lts.Need-same-length-8 (
   shift-stretch-reads.Asked,
@@ -187,7 +187,7 @@ shift-same-length-8 : (t : ℕ) → shift-lts.Need-same-length-8 (
   shift-below t,
   shift.Post,
 ) (shift-at t) shift.Post
-shift-same-length-8 t c = search needs
+shift-same-length-8 t c = c .before .before .before .before .before .before .before .before .shift-stretch2 .kept .1 .1 .1 .1 .0 ∙ c .before .before .before .before .before .before .before .before .before .before .before .before .before .before .before .before .before .before .before .before .before .before .shift .kept .1 .1 .1 .1 .0
 
 shift-returns-2 : (t : ℕ) → shift-lts.Need-returns-2 (
   shift-stretch-reads.Asked,

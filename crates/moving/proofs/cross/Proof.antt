@@ -1,5 +1,6 @@
 -- `moving::cross` meets its contract. One carrier changes its bay: its own entry, the entries of the two bays, and the two bays in the set of empty ones.
 -- Assumes nothing.
+use mathlib.Core.Path.{_∙_}
 use native.Mathlib.Omega.{arith}
 use borrow.Author.Needs.{needs}
 use Rattle.moving.proofs.Playing.{stands-there, crossed, moved-length}
@@ -31,16 +32,16 @@ add-requires : tie.Need-add-requires
 add-requires c κs = search needs
 
 same-length : tie.Need-same-length
-same-length c = search needs
+same-length c = c .before .before .before .before .before .before .before .before .before .before .before .before .before .before .move-on .kept .0
 
 same-length-2 : tie.Need-same-length-2
 same-length-2 c = search needs
 
 same-length-3 : tie.Need-same-length-3
-same-length-3 c = search needs
+same-length-3 c = c .before .before .add .kept .0 ∙ c .before .before .before .before .before .before .remove .kept .0
 
 same-length-4 : tie.Need-same-length-4
-same-length-4 c = search needs
+same-length-4 c = c .before .before .before .before .before .before .before .before .before .before .before .before .before .before .move-on .kept .1 .1 .1 .1 .0
 
 returns : tie.Need-returns
 returns c =

@@ -4,15 +4,14 @@ use mathlib.Core.Logic.{inl, inr}
 use mathlib.Core.Path.{sym}
 use lib.Seq.{length-take-le}
 use Rattle.outcome.proofs.Handing.{kept-of, due-of, copied-out, hands-stopped, hands-long, hands-plan, done-if-kept, longer-unless-kept}
-use borrow.Author.Needs.{needs}
 use Rattle.outcome.proofs.hand_out_kept.Statement.{statement}
 use Rattle.outcome.proofs.hand_out_kept.Tie as tie
 
 enum-known-played : tie.Need-enum-known-played
-enum-known-played c = search needs
+enum-known-played c = c .match .keys1
 
 enum-known-played-2 : tie.Need-enum-known-played-2
-enum-known-played-2 c = search needs
+enum-known-played-2 c = c .match .keys2
 
 returns : tie.Need-returns
 returns c = λ o before p. done-if-kept (hands-long (kept-of p (c .before .before .played2 .given .1)) (inl (c .if1 .taken)))
@@ -33,7 +32,7 @@ returns-4 : tie.Need-returns-4
 returns-4 c = λ o before p. done-if-kept (hands-stopped _ (p .stops _ (c .before .played .given .1)))
 
 same-length : tie.Need-same-length
-same-length c = search needs
+same-length c = c .before .before .longs .kept .0
 
 returns-5 : tie.Need-returns-5
 returns-5 c = λ o before p.

@@ -1,5 +1,6 @@
 -- `planner::hand_out` meets its contract. Where the plan was not kept whole it is due, and the list is as it was lent.
 -- Assumes nothing.
+use mathlib.Core.Path.{_∙_}
 use Rattle.outcome.proofs.Handing.{hands-longer}
 use borrow.Author.Needs.{needs}
 use Rattle.planner.proofs.hand_out.Statement.{statement}
@@ -9,10 +10,10 @@ hand-out-likely-requires : tie.Need-hand-out-likely-requires
 hand-out-likely-requires c κs = search needs
 
 enum-known-handed : tie.Need-enum-known-handed
-enum-known-handed c = search needs
+enum-known-handed c = c .match .keys1
 
 enum-known-handed-2 : tie.Need-enum-known-handed-2
-enum-known-handed-2 c = search needs
+enum-known-handed-2 c = c .match .keys2
 
 hand-out-again-requires : tie.Need-hand-out-again-requires
 hand-out-again-requires c κs =
@@ -21,13 +22,13 @@ hand-out-again-requires c κs =
     (start .pre, rw (longer .0) (longer .1 .fits))
 
 same-length : tie.Need-same-length
-same-length c = search needs
+same-length c = c .before .before .before .before .before .hand-out-likely .kept .1 .1 .1 .1 .1 .0
 
 returns : tie.Need-returns
 returns c = λ t. c .before .before .before .before .before .hand-out-likely .ensures t .done _ (c .before .handed .given .1)
 
 same-length-2 : tie.Need-same-length-2
-same-length-2 c = search needs
+same-length-2 c = c .before .before .hand-out-again .kept .1 .1 .1 .1 .1 .1 .1 .0 ∙ c .before .before .before .before .before .before .before .before .before .hand-out-likely .kept .1 .1 .1 .1 .1 .0
 
 returns-2 : tie.Need-returns-2
 returns-2 c = λ t.

@@ -11,7 +11,7 @@ hand-out-least-requires : tie.Need-hand-out-least-requires
 hand-out-least-requires c κs = search needs
 
 same-length : tie.Need-same-length
-same-length c = search needs
+same-length c = c .before .before .hand-out-least .kept .1 .1 .1 .1 .1 .0
 
 returns : tie.Need-returns
 returns c = search needs
@@ -23,7 +23,7 @@ hand-out-less-requires : tie.Need-hand-out-less-requires
 hand-out-less-requires c κs = search needs
 
 same-length-2 : tie.Need-same-length-2
-same-length-2 c = search needs
+same-length-2 c = c .before .before .hand-out-less .kept .1 .1 .1 .1 .1 .0
 
 returns-2 : tie.Need-returns-2
 returns-2 c = search needs
@@ -35,7 +35,7 @@ hand-out-half-requires : tie.Need-hand-out-half-requires
 hand-out-half-requires c κs = search needs
 
 same-length-3 : tie.Need-same-length-3
-same-length-3 c = search needs
+same-length-3 c = c .before .before .hand-out-half .kept .1 .1 .1 .1 .1 .0
 
 returns-3 : tie.Need-returns-3
 returns-3 c = search needs
@@ -47,7 +47,7 @@ hand-out-more-requires : tie.Need-hand-out-more-requires
 hand-out-more-requires c κs = search needs
 
 same-length-4 : tie.Need-same-length-4
-same-length-4 c = search needs
+same-length-4 c = c .before .before .hand-out-more .kept .1 .1 .1 .1 .1 .0
 
 returns-4 : tie.Need-returns-4
 returns-4 c = search needs
@@ -56,7 +56,7 @@ hand-out-most-requires : tie.Need-hand-out-most-requires
 hand-out-most-requires c κs = search needs
 
 same-length-5 : tie.Need-same-length-5
-same-length-5 c = search needs
+same-length-5 c = c .before .before .hand-out-most .kept .1 .1 .1 .1 .1 .0
 
 returns-5 : tie.Need-returns-5
 returns-5 c = search needs

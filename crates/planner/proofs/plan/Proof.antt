@@ -8,19 +8,19 @@ plan-counted-requires : tie.Need-plan-counted-requires
 plan-counted-requires c κs = search needs
 
 enum-known-counted : tie.Need-enum-known-counted
-enum-known-counted c = search needs
+enum-known-counted c = c .match .keys1
 
 enum-known-counted-2 : tie.Need-enum-known-counted-2
-enum-known-counted-2 c = search needs
+enum-known-counted-2 c = c .match .keys2
 
 same-length : tie.Need-same-length
-same-length c = search needs
+same-length c = c .before .before .before .before .before .plan-counted .kept .1 .1 .1 .1 .0
 
 returns : tie.Need-returns
 returns c = rw (c .before .counted .given .1) at (c .before .before .before .before .before .plan-counted .ensures .says)
 
 same-length-2 : tie.Need-same-length-2
-same-length-2 c = search needs
+same-length-2 c = c .before .before .before .before .before .plan-counted .kept .1 .1 .1 .1 .0
 
 returns-2 : tie.Need-returns-2
 returns-2 c = rw (c .before .counted2 .given .1) at (c .before .before .before .before .before .plan-counted .ensures .says)

@@ -14,10 +14,10 @@ open-requires : tie.Need-open-requires
 open-requires c κs = search needs
 
 enum-known-opened : tie.Need-enum-known-opened
-enum-known-opened c = search needs
+enum-known-opened c = c .match .keys1
 
 enum-known-opened-2 : tie.Need-enum-known-opened-2
-enum-known-opened-2 c = search needs
+enum-known-opened-2 c = c .match .keys2
 
 hand-out-requires : tie.Need-hand-out-requires
 hand-out-requires c κs =
@@ -32,7 +32,7 @@ returns c =
     says-refused o _ _ (ap openedOf (sym (c .before .opened .given .1)) ∙ c .before .before .before .«open» .ensures .answer)
 
 same-length : tie.Need-same-length
-same-length c = search needs
+same-length c = c .before .before .hand-out .kept .1 .1 .1 .1 .1 .0
 
 returns-2 : tie.Need-returns-2
 returns-2 c =

@@ -11,10 +11,10 @@ hand-out-kept-requires : tie.Need-hand-out-kept-requires
 hand-out-kept-requires c κs = search needs
 
 same-length : tie.Need-same-length
-same-length c = search needs
+same-length c = c .before .before .before .before .before .before .before .play .kept .1 .1 .1 .1 .1 .0
 
 same-length-2 : tie.Need-same-length-2
-same-length-2 c = search needs
+same-length-2 c = c .before .before .hand-out-kept .kept .1 .1 .0
 
 returns : tie.Need-returns
 returns c = λ t. c .before .before .hand-out-kept .ensures _ _ (c .before .before .before .before .before .before .before .play .ensures t)

@@ -32,10 +32,10 @@ path-between-requires c κs =
     (p .most, p .placed .inside (c .before .before .before .before .before .before .before .before .before .args .r .0) (z .0), z .3, omega (arith, p .table-size), refl, omega (arith, p .most), freeShown (p .tabled))
 
 enum-known-k : tie.Need-enum-known-k
-enum-known-k c = search needs
+enum-known-k c = c .match .keys1
 
 enum-told : tie.Need-enum-told
-enum-told c = search needs
+enum-told c = c .match .keys2
 
 returns : tie.Need-returns
 returns c = (tt, λ t near. path-missing near ((rw (c .enum-told .given .1) at (c .before .before .before .path-between .ensures (freeShown t))) .same))
@@ -65,7 +65,7 @@ try-on-requires c κs =
     (p, (z .0, z .1, z .2, z .3, q .2, omega (arith, len, f .fits, p .most), z .4, q .1))
 
 same-length : tie.Need-same-length
-same-length c = search needs
+same-length c = c .before .before .try-on .kept .1 .1 .1 .1 .1 .1 .1 .1 .0
 
 returns-2 : tie.Need-returns-2
 returns-2 c =

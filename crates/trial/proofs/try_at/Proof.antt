@@ -28,7 +28,7 @@ try-on-requires c κs =
     (p, (z .0, z .1, z .2, z .3, alone-inside _ _ (p .placed .inside (c .before .before .before .before .before .before .before .before .before .before .before .args .r .0) (z .0)), omega arith, z .4, omega arith))
 
 same-length : tie.Need-same-length
-same-length c = search needs
+same-length c = c .before .before .try-on .kept .1 .1 .1 .1 .1 .1 .1 .1 .0
 
 returns : tie.Need-returns
 returns c =
@@ -70,7 +70,7 @@ try-on-requires-2 c κs =
     (p, (z .0, z .1, z .2, z .3, two-inside _ _ _ (p .placed .inside (s .args .r .0) (z .0)) (z .3), omega arith, z .4, omega arith))
 
 same-length-2 : tie.Need-same-length-2
-same-length-2 c = search needs
+same-length-2 c = c .before .before .try-on2 .kept .1 .1 .1 .1 .1 .1 .1 .1 .0
 
 returns-2 : tie.Need-returns-2
 returns-2 c =
@@ -84,7 +84,7 @@ try-along-requires : tie.Need-try-along-requires
 try-along-requires c κs = search needs
 
 same-length-3 : tie.Need-same-length-3
-same-length-3 c = search needs
+same-length-3 c = c .before .before .try-along .kept .1 .1 .1 .1 .1 .1 .1 .0
 
 returns-3 : tie.Need-returns-3
 returns-3 c = search needs

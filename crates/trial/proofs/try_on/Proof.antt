@@ -39,7 +39,7 @@ attempt-requires c κs =
     (p, (z .1, z .0, (λ e. z .2 (sym e)), z .3, part-inside (c .before .before .before .before .before .before .before .before .before .before .before .before .before .args .path .now) 2 _ (z .4), omega (arith, part-long (c .before .before .before .before .before .before .before .before .before .before .before .before .before .args .path .now) 2, z .5), z .6))
 
 same-length : tie.Need-same-length
-same-length c = search needs
+same-length c = c .before .before .attempt .kept .1 .1 .1 .1 .1 .1 .1 .1 .0
 
 returns-2 : tie.Need-returns-2
 returns-2 c =
@@ -64,7 +64,7 @@ attempt-requires-2 c κs =
     (p, (z .0, z .1, z .2, z .3, part-inside (c .before .before .before .before .before .before .before .before .before .before .before .before .args .path .now) 1 _ (z .4), omega (arith, part-long (c .before .before .before .before .before .before .before .before .before .before .before .before .args .path .now) 1, z .5), z .6))
 
 same-length-2 : tie.Need-same-length-2
-same-length-2 c = search needs
+same-length-2 c = c .before .before .attempt2 .kept .1 .1 .1 .1 .1 .1 .1 .1 .0
 
 returns-3 : tie.Need-returns-3
 returns-3 c =

@@ -17,7 +17,7 @@ is-in-requires : tie.Need-is-in-requires
 is-in-requires c κs = search needs
 
 same-length : tie.Need-same-length
-same-length c = search needs
+same-length c = refl
 
 returns : tie.Need-returns
 returns c = let p = c .before .before .before .before .before .before .before .before .before .before .pre in λ s. vacates-empty s (p .0) _ (p .1) (p .6) _ _ (sym (c .if1 .taken) ∙ c .before .is-in .ensures)
@@ -26,7 +26,7 @@ is-in-requires-2 : tie.Need-is-in-requires-2
 is-in-requires-2 c κs = search needs
 
 same-length-2 : tie.Need-same-length-2
-same-length-2 c = search needs
+same-length-2 c = refl
 
 returns-2 : tie.Need-returns-2
 returns-2 c = let p = c .before .before .before .before .before .before .before .before .before .before .before .before .pre in λ s. vacates-held s (p .0) _ (p .1) (p .6) _ _ (sym (c .before .before .if1 .left) ∙ c .before .before .before .is-in .ensures) (sym (c .if2 .taken) ∙ c .before .is-in2 .ensures)
@@ -51,16 +51,16 @@ cross-requires c κs =
     (p .1, inside-e (p .7) (p .0) _ (p .1) (p .6) out at full unheld _ low there, p .0, p .4, omega (arith, p .5), full-in (p .7) (p .0) _ (p .1) (p .6) out at full unheld _ low there, empty-e (p .7) (p .0) _ (p .1) (p .6) out at full unheld _ low there, p .6)
 
 same-length-3 : tie.Need-same-length-3
-same-length-3 c = search needs
+same-length-3 c = c .before .before .before .before .before .before .before .before .cross .kept .0
 
 same-length-4 : tie.Need-same-length-4
-same-length-4 c = search needs
+same-length-4 c = c .before .before .before .before .before .before .before .before .cross .kept .1 .0
 
 same-length-5 : tie.Need-same-length-5
-same-length-5 c = search needs
+same-length-5 c = c .before .before .before .before .before .before .before .before .cross .kept .1 .1 .0
 
 same-length-6 : tie.Need-same-length-6
-same-length-6 c = search needs
+same-length-6 c = c .before .before .before .before .before .before .before .before .cross .kept .1 .1 .1 .1 .1 .0
 
 returns-3 : tie.Need-returns-3
 returns-3 c =
@@ -75,16 +75,16 @@ fill-nearest-requires c κs =
     (p .0, p .1, p .2, p .3, p .4, p .5, sym (c .before .before .before .before .before .before .before .before .before .before .is-in .ensures) ∙ c .before .before .before .before .before .before .before .before .before .if1 .left, sym (c .before .before .before .before .before .before .before .before .is-in2 .ensures) ∙ c .before .before .before .before .before .before .before .if2 .left, p .6, p .7, p .8)
 
 same-length-7 : tie.Need-same-length-7
-same-length-7 c = search needs
+same-length-7 c = c .before .before .before .before .before .before .before .before .fill-nearest .kept .1 .1 .1 .0
 
 same-length-8 : tie.Need-same-length-8
-same-length-8 c = search needs
+same-length-8 c = c .before .before .before .before .before .before .before .before .fill-nearest .kept .1 .1 .1 .1 .0
 
 same-length-9 : tie.Need-same-length-9
-same-length-9 c = search needs
+same-length-9 c = c .before .before .before .before .before .before .before .before .fill-nearest .kept .1 .1 .1 .1 .1 .0
 
 same-length-10 : tie.Need-same-length-10
-same-length-10 c = search needs
+same-length-10 c = c .before .before .before .before .before .before .before .before .fill-nearest .kept .1 .1 .1 .1 .1 .1 .0
 
 returns-4 : tie.Need-returns-4
 returns-4 c = search needs

@@ -1,5 +1,6 @@
 -- `vacate::way_out` meets its contract. What is looked up and what is searched for is the same way.
 -- Assumes nothing.
+use mathlib.Core.Path.{_∙_}
 use borrow.Author.Needs.{needs}
 use Rattle.vacate.proofs.way_out.Statement.{statement}
 use Rattle.vacate.proofs.way_out.Tie as tie
@@ -14,7 +15,7 @@ way-to-nearest-requires : tie.Need-way-to-nearest-requires
 way-to-nearest-requires c κs = search needs
 
 same-length : tie.Need-same-length
-same-length c = search needs
+same-length c = c .before .before .way-to-nearest .kept .1 .1 .1 .1 .1 .0
 
 returns : tie.Need-returns
 returns c = search needs
@@ -23,22 +24,22 @@ way-requires : tie.Need-way-requires
 way-requires c κs = search needs
 
 enum-known-known : tie.Need-enum-known-known
-enum-known-known c = search needs
+enum-known-known c = c .match .keys1
 
 same-length-2 : tie.Need-same-length-2
-same-length-2 c = search needs
+same-length-2 c = c .before .before .before .before .before .way .kept .1 .1 .1 .1 .1 .0
 
 returns-2 : tie.Need-returns-2
 returns-2 c = λ s q w. c .before .before .before .before .before .way .ensures s q w _ _ (c .before .known .given .1)
 
 enum-told : tie.Need-enum-told
-enum-told c = search needs
+enum-told c = c .match .keys2
 
 way-to-nearest-requires-2 : tie.Need-way-to-nearest-requires-2
 way-to-nearest-requires-2 c κs = search needs
 
 same-length-3 : tie.Need-same-length-3
-same-length-3 c = search needs
+same-length-3 c = c .before .before .way-to-nearest2 .kept .1 .1 .1 .1 .1 .0 ∙ c .before .before .before .before .before .before .before .before .way .kept .1 .1 .1 .1 .1 .0
 
 returns-3 : tie.Need-returns-3
 returns-3 c = search needs
