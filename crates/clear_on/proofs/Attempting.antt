@@ -319,9 +319,6 @@ pair-both {m = m} h l = record { few = λ u v w e. let c : m ≡ w = cc in (rw c
 pub pair-from : {at m : Tally} {k : ℕ} {r : Pair} (d : ℕ) → at .crossings ≤ m .crossings → m .crossings ≤ at .crossings + d → PairBy m k r → PairBy at (d + k) r
 pair-from d l h b = record { few = λ x y i e. let f = b .few x y i e in (omega (arith, f .0), omega (arith, f .1)) }
 
-pub pair-within : {at : Tally} {k d : ℕ} {r : Pair} → k ≤ d → PairBy at k r → PairBy at d r
-pair-within h b = record { few = λ x y i e. let f = b .few x y i e in (omega (arith, f .0), f .1) }
-
 pub gone-none : {o : Option Cleared} {out : List ℕ} {at : Tally} {out′ : List ℕ} → o ≡ none → GoesOn o out at out′ Missing
 gone-none e = record { both = λ x y m z. never (cc); missing = λ z. e }
 

@@ -6,7 +6,7 @@ use Prim.Native.Nat.{ℕ, _+_, _*_, _/_, _≤_, _<_}
 use native.Mathlib.Decide.{decLt}
 use native.Mathlib.Nat.{mul-le-mul-right}
 use native.Mathlib.Omega.{arith}
-use lib.ListN.{length, take, List·getD-append}
+use lib.ListN.{length, take, replicate, length-replicate, List·getD-append}
 use lib.Seq.{length-take-le}
 use Rattle.words.specs.Sets.{memRow, words, span}
 use Rattle.words.proofs.Sets.{mem-row}
@@ -68,6 +68,10 @@ room-raised n r wide some h =
     let whole : 1 * n ≤ r * n = mul-le-mul-right n some in
     let size : length (take (r * n * words) wide) ≡ r * n * words = length-take-le (r * n * words) wide h in
     omega arith
+
+-- A new array of so many tables' size has room for one, by its length: a search would go through all its places, and there are more the higher the limits.
+pub new-has-room : (tables : ℕ) → 1 ≤ tables → span * words ≤ length {A = ℕ} (replicate (tables * (span * words)) 0)
+new-has-room tables h = rw (length-replicate {A = ℕ} (tables * (span * words)) 0) (omega (arith, h))
 
 -- the rails alone have no levels above them
 pub rails-levelled : (n : ℕ) (table : List ℕ) → n * words ≤ length table → Levelled n (take (n * words) table)

@@ -2,6 +2,7 @@
 ghost use mathlib.Core.List.{_∷_, []};
 ghost use Prim.Native.Nat.{suc, _+_, _*_, _/_, _≤_, _<_, _^_};
 ghost use lib.ListN.{length};
+ghost use Rattle.paper.specs.Limits.{most-rails};
 ghost use Rattle.paper.specs.Print.{ended};
 ghost use Rattle.stores.specs.Writing.{Wrote};
 ghost use Rattle.survey.specs.Survey.{headLine, railLine};
@@ -28,7 +29,7 @@ fn rail(out: &mut [u8], at: usize, a: u16, b: u16) -> usize
 
 // The rails' lines in the order held.
 fn rails_from(out: &mut [u8], at: usize, rails: &[u16]) -> usize
-    requires { ⌜ (at ≤ 49) × (length (now rails) ≤ 2049) ⌝ }
+    requires { ⌜ (at ≤ 49) × (length (now rails) / 2 ≤ most-rails) ⌝ }
     ensures { λ r. ⌜ Goes (now (rails .entry)) (now (out .entry)) at (now (out .exit)) r ⌝ }
 {
     let mut end = at;
@@ -42,7 +43,7 @@ fn rails_from(out: &mut [u8], at: usize, rails: &[u16]) -> usize
 
 // The whole file, of a yard that keeps its limits. Answers how many bytes that takes.
 pub fn write(bays: u64, rails: &[u16], out: &mut [u8]) -> usize
-    requires { ⌜ length (now rails) ≤ 2049 ⌝ }
+    requires { ⌜ length (now rails) / 2 ≤ most-rails ⌝ }
     ensures { λ r. ⌜ Writes bays (now (rails .entry)) (now (out .entry)) (now (out .exit)) r ⌝ }
 {
     let end = head(out, bays, (rails.len() / 2) as u64);

@@ -6,7 +6,8 @@ use lib.ListN.{length}
 use borrow.Author.Needs.{needs}
 use Rattle.acting.proofs.Acting.{tried-done, tried-failed}
 use Rattle.clear.proofs.Clearing.{ready-again}
-use Rattle.clear_on.proofs.Attempting.{pair-none, pair-from, pair-within}
+use Rattle.clear_on.proofs.Attempting.{pair-none, pair-from}
+use Rattle.vacate.specs.Bounds.{bring-most}
 use Rattle.trial.proofs.Attempting.{not-brought, at-junction, set-up-all}
 use Rattle.acting.specs.declared.Tried.the-variants.{Done}
 use Rattle.acting.specs.declared.Tried.the-variants.{Failed}
@@ -83,7 +84,7 @@ returns-2 c =
     let few = rw e at (c .before .before .before .before .before .before .before .before .before .before .before .before .before .before .before .before .before .before .before .before .before .before .before .before .before .before .bring .ensures .0) in
     let kw : length (c .before .before .before .before .before .before .before .before .before .before .before .before .before .before .before .before .before .before .before .before .before .before .before .before .before .before .bring .last .1 .1 .1 .1 .1 .0) ≡ length (c .before .before .before .before .before .before .before .before .before .before .before .before .before .before .before .before .before .before .before .before .before .before .before .before .before .before .before .before .before .before .before .before .before .before .before .before .before .args .standing .now) = c .before .before .before .before .before .before .before .before .before .before .before .before .before .before .before .before .before .before .before .before .before .before .before .before .before .before .bring .kept .1 .1 .1 .1 .1 .0 in
     let d = tried-done (rw e at (c .before .before .before .before .before .before .before .before .before .before .before .before .before .before .before .before .before .before .before .before .before .before .before .before .before .before .bring .ensures .1 (p .tabled))) in (
-      pair-within (omega arith) (pair-from 66048 (omega (arith, d .2 .counted)) (omega (arith, few, z .5)) (c .before .before .before .before .before .before .before .before .clear-two .ensures .0)),
+      pair-from bring-most (omega (arith, d .2 .counted)) (omega (arith, few, z .5)) (c .before .before .before .before .before .before .before .before .clear-two .ensures .0),
       λ t led.
           let x = tried-done (rw e at (c .before .before .before .before .before .before .before .before .before .before .before .before .before .before .before .before .before .before .before .before .before .before .before .before .before .before .bring .ensures .1 t)) in
           set-up-all (x .0) (x .1) (x .2) ((rw kw at (c .before .before .before .before .before .before .before .before .clear-two .ensures .1)) t (led .sound) (at-junction (x .0) led (p .placed .apart) (z .0) (z .1) (z .2) (x .1) _ (x .2 .moved))),
