@@ -1,6 +1,6 @@
 pub mod Asking
 pub mod Returning
-pub mod Remembering
+pub mod Passing
 pub mod Noting
 pub mod Trimming
 pub mod Looking

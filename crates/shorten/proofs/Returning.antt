@@ -18,8 +18,9 @@ use Rattle.plans.proofs.Rest.{rest-next}
 use Rattle.trips.specs.Trips.{enters, isOf}
 use Rattle.trips.specs.Names.{lastPlace}
 use Rattle.trips.proofs.Naming.{place-past, place-back, place-barred}
-use Rattle.shorten.specs.Going.{nameAt, lastFrom, Passed}
-use Rattle.shorten.proofs.Remembering.{passed-fails}
+use Rattle.chains.specs.Links.{Passed}
+use Rattle.shorten.specs.Going.{nameAt, lastFrom}
+use Rattle.shorten.proofs.Passing.{passed-fails}
 use Rattle.shorten.proofs.Asking.{in-fails}
 
 name-past : (last m : ℕ) (o : Option ℕ) → nameAt last m (o >>= λ n. some (suc n)) ≡ nameAt last (suc m) o

@@ -13,7 +13,7 @@ use Rattle.plans.proofs.Rest.{rest-next}
 use Rattle.trips.specs.Trips.{isOf}
 use Rattle.trips.specs.Names.{dropOwn, dropTrip}
 use Rattle.trips.proofs.Naming.{drop-zero}
-use Rattle.shorten.specs.Going.{Passed}
+use Rattle.chains.specs.Links.{Passed}
 use borrow.Author.Tests.{eqb-true}
 
 own-step : (c : Carrier) (n g : ℕ) (gs : List ℕ) (y : Crossing) (ys : List Crossing)

@@ -5,10 +5,7 @@ use mathlib.Core.Bool.{true}
 use mathlib.Core.List.{List}
 use mathlib.Core.Option.{Option, none, some}
 use Prim.Native.Nat.{ℕ, suc, _≤_, _<_, _+_, _*_, _-_}
-use lib.Dec.{eqb}
 use lib.ListN.{length, getD, drop}
-use Rattle.paper.specs.Basics.{if_then_else_}
-use Rattle.paper.specs.Limits.{most-bays}
 use Rattle.paper.specs.Yard.{Yard, Placement, Crossing, crossings, named, legalPlan}
 use Rattle.paper.proofs.Playing.{Apart}
 use Rattle.trips.specs.Trips.{shorten}
@@ -41,27 +38,6 @@ pub record Going (plan gone todo : List ℕ) (i : ℕ) : Type 0 where
   -- a name that need not be looked at begins no trip, and below i no name need be
   pub tested : (k : ℕ) → k < length plan → getD gone k 0 ≡ 0 → getD todo k 0 ≡ 0 → NoTrip gone (crossings plan) k
   pub below : (k : ℕ) → k < i → getD gone k 0 ≡ 0 → getD todo k 0 ≡ 0
-
--- what a crossing is looked for by: the bay that it enters, the carrier, the bay that it leaves
-abbrev pub keyOf : ℕ → Crossing → ℕ
-keyOf kind x = if eqb kind 0 then x .to else (if eqb kind 1 then x .carrier else x .from)
-
--- from the name i to below j each crossing that has the key is dropped
-abbrev pub Passed : List ℕ → List ℕ → ℕ → ℕ → ℕ → ℕ → Type 0
-Passed plan gone kind key i j = (k : ℕ) → i ≤ k → k < j → keyOf kind (named (crossings plan) k) ≡ key → getD gone k 0 ≡ 1
-
--- What is remembered, in a byte for each block of 256 names, each kind and each key: a byte that is not 0 says that the block is passed.
--- Dropping more does not change that.
-abbrev pub Settled : List ℕ → List ℕ → List ℕ → Type 0
-Settled plan gone known = (b kind key : ℕ) → kind < 3 → key < most-bays → (getD known (b * (3 * most-bays) + kind * most-bays + key) 0 ≡ 0 → ⊥) → Passed plan gone kind key (b * most-bays) (b * most-bays + most-bays)
-
--- the byte of the block from m to below end
-pub record SlotAt (m end kind key slot : ℕ) : Type 0 where
-  pub block : ℕ
-  pub starts : m ≡ block * most-bays
-  pub ends : end ≡ block * most-bays + most-bays
-  pub small : key < most-bays
-  pub is : slot ≡ block * (3 * most-bays) + kind * most-bays + key
 
 -- each look drops a crossing or goes on to the next name
 unfoldable pub rank : List ℕ → List ℕ → ℕ → ℕ

@@ -1,20 +1,23 @@
 // There-and-back trips dropped from a plan. Every crossing keeps its place; a byte beside each says whether it is dropped, and another whether
 // a trip may begin there. A cut drops one carrier's crossings, so only leavings whose next entering was dropped are looked at again.
-// A search by bay or carrier remembers the blocks of 256 names in which it found nothing: nothing comes back, so it need not look there again.
+// A search by bay or carrier goes by links, past the crossings that cannot be what it looks for.
 ghost use mathlib.Core.Path.{_≡_};
 ghost use mathlib.Core.Bool.{true, false};
 ghost use mathlib.Core.List.{_++_};
-ghost use Prim.Native.Nat.{ℕ, suc, _≤_, _<_, _+_, _-_};
+ghost use Prim.Native.Nat.{ℕ, suc, _≤_, _<_, _*_, _-_};
 ghost use lib.Dec.{eqb};
 ghost use lib.ListN.{length, getD, drop, replicate};
 ghost use Rattle.paper.specs.Basics.{_and_, any, if_then_else_};
 ghost use Rattle.paper.specs.Yard.{crossings, named, most-crossings};
+ghost use Rattle.paper.specs.Limits.{most-bays};
+ghost use Rattle.paper.specs.OnePass.{Fits};
 ghost use Rattle.paper.specs.Order.{order};
 ghost use Rattle.trips.specs.Trips.{enters, isOf, shorten as shortenOf};
 ghost use Rattle.trips.specs.Names.{left, dropTrip};
 ghost use Rattle.trips.specs.Shortening.{anyDone};
 ghost use Rattle.trips.proofs.Freeing.{LastLeaving, Noted};
-ghost use Rattle.shorten.specs.Going.{Lawful, Going, lastFrom, rank, keyOf, Passed, Settled, SlotAt};
+ghost use Rattle.chains.specs.Links.{links-each, Passed, Linked};
+ghost use Rattle.shorten.specs.Going.{Lawful, Going, lastFrom, rank};
 ghost use Rattle.shorten.specs.Statements.{RoomSays, ShortenSays};
 use checker::Checked;
 use docket::Bay;
@@ -23,8 +26,8 @@ use docket::Refusal;
 use docket::Verdict;
 use yard::Yard;
 
-// Room to remember: for each block of 256 names, three kinds of 256 keys.
-const KNOWN: usize = 3 * Yard::CROSSINGS;
+// Room for the links of the longest plan.
+const LINKS: usize = chains::LINKS * Yard::CROSSINGS;
 
 // The crossing is still in the plan and leads to the bay.
 fn enters_bay(plan: &[u64], gone: &[u8], name: usize, bay: Bay) -> bool
@@ -59,171 +62,6 @@ fn is_of(plan: &[u64], name: usize, carrier: Carrier) -> bool
     x.carrier.0 == carrier.0
 }
 
-// A bay and a carrier as keys.
-fn bay_key(bay: Bay) -> usize
-    ensures { λ r. ⌜ r ≡ bay .0 ⌝ }
-{
-    bay.0 as usize
-}
-
-fn carrier_key(carrier: Carrier) -> usize
-    ensures { λ r. ⌜ r ≡ carrier .0 ⌝ }
-{
-    carrier.0 as usize
-}
-
-// What a crossing is looked for by: 0 the bay that it enters, 1 the carrier, 2 the bay that it leaves.
-fn key_at(plan: &[u64], name: usize, kind: usize) -> usize
-    requires { ⌜ name < length (now plan) ⌝ }
-    ensures { λ r. ⌜ r ≡ keyOf kind (named (crossings (now (plan .entry))) name) ⌝ }
-{
-    let x = plans::crossing_at(plan, name);
-    if kind == 0 {
-        return bay_key(x.to);
-    }
-    if kind == 1 {
-        return carrier_key(x.carrier);
-    }
-    bay_key(x.from)
-}
-
-// The crossing is still in the plan and has the key.
-fn like(plan: &[u64], gone: &[u8], name: usize, kind: usize, key: usize) -> bool
-    requires { ⌜ (name < length (now plan)) × (length (now gone) ≡ length (now plan)) ⌝ }
-    ensures { λ r. ⌜ (r ≡ false → keyOf kind (named (crossings (now (plan .entry))) name) ≡ key → getD (now (gone .entry)) name 0 ≡ 1) ⌝ }
-{
-    if gone[name] == 1 {
-        return false;
-    }
-    key_at(plan, name, kind) == key
-}
-
-// The first such name from `from` on and below `to`, or `to`.
-fn find(plan: &[u64], gone: &[u8], from: usize, to: usize, kind: usize, key: usize) -> usize
-    requires { ⌜ (from ≤ to) × (to ≤ length (now plan)) × (length (now gone) ≡ length (now plan)) ⌝ }
-    ensures { λ r. ⌜ (from ≤ r) × (r ≤ to) × Passed (now (plan .entry)) (now (gone .entry)) kind key from r ⌝ }
-{
-    let mut m = from;
-    while m < to {
-        if like(plan, gone, m, kind, key) {
-            return m;
-        }
-        m += 1;
-    }
-    m
-}
-
-// Where it is remembered that a block has no such crossing, or `len` where the names from `m` to below `end` are no block.
-fn slot_of(m: usize, end: usize, kind: usize, key: usize, len: usize) -> usize
-    requires { ⌜ (m ≤ end) × (kind < 3) ⌝ }
-    ensures { λ r. ⌜ (r < len → SlotAt m end kind key r) ⌝ }
-{
-    if m >= Yard::CROSSINGS {
-        return len;
-    }
-    if m % Yard::BAYS != 0 {
-        return len;
-    }
-    if end - m != Yard::BAYS {
-        return len;
-    }
-    if key >= Yard::BAYS {
-        return len;
-    }
-    m * 3 + kind * Yard::BAYS + key
-}
-
-// The same as `find`, with what is remembered.
-fn in_block(
-    plan: &[u64],
-    gone: &[u8],
-    known: &mut [u8],
-    m: usize,
-    end: usize,
-    kind: usize,
-    key: usize,
-) -> usize
-    requires { ⌜ (m ≤ end) × (end ≤ length (now plan)) × (length (now gone) ≡ length (now plan)) × (kind < 3) × Settled (now plan) (now gone) (now known) ⌝ }
-    ensures { λ r. ⌜
-        (m ≤ r) × (r ≤ end) × Passed (now (plan .entry)) (now (gone .entry)) kind key m r × Settled (now (plan .entry)) (now (gone .entry)) (now (known .exit))
-        ⌝ }
-{
-    let slot = slot_of(m, end, kind, key, known.len());
-    if slot >= known.len() {
-        return find(plan, gone, m, end, kind, key);
-    }
-    if known[slot] != 0 {
-        return end;
-    }
-    let r = find(plan, gone, m, end, kind, key);
-    if r < end {
-        return r;
-    }
-    known[slot] = 1;
-    end
-}
-
-// The end of the block of the name m, or `to` if that comes first.
-fn block_end(m: usize, to: usize) -> usize
-    requires { ⌜ m < to ⌝ }
-    ensures { λ r. ⌜ (m < r) × (r ≤ to) ⌝ }
-{
-    let rest = Yard::BAYS - m % Yard::BAYS;
-    if rest < to - m { m + rest } else { to }
-}
-
-// The first such name from `from` on and below `to`, or `to`, block by block.
-fn next_like(
-    plan: &[u64],
-    gone: &[u8],
-    known: &mut [u8],
-    from: usize,
-    to: usize,
-    kind: usize,
-    key: usize,
-) -> usize
-    requires { ⌜ (from ≤ to) × (to ≤ length (now plan)) × (length (now gone) ≡ length (now plan)) × (kind < 3) × Settled (now plan) (now gone) (now known) ⌝ }
-    ensures { λ r. ⌜
-        (from ≤ r)
-        × (r ≤ to)
-        × Passed (now (plan .entry)) (now (gone .entry)) kind key from r
-        × Settled (now (plan .entry)) (now (gone .entry)) (now (known .exit))
-        ⌝ }
-{
-    let mut m = from;
-    while m < to {
-        let end = block_end(m, to);
-        let r = in_block(plan, gone, known, m, end, kind, key);
-        if r < end {
-            return r;
-        }
-        m = end;
-    }
-    m
-}
-
-// The name down to which whole blocks below `name` have no such crossing.
-fn below(plan: &[u64], gone: &[u8], known: &mut [u8], name: usize, kind: usize, key: usize) -> usize
-    requires { ⌜ (name ≤ length (now plan)) × (length (now gone) ≡ length (now plan)) × (kind < 3) × Settled (now plan) (now gone) (now known) ⌝ }
-    ensures { λ r. ⌜
-        (r ≤ name) × Passed (now (plan .entry)) (now (gone .entry)) kind key r name × Settled (now (plan .entry)) (now (gone .entry)) (now (known .exit))
-        ⌝ }
-{
-    let mut m = name;
-    while m >= Yard::BAYS {
-        if m % Yard::BAYS != 0 {
-            return m;
-        }
-        let start = m - Yard::BAYS;
-        let r = in_block(plan, gone, known, start, m, kind, key);
-        if r < m {
-            return m;
-        }
-        m = start;
-    }
-    m
-}
-
 // One of two names.
 fn chosen(test: bool, name: usize, other: usize) -> usize
     ensures { λ r. ⌜ r ≡ if test then name else other ⌝ }
@@ -232,18 +70,17 @@ fn chosen(test: bool, name: usize, other: usize) -> usize
 }
 
 // The name of the last return of the carrier that crosses at `name`, or `name` itself where it does not return.
-fn last_return(plan: &[u64], gone: &[u8], known: &mut [u8], name: usize) -> usize
-    requires { ⌜ (name < length (now plan)) × (length (now gone) ≡ length (now plan)) × Settled (now plan) (now gone) (now known) ⌝ }
+fn last_return(plan: &[u64], gone: &[u8], links: &mut [u16], name: usize) -> usize
+    requires { ⌜ (name < length (now plan)) × (length (now gone) ≡ length (now plan)) × Linked (now plan) (now gone) (now links) ⌝ }
     ensures { λ r. ⌜
         (r < length (now (plan .entry)))
         × (r ≡ lastFrom (named (crossings (now (plan .entry))) name) (crossings (now (plan .entry))) (now (gone .entry)) name (suc name))
-        × Settled (now (plan .entry)) (now (gone .entry)) (now (known .exit))
+        × Linked (now (plan .entry)) (now (gone .entry)) (now (links .exit))
         ⌝ }
 {
     let x = plans::crossing_at(plan, name);
-    let key = bay_key(x.from);
     let mut last = name;
-    let mut m = next_like(plan, gone, known, name + 1, plan.len(), 0, key);
+    let mut m = chains::ahead(plan, gone, links, name, 0, 1);
     while m < plan.len() {
         if enters_bay(plan, gone, m, x.from) {
             if !is_of(plan, m, x.carrier) {
@@ -251,30 +88,49 @@ fn last_return(plan: &[u64], gone: &[u8], known: &mut [u8], name: usize) -> usiz
             }
             last = chosen(last < m, m, last);
         }
-        m = next_like(plan, gone, known, m + 1, plan.len(), 0, key);
+        m = chains::ahead(plan, gone, links, m, 1, 1);
     }
     last
 }
 
-// The last crossing before `name` that leaves the bay, or `name` itself where none does.
-fn last_leaving(plan: &[u64], gone: &[u8], known: &mut [u8], name: usize, bay: Bay) -> usize
-    requires { ⌜ (name < length (now plan)) × (length (now gone) ≡ length (now plan)) × Settled (now plan) (now gone) (now known) ⌝ }
+// The last crossing before `name` that leaves the bay that the crossing enters, or `name` itself where none does. The links lead to it at once.
+fn last_leaving(plan: &[u64], gone: &[u8], links: &mut [u16], name: usize) -> usize
+    requires { ⌜ (name < length (now plan)) × (length (now gone) ≡ length (now plan)) × Linked (now plan) (now gone) (now links) ⌝ }
     ensures { λ r. ⌜
         (r ≤ name)
-        × ((k : ℕ) → LastLeaving (now (gone .entry)) (crossings (now (plan .entry))) (bay .0) name k → r ≡ k)
-        × Settled (now (plan .entry)) (now (gone .entry)) (now (known .exit))
+        × ((k : ℕ)
+        → LastLeaving (now (gone .entry)) (crossings (now (plan .entry))) (named (crossings (now (plan .entry))) name .to) name k
+        → r ≡ k)
+        × Linked (now (plan .entry)) (now (gone .entry)) (now (links .exit))
         ⌝ }
 {
-    let key = bay_key(bay);
-    let mut m = below(plan, gone, known, name, 2, key);
+    let x = plans::crossing_at(plan, name);
+    let mut m = chains::behind(plan, gone, links, name);
     while m > 0 {
         let next = m - 1;
-        if leaves_bay(plan, gone, next, bay) {
+        if leaves_bay(plan, gone, next, x.to) {
             return next;
         }
-        m = below(plan, gone, known, next, 2, key);
+        m = next;
     }
     name
+}
+
+// The next of the carrier's crossings after `name` up to `last`, or the name after `last`.
+fn next_own(plan: &[u64], gone: &[u8], links: &mut [u16], name: usize, last: usize) -> usize
+    requires { ⌜
+        (name ≤ last) × (last < length (now plan)) × (length (now gone) ≡ length (now plan)) × Linked (now plan) (now gone) (now links)
+        ⌝ }
+    ensures { λ r. ⌜
+        (name < r)
+        × (r ≤ suc last)
+        × Passed (now (plan .entry)) (now (gone .entry)) 1 (named (crossings (now (plan .entry))) name .carrier) (suc name) r
+        × (r ≤ last → named (crossings (now (plan .entry))) r .carrier ≡ named (crossings (now (plan .entry))) name .carrier)
+        × Linked (now (plan .entry)) (now (gone .entry)) (now (links .exit))
+        ⌝ }
+{
+    let r = chains::ahead(plan, gone, links, name, 2, 2);
+    if r <= last { r } else { last + 1 }
 }
 
 // Where the crossing is the carrier's, the last leaving of the bay that it enters is to be looked at again. The lower of `low` and that name.
@@ -282,7 +138,7 @@ fn note_one(
     plan: &[u64],
     gone: &[u8],
     todo: &mut [u8],
-    known: &mut [u8],
+    links: &mut [u16],
     name: usize,
     carrier: Carrier,
     low: usize,
@@ -291,12 +147,12 @@ fn note_one(
         (name < length (now plan))
         × (length (now gone) ≡ length (now plan))
         × (length (now todo) ≡ length (now plan))
-        × Settled (now plan) (now gone) (now known)
+        × Linked (now plan) (now gone) (now links)
         ⌝ }
     ensures { λ r. ⌜
         (r ≤ low)
         × Noted (now (gone .entry)) (crossings (now (plan .entry))) (carrier .0) name 1 (now (todo .entry)) (now (todo .exit)) r
-        × Settled (now (plan .entry)) (now (gone .entry)) (now (known .exit))
+        × Linked (now (plan .entry)) (now (gone .entry)) (now (links .exit))
         ⌝ }
 {
     if gone[name] != 0 {
@@ -306,7 +162,7 @@ fn note_one(
     if x.carrier.0 != carrier.0 {
         return low;
     }
-    let leaving = last_leaving(plan, gone, known, name, x.to);
+    let leaving = last_leaving(plan, gone, links, name);
     todo[leaving] = 1;
     if leaving < low { leaving } else { low }
 }
@@ -316,7 +172,7 @@ fn note_leavings(
     plan: &[u64],
     gone: &[u8],
     todo: &mut [u8],
-    known: &mut [u8],
+    links: &mut [u16],
     name: usize,
     last: usize,
     carrier: Carrier,
@@ -326,20 +182,20 @@ fn note_leavings(
         × (last < length (now plan))
         × (length (now gone) ≡ length (now plan))
         × (length (now todo) ≡ length (now plan))
-        × Settled (now plan) (now gone) (now known)
+        × Linked (now plan) (now gone) (now links)
+        × (isOf (carrier .0) (named (crossings (now plan)) name) ≡ true)
         ⌝ }
     ensures { λ r. ⌜
         (r ≤ name)
         × Noted (now (gone .entry)) (crossings (now (plan .entry))) (carrier .0) name (suc last - name) (now (todo .entry)) (now (todo .exit)) r
-        × Settled (now (plan .entry)) (now (gone .entry)) (now (known .exit))
+        × Linked (now (plan .entry)) (now (gone .entry)) (now (links .exit))
         ⌝ }
 {
-    let key = carrier_key(carrier);
     let mut low = name;
     let mut m = name;
     while m <= last {
-        low = note_one(plan, gone, todo, known, m, carrier, low);
-        m = next_like(plan, gone, known, m + 1, last + 1, 1, key);
+        low = note_one(plan, gone, todo, links, m, carrier, low);
+        m = next_own(plan, gone, links, m, last);
     }
     low
 }
@@ -355,7 +211,7 @@ fn byte_after(byte: u8, own: bool) -> u8
 fn drop_trip(
     plan: &[u64],
     gone: &mut [u8],
-    known: &mut [u8],
+    links: &mut [u16],
     name: usize,
     last: usize,
     carrier: Carrier,
@@ -365,30 +221,29 @@ fn drop_trip(
         × (name ≤ last)
         × (last < length (now plan))
         × (length (now gone) ≡ length (now plan))
-        × Settled (now plan) (now gone) (now known)
+        × Linked (now plan) (now gone) (now links)
         × (getD (now gone) name 0 ≡ 0)
         ⌝ }
     ensures { λ _. ⌜
         (now (gone .exit) ≡ dropTrip (carrier .0) name (suc last - name) (now (gone .entry)) (crossings (now (plan .entry))))
-        × Settled (now (plan .entry)) (now (gone .exit)) (now (known .exit))
+        × Linked (now (plan .entry)) (now (gone .exit)) (now (links .exit))
         ⌝ }
 {
-    let key = carrier_key(carrier);
-    let mut m = next_like(plan, gone, known, name + 1, last + 1, 1, key);
+    let mut m = next_own(plan, gone, links, name, last);
     gone[name] = 1;
     while m <= last {
         gone[m] = byte_after(gone[m], is_of(plan, m, carrier));
-        m = next_like(plan, gone, known, m + 1, last + 1, 1, key);
+        m = next_own(plan, gone, links, m, last);
     }
 }
 
 // One look: at a name where a trip begins it is cut, and the look goes back to the lowest name that this may have freed.
-fn look(plan: &[u64], gone: &mut [u8], todo: &mut [u8], known: &mut [u8], name: usize) -> usize
-    requires { ⌜ (name < length (now plan)) × Going (now plan) (now gone) (now todo) name × Settled (now plan) (now gone) (now known) ⌝ }
+fn look(plan: &[u64], gone: &mut [u8], todo: &mut [u8], links: &mut [u16], name: usize) -> usize
+    requires { ⌜ (name < length (now plan)) × Going (now plan) (now gone) (now todo) name × Linked (now plan) (now gone) (now links) ⌝ }
     ensures { λ r. ⌜
         Going (now (plan .entry)) (now (gone .exit)) (now (todo .exit)) r
         × (rank (now (plan .entry)) (now (gone .exit)) r < rank (now (plan .entry)) (now (gone .entry)) name)
-        × Settled (now (plan .entry)) (now (gone .exit)) (now (known .exit))
+        × Linked (now (plan .entry)) (now (gone .exit)) (now (links .exit))
         ⌝ }
 {
     if gone[name] != 0 {
@@ -397,20 +252,20 @@ fn look(plan: &[u64], gone: &mut [u8], todo: &mut [u8], known: &mut [u8], name: 
     if todo[name] == 0 {
         return name + 1;
     }
-    let last = last_return(plan, gone, known, name);
+    let last = last_return(plan, gone, links, name);
     if last == name {
         todo[name] = 0;
         return name + 1;
     }
     let x = plans::crossing_at(plan, name);
-    let low = note_leavings(plan, gone, todo, known, name, last, x.carrier);
-    drop_trip(plan, gone, known, name, last, x.carrier);
+    let low = note_leavings(plan, gone, todo, links, name, last, x.carrier);
+    drop_trip(plan, gone, links, name, last, x.carrier);
     low
 }
 
 // Cut after cut, the lowest name first, until there is none.
-fn drop_trips(plan: &[u64], gone: &mut [u8], todo: &mut [u8], known: &mut [u8])
-    requires { ⌜ Going (now plan) (now gone) (now todo) 0 × Settled (now plan) (now gone) (now known) ⌝ }
+fn drop_trips(plan: &[u64], gone: &mut [u8], todo: &mut [u8], links: &mut [u16])
+    requires { ⌜ Going (now plan) (now gone) (now todo) 0 × Linked (now plan) (now gone) (now links) ⌝ }
     ensures { λ _. ⌜
         (length (now (gone .exit)) ≡ length (now (plan .entry)))
         × (left (now (gone .exit)) (crossings (now (plan .entry))) ≡ shortenOf (crossings (now (plan .entry))))
@@ -418,7 +273,7 @@ fn drop_trips(plan: &[u64], gone: &mut [u8], todo: &mut [u8], known: &mut [u8])
 {
     let mut name = 0;
     while name < plan.len() {
-        name = look(plan, gone, todo, known, name);
+        name = look(plan, gone, todo, links, name);
     }
 }
 
@@ -478,12 +333,12 @@ fn finish(plan: &[u64], gone: &[u8], out: &mut [u64]) -> Verdict
     Verdict::Granted(count as u64)
 }
 
-// The whole work, in three lists of bytes that are lent: nothing is dropped yet, every name is to be looked at, and nothing is remembered.
+// The whole work, in lists that are lent: nothing is dropped yet, and every name is to be looked at.
 fn shorten_in(
     plan: &[u64],
     gone: &mut [u8],
     todo: &mut [u8],
-    known: &mut [u8],
+    links: &mut [u16],
     out: &mut [u64],
 ) -> Verdict
     requires { ⌜
@@ -491,28 +346,33 @@ fn shorten_in(
         × (length (now plan) ≤ most-crossings)
         × (now gone ≡ replicate (length (now plan)) 0)
         × (now todo ≡ replicate (length (now plan)) 1)
-        × Settled (now plan) (now gone) (now known)
+        × (length (now links) ≡ length (now plan) * links-each)
+        × Fits most-bays most-bays (now plan)
         ⌝ }
     ensures { λ r. ⌜ RoomSays (now (plan .entry)) (now (out .entry)) r (now (out .exit)) ⌝ }
 {
-    drop_trips(plan, gone, todo, known);
+    chains::fill(plan, links);
+    drop_trips(plan, gone, todo, links);
     finish(plan, gone, out)
 }
 
 // The same, with working room of its own.
 fn shorten_checked(plan: &[u64], out: &mut [u64]) -> Verdict
-    requires { ⌜ Lawful (crossings (now plan)) × (length (now plan) ≤ most-crossings) ⌝ }
+    requires { ⌜
+        Lawful (crossings (now plan)) × (length (now plan) ≤ most-crossings) × Fits most-bays most-bays (now plan)
+        ⌝ }
     ensures { λ r. ⌜ RoomSays (now (plan .entry)) (now (out .entry)) r (now (out .exit)) ⌝ }
 {
     let count = plan.len();
+    let long = count * chains::LINKS;
     let mut gone = [0u8; Yard::CROSSINGS];
     let mut todo = [1u8; Yard::CROSSINGS];
-    let mut known = [0u8; KNOWN];
+    let mut links = [0u16; LINKS];
     shorten_in(
         plan,
         &mut gone[..count],
         &mut todo[..count],
-        &mut known[..KNOWN],
+        &mut links[..long],
         out,
     )
 }

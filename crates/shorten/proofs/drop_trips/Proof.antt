@@ -1,7 +1,8 @@
 -- `shorten::drop_trips` meets its contract. Each look keeps what stands between two cuts; past the last name there is no trip.
 -- Assumes nothing.
 use Rattle.shorten.proofs.Looking.{looked}
-use Rattle.shorten.specs.Going.{Going, Settled, rank}
+use Rattle.shorten.specs.Going.{Going, rank}
+use Rattle.chains.specs.Links.{Linked}
 use lib.ListN.{length}
 use denote.Ref.{now}
 use mathlib.Core.Path.{_≡_, refl, sym, _∙_}
@@ -10,10 +11,10 @@ use Rattle.shorten.proofs.drop_trips.Statement.{statement}
 use Rattle.shorten.proofs.drop_trips.Tie as tie
 
 abbrev Inv-loop : tie.InvT-loop
-Inv-loop plan gone₀ todo₀ known₀ name₀ gone todo known name = Going plan gone todo name × (length known ≡ length known₀) × Settled plan gone known
+Inv-loop plan gone₀ todo₀ links₀ name₀ gone todo links name = Going plan gone todo name × (length links ≡ length links₀) × Linked plan gone links
 
 abbrev μ-loop : tie.MeasureT-loop
-μ-loop plan gone₀ todo₀ known₀ name₀ gone todo known name = rank plan gone name
+μ-loop plan gone₀ todo₀ links₀ name₀ gone todo links name = rank plan gone name
 
 loop-holds : tie.Need-loop-holds Inv-loop μ-loop
 loop-holds c = let s = c .before .before .before .before in (s .pre .0, refl, s .pre .1)

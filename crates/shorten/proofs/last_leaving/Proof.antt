@@ -1,34 +1,36 @@
--- `shorten::last_leaving` meets its contract. It goes down from the name, so the first leaving that is met is the last; names that are passed leave another bay.
+-- `shorten::last_leaving` meets its contract. It goes down from the name, so the first leaving that is met is the last; the link leads past names that leave another bay.
 -- Assumes nothing.
 use borrow.Author.Needs.{needs}
 use Rattle.shorten.proofs.Noting.{NoneLeaves, none-start, none-more, none-over, leaving-found, leaving-none}
-use Rattle.shorten.specs.Going.{Settled}
-use Rattle.paper.specs.Yard.{crossings}
+use Rattle.docket.specs.Reading.{crossingOf}
+use Rattle.paper.specs.Yard.{crossings, named}
 use lib.ListN.{length}
 use Prim.Native.Nat.{suc, _≤_, _-_}
-use mathlib.Core.Path.{_≡_, refl, sym, _∙_}
+use mathlib.Core.Path.{_≡_, refl, sym, _∙_, ap}
 use denote.Ref.{now}
 use native.Mathlib.Omega.{arith}
 use Rattle.shorten.proofs.last_leaving.Statement.{statement}
 use Rattle.shorten.proofs.last_leaving.Tie as tie
 
 abbrev Inv-loop : tie.InvT-loop
-Inv-loop plan gone known₀ name bay key m₀ known m = (m ≤ name) × (length known ≡ length known₀) × NoneLeaves gone (crossings plan) (bay .0) name m × Settled plan gone known
+Inv-loop plan gone links name x m₀ m = (m ≤ name) × NoneLeaves gone (crossings plan) (crossingOf x .to) name m
 
 abbrev μ-loop : tie.MeasureT-loop
-μ-loop plan gone known₀ name bay key m₀ known m = m
+μ-loop plan gone links name x m₀ m = m
 
-bay-key-requires : tie.Need-bay-key-requires Inv-loop μ-loop
-bay-key-requires c κs = search needs
+crossing-at-requires : tie.Need-crossing-at-requires Inv-loop μ-loop
+crossing-at-requires c κs = search needs
 
-below-requires : tie.Need-below-requires Inv-loop μ-loop
-below-requires c κs = let s = c .before .before .before .before .before in (omega (arith, s .pre .0), s .pre .1, omega arith, s .pre .2)
+behind-requires : tie.Need-behind-requires Inv-loop μ-loop
+behind-requires c κs = let s = c .before .before .before .before .before in (s .pre .0, s .pre .1, s .pre .2 .short, s .pre .2)
 
 loop-holds : tie.Need-loop-holds Inv-loop μ-loop
 loop-holds c =
     let s = c .before .before .before .before .before .before .before .before in
-    let b = c .before .before .below .ensures in
-    (b .0, refl, none-over (now (s .args .gone)) (crossings (now (s .args .plan))) (s .args .bay .0) (s .args .name) (now (s .args .plan)) (c .before .before .before .before .bay-key .result) (s .args .name) _ refl (c .before .before .before .before .bay-key .ensures) (b .1) (none-start (now (s .args .gone)) (crossings (now (s .args .plan))) (s .args .bay .0) (s .args .name)), b .2)
+    let b = c .before .before .behind .ensures in
+    let x = crossingOf (c .before .before .before .before .crossing-at .result) in
+    let is = ap (λ y. y .to) (sym (c .before .before .before .before .crossing-at .ensures)) in
+    (b .0, none-over (now (s .args .gone)) (crossings (now (s .args .plan))) (x .to) (s .args .name) (now (s .args .plan)) (named (crossings (now (s .args .plan))) (s .args .name) .to) (s .args .name) _ refl is (b .1 .passed) (none-start (now (s .args .gone)) (crossings (now (s .args .plan))) (x .to) (s .args .name)))
 
 sub-next : tie.Need-sub-next Inv-loop μ-loop
 sub-next c = search needs
@@ -43,22 +45,21 @@ returns : tie.Need-returns Inv-loop μ-loop
 returns c =
     let s = c .before .before .before .before .before .before .before .before .before .before .before .before in
     let t = c .before .before .before .loop in
+    let x = crossingOf (c .before .before .before .before .before .before .before .before .crossing-at .result) in
+    let is = ap (λ y. y .to) (c .before .before .before .before .before .before .before .before .crossing-at .ensures) in
     let up : suc (t .m - 1) ≡ t .m = omega (arith, c .before .before .loop-test .taken) in
-    (omega (arith, t .inv .0), leaving-found (now (s .args .gone)) (crossings (now (s .args .plan))) (s .args .bay .0) (s .args .name) (t .m - 1) (omega (arith, t .inv .0, c .before .before .loop-test .taken)) (rw up (t .inv .2)) (sym (c .before .leaves-bay .ensures) ∙ c .if1 .taken), t .inv .3)
-
-below-requires-2 : tie.Need-below-requires-2 Inv-loop μ-loop
-below-requires-2 c κs = let s = c .before .before .before .before .before .before .before .before .before .before .before .before .before in let t = c .before .before .before .before .loop in (omega (arith, t .inv .0, s .pre .0), s .pre .1, omega arith, t .inv .3)
+    (omega (arith, t .inv .0), λ k l. leaving-found (now (s .args .gone)) (crossings (now (s .args .plan))) (x .to) (s .args .name) (t .m - 1) (omega (arith, t .inv .0, c .before .before .loop-test .taken)) (rw up (t .inv .1)) (sym (c .before .leaves-bay .ensures) ∙ c .if1 .taken) k (rw (sym is) at l), c .before .before .before .before .before .before .behind .ensures .2)
 
 loop-less : tie.Need-loop-less Inv-loop μ-loop
-loop-less c = omega (arith, c .before .before .below2 .ensures .0, c .before .before .before .before .before .before .loop-test .taken)
+loop-less c = omega (arith, c .before .before .loop-test .taken)
 
 loop-again : tie.Need-loop-again Inv-loop μ-loop
 loop-again c =
-    let s = c .before .before .before .before .before .before .before .before .before .before .before .before .before .before .before .before in
-    let t = c .before .before .before .before .before .before .before .loop in
-    let b = c .before .before .below2 .ensures in
-    let up : suc (t .m - 1) ≡ t .m = omega (arith, c .before .before .before .before .before .before .loop-test .taken) in
-    (omega (arith, b .0, t .inv .0), search needs, none-over (now (s .args .gone)) (crossings (now (s .args .plan))) (s .args .bay .0) (s .args .name) (now (s .args .plan)) (c .before .before .before .before .before .before .before .before .before .before .before .before .bay-key .result) (t .m - 1) _ refl (c .before .before .before .before .before .before .before .before .before .before .before .before .bay-key .ensures) (b .1) (none-more (now (s .args .gone)) (crossings (now (s .args .plan))) (s .args .bay .0) (s .args .name) (t .m - 1) (rw up (t .inv .2)) (sym (c .before .before .before .before .before .leaves-bay .ensures) ∙ c .before .before .before .before .if1 .left)), b .2)
+    let s = c .before .before .before .before .before .before .before .before .before .before .before .before in
+    let t = c .before .before .before .loop in
+    let x = crossingOf (c .before .before .before .before .before .before .before .before .crossing-at .result) in
+    let up : suc (t .m - 1) ≡ t .m = omega (arith, c .before .before .loop-test .taken) in
+    (omega (arith, t .inv .0), none-more (now (s .args .gone)) (crossings (now (s .args .plan))) (x .to) (s .args .name) (t .m - 1) (rw up (t .inv .1)) (sym (c .before .leaves-bay .ensures) ∙ c .if1 .left))
 
 same-length-2 : tie.Need-same-length-2 Inv-loop μ-loop
 same-length-2 c = search needs
@@ -67,8 +68,10 @@ returns-2 : tie.Need-returns-2 Inv-loop μ-loop
 returns-2 c =
     let s = c .before .before .before .before .before .before .before .before .before .before in
     let t = c .before .loop in
+    let x = crossingOf (c .before .before .before .before .before .before .crossing-at .result) in
+    let is = ap (λ y. y .to) (c .before .before .before .before .before .before .crossing-at .ensures) in
     let z : t .m ≡ 0 = omega (arith, c .loop-test .left) in
-    (omega arith, leaving-none (now (s .args .gone)) (crossings (now (s .args .plan))) (s .args .bay .0) (s .args .name) (rw z at (t .inv .2)), t .inv .3)
+    (omega arith, λ k l. leaving-none (now (s .args .gone)) (crossings (now (s .args .plan))) (x .to) (s .args .name) (rw z at (t .inv .1)) k (rw (sym is) at l), c .before .before .before .before .behind .ensures .2)
 
 pub last-leaving-spec : {M : Type 1} → statement M
 last-leaving-spec =
@@ -76,14 +79,13 @@ last-leaving-spec =
     (tie.spec
     Inv-loop
     μ-loop
-    bay-key-requires
-    below-requires
+    crossing-at-requires
+    behind-requires
     loop-holds
     sub-next
     leaves-bay-requires
     same-length
     returns
-    below-requires-2
     loop-less
     loop-again
     same-length-2

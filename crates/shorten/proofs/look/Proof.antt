@@ -53,7 +53,7 @@ crossing-at-requires : tie.Need-crossing-at-requires
 crossing-at-requires c κs = search needs
 
 note-leavings-requires : tie.Need-note-leavings-requires
-note-leavings-requires c κs = let s = c .before .before .before .before .before .before .before .before .before .before .before .before .before .before .before .before .before .before in (last-not-before (named (crossings (now (s .args .plan))) (s .args .name)) (crossings (now (s .args .plan))) (now (s .args .gone)) (s .args .name) (c .before .before .before .before .before .before .before .last-return .result) (c .before .before .before .before .before .before .before .last-return .ensures .1), c .before .before .before .before .before .before .before .last-return .ensures .0, s .pre .1 .long-gone, s .pre .1 .long-todo, c .before .before .before .before .before .before .before .last-return .ensures .2)
+note-leavings-requires c κs = let s = c .before .before .before .before .before .before .before .before .before .before .before .before .before .before .before .before .before .before in (last-not-before (named (crossings (now (s .args .plan))) (s .args .name)) (crossings (now (s .args .plan))) (now (s .args .gone)) (s .args .name) (c .before .before .before .before .before .before .before .last-return .result) (c .before .before .before .before .before .before .before .last-return .ensures .1), c .before .before .before .before .before .before .before .last-return .ensures .0, s .pre .1 .long-gone, s .pre .1 .long-todo, c .before .before .before .before .before .before .before .last-return .ensures .2, eq-eqb _ _ (ap (λ y. y .carrier) (sym (c .before .before .before .crossing-at .ensures))))
 
 drop-trip-requires : tie.Need-drop-trip-requires
 drop-trip-requires c κs = let s = c .before .before .before .before .before .before .before .before .before .before .before .before .before .before .before .before .before .before .before .before .before .before .before .before .before in (eq-eqb _ _ (ap (λ y. y .carrier) (sym (c .before .before .before .before .before .before .before .before .before .before .crossing-at .ensures))), last-not-before (named (crossings (now (s .args .plan))) (s .args .name)) (crossings (now (s .args .plan))) (now (s .args .gone)) (s .args .name) (c .before .before .before .before .before .before .before .before .before .before .before .before .before .before .last-return .result) (c .before .before .before .before .before .before .before .before .before .before .before .before .before .before .last-return .ensures .1), c .before .before .before .before .before .before .before .before .before .before .before .before .before .before .last-return .ensures .0, s .pre .1 .long-gone, c .before .before .before .before .before .before .note-leavings .ensures .2, c .before .before .before .before .before .before .before .before .before .before .before .before .before .before .before .before .before .before .before .if1 .left)

@@ -38,8 +38,7 @@ same-length-2 c = search needs
 returns-3 : tie.Need-returns-3
 returns-3 c =
     let s = c .before .before .before .before .before .before .before .before .before .before .before .before .before .before .before in
-    let e = ap (λ y. y .to) (c .before .before .before .before .before .before .before .before .crossing-at .ensures) in
-    let f : (k : ℕ) → LastLeaving (now (s .args .gone)) (crossings (now (s .args .plan))) (named (crossings (now (s .args .plan))) (s .args .name) .to) (s .args .name) k → c .before .before .before .last-leaving .result ≡ k = λ k l. c .before .before .before .last-leaving .ensures .1 k (rw (sym e) at l) in
+    let f : (k : ℕ) → LastLeaving (now (s .args .gone)) (crossings (now (s .args .plan))) (named (crossings (now (s .args .plan))) (s .args .name) .to) (s .args .name) k → c .before .before .before .last-leaving .result ≡ k = λ k l. c .before .before .before .last-leaving .ensures .1 k l in
     (omega (arith, c .if3 .taken), noted-one (now (s .args .gone)) (crossings (now (s .args .plan))) (s .args .carrier .0) (s .args .name) (c .before .before .before .last-leaving .result) (c .before .before .before .last-leaving .result) (now (s .args .todo)) (omega (arith, c .before .before .before .last-leaving .ensures .0)) (omega arith) f, c .before .before .before .last-leaving .ensures .2)
 
 same-length-3 : tie.Need-same-length-3
@@ -51,8 +50,7 @@ same-length-4 c = search needs
 returns-4 : tie.Need-returns-4
 returns-4 c =
     let s = c .before .before .before .before .before .before .before .before .before .before .before .before .before .before .before in
-    let e = ap (λ y. y .to) (c .before .before .before .before .before .before .before .before .crossing-at .ensures) in
-    let f : (k : ℕ) → LastLeaving (now (s .args .gone)) (crossings (now (s .args .plan))) (named (crossings (now (s .args .plan))) (s .args .name) .to) (s .args .name) k → c .before .before .before .last-leaving .result ≡ k = λ k l. c .before .before .before .last-leaving .ensures .1 k (rw (sym e) at l) in
+    let f : (k : ℕ) → LastLeaving (now (s .args .gone)) (crossings (now (s .args .plan))) (named (crossings (now (s .args .plan))) (s .args .name) .to) (s .args .name) k → c .before .before .before .last-leaving .result ≡ k = λ k l. c .before .before .before .last-leaving .ensures .1 k l in
     (omega arith, noted-one (now (s .args .gone)) (crossings (now (s .args .plan))) (s .args .carrier .0) (s .args .name) (s .args .low) (c .before .before .before .last-leaving .result) (now (s .args .todo)) (omega (arith, c .before .before .before .last-leaving .ensures .0)) (c .if3 .left) f, c .before .before .before .last-leaving .ensures .2)
 
 pub note-one-spec : {M : Type 1} → statement M

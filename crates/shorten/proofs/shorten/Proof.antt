@@ -37,7 +37,7 @@ shorten-checked-requires : tie.Need-shorten-checked-requires
 shorten-checked-requires c κs =
     let s = c .before .before .before .before .before .before .before .before .before .before .before .before .before .before in
     let passes = ap checkedOf (sym (c .before .before .before .before .before .enum-told .given .1)) ∙ c .before .before .before .before .before .before .before .check .ensures in
-    (lawful (order (s .args .bays) (now (s .args .rails)) (now (s .args .start)) (now (s .args .goal))) (now (s .args .plan)) (now (s .args .marks)) (now (s .args .out)) passes, short-plan (order (s .args .bays) (now (s .args .rails)) (now (s .args .start)) (now (s .args .goal))) (now (s .args .plan)) (now (s .args .marks)) (now (s .args .out)) passes)
+    (lawful (order (s .args .bays) (now (s .args .rails)) (now (s .args .start)) (now (s .args .goal))) (now (s .args .plan)) (now (s .args .marks)) (now (s .args .out)) passes, short-plan (order (s .args .bays) (now (s .args .rails)) (now (s .args .start)) (now (s .args .goal))) (now (s .args .plan)) (now (s .args .marks)) (now (s .args .out)) passes, fits (order (s .args .bays) (now (s .args .rails)) (now (s .args .start)) (now (s .args .goal))) (now (s .args .plan)) (now (s .args .marks)) (now (s .args .out)) passes)
 
 same-length : tie.Need-same-length
 same-length c = search needs

@@ -1,0 +1,334 @@
+-- `chains::fill_behind` meets its contract. The crossing at hand has its bays below 256, so the table has its entry; the rest is proofs/Filling.
+-- Assumes nothing.
+use borrow.Author.Needs.{needs}
+use Rattle.chains.proofs.Filling.{FillingDown, down-start, down-next, leaves-low, all-linked}
+use Rattle.chains.specs.Links.{links-each}
+use Rattle.plans.proofs.Rest.{fits-named}
+use Rattle.docket.specs.Reading.{crossingOf}
+use Rattle.paper.specs.Limits.{most-bays, most-crossings}
+use Rattle.paper.specs.Yard.{crossings, named}
+use lib.ListN.{length, getD, set, length-set}
+use Prim.Native.Nat.{ℕ, suc, _≤_, _<_, _+_, _*_, _-_}
+use mathlib.Core.Path.{_≡_, refl, sym, _∙_, ap}
+use denote.Ref.{now}
+use native.Mathlib.Omega.{arith}
+use Rattle.chains.proofs.fill_behind.Statement.{statement}
+use Rattle.chains.proofs.fill_behind.Tie as tie
+
+abbrev Inv-loop : tie.InvT-loop
+Inv-loop plan links₀ leaving₀ m₀ links leaving m = (length links ≡ length links₀) × FillingDown plan links leaving m
+
+abbrev μ-loop : tie.MeasureT-loop
+μ-loop plan links₀ leaving₀ m₀ links leaving m = length plan - m
+
+loop-holds : tie.Need-loop-holds Inv-loop μ-loop
+loop-holds c = let s = c .before .before in (refl, down-start (now (s .args .plan)) (now (s .args .links)) (s .pre .1) (s .pre .3))
+
+crossing-at-requires : tie.Need-crossing-at-requires Inv-loop μ-loop
+crossing-at-requires c κs = search needs
+
+-- the crossing at hand fits the table
+small : (c : tie.After-crossing-at Inv-loop μ-loop) → (crossingOf (c .crossing-at .result) .carrier < most-bays) × (crossingOf (c .crossing-at .result) .from < most-bays) × (crossingOf (c .crossing-at .result) .to < most-bays)
+small c =
+    let s = c .before .before .before .before .before in
+    fits-named most-bays most-bays (now (s .args .plan)) (s .pre .2) (c .before .before .loop .m) (c .before .loop-test .taken) (crossingOf (c .crossing-at .result)) (c .crossing-at .ensures)
+
+bay-key-requires : tie.Need-bay-key-requires Inv-loop μ-loop
+bay-key-requires c κs = search needs
+
+bay-key-requires-2 : tie.Need-bay-key-requires-2 Inv-loop μ-loop
+bay-key-requires-2 c κs = search needs
+
+mul-narrow : tie.Need-mul-narrow Inv-loop μ-loop
+mul-narrow c = search needs
+
+array-read-narrow : tie.Need-array-read-narrow Inv-loop μ-loop
+array-read-narrow c =
+    let k = c in
+    let a = k .before .before in
+    let s = a .before .before .before .before .before in
+    let t = a .before .before .loop in
+    let in-plan = a .before .loop-test .taken in
+    let f = k .before .bay-key .result in
+    let g = k .bay-key2 .result in
+    let long : length (t .links) ≡ length (now (s .args .plan)) * links-each = t .inv .1 .long in
+    let fs : f < most-bays = omega (arith, small a, k .before .bay-key .ensures) in
+    let gs : g < most-bays = omega (arith, small a, k .bay-key2 .ensures) in
+    let f-is : f ≡ named (crossings (now (s .args .plan))) (t .m) .from = k .before .bay-key .ensures ∙ ap (λ y. y .from) (a .crossing-at .ensures) in
+    let g-is : g ≡ named (crossings (now (s .args .plan))) (t .m) .to = k .bay-key2 .ensures ∙ ap (λ y. y .to) (a .crossing-at .ensures) in
+    let low = leaves-low (now (s .args .plan)) (t .links) (t .leaving) (t .m) in-plan (t .inv .1) f g f-is g-is fs gs in
+    omega (arith, gs, t .inv .1 .bays)
+
+narrow-requires : tie.Need-narrow-requires Inv-loop μ-loop
+narrow-requires c κs =
+    let k = c in
+    let a = k .before .before in
+    let s = a .before .before .before .before .before in
+    let t = a .before .before .loop in
+    let in-plan = a .before .loop-test .taken in
+    let f = k .before .bay-key .result in
+    let g = k .bay-key2 .result in
+    let long : length (t .links) ≡ length (now (s .args .plan)) * links-each = t .inv .1 .long in
+    let fs : f < most-bays = omega (arith, small a, k .before .bay-key .ensures) in
+    let gs : g < most-bays = omega (arith, small a, k .bay-key2 .ensures) in
+    let f-is : f ≡ named (crossings (now (s .args .plan))) (t .m) .from = k .before .bay-key .ensures ∙ ap (λ y. y .from) (a .crossing-at .ensures) in
+    let g-is : g ≡ named (crossings (now (s .args .plan))) (t .m) .to = k .bay-key2 .ensures ∙ ap (λ y. y .to) (a .crossing-at .ensures) in
+    let low = leaves-low (now (s .args .plan)) (t .links) (t .leaving) (t .m) in-plan (t .inv .1) f g f-is g-is fs gs in
+    let lg = low g gs in
+    omega (arith, lg, in-plan, s .pre .0)
+
+mul-links : tie.Need-mul-links Inv-loop μ-loop
+mul-links c =
+    let k = c .before in
+    let a = k .before .before in
+    let s = a .before .before .before .before .before in
+    let t = a .before .before .loop in
+    let in-plan = a .before .loop-test .taken in
+    let f = k .before .bay-key .result in
+    let g = k .bay-key2 .result in
+    let long : length (t .links) ≡ length (now (s .args .plan)) * links-each = t .inv .1 .long in
+    let fs : f < most-bays = omega (arith, small a, k .before .bay-key .ensures) in
+    let gs : g < most-bays = omega (arith, small a, k .bay-key2 .ensures) in
+    let f-is : f ≡ named (crossings (now (s .args .plan))) (t .m) .from = k .before .bay-key .ensures ∙ ap (λ y. y .from) (a .crossing-at .ensures) in
+    let g-is : g ≡ named (crossings (now (s .args .plan))) (t .m) .to = k .bay-key2 .ensures ∙ ap (λ y. y .to) (a .crossing-at .ensures) in
+    let low = leaves-low (now (s .args .plan)) (t .links) (t .leaving) (t .m) in-plan (t .inv .1) f g f-is g-is fs gs in
+    search needs
+
+add-links : tie.Need-add-links Inv-loop μ-loop
+add-links c =
+    let k = c .before in
+    let a = k .before .before in
+    let s = a .before .before .before .before .before in
+    let t = a .before .before .loop in
+    let in-plan = a .before .loop-test .taken in
+    let f = k .before .bay-key .result in
+    let g = k .bay-key2 .result in
+    let long : length (t .links) ≡ length (now (s .args .plan)) * links-each = t .inv .1 .long in
+    let fs : f < most-bays = omega (arith, small a, k .before .bay-key .ensures) in
+    let gs : g < most-bays = omega (arith, small a, k .bay-key2 .ensures) in
+    let f-is : f ≡ named (crossings (now (s .args .plan))) (t .m) .from = k .before .bay-key .ensures ∙ ap (λ y. y .from) (a .crossing-at .ensures) in
+    let g-is : g ≡ named (crossings (now (s .args .plan))) (t .m) .to = k .bay-key2 .ensures ∙ ap (λ y. y .to) (a .crossing-at .ensures) in
+    let low = leaves-low (now (s .args .plan)) (t .links) (t .leaving) (t .m) in-plan (t .inv .1) f g f-is g-is fs gs in
+    search needs
+
+mul-links-2 : tie.Need-mul-links-2 Inv-loop μ-loop
+mul-links-2 c =
+    let k = c .before in
+    let a = k .before .before in
+    let s = a .before .before .before .before .before in
+    let t = a .before .before .loop in
+    let in-plan = a .before .loop-test .taken in
+    let f = k .before .bay-key .result in
+    let g = k .bay-key2 .result in
+    let long : length (t .links) ≡ length (now (s .args .plan)) * links-each = t .inv .1 .long in
+    let fs : f < most-bays = omega (arith, small a, k .before .bay-key .ensures) in
+    let gs : g < most-bays = omega (arith, small a, k .bay-key2 .ensures) in
+    let f-is : f ≡ named (crossings (now (s .args .plan))) (t .m) .from = k .before .bay-key .ensures ∙ ap (λ y. y .from) (a .crossing-at .ensures) in
+    let g-is : g ≡ named (crossings (now (s .args .plan))) (t .m) .to = k .bay-key2 .ensures ∙ ap (λ y. y .to) (a .crossing-at .ensures) in
+    let low = leaves-low (now (s .args .plan)) (t .links) (t .leaving) (t .m) in-plan (t .inv .1) f g f-is g-is fs gs in
+    search needs
+
+slice-write-links : tie.Need-slice-write-links Inv-loop μ-loop
+slice-write-links c =
+    let k = c .before in
+    let a = k .before .before in
+    let s = a .before .before .before .before .before in
+    let t = a .before .before .loop in
+    let in-plan = a .before .loop-test .taken in
+    let f = k .before .bay-key .result in
+    let g = k .bay-key2 .result in
+    let long : length (t .links) ≡ length (now (s .args .plan)) * links-each = t .inv .1 .long in
+    let fs : f < most-bays = omega (arith, small a, k .before .bay-key .ensures) in
+    let gs : g < most-bays = omega (arith, small a, k .bay-key2 .ensures) in
+    let f-is : f ≡ named (crossings (now (s .args .plan))) (t .m) .from = k .before .bay-key .ensures ∙ ap (λ y. y .from) (a .crossing-at .ensures) in
+    let g-is : g ≡ named (crossings (now (s .args .plan))) (t .m) .to = k .bay-key2 .ensures ∙ ap (λ y. y .to) (a .crossing-at .ensures) in
+    let low = leaves-low (now (s .args .plan)) (t .links) (t .leaving) (t .m) in-plan (t .inv .1) f g f-is g-is fs gs in
+    omega (arith, long, in-plan)
+
+mul-narrow-2 : tie.Need-mul-narrow-2 Inv-loop μ-loop
+mul-narrow-2 c = search needs
+
+array-read-narrow-2 : tie.Need-array-read-narrow-2 Inv-loop μ-loop
+array-read-narrow-2 c =
+    let k = c .before in
+    let a = k .before .before in
+    let s = a .before .before .before .before .before in
+    let t = a .before .before .loop in
+    let in-plan = a .before .loop-test .taken in
+    let f = k .before .bay-key .result in
+    let g = k .bay-key2 .result in
+    let long : length (t .links) ≡ length (now (s .args .plan)) * links-each = t .inv .1 .long in
+    let fs : f < most-bays = omega (arith, small a, k .before .bay-key .ensures) in
+    let gs : g < most-bays = omega (arith, small a, k .bay-key2 .ensures) in
+    let f-is : f ≡ named (crossings (now (s .args .plan))) (t .m) .from = k .before .bay-key .ensures ∙ ap (λ y. y .from) (a .crossing-at .ensures) in
+    let g-is : g ≡ named (crossings (now (s .args .plan))) (t .m) .to = k .bay-key2 .ensures ∙ ap (λ y. y .to) (a .crossing-at .ensures) in
+    let low = leaves-low (now (s .args .plan)) (t .links) (t .leaving) (t .m) in-plan (t .inv .1) f g f-is g-is fs gs in
+    omega (arith, fs, t .inv .1 .bays)
+
+narrow-requires-2 : tie.Need-narrow-requires-2 Inv-loop μ-loop
+narrow-requires-2 c κs =
+    let k = c .before in
+    let a = k .before .before in
+    let s = a .before .before .before .before .before in
+    let t = a .before .before .loop in
+    let in-plan = a .before .loop-test .taken in
+    let f = k .before .bay-key .result in
+    let g = k .bay-key2 .result in
+    let long : length (t .links) ≡ length (now (s .args .plan)) * links-each = t .inv .1 .long in
+    let fs : f < most-bays = omega (arith, small a, k .before .bay-key .ensures) in
+    let gs : g < most-bays = omega (arith, small a, k .bay-key2 .ensures) in
+    let f-is : f ≡ named (crossings (now (s .args .plan))) (t .m) .from = k .before .bay-key .ensures ∙ ap (λ y. y .from) (a .crossing-at .ensures) in
+    let g-is : g ≡ named (crossings (now (s .args .plan))) (t .m) .to = k .bay-key2 .ensures ∙ ap (λ y. y .to) (a .crossing-at .ensures) in
+    let low = leaves-low (now (s .args .plan)) (t .links) (t .leaving) (t .m) in-plan (t .inv .1) f g f-is g-is fs gs in
+    let lf = low f fs in
+    omega (arith, lf, in-plan, s .pre .0)
+
+mul-links-3 : tie.Need-mul-links-3 Inv-loop μ-loop
+mul-links-3 c =
+    let k = c .before .before in
+    let a = k .before .before in
+    let s = a .before .before .before .before .before in
+    let t = a .before .before .loop in
+    let in-plan = a .before .loop-test .taken in
+    let f = k .before .bay-key .result in
+    let g = k .bay-key2 .result in
+    let long : length (t .links) ≡ length (now (s .args .plan)) * links-each = t .inv .1 .long in
+    let fs : f < most-bays = omega (arith, small a, k .before .bay-key .ensures) in
+    let gs : g < most-bays = omega (arith, small a, k .bay-key2 .ensures) in
+    let f-is : f ≡ named (crossings (now (s .args .plan))) (t .m) .from = k .before .bay-key .ensures ∙ ap (λ y. y .from) (a .crossing-at .ensures) in
+    let g-is : g ≡ named (crossings (now (s .args .plan))) (t .m) .to = k .bay-key2 .ensures ∙ ap (λ y. y .to) (a .crossing-at .ensures) in
+    let low = leaves-low (now (s .args .plan)) (t .links) (t .leaving) (t .m) in-plan (t .inv .1) f g f-is g-is fs gs in
+    search needs
+
+add-links-2 : tie.Need-add-links-2 Inv-loop μ-loop
+add-links-2 c =
+    let k = c .before .before in
+    let a = k .before .before in
+    let s = a .before .before .before .before .before in
+    let t = a .before .before .loop in
+    let in-plan = a .before .loop-test .taken in
+    let f = k .before .bay-key .result in
+    let g = k .bay-key2 .result in
+    let long : length (t .links) ≡ length (now (s .args .plan)) * links-each = t .inv .1 .long in
+    let fs : f < most-bays = omega (arith, small a, k .before .bay-key .ensures) in
+    let gs : g < most-bays = omega (arith, small a, k .bay-key2 .ensures) in
+    let f-is : f ≡ named (crossings (now (s .args .plan))) (t .m) .from = k .before .bay-key .ensures ∙ ap (λ y. y .from) (a .crossing-at .ensures) in
+    let g-is : g ≡ named (crossings (now (s .args .plan))) (t .m) .to = k .bay-key2 .ensures ∙ ap (λ y. y .to) (a .crossing-at .ensures) in
+    let low = leaves-low (now (s .args .plan)) (t .links) (t .leaving) (t .m) in-plan (t .inv .1) f g f-is g-is fs gs in
+    search needs
+
+mul-links-4 : tie.Need-mul-links-4 Inv-loop μ-loop
+mul-links-4 c =
+    let k = c .before .before in
+    let a = k .before .before in
+    let s = a .before .before .before .before .before in
+    let t = a .before .before .loop in
+    let in-plan = a .before .loop-test .taken in
+    let f = k .before .bay-key .result in
+    let g = k .bay-key2 .result in
+    let long : length (t .links) ≡ length (now (s .args .plan)) * links-each = t .inv .1 .long in
+    let fs : f < most-bays = omega (arith, small a, k .before .bay-key .ensures) in
+    let gs : g < most-bays = omega (arith, small a, k .bay-key2 .ensures) in
+    let f-is : f ≡ named (crossings (now (s .args .plan))) (t .m) .from = k .before .bay-key .ensures ∙ ap (λ y. y .from) (a .crossing-at .ensures) in
+    let g-is : g ≡ named (crossings (now (s .args .plan))) (t .m) .to = k .bay-key2 .ensures ∙ ap (λ y. y .to) (a .crossing-at .ensures) in
+    let low = leaves-low (now (s .args .plan)) (t .links) (t .leaving) (t .m) in-plan (t .inv .1) f g f-is g-is fs gs in
+    search needs
+
+slice-write-links-2 : tie.Need-slice-write-links-2 Inv-loop μ-loop
+slice-write-links-2 c =
+    let k = c .before .before in
+    let a = k .before .before in
+    let s = a .before .before .before .before .before in
+    let t = a .before .before .loop in
+    let in-plan = a .before .loop-test .taken in
+    let f = k .before .bay-key .result in
+    let g = k .bay-key2 .result in
+    let long : length (t .links) ≡ length (now (s .args .plan)) * links-each = t .inv .1 .long in
+    let fs : f < most-bays = omega (arith, small a, k .before .bay-key .ensures) in
+    let gs : g < most-bays = omega (arith, small a, k .bay-key2 .ensures) in
+    let f-is : f ≡ named (crossings (now (s .args .plan))) (t .m) .from = k .before .bay-key .ensures ∙ ap (λ y. y .from) (a .crossing-at .ensures) in
+    let g-is : g ≡ named (crossings (now (s .args .plan))) (t .m) .to = k .bay-key2 .ensures ∙ ap (λ y. y .to) (a .crossing-at .ensures) in
+    let low = leaves-low (now (s .args .plan)) (t .links) (t .leaving) (t .m) in-plan (t .inv .1) f g f-is g-is fs gs in
+    omega (arith, long, in-plan, length-set (t .links) (t .m * links-each + 3) (c .before .narrow .result))
+
+add-m : tie.Need-add-m Inv-loop μ-loop
+add-m c = search needs
+
+mul-leaving : tie.Need-mul-leaving Inv-loop μ-loop
+mul-leaving c = search needs
+
+array-write-leaving : tie.Need-array-write-leaving Inv-loop μ-loop
+array-write-leaving c =
+    let k = c .before .before in
+    let a = k .before .before in
+    let s = a .before .before .before .before .before in
+    let t = a .before .before .loop in
+    let in-plan = a .before .loop-test .taken in
+    let f = k .before .bay-key .result in
+    let g = k .bay-key2 .result in
+    let long : length (t .links) ≡ length (now (s .args .plan)) * links-each = t .inv .1 .long in
+    let fs : f < most-bays = omega (arith, small a, k .before .bay-key .ensures) in
+    let gs : g < most-bays = omega (arith, small a, k .bay-key2 .ensures) in
+    let f-is : f ≡ named (crossings (now (s .args .plan))) (t .m) .from = k .before .bay-key .ensures ∙ ap (λ y. y .from) (a .crossing-at .ensures) in
+    let g-is : g ≡ named (crossings (now (s .args .plan))) (t .m) .to = k .bay-key2 .ensures ∙ ap (λ y. y .to) (a .crossing-at .ensures) in
+    let low = leaves-low (now (s .args .plan)) (t .links) (t .leaving) (t .m) in-plan (t .inv .1) f g f-is g-is fs gs in
+    omega (arith, fs, t .inv .1 .bays)
+
+loop-less : tie.Need-loop-less Inv-loop μ-loop
+loop-less c = omega (arith, c .before .before .before .before .before .loop-test .taken)
+
+loop-again : tie.Need-loop-again Inv-loop μ-loop
+loop-again c =
+    let k = c .before .before in
+    let a = k .before .before in
+    let s = a .before .before .before .before .before in
+    let t = a .before .before .loop in
+    let in-plan = a .before .loop-test .taken in
+    let f = k .before .bay-key .result in
+    let g = k .bay-key2 .result in
+    let long : length (t .links) ≡ length (now (s .args .plan)) * links-each = t .inv .1 .long in
+    let fs : f < most-bays = omega (arith, small a, k .before .bay-key .ensures) in
+    let gs : g < most-bays = omega (arith, small a, k .bay-key2 .ensures) in
+    let f-is : f ≡ named (crossings (now (s .args .plan))) (t .m) .from = k .before .bay-key .ensures ∙ ap (λ y. y .from) (a .crossing-at .ensures) in
+    let g-is : g ≡ named (crossings (now (s .args .plan))) (t .m) .to = k .bay-key2 .ensures ∙ ap (λ y. y .to) (a .crossing-at .ensures) in
+    let low = leaves-low (now (s .args .plan)) (t .links) (t .leaving) (t .m) in-plan (t .inv .1) f g f-is g-is fs gs in
+    let next = down-next (now (s .args .plan)) (t .links) (t .leaving) (t .m) in-plan (t .inv .1) f g f-is g-is fs gs (c .before .narrow .result) (c .narrow2 .result) (c .before .narrow .ensures) (c .narrow2 .ensures) in
+    (next .long ∙ sym (s .pre .1), next)
+
+same-length : tie.Need-same-length Inv-loop μ-loop
+same-length c = c .before .loop .inv .0
+
+returns : tie.Need-returns Inv-loop μ-loop
+returns c = let t = c .before .loop in let i = t .inv .1 in all-linked (now (c .before .before .before .before .args .plan)) (t .links) (t .m) (c .before .before .before .before .pre .0) (i .long) (c .loop-test .left) (i .up) (i .down)
+
+pub fill-behind-spec : {M : Type 1} → statement M
+fill-behind-spec =
+    tie.close
+    (tie.spec
+    Inv-loop
+    μ-loop
+    loop-holds
+    crossing-at-requires
+    bay-key-requires
+    bay-key-requires-2
+    mul-narrow
+    array-read-narrow
+    narrow-requires
+    mul-links
+    add-links
+    mul-links-2
+    slice-write-links
+    mul-narrow-2
+    array-read-narrow-2
+    narrow-requires-2
+    mul-links-3
+    add-links-2
+    mul-links-4
+    slice-write-links-2
+    add-m
+    mul-leaving
+    array-write-leaving
+    loop-less
+    loop-again
+    same-length
+    returns)
