@@ -7,7 +7,7 @@ use borrow.Author.Needs.{needs}
 use Rattle.acting.proofs.Acting.{tried-done, tried-failed}
 use Rattle.clear.proofs.Clearing.{ready-again}
 use Rattle.clear_on.proofs.Attempting.{pair-none, pair-from}
-use Rattle.vacate.specs.Bounds.{bring-most}
+use Rattle.moving.specs.Bounds.{bring-most}
 use Rattle.trial.proofs.Attempting.{not-brought, at-junction, set-up-all}
 use Rattle.acting.specs.declared.Tried.the-variants.{Done}
 use Rattle.acting.specs.declared.Tried.the-variants.{Failed}
