@@ -39,6 +39,10 @@ pub record Going (plan gone todo : List ℕ) (i : ℕ) : Type 0 where
   pub tested : (k : ℕ) → k < length plan → getD gone k 0 ≡ 0 → getD todo k 0 ≡ 0 → NoTrip gone (crossings plan) k
   pub below : (k : ℕ) → k < i → getD gone k 0 ≡ 0 → getD todo k 0 ≡ 0
 
+-- the crossings that the less working room holds
+abbrev pub few-crossings : ℕ
+few-crossings = 4096
+
 -- each look drops a crossing or goes on to the next name
 unfoldable pub rank : List ℕ → List ℕ → ℕ → ℕ
 rank plan gone i = length (left gone (crossings plan)) * suc (length plan) + (length plan - i)

@@ -17,7 +17,7 @@ ghost use Rattle.trips.specs.Names.{left, dropTrip};
 ghost use Rattle.trips.specs.Shortening.{anyDone};
 ghost use Rattle.trips.proofs.Freeing.{LastLeaving, Noted};
 ghost use Rattle.chains.specs.Links.{links-each, Passed, Linked};
-ghost use Rattle.shorten.specs.Going.{Lawful, Going, lastFrom, rank};
+ghost use Rattle.shorten.specs.Going.{few-crossings, Lawful, Going, lastFrom, rank};
 ghost use Rattle.shorten.specs.Statements.{RoomSays, ShortenSays};
 use checker::Checked;
 use docket::Bay;
@@ -28,6 +28,11 @@ use yard::Yard;
 
 // Room for the links of the longest plan.
 const LINKS: usize = chains::LINKS * Yard::CROSSINGS;
+
+// Crossings that the less room holds, and their links.
+const FEW: usize = 4096;
+
+const FEW_LINKS: usize = chains::LINKS * FEW;
 
 // The crossing is still in the plan and leads to the bay.
 fn enters_bay(plan: &[u64], gone: &[u8], name: usize, bay: Bay) -> bool
@@ -356,11 +361,9 @@ fn shorten_in(
     finish(plan, gone, out)
 }
 
-// The same, with working room of its own.
-fn shorten_checked(plan: &[u64], out: &mut [u64]) -> Verdict
-    requires { ⌜
-        Lawful (crossings (now plan)) × (length (now plan) ≤ most-crossings) × Fits most-bays most-bays (now plan)
-        ⌝ }
+// The same, with working room for the longest plan.
+fn shorten_most(plan: &[u64], out: &mut [u64]) -> Verdict
+    requires { ⌜ Lawful (crossings (now plan)) × (length (now plan) ≤ most-crossings) × Fits most-bays most-bays (now plan) ⌝ }
     ensures { λ r. ⌜ RoomSays (now (plan .entry)) (now (out .entry)) r (now (out .exit)) ⌝ }
 {
     let count = plan.len();
@@ -375,6 +378,36 @@ fn shorten_checked(plan: &[u64], out: &mut [u64]) -> Verdict
         &mut links[..long],
         out,
     )
+}
+
+// The same, with room for a plan of few crossings. Clearing room takes time.
+fn shorten_few(plan: &[u64], out: &mut [u64]) -> Verdict
+    requires { ⌜ Lawful (crossings (now plan)) × (length (now plan) ≤ few-crossings) × Fits most-bays most-bays (now plan) ⌝ }
+    ensures { λ r. ⌜ RoomSays (now (plan .entry)) (now (out .entry)) r (now (out .exit)) ⌝ }
+{
+    let count = plan.len();
+    let long = count * chains::LINKS;
+    let mut gone = [0u8; FEW];
+    let mut todo = [1u8; FEW];
+    let mut links = [0u16; FEW_LINKS];
+    shorten_in(
+        plan,
+        &mut gone[..count],
+        &mut todo[..count],
+        &mut links[..long],
+        out,
+    )
+}
+
+// The same, with the room that the plan needs.
+fn shorten_checked(plan: &[u64], out: &mut [u64]) -> Verdict
+    requires { ⌜ Lawful (crossings (now plan)) × (length (now plan) ≤ most-crossings) × Fits most-bays most-bays (now plan) ⌝ }
+    ensures { λ r. ⌜ RoomSays (now (plan .entry)) (now (out .entry)) r (now (out .exit)) ⌝ }
+{
+    if plan.len() <= FEW {
+        return shorten_few(plan, out);
+    }
+    shorten_most(plan, out)
 }
 
 // Whether any mark is 1.

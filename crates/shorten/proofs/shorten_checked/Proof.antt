@@ -1,44 +1,11 @@
--- `shorten::shorten_checked` meets its contract. A plan that passes the check is no longer than the working room.
+-- `shorten::shorten_checked` meets its contract, whichever room is taken.
 -- Assumes nothing.
-use Rattle.shorten.proofs.Looking.{take-fresh}
-use Rattle.chains.specs.Links.{links-each}
-use lib.ListN.{length, take, replicate, length-replicate}
-use denote.Ref.{now}
-use native.Mathlib.Omega.{arith}
-use Prim.Native.Nat.{ℕ, _*_, _≤_}
-use mathlib.Core.Path.{_≡_, sym, _∙_, ap}
 use borrow.Author.Needs.{needs}
-use Rattle.paper.specs.Limits.{most-crossings}
 use Rattle.shorten.proofs.shorten_checked.Statement.{statement}
 use Rattle.shorten.proofs.shorten_checked.Tie as tie
 
--- as many places as are taken of it
-enough : (v k n : ℕ) → k ≤ n → length (take k (replicate n v)) ≡ k
-enough v k n h = ap length (take-fresh v k n h) ∙ length-replicate {A = ℕ} k v
-
-mul-long : tie.Need-mul-long
-mul-long c = search needs
-
-array-borrow-prefix-gone : tie.Need-array-borrow-prefix-gone
-array-borrow-prefix-gone c = search needs
-
-slice-aggregate-shorten-in : tie.Need-slice-aggregate-shorten-in
-slice-aggregate-shorten-in c = let s = c .before .before .before in sym (enough 0 (length (now (s .args .plan))) most-crossings (s .pre .1))
-
-array-borrow-prefix-todo : tie.Need-array-borrow-prefix-todo
-array-borrow-prefix-todo c = search needs
-
-slice-aggregate-shorten-in-2 : tie.Need-slice-aggregate-shorten-in-2
-slice-aggregate-shorten-in-2 c = let s = c .before .before .before .before in sym (enough 1 (length (now (s .args .plan))) most-crossings (s .pre .1))
-
-array-borrow-prefix-links : tie.Need-array-borrow-prefix-links
-array-borrow-prefix-links c = omega (arith, c .before .before .before .before .pre .1)
-
-slice-aggregate-shorten-in-3 : tie.Need-slice-aggregate-shorten-in-3
-slice-aggregate-shorten-in-3 c = let s = c .before .before .before .before .before in sym (enough 0 (length (now (s .args .plan)) * links-each) (links-each * most-crossings) (omega (arith, s .pre .1)))
-
-shorten-in-requires : tie.Need-shorten-in-requires
-shorten-in-requires c κs = let s = c .before .before .before .before .before .before in (s .pre .0, s .pre .1, take-fresh 0 (length (now (s .args .plan))) most-crossings (s .pre .1), take-fresh 1 (length (now (s .args .plan))) most-crossings (s .pre .1), enough 0 (length (now (s .args .plan)) * links-each) (links-each * most-crossings) (omega (arith, s .pre .1)), s .pre .2)
+shorten-few-requires : tie.Need-shorten-few-requires
+shorten-few-requires c κs = search needs
 
 same-length : tie.Need-same-length
 same-length c = search needs
@@ -46,17 +13,14 @@ same-length c = search needs
 returns : tie.Need-returns
 returns c = search needs
 
+shorten-most-requires : tie.Need-shorten-most-requires
+shorten-most-requires c κs = search needs
+
+same-length-2 : tie.Need-same-length-2
+same-length-2 c = search needs
+
+returns-2 : tie.Need-returns-2
+returns-2 c = search needs
+
 pub shorten-checked-spec : {M : Type 1} → statement M
-shorten-checked-spec =
-    tie.close
-    (tie.spec
-    mul-long
-    array-borrow-prefix-gone
-    slice-aggregate-shorten-in
-    array-borrow-prefix-todo
-    slice-aggregate-shorten-in-2
-    array-borrow-prefix-links
-    slice-aggregate-shorten-in-3
-    shorten-in-requires
-    same-length
-    returns)
+shorten-checked-spec = tie.close (tie.spec shorten-few-requires same-length returns shorten-most-requires same-length-2 returns-2)

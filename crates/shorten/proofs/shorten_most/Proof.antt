@@ -1,0 +1,62 @@
+-- `shorten::shorten_most` meets its contract. A plan that passes the check is no longer than the working room.
+-- Assumes nothing.
+use Rattle.shorten.proofs.Looking.{take-fresh}
+use Rattle.chains.specs.Links.{links-each}
+use lib.ListN.{length, take, replicate, length-replicate}
+use denote.Ref.{now}
+use native.Mathlib.Omega.{arith}
+use Prim.Native.Nat.{ℕ, _*_, _≤_}
+use mathlib.Core.Path.{_≡_, sym, _∙_, ap}
+use borrow.Author.Needs.{needs}
+use Rattle.paper.specs.Limits.{most-crossings}
+use Rattle.shorten.proofs.shorten_most.Statement.{statement}
+use Rattle.shorten.proofs.shorten_most.Tie as tie
+
+-- as many places as are taken of it
+enough : (v k n : ℕ) → k ≤ n → length (take k (replicate n v)) ≡ k
+enough v k n h = ap length (take-fresh v k n h) ∙ length-replicate {A = ℕ} k v
+
+mul-long : tie.Need-mul-long
+mul-long c = search needs
+
+array-borrow-prefix-gone : tie.Need-array-borrow-prefix-gone
+array-borrow-prefix-gone c = search needs
+
+slice-aggregate-shorten-in : tie.Need-slice-aggregate-shorten-in
+slice-aggregate-shorten-in c = let s = c .before .before .before in sym (enough 0 (length (now (s .args .plan))) most-crossings (s .pre .1))
+
+array-borrow-prefix-todo : tie.Need-array-borrow-prefix-todo
+array-borrow-prefix-todo c = search needs
+
+slice-aggregate-shorten-in-2 : tie.Need-slice-aggregate-shorten-in-2
+slice-aggregate-shorten-in-2 c = let s = c .before .before .before .before in sym (enough 1 (length (now (s .args .plan))) most-crossings (s .pre .1))
+
+array-borrow-prefix-links : tie.Need-array-borrow-prefix-links
+array-borrow-prefix-links c = omega (arith, c .before .before .before .before .pre .1)
+
+slice-aggregate-shorten-in-3 : tie.Need-slice-aggregate-shorten-in-3
+slice-aggregate-shorten-in-3 c = let s = c .before .before .before .before .before in sym (enough 0 (length (now (s .args .plan)) * links-each) (links-each * most-crossings) (omega (arith, s .pre .1)))
+
+shorten-in-requires : tie.Need-shorten-in-requires
+shorten-in-requires c κs = let s = c .before .before .before .before .before .before in (s .pre .0, s .pre .1, take-fresh 0 (length (now (s .args .plan))) most-crossings (s .pre .1), take-fresh 1 (length (now (s .args .plan))) most-crossings (s .pre .1), enough 0 (length (now (s .args .plan)) * links-each) (links-each * most-crossings) (omega (arith, s .pre .1)), s .pre .2)
+
+same-length : tie.Need-same-length
+same-length c = search needs
+
+returns : tie.Need-returns
+returns c = search needs
+
+pub shorten-most-spec : {M : Type 1} → statement M
+shorten-most-spec =
+    tie.close
+    (tie.spec
+    mul-long
+    array-borrow-prefix-gone
+    slice-aggregate-shorten-in
+    array-borrow-prefix-todo
+    slice-aggregate-shorten-in-2
+    array-borrow-prefix-links
+    slice-aggregate-shorten-in-3
+    shorten-in-requires
+    same-length
+    returns)
