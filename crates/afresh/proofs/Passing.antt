@@ -45,6 +45,9 @@ pub record Moving (plan marks : List ℕ) (at₀ at : Placement) (i : ℕ) : Typ
   pub long : length at ≡ length at₀
   pub whole : after at (rest plan marks i) ≡ after at₀ (rest plan marks 0)
 
+pub moving-start : (plan marks : List ℕ) (at : Placement) → Moving plan marks at at 0
+moving-start plan marks at = record { within = omega arith; long = refl; whole = refl }
+
 module _ (plan marks : List ℕ) (len : length marks ≡ length plan) (at₀ at : Placement) (i : ℕ) (m : Moving plan marks at₀ at i) where
   module _ (more : i < length plan) where
     pub moving-done : getD marks i 0 ≡ 1 → (x : Crossing) → x ≡ named (crossings plan) i → Moving plan marks at₀ (move at x) (i + 1)
@@ -106,7 +109,7 @@ pub record Billing (plan marks billed last : List ℕ) (i : ℕ) : Type 0 where
   pub counts : (c : Carrier) → c < most-bays → getD billed c 0 + countOf c (rest plan marks i) ≡ countOf c (rest plan marks 0)
   pub names : (c : Carrier) → c < most-bays → lastFrom plan marks c (getD last c 0) i ≡ lastFrom plan marks c untouched 0
 
-getD-replicate : (k v c : ℕ) → c < k → getD (replicate k v) c 0 ≡ v
+pub getD-replicate : (k v c : ℕ) → c < k → getD (replicate k v) c 0 ≡ v
 getD-replicate zero v c h = absurd (omega arith)
 getD-replicate (suc k) v zero h = refl
 getD-replicate (suc k) v (suc c) h = getD-replicate k v c (omega arith)

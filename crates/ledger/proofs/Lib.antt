@@ -1,6 +1,7 @@
 pub mod Laid
 pub mod Standing
 pub mod Listing
+pub mod Worked
 pub mod Refusing
 pub mod Agreeing
 pub mod Opened

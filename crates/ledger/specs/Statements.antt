@@ -24,6 +24,7 @@ use Rattle.bills.specs.declared.Line.{Line}
 use Rattle.bills.specs.declared.Record.{Record}
 use Rattle.ledger.specs.Lines.{gathered, lineAt, linesHeld}
 use Rattle.ledger.specs.declared.Held.{Held}
+use Rattle.ledger.specs.declared.Fresh.{Fresh}
 use Rattle.ledger.specs.declared.Agreement.{Agreement}
 use Rattle.ledger.specs.declared.Agreement.the-variants as test
 use Rattle.ledger.specs.declared.Opening.{Opening}
@@ -45,6 +46,16 @@ pub record Fit (starts : Placement) (plan marks : List ℕ) : Type 0 where
 abbrev pub allSame : Placement → List ℕ → List ℕ → Record → Held → Bool
 allSame starts plan marks rec held =
     sameRecord rec (recordOf starts (crossings plan) marks) and sameLines (linesHeld held) (linesOf (length starts) (crossings plan) marks)
+
+-- the slot of a name that is in the plan
+abbrev pub SlotOf : List ℕ → ℕ → ℕ → Type 0
+SlotOf plan name slot = name < length plan → slot ≡ getD (slots (crossings plan)) name 0
+
+-- all that is worked out afresh
+pub record WorkedOut (starts : Placement) (plan marks : List ℕ) (name : ℕ) (r : Fresh) : Type 0 where
+  pub is-record : r .running ≡ recordOf starts (crossings plan) marks
+  pub is-held : r .held ≡ gathered (linesOf (length starts) (crossings plan) marks)
+  pub is-slot : SlotOf plan name (r .slot)
 
 -- the step asks that name, carrier and counters have their places
 pub record PostAsks (plan : List ℕ) (name : ℕ) (rec : Record) (held : Held) : Type 0 where

@@ -1,20 +1,16 @@
 // Record and account lines by value: worked out afresh, compared, and changed by an accepted report. The functions that are lent a record and lines are
 // thin ones above this crate.
 ghost use mathlib.Core.Path.{_≡_};
-ghost use Prim.Native.Nat.{_≤_, _<_};
-ghost use lib.ListN.{length, replicate};
+ghost use Prim.Native.Nat.{_≤_};
 ghost use Rattle.paper.specs.Limits.{most-bays};
-ghost use Rattle.paper.specs.Yard.{crossings, most-crossings};
 ghost use Rattle.paper.specs.Order.{order};
-ghost use Rattle.paper.specs.Dependence.{placementBy};
-ghost use Rattle.paper.specs.OnePass.{Fits};
 ghost use Rattle.paper.specs.Answers.{accepts};
 ghost use Rattle.marks.specs.Reading.{reportOf};
 ghost use Rattle.checker.specs.Reading.{checkedOf};
-ghost use Rattle.bills.specs.Billing.{places, noLine, recordOf, linesOf};
+ghost use Rattle.bills.specs.Billing.{noLine};
 ghost use Rattle.bills.specs.Answering.{upToEleven, agreement};
 ghost use Rattle.ledger.specs.Lines.{noLines, heldOf, topOf, lineAt, gathered, linesHeld, listed};
-ghost use Rattle.ledger.specs.Statements.{agreementOf, Fit, allSame, OpenSays, PostAsks, PostSays, SettleAsks, SettleSays, BillingSays};
+ghost use Rattle.ledger.specs.Statements.{agreementOf, Fit, allSame, SlotOf, WorkedOut, OpenSays, PostAsks, PostSays, SettleAsks, SettleSays, BillingSays};
 use bills::Line;
 use bills::Record;
 use bills::UNTOUCHED;
@@ -66,31 +62,6 @@ pub fn line_at(held: Held, i: usize) -> Line
     entries::line_in(lines, i)
 }
 
-// The carriers where the done crossings leave them.
-fn stand(start: &[u16], plan: &[u64], marks: &[u8], at: &mut [u16; Yard::BAYS])
-    requires { ⌜ Fit (now start) (now plan) (now marks) × (now at ≡ replicate most-bays 0) ⌝ }
-    ensures { λ _. ⌜ now (at .exit) ≡ places (placementBy (now (start .entry)) (crossings (now (plan .entry))) (now (marks .entry))) ⌝ }
-{
-    copies::shorts(at, start);
-    afresh::move_done(plan, marks, at);
-}
-
-// The record worked out afresh.
-fn fresh_record(start: &[u16], plan: &[u64], marks: &[u8]) -> Record
-    requires { ⌜ Fit (now start) (now plan) (now marks) ⌝ }
-    ensures { λ r. ⌜ r ≡ recordOf (now (start .entry)) (crossings (now (plan .entry))) (now (marks .entry)) ⌝ }
-{
-    let mut at = [0u16; Yard::BAYS];
-    stand(start, plan, marks, &mut at);
-    let done = afresh::count_done(plan, marks);
-    let highest = afresh::highest_done(plan, marks);
-    Record {
-        at: at,
-        done: done,
-        highest: highest,
-    }
-}
-
 // So many lines with these counts and last names.
 fn list_lines(count: usize, billed: &[u32; Yard::BAYS], last: &[u32; Yard::BAYS]) -> Held
     requires { ⌜ count ≤ most-bays ⌝ }
@@ -109,29 +80,71 @@ fn list_lines(count: usize, billed: &[u32; Yard::BAYS], last: &[u32; Yard::BAYS]
     hold(count, lines)
 }
 
-// The lines of so many carriers worked out afresh.
-fn fresh_lines(count: usize, plan: &[u64], marks: &[u8]) -> Held
-    requires { ⌜ (count ≤ most-bays) × (length (now marks) ≡ length (now plan)) × (length (now plan) ≤ most-crossings) × Fits most-bays most-bays (now plan) ⌝ }
-    ensures { λ r. ⌜ r ≡ gathered (linesOf count (crossings (now (plan .entry))) (now (marks .entry))) ⌝ }
+// Record and lines worked out afresh, and the slot of the name that is asked for.
+struct Fresh {
+    running: Record,
+    held: Held,
+    slot: u32,
+}
+
+// The carriers at their starts, and the pass over the done crossings.
+fn work_out(start: &[u16], plan: &[u64], marks: &[u8], name: usize) -> Fresh
+    requires { ⌜ Fit (now start) (now plan) (now marks) ⌝ }
+    ensures { λ r. ⌜ WorkedOut (now (start .entry)) (now (plan .entry)) (now (marks .entry)) name r ⌝ }
 {
+    let mut at = [0u16; Yard::BAYS];
     let mut billed = [0u32; Yard::BAYS];
     let mut last = [UNTOUCHED; Yard::BAYS];
-    afresh::bill_done(plan, marks, &mut billed, &mut last);
-    list_lines(count, &billed, &last)
+    copies::shorts(&mut at, start);
+    let slots = afresh::bill_done(plan, marks, name, &mut at, &mut billed, &mut last);
+    let done = afresh::count_done(plan, marks);
+    let held = list_lines(start.len(), &billed, &last);
+    Fresh {
+        running: Record {
+            at: at,
+            done: done,
+            highest: slots.highest,
+        },
+        held: held,
+        slot: slots.asked,
+    }
+}
+
+// Whether all agree, and the slot of the name that is asked for.
+struct Agreed {
+    all: bool,
+    slot: u32,
 }
 
 // Whether record and lines are those worked out afresh.
-fn agree(start: &[u16], plan: &[u64], marks: &[u8], running: Record, held: Held) -> bool
+fn agree(
+    start: &[u16],
+    plan: &[u64],
+    marks: &[u8],
+    name: usize,
+    running: Record,
+    held: Held,
+) -> Agreed
     requires { ⌜ Fit (now start) (now plan) (now marks) ⌝ }
-    ensures { λ r. ⌜ r ≡ allSame (now (start .entry)) (now (plan .entry)) (now (marks .entry)) running held ⌝ }
+    ensures { λ r. ⌜
+        (r .all ≡ allSame (now (start .entry)) (now (plan .entry)) (now (marks .entry)) running held) × SlotOf (now (plan .entry)) name (r .slot)
+        ⌝ }
 {
-    if !entries::same_record(running, fresh_record(start, plan, marks)) {
-        return false;
+    let fresh = work_out(start, plan, marks, name);
+    let slot = fresh.slot;
+    if !entries::same_record(running, fresh.running) {
+        return Agreed {
+            all: false,
+            slot: slot,
+        };
     }
-    let fresh = fresh_lines(start.len(), plan, marks);
+    let afresh = fresh.held;
     let lent_lines = held.lines;
-    let fresh_lines = fresh.lines;
-    entries::same_lines(held.count, lent_lines, fresh.count, fresh_lines)
+    let fresh_lines = afresh.lines;
+    Agreed {
+        all: entries::same_lines(held.count, lent_lines, afresh.count, fresh_lines),
+        slot: slot,
+    }
 }
 
 // The refusals up to 11: the check, then the marks.
@@ -185,7 +198,8 @@ pub fn compare(
     if let Checked::Refused(r) = checked {
         return Agreement::Refused(r);
     }
-    if agree(start, plan, marks, running, held) {
+    let agreed = agree(start, plan, marks, 0, running, held);
+    if agreed.all {
         return Agreement::Agrees;
     }
     Agreement::Differs
@@ -229,10 +243,13 @@ pub fn open(
             held: hold(0, no_lines()),
         };
     }
+    let fresh = work_out(start, plan, marks, 0);
+    let kept = fresh.running;
+    let held = fresh.held;
     Opening {
         answer: Checked::Passed,
-        running: fresh_record(start, plan, marks),
-        held: fresh_lines(count, plan, marks),
+        running: kept,
+        held: held,
     }
 }
 
@@ -256,14 +273,13 @@ fn unchanged(answer: Reported, running: Record, held: Held) -> Told
     }
 }
 
-// The step: record and line after the accepted name.
-fn post(plan: &[u64], name: usize, running: Record, held: Held) -> Told
-    requires { ⌜ PostAsks (now plan) name running held ⌝ }
+// The step: record and line after the accepted name, whose slot is this.
+fn post(plan: &[u64], name: usize, slot: u32, running: Record, held: Held) -> Told
+    requires { ⌜ PostAsks (now plan) name running held × SlotOf (now plan) name slot ⌝ }
     ensures { λ r. ⌜ PostSays (now (plan .entry)) name running held r ⌝ }
 {
     let x = plans::crossing_at(plan, name);
     let carrier = x.carrier.0 as usize;
-    let slot = slots::slot_of(plan, name);
     Told {
         answer: Reported::Accepted,
         running: entries::posted(running, x, slot),
@@ -284,14 +300,14 @@ fn is_billed(answer: Reported) -> bool
 }
 
 // Once all agree: 12, "already", 13 or the step.
-fn settle(plan: &[u64], marks: &mut [u8], name: u64, running: Record, held: Held) -> Told
-    requires { ⌜ SettleAsks (now plan) (now marks) running held ⌝ }
+fn settle(plan: &[u64], marks: &mut [u8], name: u64, slot: u32, running: Record, held: Held) -> Told
+    requires { ⌜ SettleAsks (now plan) (now marks) running held × SlotOf (now plan) name slot ⌝ }
     ensures { λ r. ⌜ SettleSays (now (plan .entry)) (now (marks .entry)) name running held r (now (marks .exit)) ⌝ }
 {
     let answer = marks::tell_in_order(plan, marks, name);
     marks::mark_accepted(marks, name, answer);
     if is_billed(answer) {
-        return post(plan, name as usize, running, held);
+        return post(plan, name as usize, slot, running, held);
     }
     unchanged(answer, running, held)
 }
@@ -313,10 +329,13 @@ pub fn report(
         (now (plan .entry)) (now (marks .entry)) name running held r (now (marks .exit))
         ⌝ }
 {
-    let agreed = compare(bays, rails, start, goal, plan, marks, running, held);
-    match agreed {
-        Agreement::Agrees => settle(plan, marks, name, running, held),
-        Agreement::Differs => unchanged(Reported::Refused(Refusal::Disagrees), running, held),
-        Agreement::Refused(r) => unchanged(Reported::Refused(r), running, held),
+    let checked = up_to_eleven(bays, rails, start, goal, plan, marks);
+    if let Checked::Refused(r) = checked {
+        return unchanged(Reported::Refused(r), running, held);
     }
+    let agreed = agree(start, plan, marks, name as usize, running, held);
+    if !agreed.all {
+        return unchanged(Reported::Refused(Refusal::Disagrees), running, held);
+    }
+    settle(plan, marks, name, agreed.slot, running, held)
 }

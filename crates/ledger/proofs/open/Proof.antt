@@ -2,12 +2,12 @@
 -- Assumes nothing.
 use borrow.Author.Needs.{needs}
 use mathlib.Core.Path.{sym, _∙_, ap}
-use native.Mathlib.Omega.{arith}
 use denote.Ref.{now}
+use Rattle.paper.specs.Yard.{crossings}
 use Rattle.paper.specs.Order.{order}
 use Rattle.checker.specs.Reading.{checkedOf}
-use Rattle.ledger.specs.Lines.{heldOf}
-use Rattle.ledger.proofs.Standing.{fits-all}
+use Rattle.bills.specs.Billing.{linesOf}
+use Rattle.ledger.specs.Lines.{heldOf, gathered}
 use Rattle.ledger.proofs.Refusing.{fit-of}
 use Rattle.ledger.proofs.Opened.{open-refused, eleven-first, then-room, open-written}
 use Rattle.ledger.proofs.open.Statement.{statement}
@@ -40,17 +40,16 @@ hold-requires-2 c κs = search needs
 returns-2 : tie.Need-returns-2
 returns-2 c = let s = c .before .before .before .before .before .before .before .before .before .before .before in open-refused (order (s .args .bays) (now (s .args .rails)) (now (s .args .start)) (now (s .args .goal))) (now (s .args .plan)) (now (s .args .marks)) (s .args .running) (s .args .count) _ (c .hold2 .result) (c .hold2 .ensures ∙ ap (heldOf 0) (c .before .no-lines2 .ensures)) (then-room (order (s .args .bays) (now (s .args .rails)) (now (s .args .start)) (now (s .args .goal))) (now (s .args .plan)) (now (s .args .marks)) (s .args .running) (s .args .count) (ap checkedOf (sym (c .before .before .before .enum-told .given .1)) ∙ c .before .before .before .before .before .up-to-eleven .ensures) (c .before .before .if1 .taken))
 
-fresh-record-requires : tie.Need-fresh-record-requires
-fresh-record-requires c κs = let s = c .before .before .before .before .before .before .before .before .before in fit-of (order (s .args .bays) (now (s .args .rails)) (now (s .args .start)) (now (s .args .goal))) (now (s .args .plan)) (now (s .args .marks)) (ap checkedOf (sym (c .before .enum-told .given .1)) ∙ c .before .before .before .up-to-eleven .ensures)
-
-fresh-lines-requires : tie.Need-fresh-lines-requires
-fresh-lines-requires c κs =
-    let s = c .before .before .before .before .before .before .before .before .before .before in
-    let f = fit-of (order (s .args .bays) (now (s .args .rails)) (now (s .args .start)) (now (s .args .goal))) (now (s .args .plan)) (now (s .args .marks)) (ap checkedOf (sym (c .before .before .enum-told .given .1)) ∙ c .before .before .before .before .up-to-eleven .ensures) in
-    (omega (arith, c .before .if1 .left, f .few), f .even, f .short, fits-all _ _ _ f)
+work-out-requires : tie.Need-work-out-requires
+work-out-requires c κs = let s = c .before .before .before .before .before .before .before .before .before in fit-of (order (s .args .bays) (now (s .args .rails)) (now (s .args .start)) (now (s .args .goal))) (now (s .args .plan)) (now (s .args .marks)) (ap checkedOf (sym (c .before .enum-told .given .1)) ∙ c .before .before .before .up-to-eleven .ensures)
 
 returns-3 : tie.Need-returns-3
-returns-3 c = let s = c .before .before .before .before .before .before .before .before .before .before .before in open-written (order (s .args .bays) (now (s .args .rails)) (now (s .args .start)) (now (s .args .goal))) (now (s .args .plan)) (now (s .args .marks)) (s .args .running) (s .args .count) (ap checkedOf (sym (c .before .before .before .enum-told .given .1)) ∙ c .before .before .before .before .before .up-to-eleven .ensures) (c .before .before .if1 .left) (c .before .fresh-record .result) (c .before .fresh-record .ensures) (c .fresh-lines .result) (c .fresh-lines .ensures)
+returns-3 c =
+    let s = c .before .before .before .before .before .before .before .before .before .before .before .before in
+    let w = c .before .before .work-out in
+    let as-many = c .before .before .before .if1 .left in
+    open-written (order (s .args .bays) (now (s .args .rails)) (now (s .args .start)) (now (s .args .goal))) (now (s .args .plan)) (now (s .args .marks)) (s .args .running) (s .args .count) (ap checkedOf (sym (c .before .before .before .before .enum-told .given .1)) ∙ c .before .before .before .before .before .before .up-to-eleven .ensures) as-many
+    (w .result .running) (w .ensures .is-record) (w .result .held) (w .ensures .is-held ∙ ap (λ k. gathered (linesOf k (crossings (now (s .args .plan))) (now (s .args .marks)))) (sym as-many))
 
 pub open-spec : {M : Type 1} → statement M
 open-spec =
@@ -65,6 +64,5 @@ open-spec =
     no-lines-requires-2
     hold-requires-2
     returns-2
-    fresh-record-requires
-    fresh-lines-requires
+    work-out-requires
     returns-3)

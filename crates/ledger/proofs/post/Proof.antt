@@ -19,11 +19,8 @@ crossing-at-requires c κs = search needs
 cast-carrier : tie.Need-cast-carrier
 cast-carrier c = search needs
 
-slot-of-requires : tie.Need-slot-of-requires
-slot-of-requires c κs = search needs
-
 posted-requires : tie.Need-posted-requires
-posted-requires c κs = let s = c .before .before .before .before in (fits-named most-bays most-bays (now (s .args .plan)) (s .pre .fits) (s .args .name) (s .pre .inside) (crossingOf (c .before .before .crossing-at .result)) (c .before .before .crossing-at .ensures) .0, s .pre .not-all)
+posted-requires c κs = let s = c .before .before .before in (fits-named most-bays most-bays (now (s .args .plan)) (s .pre .0 .fits) (s .args .name) (s .pre .0 .inside) (crossingOf (c .before .crossing-at .result)) (c .before .crossing-at .ensures) .0, s .pre .0 .not-all)
 
 line-at-requires : tie.Need-line-at-requires
 line-at-requires c κs = search needs
@@ -32,15 +29,15 @@ cast-charged : tie.Need-cast-charged
 cast-charged c = search needs
 
 charged-requires : tie.Need-charged-requires
-charged-requires c κs = let s = c .before .before .before .before .before .before in rw (ap (λ (l : Line). l .billed) (c .line-at .ensures ∙ ap (λ (y : Crossing). lineAt (s .args .held) (y .carrier)) (c .before .before .before .before .crossing-at .ensures))) (s .pre .not-full)
+charged-requires c κs = let s = c .before .before .before .before .before in rw (ap (λ (l : Line). l .billed) (c .line-at .ensures ∙ ap (λ (y : Crossing). lineAt (s .args .held) (y .carrier)) (c .before .before .before .crossing-at .ensures))) (s .pre .0 .not-full)
 
 returns : tie.Need-returns
 returns c =
-    let s = c .before .before .before .before .before .before .before in
-    let x = c .before .before .before .before .before .crossing-at .ensures in
+    let s = c .before .before .before .before .before .before in
+    let x = c .before .before .before .before .crossing-at .ensures in
     record {
       answers = refl;
-      leaves = c .before .before .posted .ensures ∙ ap₂ (posted (s .args .running)) x (c .before .before .before .slot-of .ensures);
+      leaves = c .before .before .posted .ensures ∙ ap₂ (posted (s .args .running)) x (s .pre .1 (s .pre .0 .inside));
       place = ap (λ (y : Crossing). y .carrier) x;
       line-then = c .charged .ensures ∙ ap (λ (l : Line). charged l (s .args .name)) (c .before .line-at .ensures ∙ ap (λ (y : Crossing). lineAt (s .args .held) (y .carrier)) x);
     }
@@ -51,7 +48,6 @@ post-spec =
     (tie.spec
     crossing-at-requires
     cast-carrier
-    slot-of-requires
     posted-requires
     line-at-requires
     cast-charged

@@ -17,7 +17,7 @@ tell-in-order-requires c κs = search needs
 mark-accepted-requires : tie.Need-mark-accepted-requires
 mark-accepted-requires c κs =
     let s = c .before .before .before .before .before in
-    λ e. rw (s .pre .even) (rw length-map at (told-named (crossings (now (s .args .plan))) (now (s .args .marks)) (s .args .name) (sym (c .before .tell-in-order .ensures) ∙ e)))
+    λ e. rw (s .pre .0 .even) (rw length-map at (told-named (crossings (now (s .args .plan))) (now (s .args .marks)) (s .args .name) (sym (c .before .tell-in-order .ensures) ∙ e)))
 
 is-billed-requires : tie.Need-is-billed-requires
 is-billed-requires c κs = search needs
@@ -27,7 +27,7 @@ post-requires c κs =
     let s = c .before .before .before .before .before .before .before .before .before .before in
     let yes = ap accepts (sym (c .before .before .before .before .before .before .tell-in-order .ensures)) ∙ sym (c .before .is-billed .ensures) ∙ c .if1 .taken in
     let inside = rw length-map at (told-inside (crossings (now (s .args .plan))) (now (s .args .marks)) (s .args .name) yes) in
-    record { inside = inside; short = s .pre .short; fits = s .pre .fits; not-all = s .pre .not-all; not-full = s .pre .not-full (s .args .name) inside }
+    (record { inside = inside; short = s .pre .0 .short; fits = s .pre .0 .fits; not-all = s .pre .0 .not-all; not-full = s .pre .0 .not-full (s .args .name) inside }, s .pre .1)
 
 same-length : tie.Need-same-length
 same-length c = search needs
