@@ -3,7 +3,7 @@
 ghost use mathlib.Core.Path.{_≡_};
 ghost use mathlib.Core.List.{_++_};
 ghost use Prim.Native.Nat.{_≤_, _<_, max};
-ghost use lib.ListN.{length, getD, drop};
+ghost use lib.ListN.{length, drop};
 ghost use Rattle.paper.specs.Limits.{most-bays};
 ghost use Rattle.paper.specs.Yard.{crossings, most-crossings};
 ghost use Rattle.paper.specs.Dependence.{slots as slotsOf};
@@ -51,19 +51,4 @@ pub fn slot_pass(plan: &[u64], out: &mut [u32])
         out[i] = next_slot(plans::crossing_at(plan, i), &mut carriers, &mut bays);
         i += 1;
     }
-}
-
-// The slot of one name: a pass over the crossings before it.
-pub fn slot_of(plan: &[u64], name: usize) -> u32
-    requires { ⌜ (name < length (now plan)) × (length (now plan) ≤ most-crossings) × Fits most-bays most-bays (now plan) ⌝ }
-    ensures { λ r. ⌜ r ≡ getD (slotsOf (crossings (now (plan .entry)))) name 0 ⌝ }
-{
-    let mut carriers: [u32; BAYS] = [0; BAYS];
-    let mut bays: [u32; BAYS] = [0; BAYS];
-    let mut i = 0;
-    while i < name {
-        next_slot(plans::crossing_at(plan, i), &mut carriers, &mut bays);
-        i += 1;
-    }
-    next_slot(plans::crossing_at(plan, name), &mut carriers, &mut bays)
 }
