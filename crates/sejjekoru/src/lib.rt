@@ -3,9 +3,9 @@
 mod by_edition;
 mod compare;
 mod files;
-mod lean;
 mod reverse;
 mod serial;
+mod small_stack;
 mod standing;
 mod surveys;
 mod whole;
