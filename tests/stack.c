@@ -36,7 +36,7 @@ static const char *const names[CALLS] = {"plan", "check", "slots", "report", "sh
                                          "compare", "placement", "map", "scenario", "link_begin", "link_piece", "link_end", "reverse",
                                          "slots_of", "program", "program_timed", "print_plan", "read_plan", "read_reports", "read_survey",
                                          "write_survey", "plan_lean"};
-static const size_t promised[CALLS] = {820, 16, 16, 16, 345, 24, 40, 40, 4, 16, 16, 16, 24, 24, 24, 4, 16, 1280, 1280, 4, 4, 4, 16, 16, 40}; /* KiB */
+static const size_t promised[CALLS] = {820, 16, 16, 16, 800, 24, 40, 40, 4, 16, 16, 16, 28, 28, 28, 4, 16, 1280, 1280, 4, 4, 4, 16, 16, 40}; /* KiB */
 
 static void *call(void *which)
 {
@@ -136,22 +136,32 @@ static void yard(unsigned side, size_t count)
 
 int main(void)
 {
-    static const unsigned sides[] = {0, 4, 16, 16};
-    static const size_t counts[] = {0, 6, 128, 240};
+    static const unsigned sides[] = {0, 4, 8, 16, 16};
+    static const size_t counts[] = {0, 6, 32, 128, 240};
+    /* what planning needs on each, in KiB */
+    static const size_t planning[] = {20, 36, 36, 100, 820};
     size_t most[CALLS] = {0}, base, need;
     int size, which, bad = 0;
     /* the first thread of all needs more than others, to find the functions that it calls */
     used(-1);
     base = used(-1);
-    for (size = 0; size < 4; size++) {
+    for (size = 0; size < 5; size++) {
         yard(sides[size], counts[size]);
         crossings = 0;
         for (which = 0; which < CALLS; which++) {
             /* no crossing is done: of a plan that is begun nothing is shortened */
             memset(marks, 0, sizeof marks);
             need = used(which);
-            if (need > base && need - base > most[which])
-                most[which] = need - base;
+            need = need > base ? need - base : 0;
+            if (need > most[which])
+                most[which] = need;
+            if (which == 0) {
+                printf("planning %u bays with %u carriers: %zu bytes\n", sides[size] * sides[size], (unsigned)counts[size], need);
+                bad |= need > planning[size] * KIB;
+            }
+            /* a plan that is short enough is shortened in less room */
+            if (which == 4 && crossings <= 4096)
+                bad |= need > 64 * KIB;
             if (which == 0 && answer == SEJJEKORU_ACCEPTED) {
                 crossings = (size_t)value;
                 memcpy(plan, out, sizeof plan);
