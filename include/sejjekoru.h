@@ -30,7 +30,7 @@
 #include <stdint.h>
 
 /* The version of this header. A changed signature raises the second number, until the first is 1. */
-#define SEJJEKORU_VERSION "0.5.0"
+#define SEJJEKORU_VERSION "0.6.0"
 
 #ifdef __cplusplus
 extern "C" {
