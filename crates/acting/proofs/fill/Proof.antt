@@ -26,8 +26,9 @@ same-length-4 c = search needs
 
 returns : tie.Need-returns
 returns c =
+    let cross = c .before .before .before .before .before .before .before .before .before .cross in
     let told = c .tally-filled .ensures in
-    let crossed = c .before .before .before .before .before .before .before .before .before .cross .ensures in
+    let crossed = cross .ensures in
     λ t. tallied-filled (t .yard) _ (rw (told .0) crossed) (omega arith) (told .1 t)
 
 pub fill-spec : {M : Type 1} → statement M

@@ -17,8 +17,9 @@ count-rails-requires c κs = let p = c .before .before .pre in omega (arith, p .
 
 returns : tie.Need-returns
 returns c =
-    let p = c .before .before .before .pre in
-    λ t. ap (λ (k : ℕ). ltb 2 k) (c .count-rails .ensures) ∙ junction-rails t (p .0) (c .before .before .before .args .v .0) (p .1)
+    let start = c .before .before .before in
+    let p = start .pre in
+    λ t. ap (λ (k : ℕ). ltb 2 k) (c .count-rails .ensures) ∙ junction-rails t (p .0) (start .args .v .0) (p .1)
 
 pub is-junction-spec : {M : Type 1} → statement M
 is-junction-spec = tie.close (tie.spec cast-count-rails count-rails-requires returns)

@@ -14,8 +14,9 @@ vacate-requires c κs = search needs
 
 counted-requires : tie.Need-counted-requires
 counted-requires c κs =
-    let p = c .before .before .before .before .before .before .before .before .before .before .before .before .before .before .before .before .before .before .before .pre in
-    let at = c .before .before .before .before .before .before .before .before .before .before .before .before .before .before .before .before .before .before .before .args .at in
+    let start = c .before .before .before .before .before .before .before .before .before .before .before .before .before .before .before .before .before .before .before in
+    let p = start .pre in
+    let at = start .args .at in
     let v = c .before .before .before .before .before .before .before .before .vacate in
     (p .0 .most, p .0 .table-size, filled-in at (v .result) (p .0 .placed .apart) (p .1 .0) (v .ensures (p .1 .3)))
 
@@ -33,7 +34,8 @@ same-length-4 c = search needs
 
 returns : tie.Need-returns
 returns c =
-    let p = c .before .before .before .before .before .before .before .before .before .before .before .before .before .before .before .before .before .before .before .before .pre in
+    let start = c .before .before .before .before .before .before .before .before .before .before .before .before .before .before .before .before .before .before .before .before in
+    let p = start .pre in
     let v = c .before .before .before .before .before .before .before .before .before .vacate in
     let says = v .ensures (p .1 .3) in (
       room-within _ (p .0 .most) (v .result) (c .counted .result) says (c .counted .ensures (record { yard = p .1 .3 .yard; joins = p .1 .3 .joins })),

@@ -90,6 +90,7 @@ loop-less c = search needs
 
 loop-again : tie.Need-loop-again Inv-loop μ-loop
 loop-again c =
+    let asked-with = c .before .before .before .before .asked-with in
     let n = c .before .before .before .before .before in
     let k = n .before .before .before in
     let t = k .before .before .loop in
@@ -97,9 +98,9 @@ loop-again c =
     let more = k .before .loop-test .taken in
     ⊎-elim
     (λ w. rw (w .3, w .4) (working-done (now (s .args .plan)) (now (s .args .marks)) (s .pre .0) (s .pre .2) (s .args .name) (now (s .args .at)) (s .pre .3) (t .billed) (t .last) (t .carriers) (t .bays) (t .highest) (t .asked) (t .i) (t .inv) more
-    (crossingOf (k .crossing-at .result)) (k .crossing-at .ensures) _ _ _ (n .next-slot .ensures) _ (c .before .before .before .before .asked-with .ensures) _ (c .before .before .highest-with .ensures) (w .0 .taken)))
+    (crossingOf (k .crossing-at .result)) (k .crossing-at .ensures) _ _ _ (n .next-slot .ensures) _ (asked-with .ensures) _ (c .before .before .highest-with .ensures) (w .0 .taken)))
     (λ w. rw (w .1, w .2) (working-undone (now (s .args .plan)) (now (s .args .marks)) (s .pre .0) (s .pre .2) (s .args .name) (now (s .args .at)) (s .pre .3) (t .billed) (t .last) (t .carriers) (t .bays) (t .highest) (t .asked) (t .i) (t .inv) more
-    (crossingOf (k .crossing-at .result)) (k .crossing-at .ensures) _ _ _ (n .next-slot .ensures) _ (c .before .before .before .before .asked-with .ensures) _ (c .before .before .highest-with .ensures) (w .0 .left)))
+    (crossingOf (k .crossing-at .result)) (k .crossing-at .ensures) _ _ _ (n .next-slot .ensures) _ (asked-with .ensures) _ (c .before .before .highest-with .ensures) (w .0 .left)))
     (c .if1 .came)
 
 lead-requires : tie.Need-lead-requires Inv-loop μ-loop

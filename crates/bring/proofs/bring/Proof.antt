@@ -36,12 +36,14 @@ shared-slice-read-t19 c = search needs
 
 bring-one-requires : tie.Need-bring-one-requires Inv-loop μ-loop
 bring-one-requires c κs =
-    let p = c .before .before .before .before .before .before .before .before .before .before .before .before .before .pre .0 in
-    let z = c .before .before .before .before .before .before .before .before .before .before .before .before .before .pre .1 in
+    let loop-test = c .before .before .before .before .before .loop-test in
+    let start = c .before .before .before .before .before .before .before .before .before .before .before .before .before in
+    let p = start .pre .0 in
+    let z = start .pre .1 in
     let l = c .before .before .before .before .before .before .loop in
     let v = l .inv in
     let b = v .6 (p .tabled) in
-    let e : length (l .standing) ≡ length (c .before .before .before .before .before .before .before .before .before .before .before .before .before .args .standing .now) = v .3 in (
+    let e : length (l .standing) ≡ length (start .args .standing .now) = v .3 in (
       record {
         most = omega (arith, p .most, e);
         table-size = rw e (p .table-size);
@@ -50,7 +52,7 @@ bring-one-requires c κs =
         tabled = rw e (p .tabled);
         levelled = rw e (p .levelled);
       },
-      (omega (arith, z .0, v .2), omega (arith, z .1, v .2), z .2, rw e (z .3 (l .i) (c .before .before .before .before .before .loop-test .taken)), omega (arith, v .1, z .4, c .before .before .before .before .before .loop-test .taken)),
+      (omega (arith, z .0, v .2), omega (arith, z .1, v .2), z .2, rw e (z .3 (l .i) (loop-test .taken)), omega (arith, v .1, z .4, loop-test .taken)),
     )
 
 enum-known-one : tie.Need-enum-known-one Inv-loop μ-loop
@@ -76,15 +78,18 @@ same-length-5 c = search needs
 
 returns : tie.Need-returns Inv-loop μ-loop
 returns c =
-    let z = c .before .before .before .before .before .before .before .before .before .before .before .before .before .before .before .before .before .before .before .before .before .before .before .before .pre .1 in
+    let bring-one = c .before .before .before .before .before .before .before .before .before .before .bring-one in
+    let loop-test = c .before .before .before .before .before .before .before .before .before .before .before .before .before .before .before .before .loop-test in
+    let start = c .before .before .before .before .before .before .before .before .before .before .before .before .before .before .before .before .before .before .before .before .before .before .before .before in
+    let z = start .pre .1 in
     let l = c .before .before .before .before .before .before .before .before .before .before .before .before .before .before .before .before .before .loop in
     let v = l .inv in (
       tt,
       λ t.
-          let kw : length (l .standing) ≡ length (c .before .before .before .before .before .before .before .before .before .before .before .before .before .before .before .before .before .before .before .before .before .before .before .before .args .standing .now) = v .3 in
-          let e : c .before .before .before .before .before .before .before .before .before .before .bring-one .result ≡ Failed = c .enum-told .given .1 in
-          let f = rw kw at (c .before .before .before .before .before .before .before .before .before .before .bring-one .ensures .1) in
-          tries-none (bringing-stops (v .6 t) (c .before .before .before .before .before .before .before .before .before .before .before .before .before .before .before .before .loop-test .taken) (omega (arith, z .0, v .2)) (omega (arith, z .1, v .2)) (z .2) (bay-low t (z .3 (l .i) (c .before .before .before .before .before .before .before .before .before .before .before .before .before .before .before .before .loop-test .taken))) (rw e at (f t))),
+          let kw : length (l .standing) ≡ length (start .args .standing .now) = v .3 in
+          let e : bring-one .result ≡ Failed = c .enum-told .given .1 in
+          let f = rw kw at (bring-one .ensures .1) in
+          tries-none (bringing-stops (v .6 t) (loop-test .taken) (omega (arith, z .0, v .2)) (omega (arith, z .1, v .2)) (z .2) (bay-low t (z .3 (l .i) (loop-test .taken))) (rw e at (f t))),
     )
 
 add-i : tie.Need-add-i Inv-loop μ-loop
@@ -95,21 +100,24 @@ loop-less c = search needs
 
 loop-again : tie.Need-loop-again Inv-loop μ-loop
 loop-again c =
-    let z = c .before .before .before .before .before .before .before .before .before .before .before .before .before .before .before .before .before .before .before .before .before .before .before .before .before .pre .1 in
+    let bring-one = c .before .before .before .before .before .before .before .before .before .before .before .bring-one in
+    let loop-test = c .before .before .before .before .before .before .before .before .before .before .before .before .before .before .before .before .before .loop-test in
+    let start = c .before .before .before .before .before .before .before .before .before .before .before .before .before .before .before .before .before .before .before .before .before .before .before .before .before in
+    let z = start .pre .1 in
     let l = c .before .before .before .before .before .before .before .before .before .before .before .before .before .before .before .before .before .before .loop in
     let v = l .inv in
-    let kw : length (l .standing) ≡ length (c .before .before .before .before .before .before .before .before .before .before .before .before .before .before .before .before .before .before .before .before .before .before .before .before .before .args .standing .now) = v .3 in
-    let k = c .before .before .before .before .before .before .before .before .before .before .before .bring-one .kept in
-    let e : c .before .before .before .before .before .before .before .before .before .before .before .bring-one .result ≡ Done (c .before .one .given .0 .0) = c .before .one .given .1 in
-    let few = rw e at (c .before .before .before .before .before .before .before .before .before .before .before .bring-one .ensures .0) in
-    let f = rw kw at (c .before .before .before .before .before .before .before .before .before .before .before .bring-one .ensures .1) in (
-      omega (arith, c .before .before .before .before .before .before .before .before .before .before .before .before .before .before .before .before .before .loop-test .taken),
+    let kw : length (l .standing) ≡ length (start .args .standing .now) = v .3 in
+    let k = bring-one .kept in
+    let e : bring-one .result ≡ Done (c .before .one .given .0 .0) = c .before .one .given .1 in
+    let few = rw e at (bring-one .ensures .0) in
+    let f = rw kw at (bring-one .ensures .1) in (
+      omega (arith, loop-test .taken),
       omega (arith, few, v .1),
       omega (arith, k .1 .1 .1 .1 .0, v .2),
       omega (arith, k .1 .1 .1 .1 .1 .0, v .3),
       omega (arith, k .1 .1 .1 .1 .1 .1 .0, v .4),
       omega (arith, k .1 .1 .1 .1 .1 .1 .1 .0, v .5),
-      λ t. bringing-more (v .6 t) (c .before .before .before .before .before .before .before .before .before .before .before .before .before .before .before .before .before .loop-test .taken) (omega (arith, z .0, v .2)) (omega (arith, z .1, v .2)) (z .2) (bay-low t (z .3 (l .i) (c .before .before .before .before .before .before .before .before .before .before .before .before .before .before .before .before .before .loop-test .taken))) (rw e at (f t)),
+      λ t. bringing-more (v .6 t) (loop-test .taken) (omega (arith, z .0, v .2)) (omega (arith, z .1, v .2)) (z .2) (bay-low t (z .3 (l .i) (loop-test .taken))) (rw e at (f t)),
     )
 
 same-length-6 : tie.Need-same-length-6 Inv-loop μ-loop

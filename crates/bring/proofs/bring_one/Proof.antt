@@ -21,9 +21,10 @@ is-in-requires c κs = search needs
 
 enter-requires : tie.Need-enter-requires
 enter-requires c κs =
-    let p = c .before .before .before .before .before .before .before .before .before .before .before .before .before .pre .0 in
-    let z = c .before .before .before .before .before .before .before .before .before .before .before .before .before .pre .1 in
-    let a = c .before .before .before .before .before .before .before .before .before .before .before .before .before .args in
+    let start = c .before .before .before .before .before .before .before .before .before .before .before .before .before in
+    let p = start .pre .0 in
+    let z = start .pre .1 in
+    let a = start .args in
     let h = sym (c .before .before .before .before .if1 .taken) ∙ c .before .before .before .before .before .is-in .ensures in
     (z .0, z .1, z .2, z .3, p .most, p .empty-size, omega (arith, z .4), free (a .x .0) (a .placement .now) (p .placed) (z .3) h, p .placed)
 
@@ -41,11 +42,15 @@ same-length-4 c = search needs
 
 returns : tie.Need-returns
 returns c =
-    let p = c .before .before .before .before .before .before .before .before .before .before .before .before .before .before .before .before .before .before .before .before .before .before .pre .0 in
-    let z = c .before .before .before .before .before .before .before .before .before .before .before .before .before .before .before .before .before .before .before .before .before .before .pre .1 in
-    let a = c .before .before .before .before .before .before .before .before .before .before .before .before .before .before .before .before .before .before .before .before .before .before .args in
-    let h = sym (c .before .before .before .before .before .before .before .before .before .before .before .before .before .if1 .taken) ∙ c .before .before .before .before .before .before .before .before .before .before .before .before .before .before .is-in .ensures in
-    let entry = c .before .before .before .before .before .before .before .before .enter .ensures in (
+    let enter = c .before .before .before .before .before .before .before .before .enter in
+    let if1 = c .before .before .before .before .before .before .before .before .before .before .before .before .before .if1 in
+    let is-in = c .before .before .before .before .before .before .before .before .before .before .before .before .before .before .is-in in
+    let start = c .before .before .before .before .before .before .before .before .before .before .before .before .before .before .before .before .before .before .before .before .before .before in
+    let p = start .pre .0 in
+    let z = start .pre .1 in
+    let a = start .args in
+    let h = sym (if1 .taken) ∙ is-in .ensures in
+    let entry = enter .ensures in (
       omega (arith, entry .counted),
       λ t.
           brought-one (t .yard) (length (a .standing .now)) (a .l .0) (a .m .0) (a .x .0) (a .placement .now) (p .placed .apart) (z .0) (z .1) (z .2) (bay-low t (z .3)) (acts-free (a .x .0) (a .placement .now) (p .placed) (z .3) h (t .yard) _) entry,
@@ -74,14 +79,16 @@ slice-aggregate-alone c = search needs
 
 cast-alone : tie.Need-cast-alone
 cast-alone c =
-    let p = c .before .before .before .before .before .before .before .before .before .before .before .before .before .before .pre in
-    let a = c .before .before .before .before .before .before .before .before .before .before .before .before .before .before .args in
+    let start = c .before .before .before .before .before .before .before .before .before .before .before .before .before .before in
+    let p = start .pre in
+    let a = start .args in
     omega (arith, p .0 .placed .inside (a .l .0) (p .1 .0))
 
 alone-requires : tie.Need-alone-requires
 alone-requires c κs =
-    let p = c .before .before .before .before .before .before .before .before .before .before .before .before .before .before .pre in
-    let a = c .before .before .before .before .before .before .before .before .before .before .before .before .before .before .args in
+    let start = c .before .before .before .before .before .before .before .before .before .before .before .before .before .before in
+    let p = start .pre in
+    let a = start .args in
     (omega arith, omega (arith, p .0 .placed .inside (a .l .0) (p .1 .0), p .0 .most))
 
 slice-aggregate-join : tie.Need-slice-aggregate-join
@@ -89,14 +96,16 @@ slice-aggregate-join c = search needs
 
 cast-join : tie.Need-cast-join
 cast-join c =
-    let p = c .before .before .before .before .before .before .before .before .before .before .before .before .before .before .before .before .before .pre in
-    let a = c .before .before .before .before .before .before .before .before .before .before .before .before .before .before .before .before .before .args in
+    let start = c .before .before .before .before .before .before .before .before .before .before .before .before .before .before .before .before .before in
+    let p = start .pre in
+    let a = start .args in
     omega (arith, p .0 .placed .inside (a .l .0) (p .1 .0), p .0 .placed .inside (a .m .0) (p .1 .1))
 
 join-requires : tie.Need-join-requires
 join-requires c κs =
-    let p = c .before .before .before .before .before .before .before .before .before .before .before .before .before .before .before .before .before .pre in
-    let a = c .before .before .before .before .before .before .before .before .before .before .before .before .before .before .before .before .before .args in
+    let start = c .before .before .before .before .before .before .before .before .before .before .before .before .before .before .before .before .before in
+    let p = start .pre in
+    let a = start .args in
     (omega arith, omega (arith, p .0 .placed .inside (a .l .0) (p .1 .0), p .0 .placed .inside (a .m .0) (p .1 .1), p .0 .most))
 
 slice-aggregate-make-room : tie.Need-slice-aggregate-make-room
@@ -104,9 +113,11 @@ slice-aggregate-make-room c = search needs
 
 make-room-requires : tie.Need-make-room-requires
 make-room-requires c κs =
-    let p = c .before .before .before .before .before .before .before .before .before .before .before .before .before .before .before .before .before .before .before .before .before .before .before .before .pre .0 in
-    let z = c .before .before .before .before .before .before .before .before .before .before .before .before .before .before .before .before .before .before .before .before .before .before .before .before .pre .1 in
-    (p, (z .3, omega arith, z .4, pairShown (p .tabled) _ _ _ _ (c .before .before .before .before .before .before .before .before .before .alone .ensures) (c .before .before .before .before .before .before .join .ensures)))
+    let alone = c .before .before .before .before .before .before .before .before .before .alone in
+    let start = c .before .before .before .before .before .before .before .before .before .before .before .before .before .before .before .before .before .before .before .before .before .before .before .before in
+    let p = start .pre .0 in
+    let z = start .pre .1 in
+    (p, (z .3, omega arith, z .4, pairShown (p .tabled) _ _ _ _ (alone .ensures) (c .before .before .before .before .before .before .join .ensures)))
 
 enum-known-vacated : tie.Need-enum-known-vacated
 enum-known-vacated c = search needs
@@ -128,25 +139,34 @@ same-length-8 c = search needs
 
 returns-2 : tie.Need-returns-2
 returns-2 c =
-    let z = c .before .before .before .before .before .before .before .before .before .before .before .before .before .before .before .before .before .before .before .before .before .before .before .before .before .before .before .before .before .before .before .before .before .before .before .pre .1 in (
+    let make-room = c .before .before .before .before .before .before .before .before .before .before .make-room in
+    let join = c .before .before .before .before .before .before .before .before .before .before .before .before .before .before .before .before .before .join in
+    let alone = c .before .before .before .before .before .before .before .before .before .before .before .before .before .before .before .before .before .before .before .before .alone in
+    let start = c .before .before .before .before .before .before .before .before .before .before .before .before .before .before .before .before .before .before .before .before .before .before .before .before .before .before .before .before .before .before .before .before .before .before .before in
+    let z = start .pre .1 in (
       tt,
       λ t.
-          let v = pairShown t _ _ _ _ (c .before .before .before .before .before .before .before .before .before .before .before .before .before .before .before .before .before .before .before .before .alone .ensures) (c .before .before .before .before .before .before .before .before .before .before .before .before .before .before .before .before .before .join .ensures) in
-          let e : c .before .before .before .before .before .before .before .before .before .before .make-room .result ≡ Failed = c .enum-told .given .1 in
-          tries-none (brought-not (t .yard) (c .before .before .before .before .before .before .before .before .before .before .before .before .before .before .before .before .before .before .before .before .before .before .before .before .before .before .before .before .before .before .before .before .before .before .before .args .l .0) (c .before .before .before .before .before .before .before .before .before .before .before .before .before .before .before .before .before .before .before .before .before .before .before .before .before .before .before .before .before .before .before .before .before .before .before .args .m .0) (c .before .before .before .before .before .before .before .before .before .before .before .before .before .before .before .before .before .before .before .before .before .before .before .before .before .before .before .before .before .before .before .before .before .before .before .args .x .0) (c .before .before .before .before .before .before .before .before .before .before .before .before .before .before .before .before .before .before .before .before .before .before .before .before .before .before .before .before .before .before .before .before .before .before .before .args .placement .now) (acted-failed (rw e at (c .before .before .before .before .before .before .before .before .before .before .make-room .ensures .1 v))) []),
+          let v = pairShown t _ _ _ _ (alone .ensures) (join .ensures) in
+          let e : make-room .result ≡ Failed = c .enum-told .given .1 in
+          tries-none (brought-not (t .yard) (start .args .l .0) (start .args .m .0) (start .args .x .0) (start .args .placement .now) (acted-failed (rw e at (make-room .ensures .1 v))) []),
     )
 
 enter-requires-2 : tie.Need-enter-requires-2
 enter-requires-2 c κs =
-    let p = c .before .before .before .before .before .before .before .before .before .before .before .before .before .before .before .before .before .before .before .before .before .before .before .before .before .before .before .before .before .before .before .before .before .before .before .before .before .before .before .before .pre .0 in
-    let z = c .before .before .before .before .before .before .before .before .before .before .before .before .before .before .before .before .before .before .before .before .before .before .before .before .before .before .before .before .before .before .before .before .before .before .before .before .before .before .before .before .pre .1 in
-    let a = c .before .before .before .before .before .before .before .before .before .before .before .before .before .before .before .before .before .before .before .before .before .before .before .before .before .before .before .before .before .before .before .before .before .before .before .before .before .before .before .before .args in
-    let m = c .before .before .before .before .before .vacated .given .0 .0 in
-    let e : c .before .before .before .before .before .before .before .before .before .before .before .before .before .before .before .make-room .result ≡ Done m = c .before .before .before .before .before .vacated .given .1 in
-    let few = rw e at (c .before .before .before .before .before .before .before .before .before .before .before .before .before .before .before .make-room .ensures .0) in
-    let kw : length (c .before .before .before .before .before .before .before .before .before .before .before .before .before .before .before .make-room .last .1 .1 .1 .1 .0) ≡ length (a .standing .now) = c .before .before .before .before .before .before .before .before .before .before .before .before .before .before .before .make-room .kept .1 .1 .1 .1 .0 in
-    let kf : length (c .before .before .before .before .before .before .before .before .before .before .before .before .before .before .before .make-room .last .1 .1 .1 .1 .1 .0) ≡ length (a .empty .now) = c .before .before .before .before .before .before .before .before .before .before .before .before .before .before .before .make-room .kept .1 .1 .1 .1 .1 .0 in
-    let acts = rw e at (c .before .before .before .before .before .before .before .before .before .before .before .before .before .before .before .make-room .ensures .1 (pairShown (p .tabled) _ _ _ _ (c .before .before .before .before .before .before .before .before .before .before .before .before .before .before .before .before .before .before .before .before .before .before .before .before .before .alone .ensures) (c .before .before .before .before .before .before .before .before .before .before .before .before .before .before .before .before .before .before .before .before .before .before .join .ensures))) in
+    let vacated = c .before .before .before .before .before .vacated in
+    let make-room = c .before .before .before .before .before .before .before .before .before .before .before .before .before .before .before .make-room in
+    let join = c .before .before .before .before .before .before .before .before .before .before .before .before .before .before .before .before .before .before .before .before .before .before .join in
+    let alone = c .before .before .before .before .before .before .before .before .before .before .before .before .before .before .before .before .before .before .before .before .before .before .before .before .before .alone in
+    let start = c .before .before .before .before .before .before .before .before .before .before .before .before .before .before .before .before .before .before .before .before .before .before .before .before .before .before .before .before .before .before .before .before .before .before .before .before .before .before .before .before in
+    let p = start .pre .0 in
+    let z = start .pre .1 in
+    let a = start .args in
+    let m = vacated .given .0 .0 in
+    let e : make-room .result ≡ Done m = vacated .given .1 in
+    let few = rw e at (make-room .ensures .0) in
+    let kw : length (make-room .last .1 .1 .1 .1 .0) ≡ length (a .standing .now) = make-room .kept .1 .1 .1 .1 .0 in
+    let kf : length (make-room .last .1 .1 .1 .1 .1 .0) ≡ length (a .empty .now) = make-room .kept .1 .1 .1 .1 .1 .0 in
+    let acts = rw e at (make-room .ensures .1 (pairShown (p .tabled) _ _ _ _ (alone .ensures) (join .ensures))) in
     let l = led (p .tabled .yard) (length (a .standing .now)) (a .l .0) (a .m .0) (a .x .0) (a .placement .now) (p .placed .apart) (z .0) (z .1) (z .2) (bay-low (p .tabled) (z .3)) acts in
     (l .0, l .1, z .2, omega (arith, z .3, kw), omega (arith, p .most, kw), omega (arith, p .empty-size, kf), omega (arith, few, z .4), l .2, rw kw (l .3))
 
@@ -164,17 +184,23 @@ same-length-12 c = search needs
 
 returns-3 : tie.Need-returns-3
 returns-3 c =
-    let p = c .before .before .before .before .before .before .before .before .before .before .before .before .before .before .before .before .before .before .before .before .before .before .before .before .before .before .before .before .before .before .before .before .before .before .before .before .before .before .before .before .before .before .before .before .before .before .before .before .before .pre .0 in
-    let z = c .before .before .before .before .before .before .before .before .before .before .before .before .before .before .before .before .before .before .before .before .before .before .before .before .before .before .before .before .before .before .before .before .before .before .before .before .before .before .before .before .before .before .before .before .before .before .before .before .before .pre .1 in
-    let a = c .before .before .before .before .before .before .before .before .before .before .before .before .before .before .before .before .before .before .before .before .before .before .before .before .before .before .before .before .before .before .before .before .before .before .before .before .before .before .before .before .before .before .before .before .before .before .before .before .before .args in
-    let m = c .before .before .before .before .before .before .before .before .before .before .before .before .before .before .vacated .given .0 .0 in
-    let e : c .before .before .before .before .before .before .before .before .before .before .before .before .before .before .before .before .before .before .before .before .before .before .before .before .make-room .result ≡ Done m = c .before .before .before .before .before .before .before .before .before .before .before .before .before .before .vacated .given .1 in
-    let few = rw e at (c .before .before .before .before .before .before .before .before .before .before .before .before .before .before .before .before .before .before .before .before .before .before .before .before .make-room .ensures .0) in
-    let kw : length (c .before .before .before .before .before .before .before .before .before .before .before .before .before .before .before .before .before .before .before .before .before .before .before .before .make-room .last .1 .1 .1 .1 .0) ≡ length (a .standing .now) = c .before .before .before .before .before .before .before .before .before .before .before .before .before .before .before .before .before .before .before .before .before .before .before .before .make-room .kept .1 .1 .1 .1 .0 in
-    let entry = rw kw at (c .before .before .before .before .before .before .before .before .enter2 .ensures) in (
+    let enter2 = c .before .before .before .before .before .before .before .before .enter2 in
+    let vacated = c .before .before .before .before .before .before .before .before .before .before .before .before .before .before .vacated in
+    let make-room = c .before .before .before .before .before .before .before .before .before .before .before .before .before .before .before .before .before .before .before .before .before .before .before .before .make-room in
+    let join = c .before .before .before .before .before .before .before .before .before .before .before .before .before .before .before .before .before .before .before .before .before .before .before .before .before .before .before .before .before .before .before .join in
+    let alone = c .before .before .before .before .before .before .before .before .before .before .before .before .before .before .before .before .before .before .before .before .before .before .before .before .before .before .before .before .before .before .before .before .before .before .alone in
+    let start = c .before .before .before .before .before .before .before .before .before .before .before .before .before .before .before .before .before .before .before .before .before .before .before .before .before .before .before .before .before .before .before .before .before .before .before .before .before .before .before .before .before .before .before .before .before .before .before .before .before in
+    let p = start .pre .0 in
+    let z = start .pre .1 in
+    let a = start .args in
+    let m = vacated .given .0 .0 in
+    let e : make-room .result ≡ Done m = vacated .given .1 in
+    let few = rw e at (make-room .ensures .0) in
+    let kw : length (make-room .last .1 .1 .1 .1 .0) ≡ length (a .standing .now) = make-room .kept .1 .1 .1 .1 .0 in
+    let entry = rw kw at (enter2 .ensures) in (
       omega (arith, few, entry .counted),
       λ t.
-          let acts = rw e at (c .before .before .before .before .before .before .before .before .before .before .before .before .before .before .before .before .before .before .before .before .before .before .before .before .make-room .ensures .1 (pairShown t _ _ _ _ (c .before .before .before .before .before .before .before .before .before .before .before .before .before .before .before .before .before .before .before .before .before .before .before .before .before .before .before .before .before .before .before .before .before .before .alone .ensures) (c .before .before .before .before .before .before .before .before .before .before .before .before .before .before .before .before .before .before .before .before .before .before .before .before .before .before .before .before .before .before .before .join .ensures))) in
+          let acts = rw e at (make-room .ensures .1 (pairShown t _ _ _ _ (alone .ensures) (join .ensures))) in
           brought-one (t .yard) (length (a .standing .now)) (a .l .0) (a .m .0) (a .x .0) (a .placement .now) (p .placed .apart) (z .0) (z .1) (z .2) (bay-low t (z .3)) acts entry,
     )
 

@@ -29,18 +29,21 @@ slice-read-t16-2 c = search needs
 
 cross-requires : tie.Need-cross-requires
 cross-requires c κs =
-    let z = c .before .before .before .before .before .before .before .before .before .before .before .before .pre in
-    let a = c .before .before .before .before .before .before .before .before .before .before .before .before .args in
+    let start = c .before .before .before .before .before .before .before .before .before .before .before .before in
+    let z = start .pre in
+    let a = start .args in
     (z .8 .inside (a .l .0) (z .0), z .3, z .4, z .5, omega (arith, z .6), bay-in (a .placement .now) (a .l .0) (z .0), z .7, z .8)
 
 cross-requires-2 : tie.Need-cross-requires-2
 cross-requires-2 c κs =
-    let z = c .before .before .before .before .before .before .before .before .before .before .before .before .before .before .before .before .before .before .before .before .before .before .before .before .before .pre in
-    let a = c .before .before .before .before .before .before .before .before .before .before .before .before .before .before .before .before .before .before .before .before .before .before .before .before .before .args in
-    let first = c .before .before .before .before .before .before .before .before .before .before .before .before .cross .ensures in
+    let cross = c .before .before .before .before .before .before .before .before .before .before .before .before .cross in
+    let start = c .before .before .before .before .before .before .before .before .before .before .before .before .before .before .before .before .before .before .before .before .before .before .before .before .before in
+    let z = start .pre in
+    let a = start .args in
+    let first = cross .ensures in
     let f = followed (a .placement .now) (a .l .0) (a .m .0) (a .x .0) (z .8 .apart) (z .0) (z .1) (z .2) (z .7) first in
-    let kw : length (c .before .before .before .before .before .before .before .before .before .before .before .before .cross .last .1 .0) ≡ length (a .standing .now) = c .before .before .before .before .before .before .before .before .before .before .before .before .cross .kept .1 .0 in
-    let kf : length (c .before .before .before .before .before .before .before .before .before .before .before .before .cross .last .1 .1 .0) ≡ length (a .empty .now) = c .before .before .before .before .before .before .before .before .before .before .before .before .cross .kept .1 .1 .0 in (
+    let kw : length (cross .last .1 .0) ≡ length (a .standing .now) = cross .kept .1 .0 in
+    let kf : length (cross .last .1 .1 .0) ≡ length (a .empty .now) = cross .kept .1 .1 .0 in (
       omega (arith, z .8 .inside (a .m .0) (z .1), kw),
       omega (arith, z .8 .inside (a .l .0) (z .0), kw),
       omega (arith, z .4, kw),
@@ -65,11 +68,14 @@ same-length-4 c = search needs
 
 returns : tie.Need-returns
 returns c =
-    let z = c .before .before .before .before .before .before .before .before .before .before .before .before .before .before .before .before .before .before .before .before .before .before .before .before .before .before .before .before .before .before .before .before .before .before .pre in
-    let a = c .before .before .before .before .before .before .before .before .before .before .before .before .before .before .before .before .before .before .before .before .before .before .before .before .before .before .before .before .before .before .before .before .before .before .args in
-    let first = c .before .before .before .before .before .before .before .before .before .before .before .before .before .before .before .before .before .before .before .before .before .cross .ensures in
-    let kw : length (c .before .before .before .before .before .before .before .before .before .before .before .before .before .before .before .before .before .before .before .before .before .cross .last .1 .0) ≡ length (a .standing .now) = c .before .before .before .before .before .before .before .before .before .before .before .before .before .before .before .before .before .before .before .before .before .cross .kept .1 .0 in
-    let second = rw kw at (c .before .before .before .before .before .before .before .before .cross2 .ensures) in
+    let cross2 = c .before .before .before .before .before .before .before .before .cross2 in
+    let cross = c .before .before .before .before .before .before .before .before .before .before .before .before .before .before .before .before .before .before .before .before .before .cross in
+    let start = c .before .before .before .before .before .before .before .before .before .before .before .before .before .before .before .before .before .before .before .before .before .before .before .before .before .before .before .before .before .before .before .before .before .before in
+    let z = start .pre in
+    let a = start .args in
+    let first = cross .ensures in
+    let kw : length (cross .last .1 .0) ≡ length (a .standing .now) = cross .kept .1 .0 in
+    let second = rw kw at (cross2 .ensures) in
     entered (a .placement .now) (a .l .0) (a .m .0) (a .x .0) (z .8 .apart) (z .0) (z .1) (z .2) (z .7) first second
 
 pub enter-spec : {M : Type 1} → statement M

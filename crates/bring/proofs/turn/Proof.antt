@@ -22,7 +22,9 @@ pack-requires : tie.Need-pack-requires
 pack-requires c κs = search needs
 
 returns : tie.Need-returns
-returns c = c .pack .ensures ∙ rw (c .before .traded .ensures) (ap (λ (y : Crossing). pack (turnedBack (c .before .before .before .before .before .before .args .l .0) (c .before .before .before .before .before .before .args .m .0) y)) (c .before .before .before .before .before .unpack .ensures))
+returns c =
+    let start = c .before .before .before .before .before .before in
+    c .pack .ensures ∙ rw (c .before .traded .ensures) (ap (λ (y : Crossing). pack (turnedBack (start .args .l .0) (start .args .m .0) y)) (c .before .before .before .before .before .unpack .ensures))
 
 pub turn-spec : {M : Type 1} → statement M
 turn-spec = tie.close (tie.spec unpack-requires traded-requires pack-requires returns)

@@ -53,9 +53,10 @@ loop-less c = search needs
 
 loop-again : tie.Need-loop-again Inv-loop μ-loop
 loop-again c =
+    let start = c .before .before .before .before .before .before .before .before .before .before in
     let l = c .before .before .before .before .before .before .before .before .loop in
-    let p = c .before .before .before .before .before .before .before .before .before .before .pre in
-    let a = c .before .before .before .before .before .before .before .before .before .before .args in
+    let p = start .pre in
+    let a = start .args in
     let value = c .before .before .before .turn .ensures ∙ ap (turned (a .l .0) (a .m .0)) (c .before .before .before .before .before .stored-at .ensures) in (
       omega arith,
       omega (arith, c .before .before .put .kept .0, l .inv .1),

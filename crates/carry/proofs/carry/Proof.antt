@@ -31,9 +31,10 @@ slice-aggregate-path-past c = search needs
 
 path-past-requires : tie.Need-path-past-requires
 path-past-requires c κs =
-    let p = c .before .before .before .before .before .before .before .before .before .before .before .before .before .pre .0 in
-    let z = c .before .before .before .before .before .before .before .before .before .before .before .before .before .pre .1 in
-    let r = c .before .before .before .before .before .before .before .before .before .before .before .before .before .args .r .0 in
+    let start = c .before .before .before .before .before .before .before .before .before .before .before .before .before in
+    let p = start .pre .0 in
+    let z = start .pre .1 in
+    let r = start .args .r .0 in
     (p .most, p .placed .inside r (z .0), z .1 .inside r (omega (arith, z .0, z .1 .many)), omega (arith, p .table-size), z .7 .size, omega (arith, p .most), settledShown (p .tabled) r _ (z .7), z .8)
 
 enum-known-k : tie.Need-enum-known-k
@@ -47,58 +48,80 @@ same-length c = refl
 
 returns : tie.Need-returns
 returns c =
-    let z = c .before .before .before .before .before .before .before .before .before .before .before .before .before .before .before .before .before .pre .1 in (
+    let start = c .before .before .before .before .before .before .before .before .before .before .before .before .before .before .before .before .before in
+    let z = start .pre .1 in (
       at-most-stuck,
-      λ t. carried-nowhere t _ _ _ refl ((rw (c .enum-told .given .1) at (c .before .before .before .path-past .ensures (settledShown t (c .before .before .before .before .before .before .before .before .before .before .before .before .before .before .before .before .before .args .r .0) _ (z .7)))) .same),
+      λ t. carried-nowhere t _ _ _ refl ((rw (c .enum-told .given .1) at (c .before .before .before .path-past .ensures (settledShown t (start .args .r .0) _ (z .7)))) .same),
       settles-stuck,
     )
 
 array-share-prefix-path : tie.Need-array-share-prefix-path
 array-share-prefix-path c =
-    let p = c .before .before .before .before .before .before .before .before .before .before .before .before .before .before .before .before .before .before .pre .0 in
-    let z = c .before .before .before .before .before .before .before .before .before .before .before .before .before .before .before .before .before .before .pre .1 in
-    let f = rw (c .before .k .given .1) at (c .before .before .before .before .path-past .ensures (settledShown (p .tabled) (c .before .before .before .before .before .before .before .before .before .before .before .before .before .before .before .before .before .before .args .r .0) _ (z .7))) in
-    let kept : length (c .before .before .before .before .path-past .last .1 .1 .1 .1 .1 .1 .0) ≡ span = c .before .before .before .before .path-past .kept .1 .1 .1 .1 .1 .1 .0 in
+    let path-past = c .before .before .before .before .path-past in
+    let start = c .before .before .before .before .before .before .before .before .before .before .before .before .before .before .before .before .before .before in
+    let p = start .pre .0 in
+    let z = start .pre .1 in
+    let f = rw (c .before .k .given .1) at (path-past .ensures (settledShown (p .tabled) (start .args .r .0) _ (z .7))) in
+    let kept : length (path-past .last .1 .1 .1 .1 .1 .1 .0) ≡ span = path-past .kept .1 .1 .1 .1 .1 .1 .0 in
     omega (arith, f .fits, p .most, kept)
 
 slice-aggregate-carry-along : tie.Need-slice-aggregate-carry-along
 slice-aggregate-carry-along c =
-    let p = c .before .before .before .before .before .before .before .before .before .before .before .before .before .before .before .before .before .before .before .pre .0 in
-    let z = c .before .before .before .before .before .before .before .before .before .before .before .before .before .before .before .before .before .before .before .pre .1 in
-    let f = rw (c .before .before .k .given .1) at (c .before .before .before .before .before .path-past .ensures (settledShown (p .tabled) (c .before .before .before .before .before .before .before .before .before .before .before .before .before .before .before .before .before .before .before .args .r .0) _ (z .7))) in
-    let kept : length (c .before .before .before .before .before .path-past .last .1 .1 .1 .1 .1 .1 .0) ≡ span = c .before .before .before .before .before .path-past .kept .1 .1 .1 .1 .1 .1 .0 in
+    let path-past = c .before .before .before .before .before .path-past in
+    let start = c .before .before .before .before .before .before .before .before .before .before .before .before .before .before .before .before .before .before .before in
+    let p = start .pre .0 in
+    let z = start .pre .1 in
+    let f = rw (c .before .before .k .given .1) at (path-past .ensures (settledShown (p .tabled) (start .args .r .0) _ (z .7))) in
+    let kept : length (path-past .last .1 .1 .1 .1 .1 .1 .0) ≡ span = path-past .kept .1 .1 .1 .1 .1 .1 .0 in
     sym (length-take-le _ _ (omega (arith, f .fits, p .most, kept)))
 
 carry-along-requires : tie.Need-carry-along-requires
 carry-along-requires c κs =
-    let p = c .before .before .before .before .before .before .before .before .before .before .before .before .before .before .before .before .before .before .before .before .before .before .before .before .pre .0 in
-    let z = c .before .before .before .before .before .before .before .before .before .before .before .before .before .before .before .before .before .before .before .before .before .before .before .before .pre .1 in
-    let f = rw (c .before .before .before .before .before .before .before .k .given .1) at (c .before .before .before .before .before .before .before .before .before .before .path-past .ensures (settledShown (p .tabled) (c .before .before .before .before .before .before .before .before .before .before .before .before .before .before .before .before .before .before .before .before .before .before .before .before .args .r .0) _ (z .7))) in
-    let kept : length (c .before .before .before .before .before .before .before .before .before .before .path-past .last .1 .1 .1 .1 .1 .1 .0) ≡ span = c .before .before .before .before .before .before .before .before .before .before .path-past .kept .1 .1 .1 .1 .1 .1 .0 in
-    let len : length (take (c .before .before .before .before .before .before .before .k .given .0 .0) (c .before .before .before .before .before .before .before .before .before .before .path-past .last .1 .1 .1 .1 .1 .1 .0)) ≡ c .before .before .before .before .before .before .before .k .given .0 .0 = length-take-le _ _ (omega (arith, f .fits, p .most, kept)) in
+    let k = c .before .before .before .before .before .before .before .k in
+    let path-past = c .before .before .before .before .before .before .before .before .before .before .path-past in
+    let start = c .before .before .before .before .before .before .before .before .before .before .before .before .before .before .before .before .before .before .before .before .before .before .before .before in
+    let p = start .pre .0 in
+    let z = start .pre .1 in
+    let f = rw (k .given .1) at (path-past .ensures (settledShown (p .tabled) (start .args .r .0) _ (z .7))) in
+    let kept : length (path-past .last .1 .1 .1 .1 .1 .1 .0) ≡ span = path-past .kept .1 .1 .1 .1 .1 .1 .0 in
+    let len : length (take (k .given .0 .0) (path-past .last .1 .1 .1 .1 .1 .1 .0)) ≡ k .given .0 .0 = length-take-le _ _ (omega (arith, f .fits, p .most, kept)) in
     (p, (z .0, z .1, z .2, z .3, omega (arith, len, f .fits, p .most), on-path (p .tabled) (p .most) (z .2) _ _ _ (p .placed) (z .1) (z .0) (z .3) _ (f .same), z .5, z .6, z .7))
 
 same-length-2 : tie.Need-same-length-2
-same-length-2 c = c .before .before .before .before .before .before .before .before .before .before .carry-along .kept .1 .1 .1 .1 .1 .0
+same-length-2 c =
+    let carry-along = c .before .before .before .before .before .before .before .before .before .before .carry-along in
+    carry-along .kept .1 .1 .1 .1 .1 .0
 
 same-length-3 : tie.Need-same-length-3
-same-length-3 c = c .before .before .before .before .before .before .before .before .before .before .carry-along .kept .1 .1 .1 .1 .1 .1 .0
+same-length-3 c =
+    let carry-along = c .before .before .before .before .before .before .before .before .before .before .carry-along in
+    carry-along .kept .1 .1 .1 .1 .1 .1 .0
 
 same-length-4 : tie.Need-same-length-4
-same-length-4 c = c .before .before .before .before .before .before .before .before .before .before .carry-along .kept .1 .1 .1 .1 .1 .1 .1 .0
+same-length-4 c =
+    let carry-along = c .before .before .before .before .before .before .before .before .before .before .carry-along in
+    carry-along .kept .1 .1 .1 .1 .1 .1 .1 .0
 
 same-length-5 : tie.Need-same-length-5
-same-length-5 c = c .before .before .before .before .before .before .before .before .before .before .carry-along .kept .1 .1 .1 .1 .1 .1 .1 .1 .0
+same-length-5 c =
+    let carry-along = c .before .before .before .before .before .before .before .before .before .before .carry-along in
+    carry-along .kept .1 .1 .1 .1 .1 .1 .1 .1 .0
 
 same-length-6 : tie.Need-same-length-6
-same-length-6 c = c .before .before .before .before .before .before .before .before .before .before .carry-along .kept .1 .1 .1 .1 .1 .1 .1 .1 .1 .0
+same-length-6 c =
+    let carry-along = c .before .before .before .before .before .before .before .before .before .before .carry-along in
+    carry-along .kept .1 .1 .1 .1 .1 .1 .1 .1 .1 .0
 
 returns-2 : tie.Need-returns-2
 returns-2 c =
-    let z = c .before .before .before .before .before .before .before .before .before .before .before .before .before .before .before .before .before .before .before .before .before .before .before .before .before .before .before .before .before .before .before .before .before .before .before .pre .1 in (
-      c .before .before .before .before .before .before .before .before .before .before .carry-along .ensures .0,
-      λ t. c .before .before .before .before .before .before .before .before .before .before .carry-along .ensures .1 t ((rw (c .before .before .before .before .before .before .before .before .before .before .before .before .before .before .before .before .before .before .k .given .1) at (c .before .before .before .before .before .before .before .before .before .before .before .before .before .before .before .before .before .before .before .before .before .path-past .ensures (settledShown t (c .before .before .before .before .before .before .before .before .before .before .before .before .before .before .before .before .before .before .before .before .before .before .before .before .before .before .before .before .before .before .before .before .before .before .before .args .r .0) _ (z .7)))) .same),
-      c .before .before .before .before .before .before .before .before .before .before .carry-along .ensures .2,
+    let carry-along = c .before .before .before .before .before .before .before .before .before .before .carry-along in
+    let k = c .before .before .before .before .before .before .before .before .before .before .before .before .before .before .before .before .before .before .k in
+    let path-past = c .before .before .before .before .before .before .before .before .before .before .before .before .before .before .before .before .before .before .before .before .before .path-past in
+    let start = c .before .before .before .before .before .before .before .before .before .before .before .before .before .before .before .before .before .before .before .before .before .before .before .before .before .before .before .before .before .before .before .before .before .before .before in
+    let z = start .pre .1 in (
+      carry-along .ensures .0,
+      λ t. carry-along .ensures .1 t ((rw (k .given .1) at (path-past .ensures (settledShown t (start .args .r .0) _ (z .7)))) .same),
+      carry-along .ensures .2,
     )
 
 pub carry-spec : {M : Type 1} → statement M

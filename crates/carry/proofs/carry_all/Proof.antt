@@ -29,26 +29,32 @@ abbrev μ-loop : tie.MeasureT-loop
 
 is-carousel-requires : tie.Need-is-carousel-requires Inv-loop μ-loop
 is-carousel-requires c κs =
-    let p = c .before .before .before .before .before .before .before .before .pre .0 in
+    let start = c .before .before .before .before .before .before .before .before in
+    let p = start .pre .0 in
     (p .most, omega (arith, p .table-size))
 
 loop-holds : tie.Need-loop-holds Inv-loop μ-loop
-loop-holds c = (omega arith, omega arith, refl, refl, refl, refl, record { home = λ i h. absurd (omega arith) }, λ t. served-none _ _ _ _ _ _ _ (c .before .before .before .before .before .before .before .before .before .pre .0 .placed), refl, c .before .before .before .before .before .before .before .before .before .pre .1 .4)
+loop-holds c =
+    let start = c .before .before .before .before .before .before .before .before .before in
+    (omega arith, omega arith, refl, refl, refl, refl, record { home = λ i h. absurd (omega arith) }, λ t. served-none _ _ _ _ _ _ _ (start .pre .0 .placed), refl, start .pre .1 .4)
 
 cast-number : tie.Need-cast-number Inv-loop μ-loop
 cast-number c =
-    let p = c .before .before .before .before .before .before .before .before .before .before .before .pre .0 in
-    let z = c .before .before .before .before .before .before .before .before .before .before .before .pre .1 in
+    let start = c .before .before .before .before .before .before .before .before .before .before .before in
+    let p = start .pre .0 in
+    let z = start .pre .1 in
     omega (arith, c .loop-test .taken, z .0 .many, p .placed .few, p .most)
 
 carry-requires : tie.Need-carry-requires Inv-loop μ-loop
 carry-requires c κs =
-    let p = c .before .before .before .before .before .before .before .before .before .before .before .before .before .before .before .before .pre .0 in
-    let z = c .before .before .before .before .before .before .before .before .before .before .before .before .before .before .before .before .pre .1 in
+    let loop-test = c .before .before .before .before .before .loop-test in
+    let start = c .before .before .before .before .before .before .before .before .before .before .before .before .before .before .before .before in
+    let p = start .pre .0 in
+    let z = start .pre .1 in
     let l = c .before .before .before .before .before .before .loop in
     let v = l .inv in
     let b = v .7 (p .tabled) in
-    let e : length (l .standing) ≡ length (c .before .before .before .before .before .before .before .before .before .before .before .before .before .before .before .before .args .standing .now) = v .3 in (
+    let e : length (l .standing) ≡ length (start .args .standing .now) = v .3 in (
       record {
         most = omega (arith, p .most, e);
         table-size = rw e (p .table-size);
@@ -57,7 +63,7 @@ carry-requires c κs =
         tabled = rw e (p .tabled);
         levelled = rw e (p .levelled);
       },
-      (omega (arith, c .before .before .before .before .before .loop-test .taken, v .2, z .0 .many), record { many = omega (arith, v .2, z .0 .many); apart = z .0 .apart; inside = rw e (z .0 .inside) }, rw e (z .1), v .6, rw e (z .2), omega (arith, v .1, c .before .before .before .before .before .loop-test .taken, z .0 .many, p .placed .few, p .most), rw e (z .3), v .9, rw e (c .before .before .before .before .before .before .before .is-carousel .ensures)),
+      (omega (arith, loop-test .taken, v .2, z .0 .many), record { many = omega (arith, v .2, z .0 .many); apart = z .0 .apart; inside = rw e (z .0 .inside) }, rw e (z .1), v .6, rw e (z .2), omega (arith, v .1, loop-test .taken, z .0 .many, p .placed .few, p .most), rw e (z .3), v .9, rw e (c .before .before .before .before .before .before .before .is-carousel .ensures)),
     )
 
 enum-known-carried : tie.Need-enum-known-carried Inv-loop μ-loop
@@ -67,62 +73,85 @@ enum-told : tie.Need-enum-told Inv-loop μ-loop
 enum-told c = c .match .keys2
 
 same-length : tie.Need-same-length Inv-loop μ-loop
-same-length c = c .before .before .before .before .before .before .before .before .before .before .before .before .carry .kept .1 .1 .1 .1 .1 .0 ∙ c .before .before .before .before .before .before .before .before .before .before .before .before .before .before .before .before .before .before .before .loop .inv .2
+same-length c =
+    let carry = c .before .before .before .before .before .before .before .before .before .before .before .before .carry in
+    let loop = c .before .before .before .before .before .before .before .before .before .before .before .before .before .before .before .before .before .before .before .loop in
+    carry .kept .1 .1 .1 .1 .1 .0 ∙ loop .inv .2
 
 same-length-2 : tie.Need-same-length-2 Inv-loop μ-loop
-same-length-2 c = c .before .before .before .before .before .before .before .before .before .before .before .before .carry .kept .1 .1 .1 .1 .1 .1 .0 ∙ c .before .before .before .before .before .before .before .before .before .before .before .before .before .before .before .before .before .before .before .loop .inv .3
+same-length-2 c =
+    let carry = c .before .before .before .before .before .before .before .before .before .before .before .before .carry in
+    let loop = c .before .before .before .before .before .before .before .before .before .before .before .before .before .before .before .before .before .before .before .loop in
+    carry .kept .1 .1 .1 .1 .1 .1 .0 ∙ loop .inv .3
 
 same-length-3 : tie.Need-same-length-3 Inv-loop μ-loop
-same-length-3 c = c .before .before .before .before .before .before .before .before .before .before .before .before .carry .kept .1 .1 .1 .1 .1 .1 .1 .0 ∙ c .before .before .before .before .before .before .before .before .before .before .before .before .before .before .before .before .before .before .before .loop .inv .4
+same-length-3 c =
+    let carry = c .before .before .before .before .before .before .before .before .before .before .before .before .carry in
+    let loop = c .before .before .before .before .before .before .before .before .before .before .before .before .before .before .before .before .before .before .before .loop in
+    carry .kept .1 .1 .1 .1 .1 .1 .1 .0 ∙ loop .inv .4
 
 same-length-4 : tie.Need-same-length-4 Inv-loop μ-loop
-same-length-4 c = c .before .before .before .before .before .before .before .before .before .before .before .before .carry .kept .1 .1 .1 .1 .1 .1 .1 .1 .0 ∙ c .before .before .before .before .before .before .before .before .before .before .before .before .before .before .before .before .before .before .before .loop .inv .8
+same-length-4 c =
+    let carry = c .before .before .before .before .before .before .before .before .before .before .before .before .carry in
+    let loop = c .before .before .before .before .before .before .before .before .before .before .before .before .before .before .before .before .before .before .before .loop in
+    carry .kept .1 .1 .1 .1 .1 .1 .1 .1 .0 ∙ loop .inv .8
 
 same-length-5 : tie.Need-same-length-5 Inv-loop μ-loop
-same-length-5 c = c .before .before .before .before .before .before .before .before .before .before .before .before .carry .kept .1 .1 .1 .1 .1 .1 .1 .1 .1 .0 ∙ c .before .before .before .before .before .before .before .before .before .before .before .before .before .before .before .before .before .before .before .loop .inv .5
+same-length-5 c =
+    let carry = c .before .before .before .before .before .before .before .before .before .before .before .before .carry in
+    let loop = c .before .before .before .before .before .before .before .before .before .before .before .before .before .before .before .before .before .before .before .loop in
+    carry .kept .1 .1 .1 .1 .1 .1 .1 .1 .1 .0 ∙ loop .inv .5
 
 returns : tie.Need-returns Inv-loop μ-loop
 returns c =
+    let carry = c .before .before .before .before .before .before .before .before .before .before .before .before .carry in
+    let loop-test = c .before .before .before .before .before .before .before .before .before .before .before .before .before .before .before .before .before .before .loop-test in
+    let start = c .before .before .before .before .before .before .before .before .before .before .before .before .before .before .before .before .before .before .before .before .before .before .before .before .before .before .before .before .before in
     let l = c .before .before .before .before .before .before .before .before .before .before .before .before .before .before .before .before .before .before .before .loop in
     let v = l .inv in
-    let kw : length (l .standing) ≡ length (c .before .before .before .before .before .before .before .before .before .before .before .before .before .before .before .before .before .before .before .before .before .before .before .before .before .before .before .before .before .args .standing .now) = v .3 in
-    let e : c .before .before .before .before .before .before .before .before .before .before .before .before .carry .result ≡ Stuck (c .enum-told .given .0 .0) = c .enum-told .given .1 in
-    let f = rw kw at (c .before .before .before .before .before .before .before .before .before .before .before .before .carry .ensures .1) in
-    rw e (λ t. stages-stuck (served-stuck (v .7 t) (c .before .before .before .before .before .before .before .before .before .before .before .before .before .before .before .before .before .before .loop-test .taken) (rw e at (f t))), settles-stuck)
+    let kw : length (l .standing) ≡ length (start .args .standing .now) = v .3 in
+    let e : carry .result ≡ Stuck (c .enum-told .given .0 .0) = c .enum-told .given .1 in
+    let f = rw kw at (carry .ensures .1) in
+    rw e (λ t. stages-stuck (served-stuck (v .7 t) (loop-test .taken) (rw e at (f t))), settles-stuck)
 
 add-r : tie.Need-add-r Inv-loop μ-loop
 add-r c =
-    let p = c .before .before .before .before .before .before .before .before .before .before .before .before .before .before .before .before .before .before .before .before .before .before .before .before .before .before .before .before .before .before .pre .0 in
-    let z = c .before .before .before .before .before .before .before .before .before .before .before .before .before .before .before .before .before .before .before .before .before .before .before .before .before .before .before .before .before .before .pre .1 in
-    omega (arith, c .before .before .before .before .before .before .before .before .before .before .before .before .before .before .before .before .before .before .before .loop-test .taken, z .0 .many, p .placed .few, p .most)
+    let loop-test = c .before .before .before .before .before .before .before .before .before .before .before .before .before .before .before .before .before .before .before .loop-test in
+    let start = c .before .before .before .before .before .before .before .before .before .before .before .before .before .before .before .before .before .before .before .before .before .before .before .before .before .before .before .before .before .before in
+    let p = start .pre .0 in
+    let z = start .pre .1 in
+    omega (arith, loop-test .taken, z .0 .many, p .placed .few, p .most)
 
 loop-less : tie.Need-loop-less Inv-loop μ-loop
 loop-less c = search needs
 
 loop-again : tie.Need-loop-again Inv-loop μ-loop
 loop-again c =
-    let p = c .before .before .before .before .before .before .before .before .before .before .before .before .before .before .before .before .before .before .before .before .before .before .before .before .before .before .before .before .before .before .pre .0 in
-    let z = c .before .before .before .before .before .before .before .before .before .before .before .before .before .before .before .before .before .before .before .before .before .before .before .before .before .before .before .before .before .before .pre .1 in
+    let carry = c .before .before .before .before .before .before .before .before .before .before .before .before .before .carry in
+    let loop-test = c .before .before .before .before .before .before .before .before .before .before .before .before .before .before .before .before .before .before .before .loop-test in
+    let start = c .before .before .before .before .before .before .before .before .before .before .before .before .before .before .before .before .before .before .before .before .before .before .before .before .before .before .before .before .before .before in
+    let p = start .pre .0 in
+    let z = start .pre .1 in
     let l = c .before .before .before .before .before .before .before .before .before .before .before .before .before .before .before .before .before .before .before .before .loop in
     let v = l .inv in
     let b = v .7 (p .tabled) in
-    let k = c .before .before .before .before .before .before .before .before .before .before .before .before .before .carry .kept in
-    let kw : length (l .standing) ≡ length (c .before .before .before .before .before .before .before .before .before .before .before .before .before .before .before .before .before .before .before .before .before .before .before .before .before .before .before .before .before .before .args .standing .now) = v .3 in
-    let e : c .before .before .before .before .before .before .before .before .before .before .before .before .before .carry .result ≡ Planned (c .before .carried .given .0 .0) = c .before .carried .given .1 in
-    let few = c .before .before .before .before .before .before .before .before .before .before .before .before .before .carry .ensures .0 .few _ e in
-    let f = rw kw at (c .before .before .before .before .before .before .before .before .before .before .before .before .before .carry .ensures .1) in
-    let g : Goals (length (c .before .before .before .before .before .before .before .before .before .before .before .before .before .before .before .before .before .before .before .before .before .before .before .before .before .before .before .before .before .before .args .standing .now)) (c .before .before .before .before .before .before .before .before .before .before .before .before .before .before .before .before .before .before .before .before .before .before .before .before .before .before .before .before .before .before .args .goals .now) (l .placement) = record { many = omega (arith, v .2, z .0 .many); apart = z .0 .apart; inside = z .0 .inside } in
-    let hr : l .r < length (l .placement) = omega (arith, c .before .before .before .before .before .before .before .before .before .before .before .before .before .before .before .before .before .before .before .loop-test .taken, v .2, z .0 .many) in (
-      omega (arith, c .before .before .before .before .before .before .before .before .before .before .before .before .before .before .before .before .before .before .before .loop-test .taken),
+    let k = carry .kept in
+    let kw : length (l .standing) ≡ length (start .args .standing .now) = v .3 in
+    let e : carry .result ≡ Planned (c .before .carried .given .0 .0) = c .before .carried .given .1 in
+    let few = carry .ensures .0 .few _ e in
+    let f = rw kw at (carry .ensures .1) in
+    let g : Goals (length (start .args .standing .now)) (start .args .goals .now) (l .placement) = record { many = omega (arith, v .2, z .0 .many); apart = z .0 .apart; inside = z .0 .inside } in
+    let hr : l .r < length (l .placement) = omega (arith, loop-test .taken, v .2, z .0 .many) in (
+      omega (arith, loop-test .taken),
       omega (arith, few, v .1),
       omega (arith, k .1 .1 .1 .1 .1 .0, v .2),
       omega (arith, k .1 .1 .1 .1 .1 .1 .0, v .3),
       omega (arith, k .1 .1 .1 .1 .1 .1 .1 .0, v .4),
       omega (arith, k .1 .1 .1 .1 .1 .1 .1 .1 .1 .0, v .5),
-      home-more (p .tabled) (p .most) (z .1) (c .before .before .before .before .before .before .before .before .before .before .before .before .before .before .before .before .before .before .before .before .before .before .before .before .before .before .before .before .before .before .args .goals .now) (l .r) (l .placement) (b .played .placed) g hr (v .6) (rw e at (f (p .tabled))),
-      λ t. served-more (v .7 t) (c .before .before .before .before .before .before .before .before .before .before .before .before .before .before .before .before .before .before .before .loop-test .taken) (rw e at (f t)),
+      home-more (p .tabled) (p .most) (z .1) (start .args .goals .now) (l .r) (l .placement) (b .played .placed) g hr (v .6) (rw e at (f (p .tabled))),
+      λ t. served-more (v .7 t) (loop-test .taken) (rw e at (f t)),
       omega (arith, k .1 .1 .1 .1 .1 .1 .1 .1 .0, v .8),
-      c .before .before .before .before .before .before .before .before .before .before .before .before .before .carry .ensures .2 .below _ e,
+      carry .ensures .2 .below _ e,
     )
 
 same-length-6 : tie.Need-same-length-6 Inv-loop μ-loop
@@ -142,8 +171,9 @@ same-length-10 c = c .before .loop .inv .5
 
 returns-2 : tie.Need-returns-2 Inv-loop μ-loop
 returns-2 c =
+    let start = c .before .before .before .before .before .before .before .before .before .before .before in
     let v = c .before .loop .inv in
-    let all : c .before .loop .r ≡ length (c .before .before .before .before .before .before .before .before .before .before .before .args .goals .now) = omega (arith, v .0, c .loop-test .left) in
+    let all : c .before .loop .r ≡ length (start .args .goals .now) = omega (arith, v .0, c .loop-test .left) in
     (λ t. served-all (v .7 t) (c .loop-test .left), settles (rw all at (v .9)))
 
 pub carry-all-spec : {M : Type 1} → statement M

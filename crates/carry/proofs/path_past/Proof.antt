@@ -15,7 +15,8 @@ same-length c = c .before .before .path-between .kept .1 .1 .1 .1 .1 .0
 
 returns : tie.Need-returns
 returns c =
-    λ s. past-held s _ _ _ _ (sym (c .before .before .before .before .if1 .taken) ∙ c .before .before .before .before .before .before .before .before .pre .7 (s .yard) (s .joins)) (c .before .before .path-between .ensures s)
+    let start = c .before .before .before .before .before .before .before .before in
+    λ s. past-held s _ _ _ _ (sym (c .before .before .before .before .if1 .taken) ∙ start .pre .7 (s .yard) (s .joins)) (c .before .before .path-between .ensures s)
 
 slice-aggregate-path-between : tie.Need-slice-aggregate-path-between
 slice-aggregate-path-between c = search needs
@@ -30,9 +31,10 @@ same-length-2 c = c .before .before .path-between2 .kept .1 .1 .1 .1 .1 .0
 
 returns-2 : tie.Need-returns-2
 returns-2 c =
+    let start = c .before .before .before .before .before .before .before .before .before in
     λ s.
     let bare = freeShown (record { yard = s .yard; joins = s .joins }) in
-    past-none s bare _ _ _ _ refl refl (sym (c .before .before .before .before .before .if1 .left) ∙ c .before .before .before .before .before .before .before .before .before .pre .7 (s .yard) (s .joins)) (c .before .before .path-between2 .ensures bare)
+    past-none s bare _ _ _ _ refl refl (sym (c .before .before .before .before .before .if1 .left) ∙ start .pre .7 (s .yard) (s .joins)) (c .before .before .path-between2 .ensures bare)
 
 pub path-past-spec : {M : Type 1} → statement M
 path-past-spec =

@@ -28,7 +28,9 @@ wide-requires c κs = search needs
 
 -- where the link leads
 abbrev link : tie.After-wide → ℕ
-link c = getD (now (c .before .before .before .before .before .args .links)) (c .before .before .before .before .before .args .name * links-each + c .before .before .before .before .before .args .kind) 0
+link c =
+    let start = c .before .before .before .before .before in
+    getD (now (start .args .links)) (start .args .name * links-each + start .args .kind) 0
 
 lead : (c : tie.After-wide) → Leads (now (c .before .before .before .before .before .args .plan)) (now (c .before .before .before .before .before .args .gone)) (c .before .before .before .before .before .args .kind) (c .before .before .before .before .before .args .name) (link c)
 lead c = let s = c .before .before .before .before .before in s .pre .7 .ahead (s .args .kind) (s .args .name) (s .pre .3) (s .pre .0)

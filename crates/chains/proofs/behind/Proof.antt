@@ -29,7 +29,9 @@ wide-requires c κs = search needs
 
 -- where the link leads
 abbrev link : tie.After-wide → ℕ
-link c = getD (now (c .before .before .before .before .before .args .links)) (c .before .before .before .before .before .args .name * links-each + 3) 0
+link c =
+    let start = c .before .before .before .before .before in
+    getD (now (start .args .links)) (start .args .name * links-each + 3) 0
 
 lead : (c : tie.After-wide) → LeadsDown (now (c .before .before .before .before .before .args .plan)) (now (c .before .before .before .before .before .args .gone)) 3 (c .before .before .before .before .before .args .name) (link c)
 lead c = let s = c .before .before .before .before .before in s .pre .3 .behind 3 (s .args .name) (omega arith) (omega arith) (s .pre .0)

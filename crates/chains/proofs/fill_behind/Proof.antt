@@ -299,7 +299,9 @@ same-length : tie.Need-same-length Inv-loop μ-loop
 same-length c = c .before .loop .inv .0
 
 returns : tie.Need-returns Inv-loop μ-loop
-returns c = let t = c .before .loop in let i = t .inv .1 in all-linked (now (c .before .before .before .before .args .plan)) (t .links) (t .m) (c .before .before .before .before .pre .0) (i .long) (c .loop-test .left) (i .up) (i .down)
+returns c =
+    let start = c .before .before .before .before in
+    let t = c .before .loop in let i = t .inv .1 in all-linked (now (start .args .plan)) (t .links) (t .m) (start .pre .0) (i .long) (c .loop-test .left) (i .up) (i .down)
 
 pub fill-behind-spec : {M : Type 1} → statement M
 fill-behind-spec =

@@ -27,9 +27,11 @@ same-length c = search needs
 
 returns : tie.Need-returns
 returns c =
+    let play = c .before .before .before .before .play in
+    let place = c .before .before .before .before .before .before .before .before .before .before .before .place in
     let s = c .before .before .before .before .before .before .before .before .before .before .before .before .before .before .before .before .before in
-    nine-ten (now (s .args .table)) (now (s .args .start)) (now (s .args .goal)) (crossings (now (s .args .plan))) _ _ _ (legalityOf (c .before .before .before .before .play .result))
-    (c .before .before .before .before .before .before .before .before .before .before .before .place .ensures) (c .before .before .before .before .before .before .before .occupy .ensures) (c .before .before .before .before .play .ensures) (checkedOf (c .judge .result)) (c .judge .ensures)
+    nine-ten (now (s .args .table)) (now (s .args .start)) (now (s .args .goal)) (crossings (now (s .args .plan))) _ _ _ (legalityOf (play .result))
+    (place .ensures) (c .before .before .before .before .before .before .before .occupy .ensures) (play .ensures) (checkedOf (c .judge .result)) (c .judge .ensures)
 
 pub check-crossings-spec : {M : Type 1} → statement M
 check-crossings-spec =

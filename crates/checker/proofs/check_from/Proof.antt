@@ -22,7 +22,9 @@ slice-aggregate-check-crossings : tie.Need-slice-aggregate-check-crossings
 slice-aggregate-check-crossings c = sym (enough (length (now (c .before .before .before .before .args .start))) (omega arith))
 
 check-crossings-requires : tie.Need-check-crossings-requires
-check-crossings-requires c κs = (enough (length (now (c .before .before .before .before .args .start))) (omega arith), c .before .before .before .before .pre .0, c .before .before .before .before .pre .1, c .before .before .before .before .pre .2, c .before .before .before .before .pre .3)
+check-crossings-requires c κs =
+    let start = c .before .before .before .before in
+    (enough (length (now (start .args .start))) (omega arith), start .pre .0, start .pre .1, start .pre .2, start .pre .3)
 
 returns : tie.Need-returns
 returns c = search needs

@@ -15,7 +15,9 @@ slice-aggregate-of-set : tie.Need-slice-aggregate-of-set
 slice-aggregate-of-set c = search needs
 
 of-set-requires : tie.Need-of-set-requires
-of-set-requires c κs = (search needs, rowed-same (c .before .before .before .before .before .before .before .args .table .now) _ _ (c .before .before .meet-rows .ensures) (c .before .before .before .before .before .before .before .pre .2))
+of-set-requires c κs =
+    let start = c .before .before .before .before .before .before .before in
+    (search needs, rowed-same (start .args .table .now) _ _ (c .before .before .meet-rows .ensures) (start .pre .2))
 
 returns : tie.Need-returns
 returns c = taken-same (c .before .before .before .meet-rows .ensures) (c .of-set .ensures)

@@ -32,9 +32,10 @@ count-requires c κs = search needs
 
 returns : tie.Need-returns
 returns c =
-    let a : ℕ = c .before .before .before .args .a in
+    let start = c .before .before .before in
+    let a : ℕ = start .args .a in
     let size : a * words + words - a * words ≡ words = omega arith in
-    c .count .ensures ∙ row-rails _ a (a * words + words - a * words) size (c .before .before .before .pre)
+    c .count .ensures ∙ row-rails _ a (a * words + words - a * words) size (start .pre)
 
 pub count-rails-spec : {M : Type 1} → statement M
 count-rails-spec =

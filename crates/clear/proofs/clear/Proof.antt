@@ -63,7 +63,11 @@ slice-aggregate-lowest-common-2 : tie.Need-slice-aggregate-lowest-common-2
 slice-aggregate-lowest-common-2 c = search needs
 
 lowest-common-requires-2 : tie.Need-lowest-common-requires-2
-lowest-common-requires-2 c κs = (omega (arith, c .before .before .before .remove2 .kept .0, c .before .before .before .before .before .before .before .before .before .before .before .before .before .before .before .before .before .before .remove .kept .0, c .before .before .before .before .before .before .before .before .before .before .before .before .before .before .before .before .before .before .before .before .before .before .join-row .kept .0), omega (arith, c .before .before .before .before .before .before .before .before .before .before .before .before .before .before .before .before .before .before .before .before .before .before .before .before .before .before .before .before .before .before .pre .0 .empty-size))
+lowest-common-requires-2 c κs =
+    let remove = c .before .before .before .before .before .before .before .before .before .before .before .before .before .before .before .before .before .before .remove in
+    let join-row = c .before .before .before .before .before .before .before .before .before .before .before .before .before .before .before .before .before .before .before .before .before .before .join-row in
+    let start = c .before .before .before .before .before .before .before .before .before .before .before .before .before .before .before .before .before .before .before .before .before .before .before .before .before .before .before .before .before .before in
+    (omega (arith, c .before .before .before .remove2 .kept .0, remove .kept .0, join-row .kept .0), omega (arith, start .pre .0 .empty-size))
 
 cast-t39 : tie.Need-cast-t39
 cast-t39 c = search needs
@@ -76,13 +80,19 @@ same-length c = refl
 
 returns : tie.Need-returns
 returns c =
-    let p = c .before .before .before .before .before .before .before .before .before .before .before .before .before .before .before .before .before .before .before .before .before .before .before .before .before .before .before .before .before .before .before .before .pre .0 in
-    let z = c .before .before .before .before .before .before .before .before .before .before .before .before .before .before .before .before .before .before .before .before .before .before .before .before .before .before .before .before .before .before .before .before .pre .1 in
-    let i = inside-of (p .tabled) _ _ _ _ (z .0) (c .before .before .before .before .before .before .before .before .before .before .before .before .before .before .before .before .before .before .before .before .before .before .before .before .join-row .ensures) (c .before .before .before .before .before .before .before .before .before .before .before .before .before .before .before .before .before .before .before .before .remove .ensures) in
-    let j = inside-less i _ _ (c .before .before .before .before .before .remove2 .ensures) in
-    let hx = lowest-in _ i (c .before .before .before .before .before .before .before .before .lowest-common .ensures) (c .before .before .before .before .before .before .before .if1 .taken) in
+    let remove2 = c .before .before .before .before .before .remove2 in
+    let if1 = c .before .before .before .before .before .before .before .if1 in
+    let lowest-common = c .before .before .before .before .before .before .before .before .lowest-common in
+    let remove = c .before .before .before .before .before .before .before .before .before .before .before .before .before .before .before .before .before .before .before .before .remove in
+    let join-row = c .before .before .before .before .before .before .before .before .before .before .before .before .before .before .before .before .before .before .before .before .before .before .before .before .join-row in
+    let start = c .before .before .before .before .before .before .before .before .before .before .before .before .before .before .before .before .before .before .before .before .before .before .before .before .before .before .before .before .before .before .before .before in
+    let p = start .pre .0 in
+    let z = start .pre .1 in
+    let i = inside-of (p .tabled) _ _ _ _ (z .0) (join-row .ensures) (remove .ensures) in
+    let j = inside-less i _ _ (remove2 .ensures) in
+    let hx = lowest-in _ i (lowest-common .ensures) (if1 .taken) in
     let hy = lowest-in _ j (c .before .lowest-common2 .ensures) (c .if2 .taken) in
-    (two-both (c .before .before .before .before .before .before .before .if1 .taken) (c .if2 .taken) (omega arith) (omega arith), λ t. clears-both (clear-two (around-of t _ _ _ _ (p .most) (z .0) (c .before .before .before .before .before .before .before .before .before .before .before .before .before .before .before .before .before .before .before .before .before .before .before .before .join-row .ensures) (c .before .before .before .before .before .before .before .before .before .before .before .before .before .before .before .before .before .before .before .before .remove .ensures)) (p .most) (p .placed) (c .before .before .before .before .before .before .before .before .lowest-common .ensures) hx _ (c .before .before .before .before .before .remove2 .ensures) (c .before .lowest-common2 .ensures) hy) _ _ (p .placed))
+    (two-both (if1 .taken) (c .if2 .taken) (omega arith) (omega arith), λ t. clears-both (clear-two (around-of t _ _ _ _ (p .most) (z .0) (join-row .ensures) (remove .ensures)) (p .most) (p .placed) (lowest-common .ensures) hx _ (remove2 .ensures) (c .before .lowest-common2 .ensures) hy) _ _ (p .placed))
 
 slice-aggregate-keep-second : tie.Need-slice-aggregate-keep-second
 slice-aggregate-keep-second c = search needs
@@ -95,31 +105,58 @@ cast-t47 c = search needs
 
 keep-second-requires : tie.Need-keep-second-requires
 keep-second-requires c κs =
-    let p = c .before .before .before .before .before .before .before .before .before .before .before .before .before .before .before .before .before .before .before .before .before .before .before .before .before .before .before .before .before .before .before .before .before .before .before .before .before .before .pre .0 in
-    let z = c .before .before .before .before .before .before .before .before .before .before .before .before .before .before .before .before .before .before .before .before .before .before .before .before .before .before .before .before .before .before .before .before .before .before .before .before .before .before .pre .1 in
-    let i = inside-of (p .tabled) _ _ _ _ (z .0) (c .before .before .before .before .before .before .before .before .before .before .before .before .before .before .before .before .before .before .before .before .before .before .before .before .before .before .before .before .before .before .join-row .ensures) (c .before .before .before .before .before .before .before .before .before .before .before .before .before .before .before .before .before .before .before .before .before .before .before .before .before .before .remove .ensures) in
-    let hx = lowest-in _ i (c .before .before .before .before .before .before .before .before .before .before .before .before .before .before .lowest-common .ensures) (c .before .before .before .before .before .before .before .before .before .before .before .before .before .if1 .taken) in
-    (p, (search needs, search needs, omega arith, hx, inside-less i _ _ (c .before .before .before .before .before .before .before .before .before .before .before .remove2 .ensures), omega (arith, z .2), holdsTwo (p .tabled) _ _ _ _ (c .before .before .before .before .before .before .before .before .before .before .before .before .before .before .before .before .before .before .before .before .before .before .alone .ensures) (c .before .before .before .before .before .before .before .before .before .before .before .before .before .before .before .before .before .before .join .ensures), lowest-free _ (p .placed) (c .before .before .before .before .before .before .before .before .before .before .before .before .before .before .lowest-common .ensures) hx (p .most)))
+    let remove2 = c .before .before .before .before .before .before .before .before .before .before .before .remove2 in
+    let if1 = c .before .before .before .before .before .before .before .before .before .before .before .before .before .if1 in
+    let lowest-common = c .before .before .before .before .before .before .before .before .before .before .before .before .before .before .lowest-common in
+    let join = c .before .before .before .before .before .before .before .before .before .before .before .before .before .before .before .before .before .before .join in
+    let alone = c .before .before .before .before .before .before .before .before .before .before .before .before .before .before .before .before .before .before .before .before .before .before .alone in
+    let remove = c .before .before .before .before .before .before .before .before .before .before .before .before .before .before .before .before .before .before .before .before .before .before .before .before .before .before .remove in
+    let join-row = c .before .before .before .before .before .before .before .before .before .before .before .before .before .before .before .before .before .before .before .before .before .before .before .before .before .before .before .before .before .before .join-row in
+    let start = c .before .before .before .before .before .before .before .before .before .before .before .before .before .before .before .before .before .before .before .before .before .before .before .before .before .before .before .before .before .before .before .before .before .before .before .before .before .before in
+    let p = start .pre .0 in
+    let z = start .pre .1 in
+    let i = inside-of (p .tabled) _ _ _ _ (z .0) (join-row .ensures) (remove .ensures) in
+    let hx = lowest-in _ i (lowest-common .ensures) (if1 .taken) in
+    (p, (search needs, search needs, omega arith, hx, inside-less i _ _ (remove2 .ensures), omega (arith, z .2), holdsTwo (p .tabled) _ _ _ _ (alone .ensures) (join .ensures), lowest-free _ (p .placed) (lowest-common .ensures) hx (p .most)))
 
 same-length-2 : tie.Need-same-length-2
-same-length-2 c = c .before .before .before .before .before .before .before .before .before .keep-second .kept .1 .1 .1 .1 .1 .0
+same-length-2 c =
+    let keep-second = c .before .before .before .before .before .before .before .before .before .keep-second in
+    keep-second .kept .1 .1 .1 .1 .1 .0
 
 same-length-3 : tie.Need-same-length-3
-same-length-3 c = c .before .before .before .before .before .before .before .before .before .keep-second .kept .1 .1 .1 .1 .1 .1 .0
+same-length-3 c =
+    let keep-second = c .before .before .before .before .before .before .before .before .before .keep-second in
+    keep-second .kept .1 .1 .1 .1 .1 .1 .0
 
 same-length-4 : tie.Need-same-length-4
-same-length-4 c = c .before .before .before .before .before .before .before .before .before .keep-second .kept .1 .1 .1 .1 .1 .1 .1 .0
+same-length-4 c =
+    let keep-second = c .before .before .before .before .before .before .before .before .before .keep-second in
+    keep-second .kept .1 .1 .1 .1 .1 .1 .1 .0
 
 same-length-5 : tie.Need-same-length-5
-same-length-5 c = c .before .before .before .before .before .before .before .before .before .keep-second .kept .1 .1 .1 .1 .1 .1 .1 .1 .0
+same-length-5 c =
+    let keep-second = c .before .before .before .before .before .before .before .before .before .keep-second in
+    keep-second .kept .1 .1 .1 .1 .1 .1 .1 .1 .0
 
 returns-2 : tie.Need-returns-2
 returns-2 c =
-    let p = c .before .before .before .before .before .before .before .before .before .before .before .before .before .before .before .before .before .before .before .before .before .before .before .before .before .before .before .before .before .before .before .before .before .before .before .before .before .before .before .before .before .before .before .before .before .before .before .before .pre .0 in
-    let z = c .before .before .before .before .before .before .before .before .before .before .before .before .before .before .before .before .before .before .before .before .before .before .before .before .before .before .before .before .before .before .before .before .before .before .before .before .before .before .before .before .before .before .before .before .before .before .before .before .pre .1 in
-    let i = inside-of (p .tabled) _ _ _ _ (z .0) (c .before .before .before .before .before .before .before .before .before .before .before .before .before .before .before .before .before .before .before .before .before .before .before .before .before .before .before .before .before .before .before .before .before .before .before .before .before .before .before .before .join-row .ensures) (c .before .before .before .before .before .before .before .before .before .before .before .before .before .before .before .before .before .before .before .before .before .before .before .before .before .before .before .before .before .before .before .before .before .before .before .before .remove .ensures) in
-    let hx = lowest-in _ i (c .before .before .before .before .before .before .before .before .before .before .before .before .before .before .before .before .before .before .before .before .before .before .before .before .lowest-common .ensures) (c .before .before .before .before .before .before .before .before .before .before .before .before .before .before .before .before .before .before .before .before .before .before .before .if1 .taken) in
-    (two-within (omega arith) (c .before .before .before .before .before .before .before .before .before .keep-second .ensures .0), λ t. clears-as (clear-one (around-of t _ _ _ _ (p .most) (z .0) (c .before .before .before .before .before .before .before .before .before .before .before .before .before .before .before .before .before .before .before .before .before .before .before .before .before .before .before .before .before .before .before .before .before .before .before .before .before .before .before .before .join-row .ensures) (c .before .before .before .before .before .before .before .before .before .before .before .before .before .before .before .before .before .before .before .before .before .before .before .before .before .before .before .before .before .before .before .before .before .before .before .before .remove .ensures)) (p .most) (p .placed) (c .before .before .before .before .before .before .before .before .before .before .before .before .before .before .before .before .before .before .before .before .before .before .before .before .lowest-common .ensures) hx _ (c .before .before .before .before .before .before .before .before .before .before .before .before .before .before .before .before .before .before .before .before .before .remove2 .ensures) (c .before .before .before .before .before .before .before .before .before .before .before .before .before .before .before .before .before .lowest-common2 .ensures) (c .before .before .before .before .before .before .before .before .before .before .before .before .before .before .before .before .if2 .left)) (c .before .before .before .before .before .before .before .before .before .keep-second .ensures .1 t (holdsTwo t _ _ _ _ (c .before .before .before .before .before .before .before .before .before .before .before .before .before .before .before .before .before .before .before .before .before .before .before .before .before .before .before .before .before .before .before .before .alone .ensures) (c .before .before .before .before .before .before .before .before .before .before .before .before .before .before .before .before .before .before .before .before .before .before .before .before .before .before .before .before .join .ensures))))
+    let keep-second = c .before .before .before .before .before .before .before .before .before .keep-second in
+    let if2 = c .before .before .before .before .before .before .before .before .before .before .before .before .before .before .before .before .if2 in
+    let lowest-common2 = c .before .before .before .before .before .before .before .before .before .before .before .before .before .before .before .before .before .lowest-common2 in
+    let remove2 = c .before .before .before .before .before .before .before .before .before .before .before .before .before .before .before .before .before .before .before .before .before .remove2 in
+    let if1 = c .before .before .before .before .before .before .before .before .before .before .before .before .before .before .before .before .before .before .before .before .before .before .before .if1 in
+    let lowest-common = c .before .before .before .before .before .before .before .before .before .before .before .before .before .before .before .before .before .before .before .before .before .before .before .before .lowest-common in
+    let join = c .before .before .before .before .before .before .before .before .before .before .before .before .before .before .before .before .before .before .before .before .before .before .before .before .before .before .before .before .join in
+    let alone = c .before .before .before .before .before .before .before .before .before .before .before .before .before .before .before .before .before .before .before .before .before .before .before .before .before .before .before .before .before .before .before .before .alone in
+    let remove = c .before .before .before .before .before .before .before .before .before .before .before .before .before .before .before .before .before .before .before .before .before .before .before .before .before .before .before .before .before .before .before .before .before .before .before .before .remove in
+    let join-row = c .before .before .before .before .before .before .before .before .before .before .before .before .before .before .before .before .before .before .before .before .before .before .before .before .before .before .before .before .before .before .before .before .before .before .before .before .before .before .before .before .join-row in
+    let start = c .before .before .before .before .before .before .before .before .before .before .before .before .before .before .before .before .before .before .before .before .before .before .before .before .before .before .before .before .before .before .before .before .before .before .before .before .before .before .before .before .before .before .before .before .before .before .before .before in
+    let p = start .pre .0 in
+    let z = start .pre .1 in
+    let i = inside-of (p .tabled) _ _ _ _ (z .0) (join-row .ensures) (remove .ensures) in
+    let hx = lowest-in _ i (lowest-common .ensures) (if1 .taken) in
+    (two-within (omega arith) (keep-second .ensures .0), λ t. clears-as (clear-one (around-of t _ _ _ _ (p .most) (z .0) (join-row .ensures) (remove .ensures)) (p .most) (p .placed) (lowest-common .ensures) hx _ (remove2 .ensures) (lowest-common2 .ensures) (if2 .left)) (keep-second .ensures .1 t (holdsTwo t _ _ _ _ (alone .ensures) (join .ensures))))
 
 slice-aggregate-keep-one : tie.Need-slice-aggregate-keep-one
 slice-aggregate-keep-one c = search needs
@@ -129,10 +166,15 @@ slice-aggregate-keep-one-2 c = search needs
 
 keep-one-requires : tie.Need-keep-one-requires
 keep-one-requires c κs =
-    let p = c .before .before .before .before .before .before .before .before .before .before .before .before .before .before .before .before .before .before .before .before .before .before .before .before .before .before .before .before .before .before .before .pre .0 in
-    let z = c .before .before .before .before .before .before .before .before .before .before .before .before .before .before .before .before .before .before .before .before .before .before .before .before .before .before .before .before .before .before .before .pre .1 in
-    let i = inside-of (p .tabled) _ _ _ _ (z .0) (c .before .before .before .before .before .before .before .before .before .before .before .before .before .before .before .before .before .before .before .before .before .before .before .join-row .ensures) (c .before .before .before .before .before .before .before .before .before .before .before .before .before .before .before .before .before .before .before .remove .ensures) in
-    (p, (search needs, search needs, omega arith, i, omega (arith, z .2), twoShown (p .tabled) (holdsTwo (p .tabled) _ _ _ _ (c .before .before .before .before .before .before .before .before .before .before .before .before .before .before .before .alone .ensures) (c .before .before .before .before .before .before .before .before .before .before .before .join .ensures))))
+    let join = c .before .before .before .before .before .before .before .before .before .before .before .join in
+    let alone = c .before .before .before .before .before .before .before .before .before .before .before .before .before .before .before .alone in
+    let remove = c .before .before .before .before .before .before .before .before .before .before .before .before .before .before .before .before .before .before .before .remove in
+    let join-row = c .before .before .before .before .before .before .before .before .before .before .before .before .before .before .before .before .before .before .before .before .before .before .before .join-row in
+    let start = c .before .before .before .before .before .before .before .before .before .before .before .before .before .before .before .before .before .before .before .before .before .before .before .before .before .before .before .before .before .before .before in
+    let p = start .pre .0 in
+    let z = start .pre .1 in
+    let i = inside-of (p .tabled) _ _ _ _ (z .0) (join-row .ensures) (remove .ensures) in
+    (p, (search needs, search needs, omega arith, i, omega (arith, z .2), twoShown (p .tabled) (holdsTwo (p .tabled) _ _ _ _ (alone .ensures) (join .ensures))))
 
 enum-known-first : tie.Need-enum-known-first
 enum-known-first c = c .match .keys1
@@ -141,34 +183,55 @@ enum-told : tie.Need-enum-told
 enum-told c = c .match .keys2
 
 same-length-6 : tie.Need-same-length-6
-same-length-6 c = c .before .before .before .before .before .before .before .before .before .before .keep-one .kept .1 .1 .1 .1 .0
+same-length-6 c =
+    let keep-one = c .before .before .before .before .before .before .before .before .before .before .keep-one in
+    keep-one .kept .1 .1 .1 .1 .0
 
 same-length-7 : tie.Need-same-length-7
-same-length-7 c = c .before .before .before .before .before .before .before .before .before .before .keep-one .kept .1 .1 .1 .1 .1 .0
+same-length-7 c =
+    let keep-one = c .before .before .before .before .before .before .before .before .before .before .keep-one in
+    keep-one .kept .1 .1 .1 .1 .1 .0
 
 same-length-8 : tie.Need-same-length-8
-same-length-8 c = c .before .before .before .before .before .before .before .before .before .before .keep-one .kept .1 .1 .1 .1 .1 .1 .0
+same-length-8 c =
+    let keep-one = c .before .before .before .before .before .before .before .before .before .before .keep-one in
+    keep-one .kept .1 .1 .1 .1 .1 .1 .0
 
 same-length-9 : tie.Need-same-length-9
-same-length-9 c = c .before .before .before .before .before .before .before .before .before .before .keep-one .kept .1 .1 .1 .1 .1 .1 .1 .0
+same-length-9 c =
+    let keep-one = c .before .before .before .before .before .before .before .before .before .before .keep-one in
+    keep-one .kept .1 .1 .1 .1 .1 .1 .1 .0
 
 returns-3 : tie.Need-returns-3
 returns-3 c =
-    let p = c .before .before .before .before .before .before .before .before .before .before .before .before .before .before .before .before .before .before .before .before .before .before .before .before .before .before .before .before .before .before .before .before .before .before .before .before .before .before .before .before .before .before .pre .0 in
-    let z = c .before .before .before .before .before .before .before .before .before .before .before .before .before .before .before .before .before .before .before .before .before .before .before .before .before .before .before .before .before .before .before .before .before .before .before .before .before .before .before .before .before .before .pre .1 in
-    let e : c .before .before .before .before .before .before .before .before .before .before .keep-one .result ≡ Nothing = c .enum-told .given .1 in
-    (two-short _ _, λ t. clears-short (rw (clear-none (around-of t _ _ _ _ (p .most) (z .0) (c .before .before .before .before .before .before .before .before .before .before .before .before .before .before .before .before .before .before .before .before .before .before .before .before .before .before .before .before .before .before .before .before .before .before .join-row .ensures) (c .before .before .before .before .before .before .before .before .before .before .before .before .before .before .before .before .before .before .before .before .before .before .before .before .before .before .before .before .before .before .remove .ensures)) (p .most) (p .placed) (c .before .before .before .before .before .before .before .before .before .before .before .before .before .before .before .before .before .before .lowest-common .ensures) (c .before .before .before .before .before .before .before .before .before .before .before .before .before .before .before .before .before .if1 .left)) (first-none _ _ _ _ _ _ (p .most) ((rw e at (c .before .before .before .before .before .before .before .before .before .before .keep-one .ensures .1 (twoShown t (holdsTwo t _ _ _ _ (c .before .before .before .before .before .before .before .before .before .before .before .before .before .before .before .before .before .before .before .before .before .before .before .before .before .before .alone .ensures) (c .before .before .before .before .before .before .before .before .before .before .before .before .before .before .before .before .before .before .before .before .before .before .join .ensures))))) .stuck))))
+    let keep-one = c .before .before .before .before .before .before .before .before .before .before .keep-one in
+    let if1 = c .before .before .before .before .before .before .before .before .before .before .before .before .before .before .before .before .before .if1 in
+    let lowest-common = c .before .before .before .before .before .before .before .before .before .before .before .before .before .before .before .before .before .before .lowest-common in
+    let join = c .before .before .before .before .before .before .before .before .before .before .before .before .before .before .before .before .before .before .before .before .before .before .join in
+    let alone = c .before .before .before .before .before .before .before .before .before .before .before .before .before .before .before .before .before .before .before .before .before .before .before .before .before .before .alone in
+    let remove = c .before .before .before .before .before .before .before .before .before .before .before .before .before .before .before .before .before .before .before .before .before .before .before .before .before .before .before .before .before .before .remove in
+    let join-row = c .before .before .before .before .before .before .before .before .before .before .before .before .before .before .before .before .before .before .before .before .before .before .before .before .before .before .before .before .before .before .before .before .before .before .join-row in
+    let start = c .before .before .before .before .before .before .before .before .before .before .before .before .before .before .before .before .before .before .before .before .before .before .before .before .before .before .before .before .before .before .before .before .before .before .before .before .before .before .before .before .before .before in
+    let p = start .pre .0 in
+    let z = start .pre .1 in
+    let e : keep-one .result ≡ Nothing = c .enum-told .given .1 in
+    (two-short _ _, λ t. clears-short (rw (clear-none (around-of t _ _ _ _ (p .most) (z .0) (join-row .ensures) (remove .ensures)) (p .most) (p .placed) (lowest-common .ensures) (if1 .left)) (first-none _ _ _ _ _ _ (p .most) ((rw e at (keep-one .ensures .1 (twoShown t (holdsTwo t _ _ _ _ (alone .ensures) (join .ensures))))) .stuck))))
 
 slice-aggregate-keep-second-3 : tie.Need-slice-aggregate-keep-second-3
-slice-aggregate-keep-second-3 c = omega (arith, c .before .before .before .before .before .before .before .before .before .before .before .before .before .before .before .before .before .before .before .before .before .before .before .before .before .before .before .before .before .before .before .before .remove .kept .0, c .before .before .before .before .before .before .before .before .before .before .before .before .before .before .before .before .before .before .before .before .before .before .before .before .before .before .before .before .before .before .before .before .before .before .before .before .join-row .kept .0)
+slice-aggregate-keep-second-3 c =
+    let remove = c .before .before .before .before .before .before .before .before .before .before .before .before .before .before .before .before .before .before .before .before .before .before .before .before .before .before .before .before .before .before .before .before .remove in
+    let join-row = c .before .before .before .before .before .before .before .before .before .before .before .before .before .before .before .before .before .before .before .before .before .before .before .before .before .before .before .before .before .before .before .before .before .before .before .before .join-row in
+    omega (arith, remove .kept .0, join-row .kept .0)
 
 cast-keep-second : tie.Need-cast-keep-second
 cast-keep-second c = search needs
 
 add-keep-second : tie.Need-add-keep-second
 add-keep-second c =
-    let e : c .before .before .before .before .before .before .before .before .before .before .before .before .before .keep-one .result ≡ One (c .before .before .before .first .given .0 .0) (c .before .before .before .first .given .0 .1 .0) = c .before .before .before .first .given .1 in
-    let few = rw e at (c .before .before .before .before .before .before .before .before .before .before .before .before .before .keep-one .ensures .0) in
+    let first = c .before .before .before .first in
+    let keep-one = c .before .before .before .before .before .before .before .before .before .before .before .before .before .keep-one in
+    let e : keep-one .result ≡ One (first .given .0 .0) (first .given .0 .1 .0) = first .given .1 in
+    let few = rw e at (keep-one .ensures .0) in
     omega (arith, few .0)
 
 slice-aggregate-keep-second-4 : tie.Need-slice-aggregate-keep-second-4
@@ -176,42 +239,71 @@ slice-aggregate-keep-second-4 c = search needs
 
 keep-second-requires-2 : tie.Need-keep-second-requires-2
 keep-second-requires-2 c κs =
-    let p = c .before .before .before .before .before .before .before .before .before .before .before .before .before .before .before .before .before .before .before .before .before .before .before .before .before .before .before .before .before .before .before .before .before .before .before .before .before .before .before .before .before .before .before .before .before .before .before .before .before .before .pre .0 in
-    let z = c .before .before .before .before .before .before .before .before .before .before .before .before .before .before .before .before .before .before .before .before .before .before .before .before .before .before .before .before .before .before .before .before .before .before .before .before .before .before .before .before .before .before .before .before .before .before .before .before .before .before .pre .1 in
-    let e : c .before .before .before .before .before .before .before .before .before .before .before .before .before .before .before .before .before .before .keep-one .result ≡ One (c .before .before .before .before .before .before .before .before .first .given .0 .0) (c .before .before .before .before .before .before .before .before .first .given .0 .1 .0) = c .before .before .before .before .before .before .before .before .first .given .1 in
-    let few = rw e at (c .before .before .before .before .before .before .before .before .before .before .before .before .before .before .before .before .before .before .keep-one .ensures .0) in
-    let h = holdsTwo (p .tabled) _ _ _ _ (c .before .before .before .before .before .before .before .before .before .before .before .before .before .before .before .before .before .before .before .before .before .before .before .before .before .before .before .before .before .before .before .before .before .before .alone .ensures) (c .before .before .before .before .before .before .before .before .before .before .before .before .before .before .before .before .before .before .before .before .before .before .before .before .before .before .before .before .before .before .join .ensures) in
-    let o = rw e at (c .before .before .before .before .before .before .before .before .before .before .before .before .before .before .before .before .before .before .keep-one .ensures .1 (twoShown (p .tabled) h)) in
-    let i = inside-of (p .tabled) _ _ _ _ (z .0) (c .before .before .before .before .before .before .before .before .before .before .before .before .before .before .before .before .before .before .before .before .before .before .before .before .before .before .before .before .before .before .before .before .before .before .before .before .before .before .before .before .before .before .join-row .ensures) (c .before .before .before .before .before .before .before .before .before .before .before .before .before .before .before .before .before .before .before .before .before .before .before .before .before .before .before .before .before .before .before .before .before .before .before .before .before .before .remove .ensures) in
-    let kw : length (c .before .before .before .before .before .before .before .before .before .before .before .before .before .before .before .before .before .before .keep-one .last .1 .1 .1 .1 .1 .0) ≡ length (c .before .before .before .before .before .before .before .before .before .before .before .before .before .before .before .before .before .before .before .before .before .before .before .before .before .before .before .before .before .before .before .before .before .before .before .before .before .before .before .before .before .before .before .before .before .before .before .before .before .before .args .standing .now) = c .before .before .before .before .before .before .before .before .before .before .before .before .before .before .before .before .before .before .keep-one .kept .1 .1 .1 .1 .1 .0 in
-    let kf = c .before .before .before .before .before .before .before .before .before .before .before .before .before .before .before .before .before .before .keep-one .kept .1 .1 .1 .1 .1 .1 .0 in
-    (ready-again p _ _ _ kw kf (o .played .placed), (omega (arith, c .before .before .before .before .before .before .before .before .before .before .before .before .before .before .before .before .before .before .before .before .before .before .before .before .before .before .before .before .before .before .before .before .before .before .before .before .before .before .remove .kept .0, c .before .before .before .before .before .before .before .before .before .before .before .before .before .before .before .before .before .before .before .before .before .before .before .before .before .before .before .before .before .before .before .before .before .before .before .before .before .before .before .before .before .before .join-row .kept .0), omega (arith, c .before .before .before .before .before .before .before .before .before .before .before .before .before .before .before .before .before .before .before .before .before .before .before .before .before .before .before .before .before .before .join .kept .0, c .before .before .before .before .before .before .before .before .before .before .before .before .before .before .before .before .before .before .before .before .before .before .before .before .before .before .before .before .before .before .before .before .before .before .alone .kept .0), omega (arith, o .low, kw), rw kw (o .low), rw kw i, omega (arith, few .1, z .2), h, kept-free (p .tabled) (p .placed) o))
+    let first = c .before .before .before .before .before .before .before .before .first in
+    let keep-one = c .before .before .before .before .before .before .before .before .before .before .before .before .before .before .before .before .before .before .keep-one in
+    let join = c .before .before .before .before .before .before .before .before .before .before .before .before .before .before .before .before .before .before .before .before .before .before .before .before .before .before .before .before .before .before .join in
+    let alone = c .before .before .before .before .before .before .before .before .before .before .before .before .before .before .before .before .before .before .before .before .before .before .before .before .before .before .before .before .before .before .before .before .before .before .alone in
+    let remove = c .before .before .before .before .before .before .before .before .before .before .before .before .before .before .before .before .before .before .before .before .before .before .before .before .before .before .before .before .before .before .before .before .before .before .before .before .before .before .remove in
+    let join-row = c .before .before .before .before .before .before .before .before .before .before .before .before .before .before .before .before .before .before .before .before .before .before .before .before .before .before .before .before .before .before .before .before .before .before .before .before .before .before .before .before .before .before .join-row in
+    let start = c .before .before .before .before .before .before .before .before .before .before .before .before .before .before .before .before .before .before .before .before .before .before .before .before .before .before .before .before .before .before .before .before .before .before .before .before .before .before .before .before .before .before .before .before .before .before .before .before .before .before in
+    let p = start .pre .0 in
+    let z = start .pre .1 in
+    let e : keep-one .result ≡ One (first .given .0 .0) (first .given .0 .1 .0) = first .given .1 in
+    let few = rw e at (keep-one .ensures .0) in
+    let h = holdsTwo (p .tabled) _ _ _ _ (alone .ensures) (join .ensures) in
+    let o = rw e at (keep-one .ensures .1 (twoShown (p .tabled) h)) in
+    let i = inside-of (p .tabled) _ _ _ _ (z .0) (join-row .ensures) (remove .ensures) in
+    let kw : length (keep-one .last .1 .1 .1 .1 .1 .0) ≡ length (start .args .standing .now) = keep-one .kept .1 .1 .1 .1 .1 .0 in
+    let kf = keep-one .kept .1 .1 .1 .1 .1 .1 .0 in
+    (ready-again p _ _ _ kw kf (o .played .placed), (omega (arith, remove .kept .0, join-row .kept .0), omega (arith, join .kept .0, alone .kept .0), omega (arith, o .low, kw), rw kw (o .low), rw kw i, omega (arith, few .1, z .2), h, kept-free (p .tabled) (p .placed) o))
 
 same-length-10 : tie.Need-same-length-10
-same-length-10 c = c .before .before .before .before .before .before .before .before .before .keep-second2 .kept .1 .1 .1 .1 .1 .0 ∙ c .before .before .before .before .before .before .before .before .before .before .before .before .before .before .before .before .before .before .before .before .before .before .before .before .before .before .before .before .keep-one .kept .1 .1 .1 .1 .0
+same-length-10 c =
+    let keep-second2 = c .before .before .before .before .before .before .before .before .before .keep-second2 in
+    let keep-one = c .before .before .before .before .before .before .before .before .before .before .before .before .before .before .before .before .before .before .before .before .before .before .before .before .before .before .before .before .keep-one in
+    keep-second2 .kept .1 .1 .1 .1 .1 .0 ∙ keep-one .kept .1 .1 .1 .1 .0
 
 same-length-11 : tie.Need-same-length-11
-same-length-11 c = c .before .before .before .before .before .before .before .before .before .keep-second2 .kept .1 .1 .1 .1 .1 .1 .0 ∙ c .before .before .before .before .before .before .before .before .before .before .before .before .before .before .before .before .before .before .before .before .before .before .before .before .before .before .before .before .keep-one .kept .1 .1 .1 .1 .1 .0
+same-length-11 c =
+    let keep-second2 = c .before .before .before .before .before .before .before .before .before .keep-second2 in
+    let keep-one = c .before .before .before .before .before .before .before .before .before .before .before .before .before .before .before .before .before .before .before .before .before .before .before .before .before .before .before .before .keep-one in
+    keep-second2 .kept .1 .1 .1 .1 .1 .1 .0 ∙ keep-one .kept .1 .1 .1 .1 .1 .0
 
 same-length-12 : tie.Need-same-length-12
-same-length-12 c = c .before .before .before .before .before .before .before .before .before .keep-second2 .kept .1 .1 .1 .1 .1 .1 .1 .0 ∙ c .before .before .before .before .before .before .before .before .before .before .before .before .before .before .before .before .before .before .before .before .before .before .before .before .before .before .before .before .keep-one .kept .1 .1 .1 .1 .1 .1 .0
+same-length-12 c =
+    let keep-second2 = c .before .before .before .before .before .before .before .before .before .keep-second2 in
+    let keep-one = c .before .before .before .before .before .before .before .before .before .before .before .before .before .before .before .before .before .before .before .before .before .before .before .before .before .before .before .before .keep-one in
+    keep-second2 .kept .1 .1 .1 .1 .1 .1 .1 .0 ∙ keep-one .kept .1 .1 .1 .1 .1 .1 .0
 
 same-length-13 : tie.Need-same-length-13
-same-length-13 c = c .before .before .before .before .before .before .before .before .before .keep-second2 .kept .1 .1 .1 .1 .1 .1 .1 .1 .0 ∙ c .before .before .before .before .before .before .before .before .before .before .before .before .before .before .before .before .before .before .before .before .before .before .before .before .before .before .before .before .keep-one .kept .1 .1 .1 .1 .1 .1 .1 .0
+same-length-13 c =
+    let keep-second2 = c .before .before .before .before .before .before .before .before .before .keep-second2 in
+    let keep-one = c .before .before .before .before .before .before .before .before .before .before .before .before .before .before .before .before .before .before .before .before .before .before .before .before .before .before .before .before .keep-one in
+    keep-second2 .kept .1 .1 .1 .1 .1 .1 .1 .1 .0 ∙ keep-one .kept .1 .1 .1 .1 .1 .1 .1 .0
 
 returns-4 : tie.Need-returns-4
 returns-4 c =
-    let p = c .before .before .before .before .before .before .before .before .before .before .before .before .before .before .before .before .before .before .before .before .before .before .before .before .before .before .before .before .before .before .before .before .before .before .before .before .before .before .before .before .before .before .before .before .before .before .before .before .before .before .before .before .before .before .before .before .before .before .before .before .pre .0 in
-    let z = c .before .before .before .before .before .before .before .before .before .before .before .before .before .before .before .before .before .before .before .before .before .before .before .before .before .before .before .before .before .before .before .before .before .before .before .before .before .before .before .before .before .before .before .before .before .before .before .before .before .before .before .before .before .before .before .before .before .before .before .before .pre .1 in
-    let e : c .before .before .before .before .before .before .before .before .before .before .before .before .before .before .before .before .before .before .before .before .before .before .before .before .before .before .before .before .keep-one .result ≡ One (c .before .before .before .before .before .before .before .before .before .before .before .before .before .before .before .before .before .before .first .given .0 .0) (c .before .before .before .before .before .before .before .before .before .before .before .before .before .before .before .before .before .before .first .given .0 .1 .0) = c .before .before .before .before .before .before .before .before .before .before .before .before .before .before .before .before .before .before .first .given .1 in
-    let few = rw e at (c .before .before .before .before .before .before .before .before .before .before .before .before .before .before .before .before .before .before .before .before .before .before .before .before .before .before .before .before .keep-one .ensures .0) in
-    let kw : length (c .before .before .before .before .before .before .before .before .before .before .before .before .before .before .before .before .before .before .before .before .before .before .before .before .before .before .before .before .keep-one .last .1 .1 .1 .1 .1 .0) ≡ length (c .before .before .before .before .before .before .before .before .before .before .before .before .before .before .before .before .before .before .before .before .before .before .before .before .before .before .before .before .before .before .before .before .before .before .before .before .before .before .before .before .before .before .before .before .before .before .before .before .before .before .before .before .before .before .before .before .before .before .before .before .args .standing .now) = c .before .before .before .before .before .before .before .before .before .before .before .before .before .before .before .before .before .before .before .before .before .before .before .before .before .before .before .before .keep-one .kept .1 .1 .1 .1 .1 .0 in (
-      two-from vacate-most (few .2) (few .1) (c .before .before .before .before .before .before .before .before .before .keep-second2 .ensures .0),
+    let keep-second2 = c .before .before .before .before .before .before .before .before .before .keep-second2 in
+    let first = c .before .before .before .before .before .before .before .before .before .before .before .before .before .before .before .before .before .before .first in
+    let keep-one = c .before .before .before .before .before .before .before .before .before .before .before .before .before .before .before .before .before .before .before .before .before .before .before .before .before .before .before .before .keep-one in
+    let if1 = c .before .before .before .before .before .before .before .before .before .before .before .before .before .before .before .before .before .before .before .before .before .before .before .before .before .before .before .before .before .before .before .before .before .before .before .if1 in
+    let lowest-common = c .before .before .before .before .before .before .before .before .before .before .before .before .before .before .before .before .before .before .before .before .before .before .before .before .before .before .before .before .before .before .before .before .before .before .before .before .lowest-common in
+    let join = c .before .before .before .before .before .before .before .before .before .before .before .before .before .before .before .before .before .before .before .before .before .before .before .before .before .before .before .before .before .before .before .before .before .before .before .before .before .before .before .before .join in
+    let alone = c .before .before .before .before .before .before .before .before .before .before .before .before .before .before .before .before .before .before .before .before .before .before .before .before .before .before .before .before .before .before .before .before .before .before .before .before .before .before .before .before .before .before .before .before .alone in
+    let remove = c .before .before .before .before .before .before .before .before .before .before .before .before .before .before .before .before .before .before .before .before .before .before .before .before .before .before .before .before .before .before .before .before .before .before .before .before .before .before .before .before .before .before .before .before .before .before .before .before .remove in
+    let join-row = c .before .before .before .before .before .before .before .before .before .before .before .before .before .before .before .before .before .before .before .before .before .before .before .before .before .before .before .before .before .before .before .before .before .before .before .before .before .before .before .before .before .before .before .before .before .before .before .before .before .before .before .before .join-row in
+    let start = c .before .before .before .before .before .before .before .before .before .before .before .before .before .before .before .before .before .before .before .before .before .before .before .before .before .before .before .before .before .before .before .before .before .before .before .before .before .before .before .before .before .before .before .before .before .before .before .before .before .before .before .before .before .before .before .before .before .before .before .before in
+    let p = start .pre .0 in
+    let z = start .pre .1 in
+    let e : keep-one .result ≡ One (first .given .0 .0) (first .given .0 .1 .0) = first .given .1 in
+    let few = rw e at (keep-one .ensures .0) in
+    let kw : length (keep-one .last .1 .1 .1 .1 .1 .0) ≡ length (start .args .standing .now) = keep-one .kept .1 .1 .1 .1 .1 .0 in (
+      two-from vacate-most (few .2) (few .1) (keep-second2 .ensures .0),
       λ t.
-          let h = holdsTwo t _ _ _ _ (c .before .before .before .before .before .before .before .before .before .before .before .before .before .before .before .before .before .before .before .before .before .before .before .before .before .before .before .before .before .before .before .before .before .before .before .before .before .before .before .before .before .before .before .before .alone .ensures) (c .before .before .before .before .before .before .before .before .before .before .before .before .before .before .before .before .before .before .before .before .before .before .before .before .before .before .before .before .before .before .before .before .before .before .before .before .before .before .before .before .join .ensures) in
-          let o = rw e at (c .before .before .before .before .before .before .before .before .before .before .before .before .before .before .before .before .before .before .before .before .before .before .before .before .before .before .before .before .keep-one .ensures .1 (twoShown t h)) in
-          let s = rw kw at (c .before .before .before .before .before .before .before .before .before .keep-second2 .ensures .1) in
-          clears-as (clear-none (around-of t _ _ _ _ (p .most) (z .0) (c .before .before .before .before .before .before .before .before .before .before .before .before .before .before .before .before .before .before .before .before .before .before .before .before .before .before .before .before .before .before .before .before .before .before .before .before .before .before .before .before .before .before .before .before .before .before .before .before .before .before .before .before .join-row .ensures) (c .before .before .before .before .before .before .before .before .before .before .before .before .before .before .before .before .before .before .before .before .before .before .before .before .before .before .before .before .before .before .before .before .before .before .before .before .before .before .before .before .before .before .before .before .before .before .before .before .remove .ensures)) (p .most) (p .placed) (c .before .before .before .before .before .before .before .before .before .before .before .before .before .before .before .before .before .before .before .before .before .before .before .before .before .before .before .before .before .before .before .before .before .before .before .before .lowest-common .ensures) (c .before .before .before .before .before .before .before .before .before .before .before .before .before .before .before .before .before .before .before .before .before .before .before .before .before .before .before .before .before .before .before .before .before .before .before .if1 .left))
+          let h = holdsTwo t _ _ _ _ (alone .ensures) (join .ensures) in
+          let o = rw e at (keep-one .ensures .1 (twoShown t h)) in
+          let s = rw kw at (keep-second2 .ensures .1) in
+          clears-as (clear-none (around-of t _ _ _ _ (p .most) (z .0) (join-row .ensures) (remove .ensures)) (p .most) (p .placed) (lowest-common .ensures) (if1 .left))
           (first-then o (s t h)),
     )
 

@@ -37,38 +37,55 @@ cast-t16 c = search needs
 
 make-room-requires : tie.Need-make-room-requires Inv-loop μ-loop
 make-room-requires c κs =
-    let p = c .before .before .before .before .before .before .before .before .before .before .before .before .before .before .pre .0 in
-    let z = c .before .before .before .before .before .before .before .before .before .before .before .before .before .before .pre .1 in
+    let loop-test = c .before .before .before .before .loop-test in
+    let start = c .before .before .before .before .before .before .before .before .before .before .before .before .before .before in
+    let p = start .pre .0 in
+    let z = start .pre .1 in
     let v = c .before .before .before .before .before .loop .inv in
     let s = v .7 in
     let e = v .4 in
-    (ready-again p _ _ _ e (v .5) (rw (s .same-standing, s .same-placement, s .same-empty) (p .placed)), (rw e (z .3 .low _ (c .before .before .before .before .loop-test .taken) (v .2 (c .before .before .before .before .loop-test .taken))), z .1, z .4, rw e (z .5)))
+    (ready-again p _ _ _ e (v .5) (rw (s .same-standing, s .same-placement, s .same-empty) (p .placed)), (rw e (z .3 .low _ (loop-test .taken) (v .2 (loop-test .taken))), z .1, z .4, rw e (z .5)))
 
 enum-known-vacated : tie.Need-enum-known-vacated Inv-loop μ-loop
 enum-known-vacated c = c .match .keys1
 
 same-length : tie.Need-same-length Inv-loop μ-loop
-same-length c = c .before .before .before .before .before .before .before .before .before .before .before .make-room .kept .1 .1 .1 .0 ∙ c .before .before .before .before .before .before .before .before .before .before .before .before .before .before .before .before .before .loop .inv .3
+same-length c =
+    let make-room = c .before .before .before .before .before .before .before .before .before .before .before .make-room in
+    let loop = c .before .before .before .before .before .before .before .before .before .before .before .before .before .before .before .before .before .loop in
+    make-room .kept .1 .1 .1 .0 ∙ loop .inv .3
 
 same-length-2 : tie.Need-same-length-2 Inv-loop μ-loop
-same-length-2 c = c .before .before .before .before .before .before .before .before .before .before .before .make-room .kept .1 .1 .1 .1 .0 ∙ c .before .before .before .before .before .before .before .before .before .before .before .before .before .before .before .before .before .loop .inv .4
+same-length-2 c =
+    let make-room = c .before .before .before .before .before .before .before .before .before .before .before .make-room in
+    let loop = c .before .before .before .before .before .before .before .before .before .before .before .before .before .before .before .before .before .loop in
+    make-room .kept .1 .1 .1 .1 .0 ∙ loop .inv .4
 
 same-length-3 : tie.Need-same-length-3 Inv-loop μ-loop
-same-length-3 c = c .before .before .before .before .before .before .before .before .before .before .before .make-room .kept .1 .1 .1 .1 .1 .0 ∙ c .before .before .before .before .before .before .before .before .before .before .before .before .before .before .before .before .before .loop .inv .5
+same-length-3 c =
+    let make-room = c .before .before .before .before .before .before .before .before .before .before .before .make-room in
+    let loop = c .before .before .before .before .before .before .before .before .before .before .before .before .before .before .before .before .before .loop in
+    make-room .kept .1 .1 .1 .1 .1 .0 ∙ loop .inv .5
 
 same-length-4 : tie.Need-same-length-4 Inv-loop μ-loop
-same-length-4 c = c .before .before .before .before .before .before .before .before .before .before .before .make-room .kept .1 .1 .1 .1 .1 .1 .0 ∙ c .before .before .before .before .before .before .before .before .before .before .before .before .before .before .before .before .before .loop .inv .6
+same-length-4 c =
+    let make-room = c .before .before .before .before .before .before .before .before .before .before .before .make-room in
+    let loop = c .before .before .before .before .before .before .before .before .before .before .before .before .before .before .before .before .before .loop in
+    make-room .kept .1 .1 .1 .1 .1 .1 .0 ∙ loop .inv .6
 
 returns : tie.Need-returns Inv-loop μ-loop
 returns c =
-    let z = c .before .before .before .before .before .before .before .before .before .before .before .before .before .before .before .before .before .before .before .before .before .before .before .before .before .before .pre .1 in
+    let make-room = c .before .before .before .before .before .before .before .before .before .before .before .make-room in
+    let loop-test = c .before .before .before .before .before .before .before .before .before .before .before .before .before .before .before .before .loop-test in
+    let start = c .before .before .before .before .before .before .before .before .before .before .before .before .before .before .before .before .before .before .before .before .before .before .before .before .before .before in
+    let z = start .pre .1 in
     let l = c .before .before .before .before .before .before .before .before .before .before .before .before .before .before .before .before .before .loop in
     let v = l .inv in
-    let t = c .before .before .before .before .before .before .before .before .before .before .before .before .before .before .before .before .loop-test .taken in
-    let kw : length (l .standing) ≡ length (c .before .before .before .before .before .before .before .before .before .before .before .before .before .before .before .before .before .before .before .before .before .before .before .before .before .before .args .standing .now) = v .4 in
-    let e : c .before .before .before .before .before .before .before .before .before .before .before .make-room .result ≡ Done (c .before .vacated .given .0 .0) = c .before .vacated .given .1 in
-    let few = rw e at (c .before .before .before .before .before .before .before .before .before .before .before .make-room .ensures .0) in
-    let f = rw kw at (c .before .before .before .before .before .before .before .before .before .before .before .make-room .ensures .1) in
+    let t = loop-test .taken in
+    let kw : length (l .standing) ≡ length (start .args .standing .now) = v .4 in
+    let e : make-room .result ≡ Done (c .before .vacated .given .0 .0) = c .before .vacated .given .1 in
+    let few = rw e at (make-room .ensures .0) in
+    let f = rw kw at (make-room .ensures .1) in
     ((t, few, omega (arith, acted-done (rw e at (f (z .5))) .2 .counted)), λ w. keeps-here (v .1) (z .3 .low _ t (v .2 t)) (v .2 t) (v .8 w) (v .7) (rw e at (f w)))
 
 enum-told : tie.Need-enum-told Inv-loop μ-loop
@@ -85,14 +102,17 @@ loop-less c = search needs
 
 loop-again : tie.Need-loop-again Inv-loop μ-loop
 loop-again c =
-    let z = c .before .before .before .before .before .before .before .before .before .before .before .before .before .before .before .before .before .before .before .before .before .before .before .before .before .before .pre .1 in
+    let make-room = c .before .before .before .before .before .before .before .before .before .before .before .make-room in
+    let loop-test = c .before .before .before .before .before .before .before .before .before .before .before .before .before .before .before .before .loop-test in
+    let start = c .before .before .before .before .before .before .before .before .before .before .before .before .before .before .before .before .before .before .before .before .before .before .before .before .before .before in
+    let z = start .pre .1 in
     let l = c .before .before .before .before .before .before .before .before .before .before .before .before .before .before .before .before .before .loop in
     let v = l .inv in
-    let t = c .before .before .before .before .before .before .before .before .before .before .before .before .before .before .before .before .loop-test .taken in
-    let kw : length (l .standing) ≡ length (c .before .before .before .before .before .before .before .before .before .before .before .before .before .before .before .before .before .before .before .before .before .before .before .before .before .before .args .standing .now) = v .4 in
-    let k = c .before .before .before .before .before .before .before .before .before .before .before .make-room .kept in
-    let e : c .before .before .before .before .before .before .before .before .before .before .before .make-room .result ≡ Failed = c .before .enum-told .given .1 in
-    let f = rw kw at (c .before .before .before .before .before .before .before .before .before .before .before .make-room .ensures .1) in
+    let t = loop-test .taken in
+    let kw : length (l .standing) ≡ length (start .args .standing .now) = v .4 in
+    let k = make-room .kept in
+    let e : make-room .result ≡ Failed = c .before .enum-told .given .1 in
+    let f = rw kw at (make-room .ensures .1) in
     let n = c .next-from2 .ensures in (
       n .upto,
       omega (arith, n .from, v .1),
@@ -119,8 +139,9 @@ same-length-8 c = c .before .loop .inv .6
 
 returns-2 : tie.Need-returns-2 Inv-loop μ-loop
 returns-2 c =
+    let start = c .before .before .before .before .before .before .before .before .before .before in
     let v = c .before .loop .inv in
-    (tt, λ w. record { stuck = λ y h k m. v .8 w y h (omega (arith, c .loop-test .left)) m; played = unchanged-played (c .before .before .before .before .before .before .before .before .before .before .pre .0 .placed) (v .7) })
+    (tt, λ w. record { stuck = λ y h k m. v .8 w y h (omega (arith, c .loop-test .left)) m; played = unchanged-played (start .pre .0 .placed) (v .7) })
 
 pub keep-one-spec : {M : Type 1} → statement M
 keep-one-spec =

@@ -32,7 +32,9 @@ array-borrow-prefix-bays : tie.Need-array-borrow-prefix-bays
 array-borrow-prefix-bays c = search needs
 
 slice-aggregate-go-round : tie.Need-slice-aggregate-go-round
-slice-aggregate-go-round c = sym (ap length (c .before .before .before .before .before .before .before .before .before .copy .ensures))
+slice-aggregate-go-round c =
+    let copy = c .before .before .before .before .before .before .before .before .before .copy in
+    sym (ap length (copy .ensures))
 
 array-borrow-prefix-carriers : tie.Need-array-borrow-prefix-carriers
 array-borrow-prefix-carriers c = search needs
@@ -45,10 +47,13 @@ slice-aggregate-go-round-3 c = search needs
 
 go-round-requires : tie.Need-go-round-requires
 go-round-requires c κs =
-    let p = c .before .before .before .before .before .before .before .before .before .before .before .before .before .before .before .before .before .before .before .pre .0 in
-    let z = c .before .before .before .before .before .before .before .before .before .before .before .before .before .before .before .before .before .before .before .pre .1 in
-    let e = c .before .before .before .before .before .before .before .before .before .before .before .before .copy .ensures in
-    let d = c .before .before .before .before .before .before .before .before .before .copy2 .ensures in
+    let copy2 = c .before .before .before .before .before .before .before .before .before .copy2 in
+    let copy = c .before .before .before .before .before .before .before .before .before .before .before .before .copy in
+    let start = c .before .before .before .before .before .before .before .before .before .before .before .before .before .before .before .before .before .before .before in
+    let p = start .pre .0 in
+    let z = start .pre .1 in
+    let e = copy .ensures in
+    let d = copy2 .ensures in
     (ready-copy p _ _ _ e d (search needs) (c .before .before .before .before .before .before .keep .ensures .row), (rw e (z .0), rw e (z .1), z .2, rw d (z .3), rw d (z .4), rw d (z .5), rw d (z .6), omega arith, rw e (z .7)))
 
 same-length : tie.Need-same-length
@@ -56,15 +61,21 @@ same-length c = c .before .before .before .before .before .go-round .kept .1 .1 
 
 returns : tie.Need-returns
 returns c =
-    let e = c .before .before .before .before .before .before .before .before .before .before .before .before .before .before .before .before .before .before .copy .ensures in
-    let d = c .before .before .before .before .before .before .before .before .before .before .before .before .before .before .before .copy2 .ensures in
-    (c .before .before .before .before .before .go-round .ensures .0, λ t j. rw (c .before .before .before .before .before .before .before .before .before .before .if1 .taken) (attempted (rw (e, d) at (c .before .before .before .before .before .go-round .ensures .1) t j)))
+    let go-round = c .before .before .before .before .before .go-round in
+    let if1 = c .before .before .before .before .before .before .before .before .before .before .if1 in
+    let copy2 = c .before .before .before .before .before .before .before .before .before .before .before .before .before .before .before .copy2 in
+    let copy = c .before .before .before .before .before .before .before .before .before .before .before .before .before .before .before .before .before .before .copy in
+    let e = copy .ensures in
+    let d = copy2 .ensures in
+    (go-round .ensures .0, λ t j. rw (if1 .taken) (attempted (rw (e, d) at (go-round .ensures .1) t j)))
 
 array-borrow-prefix-bays-2 : tie.Need-array-borrow-prefix-bays-2
 array-borrow-prefix-bays-2 c = search needs
 
 slice-aggregate-vacate-both : tie.Need-slice-aggregate-vacate-both
-slice-aggregate-vacate-both c = sym (ap length (c .before .before .before .before .before .before .before .before .before .copy .ensures))
+slice-aggregate-vacate-both c =
+    let copy = c .before .before .before .before .before .before .before .before .before .copy in
+    sym (ap length (copy .ensures))
 
 array-borrow-prefix-carriers-2 : tie.Need-array-borrow-prefix-carriers-2
 array-borrow-prefix-carriers-2 c = search needs
@@ -77,10 +88,13 @@ slice-aggregate-vacate-both-3 c = search needs
 
 vacate-both-requires : tie.Need-vacate-both-requires
 vacate-both-requires c κs =
-    let p = c .before .before .before .before .before .before .before .before .before .before .before .before .before .before .before .before .before .before .before .pre .0 in
-    let z = c .before .before .before .before .before .before .before .before .before .before .before .before .before .before .before .before .before .before .before .pre .1 in
-    let e = c .before .before .before .before .before .before .before .before .before .before .before .before .copy .ensures in
-    let d = c .before .before .before .before .before .before .before .before .before .copy2 .ensures in
+    let copy2 = c .before .before .before .before .before .before .before .before .before .copy2 in
+    let copy = c .before .before .before .before .before .before .before .before .before .before .before .before .copy in
+    let start = c .before .before .before .before .before .before .before .before .before .before .before .before .before .before .before .before .before .before .before in
+    let p = start .pre .0 in
+    let z = start .pre .1 in
+    let e = copy .ensures in
+    let d = copy2 .ensures in
     (ready-copy p _ _ _ e d (search needs) (c .before .before .before .before .before .before .keep .ensures .row), (rw d (z .3), rw d (z .4), rw d (z .5), rw d (z .6), omega arith))
 
 same-length-2 : tie.Need-same-length-2
@@ -88,9 +102,13 @@ same-length-2 c = c .before .before .before .before .before .vacate-both .kept .
 
 returns-2 : tie.Need-returns-2
 returns-2 c =
-    let e = c .before .before .before .before .before .before .before .before .before .before .before .before .before .before .before .before .before .before .copy .ensures in
-    let d = c .before .before .before .before .before .before .before .before .before .before .before .before .before .before .before .copy2 .ensures in
-    (within-more (c .before .before .before .before .before .vacate-both .result) nothing clear-once-most attempt-most (omega arith) (c .before .before .before .before .before .vacate-both .ensures .0), λ t j. rw (c .before .before .before .before .before .before .before .before .before .before .if1 .left) (attempted (rw (e, d) at (c .before .before .before .before .before .vacate-both .ensures .1) t)))
+    let vacate-both = c .before .before .before .before .before .vacate-both in
+    let if1 = c .before .before .before .before .before .before .before .before .before .before .if1 in
+    let copy2 = c .before .before .before .before .before .before .before .before .before .before .before .before .before .before .before .copy2 in
+    let copy = c .before .before .before .before .before .before .before .before .before .before .before .before .before .before .before .before .before .before .copy in
+    let e = copy .ensures in
+    let d = copy2 .ensures in
+    (within-more (vacate-both .result) nothing clear-once-most attempt-most (omega arith) (vacate-both .ensures .0), λ t j. rw (if1 .left) (attempted (rw (e, d) at (vacate-both .ensures .1) t)))
 
 pub attempt-spec : {M : Type 1} → statement M
 attempt-spec =

@@ -8,7 +8,9 @@ use Rattle.clear_on.proofs.either_way.Statement.{statement}
 use Rattle.clear_on.proofs.either_way.Tie as tie
 
 first-kept-requires : tie.Need-first-kept-requires
-first-kept-requires c κs = (c .before .before .before .before .before .before .before .pre .0, c .before .before .before .before .before .before .before .pre .1)
+first-kept-requires c κs =
+    let start = c .before .before .before .before .before .before .before in
+    (start .pre .0, start .pre .1)
 
 enum-known-first : tie.Need-enum-known-first
 enum-known-first c = c .match .keys1
@@ -18,22 +20,30 @@ same-length c = c .before .before .before .before .before .first-kept .kept .1 .
 
 returns : tie.Need-returns
 returns c =
-    let e : c .before .before .before .before .before .first-kept .result ≡ One (c .before .first .given .0 .0) (c .before .first .given .0 .1 .0) = c .before .first .given .1 in
-    (rw e at (c .before .before .before .before .before .first-kept .ensures .0), λ t j o. first-way (t .yard) (c .before .before .before .before .before .before .before .before .before .before .before .before .before .args .l .0) (c .before .before .before .before .before .before .before .before .before .before .before .before .before .args .m .0) (c .before .before .before .before .before .before .before .before .before .before .before .before .before .args .v .0) (c .before .before .before .before .before .before .before .before .before .before .before .before .before .args .b .0) (c .before .before .before .before .before .before .before .before .before .before .before .before .before .args .e .0) (c .before .before .before .before .before .before .before .before .before .before .before .before .before .args .placement .now) (length (c .before .before .before .before .before .before .before .before .before .before .before .before .before .args .standing .now)) (c .before .before .before .before .before .before .before .before .before .before .before .before .before .args .others .now) o (rw e at (c .before .before .before .before .before .first-kept .ensures .1 t j)))
+    let first-kept = c .before .before .before .before .before .first-kept in
+    let start = c .before .before .before .before .before .before .before .before .before .before .before .before .before in
+    let e : first-kept .result ≡ One (c .before .first .given .0 .0) (c .before .first .given .0 .1 .0) = c .before .first .given .1 in
+    (rw e at (first-kept .ensures .0), λ t j o. first-way (t .yard) (start .args .l .0) (start .args .m .0) (start .args .v .0) (start .args .b .0) (start .args .e .0) (start .args .placement .now) (length (start .args .standing .now)) (start .args .others .now) o (rw e at (first-kept .ensures .1 t j)))
 
 enum-told : tie.Need-enum-told
 enum-told c = c .match .keys2
 
 first-kept-requires-2 : tie.Need-first-kept-requires-2
-first-kept-requires-2 c κs = (c .before .before .before .before .before .before .before .before .before .before .before .before .before .pre .0, c .before .before .before .before .before .before .before .before .before .before .before .before .before .pre .1)
+first-kept-requires-2 c κs =
+    let start = c .before .before .before .before .before .before .before .before .before .before .before .before .before in
+    (start .pre .0, start .pre .1)
 
 same-length-2 : tie.Need-same-length-2
-same-length-2 c = c .before .before .first-kept2 .kept .1 .1 .1 .1 .1 .1 .1 .1 .1 .1 .1 .0 ∙ c .before .before .before .before .before .before .before .before .first-kept .kept .1 .1 .1 .1 .1 .1 .1 .1 .1 .1 .1 .0
+same-length-2 c =
+    let first-kept = c .before .before .before .before .before .before .before .before .first-kept in
+    c .before .before .first-kept2 .kept .1 .1 .1 .1 .1 .1 .1 .1 .1 .1 .1 .0 ∙ first-kept .kept .1 .1 .1 .1 .1 .1 .1 .1 .1 .1 .1 .0
 
 returns-2 : tie.Need-returns-2
 returns-2 c =
-    let e : c .before .before .before .before .before .before .before .before .first-kept .result ≡ Nothing = c .before .before .before .before .enum-told .given .1 in
-    (c .before .before .first-kept2 .ensures .0, λ t j o. second-way (t .yard) (c .before .before .before .before .before .before .before .before .before .before .before .before .before .before .before .before .args .l .0) (c .before .before .before .before .before .before .before .before .before .before .before .before .before .before .before .before .args .m .0) (c .before .before .before .before .before .before .before .before .before .before .before .before .before .before .before .before .args .v .0) (c .before .before .before .before .before .before .before .before .before .before .before .before .before .before .before .before .args .b .0) (c .before .before .before .before .before .before .before .before .before .before .before .before .before .before .before .before .args .e .0) (c .before .before .before .before .before .before .before .before .before .before .before .before .before .before .before .before .args .placement .now) (length (c .before .before .before .before .before .before .before .before .before .before .before .before .before .before .before .before .args .standing .now)) (c .before .before .before .before .before .before .before .before .before .before .before .before .before .before .before .before .args .others .now) o (c .before .before .before .before .before .before .before .before .first-kept .ensures .1 t j .nothing e) (c .before .before .first-kept2 .ensures .1 t j))
+    let first-kept = c .before .before .before .before .before .before .before .before .first-kept in
+    let start = c .before .before .before .before .before .before .before .before .before .before .before .before .before .before .before .before in
+    let e : first-kept .result ≡ Nothing = c .before .before .before .before .enum-told .given .1 in
+    (c .before .before .first-kept2 .ensures .0, λ t j o. second-way (t .yard) (start .args .l .0) (start .args .m .0) (start .args .v .0) (start .args .b .0) (start .args .e .0) (start .args .placement .now) (length (start .args .standing .now)) (start .args .others .now) o (first-kept .ensures .1 t j .nothing e) (c .before .before .first-kept2 .ensures .1 t j))
 
 pub either-way-spec : {M : Type 1} → statement M
 either-way-spec =

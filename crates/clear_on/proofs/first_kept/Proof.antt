@@ -34,8 +34,9 @@ cast-t19 c = search needs
 
 attempt-requires : tie.Need-attempt-requires Inv-loop μ-loop
 attempt-requires c κs =
-    let p = c .before .before .before .before .before .before .before .before .before .before .pre .0 in
-    let z = c .before .before .before .before .before .before .before .before .before .before .pre .1 in
+    let start = c .before .before .before .before .before .before .before .before .before .before in
+    let p = start .pre .0 in
+    let z = start .pre .1 in
     let t = c .before .loop-test .taken in
     (p, (z .0, z .1, z .2, z .3, z .4, z .5, z .7 .low _ t (c .before .before .loop .inv .1 t), z .8))
 
@@ -43,16 +44,21 @@ enum-known-tried : tie.Need-enum-known-tried Inv-loop μ-loop
 enum-known-tried c = c .match .keys1
 
 same-length : tie.Need-same-length Inv-loop μ-loop
-same-length c = c .before .before .before .before .before .attempt .kept .1 .1 .1 .1 .1 .1 .1 .1 .1 .1 .1 .0 ∙ c .before .before .before .before .before .before .before .before .loop .inv .2
+same-length c =
+    let loop = c .before .before .before .before .before .before .before .before .loop in
+    c .before .before .before .before .before .attempt .kept .1 .1 .1 .1 .1 .1 .1 .1 .1 .1 .1 .0 ∙ loop .inv .2
 
 returns : tie.Need-returns Inv-loop μ-loop
 returns c =
-    let z = c .before .before .before .before .before .before .before .before .before .before .before .before .before .before .before .before .pre .1 in
+    let attempt = c .before .before .before .before .before .attempt in
+    let loop = c .before .before .before .before .before .before .before .before .loop in
+    let start = c .before .before .before .before .before .before .before .before .before .before .before .before .before .before .before .before in
+    let z = start .pre .1 in
     let t = c .before .before .before .before .before .before .before .loop-test .taken in
-    let v = c .before .before .before .before .before .before .before .before .loop .inv in
-    let e : c .before .before .before .before .before .attempt .result ≡ Done (c .before .tried .given .0 .0) = c .before .tried .given .1 in
-    let few = rw e at (c .before .before .before .before .before .attempt .ensures .0) in
-    (omega (arith, few), λ w j. kept-one _ _ _ _ (z .7 .low _ t (v .1 t)) (v .1 t) (v .3 w j) (c .before .before .before .before .before .attempt .ensures .1 w j .done _ e))
+    let v = loop .inv in
+    let e : attempt .result ≡ Done (c .before .tried .given .0 .0) = c .before .tried .given .1 in
+    let few = rw e at (attempt .ensures .0) in
+    (omega (arith, few), λ w j. kept-one _ _ _ _ (z .7 .low _ t (v .1 t)) (v .1 t) (v .3 w j) (attempt .ensures .1 w j .done _ e))
 
 enum-told : tie.Need-enum-told Inv-loop μ-loop
 enum-told c = c .match .keys2
@@ -68,16 +74,20 @@ loop-less c = search needs
 
 loop-again : tie.Need-loop-again Inv-loop μ-loop
 loop-again c =
-    let v = c .before .before .before .before .before .before .before .before .loop .inv in
-    let e : c .before .before .before .before .before .attempt .result ≡ Failed = c .before .enum-told .given .1 in
+    let attempt = c .before .before .before .before .before .attempt in
+    let loop = c .before .before .before .before .before .before .before .before .loop in
+    let v = loop .inv in
+    let e : attempt .result ≡ Failed = c .before .enum-told .given .1 in
     let n = c .next-from2 .ensures in
-    (n .upto, n .hit, search needs, λ w j. failing-more _ _ _ _ _ (v .3 w j) (c .before .before .before .before .before .attempt .ensures .1 w j .fails e) n)
+    (n .upto, n .hit, search needs, λ w j. failing-more _ _ _ _ _ (v .3 w j) (attempt .ensures .1 w j .fails e) n)
 
 same-length-2 : tie.Need-same-length-2 Inv-loop μ-loop
 same-length-2 c = c .before .loop .inv .2
 
 returns-2 : tie.Need-returns-2 Inv-loop μ-loop
-returns-2 c = (tt, λ w j. kept-none _ _ _ _ (omega (arith, c .before .before .before .before .before .before .before .before .before .pre .0 .most, c .loop-test .left)) (c .before .loop .inv .3 w j))
+returns-2 c =
+    let start = c .before .before .before .before .before .before .before .before .before in
+    (tt, λ w j. kept-none _ _ _ _ (omega (arith, start .pre .0 .most, c .loop-test .left)) (c .before .loop .inv .3 w j))
 
 pub first-kept-spec : {M : Type 1} → statement M
 first-kept-spec =

@@ -35,18 +35,22 @@ enum-known-of-both c = search needs
 
 returns-3 : tie.Need-returns-3
 returns-3 c =
+    let if2 = c .before .before .before .before .before .before .before .before .if2 in
+    let if1 = c .before .before .before .before .before .before .before .before .before .if1 in
     let s = c .before .before .before .before .before .before .before .before .before .before .before .before in
     let above = ap countedOf (sym (c .before .of-both .given .1)) ∙ c .before .before .before .earlier .ensures ∙ ap₂ orElse (c .before .before .before .before .before .before .count .ensures .answers) (c .before .before .before .before .count2 .ensures .answers) in
-    says-above (now (s .args .first)) (now (s .args .second)) (now (s .args .differences)) (c .before .before .before .before .before .before .before .before .before .if1 .left) (c .before .before .before .before .before .before .before .before .if2 .left) _ above
+    says-above (now (s .args .first)) (now (s .args .second)) (now (s .args .differences)) (if1 .left) (if2 .left) _ above
 
 enum-told : tie.Need-enum-told
 enum-told c = search needs
 
 returns-4 : tie.Need-returns-4
 returns-4 c =
+    let if2 = c .before .before .before .before .before .before .before .before .if2 in
+    let if1 = c .before .before .before .before .before .before .before .before .before .if1 in
     let s = c .before .before .before .before .before .before .before .before .before .before .before .before in
     let low = ap countedOf (sym (c .before .enum-told .given .1)) ∙ c .before .before .before .earlier .ensures ∙ ap₂ orElse (c .before .before .before .before .before .before .count .ensures .answers) (c .before .before .before .before .count2 .ensures .answers) in
-    says-room (now (s .args .first)) (now (s .args .second)) (now (s .args .differences)) (c .before .before .before .before .before .before .before .before .before .if1 .left) (c .before .before .before .before .before .before .before .before .if2 .left) low (c .if3 .taken)
+    says-room (now (s .args .first)) (now (s .args .second)) (now (s .args .differences)) (if1 .left) (if2 .left) low (c .if3 .taken)
 
 fill-requires : tie.Need-fill-requires
 fill-requires c κs = search needs
@@ -59,11 +63,16 @@ same-length c = search needs
 
 returns-5 : tie.Need-returns-5
 returns-5 c =
+    let earlier = c .before .before .before .before .before .before .before .before .before .earlier in
+    let count2 = c .before .before .before .before .before .before .before .before .before .before .count2 in
+    let count = c .before .before .before .before .before .before .before .before .before .before .before .before .count in
+    let if2 = c .before .before .before .before .before .before .before .before .before .before .before .before .before .before .if2 in
+    let if1 = c .before .before .before .before .before .before .before .before .before .before .before .before .before .before .before .if1 in
     let s = c .before .before .before .before .before .before .before .before .before .before .before .before .before .before .before .before .before .before in
-    let firsts = c .before .before .before .before .before .before .before .before .before .before .before .before .count .ensures in
-    let seconds = c .before .before .before .before .before .before .before .before .before .before .count2 .ensures in
-    let low = ap countedOf (sym (c .before .before .before .before .before .before .before .enum-told .given .1)) ∙ c .before .before .before .before .before .before .before .before .before .earlier .ensures ∙ ap₂ orElse (c .before .before .before .before .before .before .before .before .before .before .before .before .count .ensures .answers) (c .before .before .before .before .before .before .before .before .before .before .count2 .ensures .answers) in
-    says-granted (now (s .args .first)) (now (s .args .second)) (now (s .args .differences)) (c .before .before .before .before .before .before .before .before .before .before .before .before .before .before .before .if1 .left) (c .before .before .before .before .before .before .before .before .before .before .before .before .before .before .if2 .left) low (c .before .before .before .before .before .before .if3 .left) _ _ _ firsts seconds (c .before .before .fill .ensures) _ (c .equal-leading .ensures)
+    let firsts = count .ensures in
+    let seconds = count2 .ensures in
+    let low = ap countedOf (sym (c .before .before .before .before .before .before .before .enum-told .given .1)) ∙ earlier .ensures ∙ ap₂ orElse (count .ensures .answers) (count2 .ensures .answers) in
+    says-granted (now (s .args .first)) (now (s .args .second)) (now (s .args .differences)) (if1 .left) (if2 .left) low (c .before .before .before .before .before .before .if3 .left) _ _ _ firsts seconds (c .before .before .fill .ensures) _ (c .equal-leading .ensures)
 
 pub differ-spec : {M : Type 1} → statement M
 differ-spec =

@@ -43,13 +43,15 @@ loop-less : tie.Need-loop-less Inv-loop μ-loop
 loop-less c = search needs
 
 loop-again : tie.Need-loop-again Inv-loop μ-loop
-loop-again c = (
-  search needs,
-  (
-    ap length (c .before .before .keep .ensures) ∙ stored-length _ _ _ ∙ c .before .before .before .before .before .before .before .loop .inv .1 .0,
-    came-piece (c .before .before .before .before .before .before .before .before .before .before .args .piece .now) (c .before .before .before .before .before .before .before .loop .i) (search needs) (c .before .before .before .before .before .before .before .loop .now) _ _ _ _ _ (c .before .before .before .before .before .before .before .loop .inv .1 .1) (c .before .before .before .before .step .ensures) (c .before .before .keep .ensures),
-  ),
-)
+loop-again c =
+    let loop = c .before .before .before .before .before .before .before .loop in
+    let start = c .before .before .before .before .before .before .before .before .before .before in (
+      search needs,
+      (
+        ap length (c .before .before .keep .ensures) ∙ stored-length _ _ _ ∙ loop .inv .1 .0,
+        came-piece (start .args .piece .now) (loop .i) (search needs) (loop .now) _ _ _ _ _ (loop .inv .1 .1) (c .before .before .before .before .step .ensures) (c .before .before .keep .ensures),
+      ),
+    )
 
 same-length : tie.Need-same-length Inv-loop μ-loop
 same-length c = c .before .loop .inv .1 .0

@@ -25,7 +25,10 @@ same-length : tie.Need-same-length
 same-length c = search needs
 
 returns : tie.Need-returns
-returns c = record { sized = ap length (c .before .before .before .keep .ensures) ∙ stored-length (c .before .before .before .before .before .before .before .args .s) _ (c .before .before .before .before .before .before .before .args .ends .now); ends = λ t before small came. reads-all t (c .before .before .before .before .before .before .before .args .s) before (c .before .before .before .before .before .before .before .args .ends .now) _ _ _ small came (c .before .before .before .before .before .finished .ensures) (c .before .before .before .keep .ensures) (c .answer .ensures) }
+returns c =
+    let keep = c .before .before .before .keep in
+    let start = c .before .before .before .before .before .before .before in
+    record { sized = ap length (keep .ensures) ∙ stored-length (start .args .s) _ (start .args .ends .now); ends = λ t before small came. reads-all t (start .args .s) before (start .args .ends .now) _ _ _ small came (c .before .before .before .before .before .finished .ensures) (keep .ensures) (c .answer .ensures) }
 
 pub finish-spec : {M : Type 1} → statement M
 finish-spec =

@@ -26,10 +26,14 @@ tallied-requires : tie.Need-tallied-requires
 tallied-requires c κs = search needs
 
 returns-3 : tie.Need-returns-3
-returns-3 c = λ w. first-on w (c .before .before .before .before .before .args .k) (c .before .before .before .before .before .args .n) (c .before .before .before .before .before .args .b) (c .before .before .before .before .if1 .left) (c .before .before .before .if3 .taken) (sym (c .before .before .is-digit .ensures) ∙ c .before .if4 .taken) _ (c .tallied .ensures)
+returns-3 c =
+    let start = c .before .before .before .before .before in
+    λ w. first-on w (start .args .k) (start .args .n) (start .args .b) (c .before .before .before .before .if1 .left) (c .before .before .before .if3 .taken) (sym (c .before .before .is-digit .ensures) ∙ c .before .if4 .taken) _ (c .tallied .ensures)
 
 returns-4 : tie.Need-returns-4
-returns-4 c = λ w. first-other w (c .before .before .before .before .args .k) (c .before .before .before .before .args .n) (c .before .before .before .before .args .b) (c .before .before .before .if1 .left) (sym (c .before .is-digit .ensures) ∙ c .if4 .left)
+returns-4 c =
+    let start = c .before .before .before .before in
+    λ w. first-other w (start .args .k) (start .args .n) (start .args .b) (c .before .before .before .if1 .left) (sym (c .before .is-digit .ensures) ∙ c .if4 .left)
 
 returns-5 : tie.Need-returns-5
 returns-5 c = λ w. first-long w (c .before .before .args .k) (c .before .before .args .n) (c .before .before .args .b) (c .before .if1 .left) (c .if3 .left)

@@ -35,10 +35,18 @@ same-length : tie.Need-same-length
 same-length c = search needs
 
 returns : tie.Need-returns
-returns c = stored-on (c .before .before .before .before .before .before .before .before .before .before .before .before .before .before .args .s) (c .before .before .before .before .before .before .before .before .before .before .before .before .before .before .args .r) (c .before .before .before .before .before .before .before .before .before .before .before .before .before .before .args .ends .now) _ _ (c .before .before .before .before .before .before .before .before .before .before .before .before .count .ensures) (c .before .before .before .before .before .before .before .before .before .before .before .count2 .ensures) (c .before .before .before .before .before .before .before .before .before .before .if1 .taken) _ _ (c .before .before .before .before .before .before .before .before .narrow .ensures) (c .before .before .before .narrow2 .ensures) _ _ (c .before .before .before .before .before .before .before .short .ensures) (c .before .before .short2 .ensures)
+returns c =
+    let narrow = c .before .before .before .before .before .before .before .before .narrow in
+    let if1 = c .before .before .before .before .before .before .before .before .before .before .if1 in
+    let count2 = c .before .before .before .before .before .before .before .before .before .before .before .count2 in
+    let count = c .before .before .before .before .before .before .before .before .before .before .before .before .count in
+    let start = c .before .before .before .before .before .before .before .before .before .before .before .before .before .before in
+    stored-on (start .args .s) (start .args .r) (start .args .ends .now) _ _ (count .ensures) (count2 .ensures) (if1 .taken) _ _ (narrow .ensures) (c .before .before .before .narrow2 .ensures) _ _ (c .before .before .before .before .before .before .before .short .ensures) (c .before .before .short2 .ensures)
 
 returns-2 : tie.Need-returns-2
-returns-2 c = stored-off (c .before .before .before .before .args .s) (c .before .before .before .before .args .r) (c .before .before .before .before .args .ends .now) _ _ (c .before .before .count .ensures) (c .before .count2 .ensures) (c .if1 .left)
+returns-2 c =
+    let start = c .before .before .before .before in
+    stored-off (start .args .s) (start .args .r) (start .args .ends .now) _ _ (c .before .before .count .ensures) (c .before .count2 .ensures) (c .if1 .left)
 
 pub keep-spec : {M : Type 1} → statement M
 keep-spec =

@@ -24,7 +24,10 @@ same-length : tie.Need-same-length
 same-length c = search needs
 
 returns : tie.Need-returns
-returns c = c .before .before .finish .ensures .ends (c .before .before .before .before .before .before .before .before .before .before .before .args .file .now) (c .before .before .before .before .before .before .before .before .before .before .before .args .ends .now) (omega arith) (c .before .before .before .before .before .before .feed .ensures .feeds [] (c .before .before .before .before .before .before .before .before .before .before .before .args .ends .now) (omega arith) (c .before .before .before .before .before .before .before .before .start .ensures (c .before .before .before .before .before .before .before .before .before .before .before .args .ends .now)))
+returns c =
+    let start-2 = c .before .before .before .before .before .before .before .before .start in
+    let start = c .before .before .before .before .before .before .before .before .before .before .before in
+    c .before .before .finish .ensures .ends (start .args .file .now) (start .args .ends .now) (omega arith) (c .before .before .before .before .before .before .feed .ensures .feeds [] (start .args .ends .now) (omega arith) (start-2 .ensures (start .args .ends .now)))
 
 pub read-spec : {M : Type 1} → statement M
 read-spec = tie.close (tie.spec start-requires feed-requires finish-requires same-length returns)

@@ -20,10 +20,14 @@ tallied-requires : tie.Need-tallied-requires
 tallied-requires c κs = search needs
 
 returns : tie.Need-returns
-returns c = λ w. second-on w (c .before .before .before .before .args .k) (c .before .before .before .before .args .n) (c .before .before .before .before .args .b) (c .before .before .before .before .args .p) (c .before .before .before .if1 .taken) (sym (c .before .before .is-digit .ensures) ∙ c .before .if2 .taken) _ (c .tallied .ensures)
+returns c =
+    let start = c .before .before .before .before in
+    λ w. second-on w (start .args .k) (start .args .n) (start .args .b) (start .args .p) (c .before .before .before .if1 .taken) (sym (c .before .before .is-digit .ensures) ∙ c .before .if2 .taken) _ (c .tallied .ensures)
 
 returns-2 : tie.Need-returns-2
-returns-2 c = λ w. second-other w (c .before .before .before .args .k) (c .before .before .before .args .n) (c .before .before .before .args .b) (c .before .before .before .args .p) (sym (c .before .is-digit .ensures) ∙ c .if2 .left)
+returns-2 c =
+    let start = c .before .before .before in
+    λ w. second-other w (start .args .k) (start .args .n) (start .args .b) (start .args .p) (sym (c .before .is-digit .ensures) ∙ c .if2 .left)
 
 returns-3 : tie.Need-returns-3
 returns-3 c = λ w. second-long w (c .before .args .k) (c .before .args .n) (c .before .args .b) (c .before .args .p) (c .if1 .left)

@@ -31,28 +31,38 @@ opened-requires-2 : tie.Need-opened-requires-2
 opened-requires-2 c κs = search needs
 
 returns : tie.Need-returns
-returns c = takes-rail (c .before .before .before .before .before .before .before .args .s) _ (c .before .before .before .before .before .before .before .args .p) (c .before .before .before .before .before .before .before .args .n) _ _ _ (c .before .before .before .before .before .due .given .1) (c .before .before .before .if1 .taken) (c .before .before .if2 .taken) (c .before .if3 .taken) (c .opened2 .ensures)
+returns c =
+    let start = c .before .before .before .before .before .before .before in
+    takes-rail (start .args .s) _ (start .args .p) (start .args .n) _ _ _ (c .before .before .before .before .before .due .given .1) (c .before .before .before .if1 .taken) (c .before .before .if2 .taken) (c .before .if3 .taken) (c .opened2 .ensures)
 
 broken-requires : tie.Need-broken-requires
 broken-requires c κs = search needs
 
 returns-2 : tie.Need-returns-2
-returns-2 c = takes-zero-2 (c .before .before .before .before .before .before .before .args .s) _ (c .before .before .before .before .before .before .before .args .p) (c .before .before .before .before .before .before .before .args .n) _ _ _ (c .before .before .before .before .before .due .given .1) (c .before .if3 .left) (c .broken .ensures)
+returns-2 c =
+    let start = c .before .before .before .before .before .before .before in
+    takes-zero-2 (start .args .s) _ (start .args .p) (start .args .n) _ _ _ (c .before .before .before .before .before .due .given .1) (c .before .if3 .left) (c .broken .ensures)
 
 broken-requires-2 : tie.Need-broken-requires-2
 broken-requires-2 c κs = search needs
 
 returns-3 : tie.Need-returns-3
-returns-3 c = takes-zero (c .before .before .before .before .before .before .args .s) _ (c .before .before .before .before .before .before .args .p) (c .before .before .before .before .before .before .args .n) _ _ _ (c .before .before .before .before .due .given .1) (c .before .if2 .left) (c .broken2 .ensures)
+returns-3 c =
+    let start = c .before .before .before .before .before .before in
+    takes-zero (start .args .s) _ (start .args .p) (start .args .n) _ _ _ (c .before .before .before .before .due .given .1) (c .before .if2 .left) (c .broken2 .ensures)
 
 broken-requires-3 : tie.Need-broken-requires-3
 broken-requires-3 c κs = search needs
 
 returns-4 : tie.Need-returns-4
-returns-4 c = takes-head (c .before .before .before .args .s) _ (c .before .before .before .args .p) (c .before .before .before .args .n) _ _ (c .before .enum-told .given .1) (c .opened .ensures)
+returns-4 c =
+    let start = c .before .before .before in
+    takes-head (start .args .s) _ (start .args .p) (start .args .n) _ _ (c .before .enum-told .given .1) (c .opened .ensures)
 
 returns-5 : tie.Need-returns-5
-returns-5 c = takes-more (c .before .before .before .before .before .args .s) _ (c .before .before .before .before .before .args .p) (c .before .before .before .before .before .args .n) _ _ _ (c .before .before .before .due .given .1) (c .before .if1 .left) (c .broken3 .ensures)
+returns-5 c =
+    let start = c .before .before .before .before .before in
+    takes-more (start .args .s) _ (start .args .p) (start .args .n) _ _ _ (c .before .before .before .due .given .1) (c .before .if1 .left) (c .broken3 .ensures)
 
 pub take-spec : {M : Type 1} → statement M
 take-spec =

@@ -17,10 +17,14 @@ add-result : tie.Need-add-result
 add-result c = search needs
 
 returns : tie.Need-returns
-returns c = tally-on (c .before .before .before .args .n) (c .before .before .before .args .b) (c .before .before .if1 .taken) (c .before .if2 .taken) (c .if3 .taken)
+returns c =
+    let start = c .before .before .before in
+    tally-on (start .args .n) (start .args .b) (c .before .before .if1 .taken) (c .before .if2 .taken) (c .if3 .taken)
 
 returns-2 : tie.Need-returns-2
-returns-2 c = tally-full (c .before .before .before .args .n) (c .before .before .before .args .b) (c .if3 .left)
+returns-2 c =
+    let start = c .before .before .before in
+    tally-full (start .args .n) (start .args .b) (c .if3 .left)
 
 returns-3 : tie.Need-returns-3
 returns-3 c = tally-high (c .before .before .args .n) (c .before .before .args .b) (c .if2 .left)

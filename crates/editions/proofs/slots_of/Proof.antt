@@ -38,7 +38,10 @@ same-length : tie.Need-same-length
 same-length c = search needs
 
 returns-4 : tie.Need-returns-4
-returns-4 c = let s = c .before .before .before .before .before .before .before .before .before .before .before .before .before .before .before in says-written (order (s .args .bays) (now (s .args .rails)) (now (s .args .start)) (now (s .args .goal))) (now (s .args .plan)) (s .args .edition) (sym (c .before .before .before .before .before .before .before .before .before .known .ensures) ∙ not-false _ (c .before .before .before .before .before .before .before .before .if1 .left)) (ap checkedOf (sym (c .before .before .before .before .before .enum-told .given .1)) ∙ c .before .before .before .before .before .before .before .check .ensures) (now (s .args .out)) _ (c .before .before .before .before .if2 .left) (c .before .before .pass .ensures)
+returns-4 c =
+    let if1 = c .before .before .before .before .before .before .before .before .if1 in
+    let known = c .before .before .before .before .before .before .before .before .before .known in
+    let s = c .before .before .before .before .before .before .before .before .before .before .before .before .before .before .before in says-written (order (s .args .bays) (now (s .args .rails)) (now (s .args .start)) (now (s .args .goal))) (now (s .args .plan)) (s .args .edition) (sym (known .ensures) ∙ not-false _ (if1 .left)) (ap checkedOf (sym (c .before .before .before .before .before .enum-told .given .1)) ∙ c .before .before .before .before .before .before .before .check .ensures) (now (s .args .out)) _ (c .before .before .before .before .if2 .left) (c .before .before .pass .ensures)
 
 pub slots-of-spec : {M : Type 1} → statement M
 slots-of-spec =

@@ -26,9 +26,10 @@ higher-requires c κs = search needs
 
 returns : tie.Need-returns
 returns c =
-    let r = c .before .before .before .before .args .running in
-    let x = crossingOf (c .before .before .before .before .args .x) in
-    record-parts _ (posted r x (c .before .before .before .before .args .slot)) refl (add-one (r .done)) (c .higher .ensures)
+    let start = c .before .before .before .before in
+    let r = start .args .running in
+    let x = crossingOf (start .args .x) in
+    record-parts _ (posted r x (start .args .slot)) refl (add-one (r .done)) (c .higher .ensures)
 
 pub posted-spec : {M : Type 1} → statement M
 posted-spec =

@@ -16,7 +16,9 @@ same-length : tie.Need-same-length
 same-length c = search needs
 
 returns : tie.Need-returns
-returns c = record { stored = c .before .before .store .ensures .0 ∙ ap (set (c .before .before .before .before .before .before .args .out .now) (c .before .before .before .before .before .before .args .at)) (c .before .before .before .pack .ensures); counted = c .before .before .store .ensures .1 }
+returns c =
+    let start = c .before .before .before .before .before .before in
+    record { stored = c .before .before .store .ensures .0 ∙ ap (set (start .args .out .now) (start .args .at)) (c .before .before .before .pack .ensures); counted = c .before .before .store .ensures .1 }
 
 pub note-spec : {M : Type 1} → statement M
 note-spec =

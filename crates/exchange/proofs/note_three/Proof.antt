@@ -16,10 +16,14 @@ note-requires-3 : tie.Need-note-requires-3
 note-requires-3 c κs = search needs
 
 same-length : tie.Need-same-length
-same-length c = c .before .before .note3 .kept .0 ∙ c .before .before .before .before .before .before .note2 .kept .0 ∙ c .before .before .before .before .before .before .before .before .before .before .note .kept .0
+same-length c =
+    let note = c .before .before .before .before .before .before .before .before .before .before .note in
+    c .before .before .note3 .kept .0 ∙ c .before .before .before .before .before .before .note2 .kept .0 ∙ note .kept .0
 
 returns : tie.Need-returns
-returns c = noted-then (c .before .before .before .before .before .before .before .before .before .before .note .ensures) (noted-then (c .before .before .before .before .before .before .note2 .ensures) (c .before .before .note3 .ensures))
+returns c =
+    let note = c .before .before .before .before .before .before .before .before .before .before .note in
+    noted-then (note .ensures) (noted-then (c .before .before .before .before .before .before .note2 .ensures) (c .before .before .note3 .ensures))
 
 pub note-three-spec : {M : Type 1} → statement M
 note-three-spec =

@@ -17,22 +17,32 @@ both-requires : tie.Need-both-requires
 both-requires c κs = search needs
 
 mul-result : tie.Need-mul-result
-mul-result c = let q = tally-low _ _ (c .before .before .before .before .args .n) (c .before .before .before .before .args .b) (c .before .before .both .ensures) (c .before .before .before .is-digit .ensures) (c .before .if1 .taken) in omega arith
+mul-result c =
+    let start = c .before .before .before .before in
+    let q = tally-low _ _ (start .args .n) (start .args .b) (c .before .before .both .ensures) (c .before .before .before .is-digit .ensures) (c .before .if1 .taken) in omega arith
 
 cast-result : tie.Need-cast-result
 cast-result c = search needs
 
 add-result : tie.Need-add-result
-add-result c = let q = tally-low _ _ (c .before .before .before .before .args .n) (c .before .before .before .before .args .b) (c .before .before .both .ensures) (c .before .before .before .is-digit .ensures) (c .before .if1 .taken) in omega arith
+add-result c =
+    let start = c .before .before .before .before in
+    let q = tally-low _ _ (start .args .n) (start .args .b) (c .before .before .both .ensures) (c .before .before .before .is-digit .ensures) (c .before .if1 .taken) in omega arith
 
 returns : tie.Need-returns
-returns c = tally-on _ _ (c .before .before .before .before .args .n) (c .before .before .before .before .args .b) (c .before .before .both .ensures) (c .before .before .before .is-digit .ensures) (c .before .if1 .taken)
+returns c =
+    let start = c .before .before .before .before in
+    tally-on _ _ (start .args .n) (start .args .b) (c .before .before .both .ensures) (c .before .before .before .is-digit .ensures) (c .before .if1 .taken)
 
 returns-2 : tie.Need-returns-2
-returns-2 c = let q = tally-digit _ _ (c .before .before .before .before .args .n) (c .before .before .before .before .args .b) (c .before .before .both .ensures) (c .before .before .before .is-digit .ensures) (c .before .if1 .taken) in absurd (omega arith)
+returns-2 c =
+    let start = c .before .before .before .before in
+    let q = tally-digit _ _ (start .args .n) (start .args .b) (c .before .before .both .ensures) (c .before .before .before .is-digit .ensures) (c .before .if1 .taken) in absurd (omega arith)
 
 returns-3 : tie.Need-returns-3
-returns-3 c = tally-off _ _ (c .before .before .before .args .n) (c .before .before .before .args .b) (c .before .both .ensures) (c .before .before .is-digit .ensures) (c .if1 .left)
+returns-3 c =
+    let start = c .before .before .before in
+    tally-off _ _ (start .args .n) (start .args .b) (c .before .both .ensures) (c .before .before .is-digit .ensures) (c .if1 .left)
 
 pub tallied-spec : {M : Type 1} → statement M
 tallied-spec =

@@ -32,7 +32,9 @@ both-requires : tie.Need-both-requires
 both-requires c κs = search needs
 
 returns-3 : tie.Need-returns-3
-returns-3 c = cc (well-width (c .before .before .before .before .before .before .args .w) (c .before .before .before .before .before .before .args .h) (c .before .before .before .before .before .before .args .i) (seenOf (c .before .before .before .before .before .before .args .m)) (c .before .before .before .if3 .taken))
+returns-3 c =
+    let start = c .before .before .before .before .before .before in
+    cc (well-width (start .args .w) (start .args .h) (start .args .i) (seenOf (start .args .m)) (c .before .before .before .if3 .taken))
 
 number-field-requires-2 : tie.Need-number-field-requires-2
 number-field-requires-2 c κs = search needs
@@ -41,7 +43,9 @@ both-requires-2 : tie.Need-both-requires-2
 both-requires-2 c κs = search needs
 
 returns-4 : tie.Need-returns-4
-returns-4 c = cc (well-height (c .before .before .before .before .before .before .before .args .w) (c .before .before .before .before .before .before .before .args .h) (c .before .before .before .before .before .before .before .args .i) (seenOf (c .before .before .before .before .before .before .before .args .m)) (c .before .before .before .if4 .taken))
+returns-4 c =
+    let start = c .before .before .before .before .before .before .before in
+    cc (well-height (start .args .w) (start .args .h) (start .args .i) (seenOf (start .args .m)) (c .before .before .before .if4 .taken))
 
 number-field-requires-3 : tie.Need-number-field-requires-3
 number-field-requires-3 c κs = search needs

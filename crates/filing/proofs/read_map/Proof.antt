@@ -18,7 +18,9 @@ returns : tie.Need-returns
 returns c = map-there (c .before .before .before .before .if1 .taken) (c .before .before .read .ensures)
 
 returns-2 : tie.Need-returns-2
-returns-2 c = map-missing (c .before .before .before .args .map .now) (c .before .before .before .args .cells .now) (c .if1 .left)
+returns-2 c =
+    let start = c .before .before .before in
+    map-missing (start .args .map .now) (start .args .cells .now) (c .if1 .left)
 
 pub read-map-spec : {M : Type 1} → statement M
 read-map-spec = tie.close (tie.spec read-requires same-length returns returns-2)

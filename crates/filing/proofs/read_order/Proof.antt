@@ -57,7 +57,11 @@ same-length-3 : tie.Need-same-length-3
 same-length-3 c = search needs
 
 returns : tie.Need-returns
-returns c = order-filed (c .before .before .before .before .before .before .before .before .before .before .before .before .before .before .before .before .before .before .before .before .before .read-map .ensures) _ (c .before .before .before .before .before .before .before .before .before .before .before .before .before .before .before .before .before .before .found .given .1) (omega (arith, slice-aggregate-read-map (c .before .before .before .before .before .before .before .before .before .before .before .before .before .before .before .before .before .before .before .before .before .before))) (c .before .before .before .before .before .before .before .before .before .before .before .before .before .read-scenario .ensures) _ _ (c .before .before .before .before .before .before .before .carriers-found .given .1) (c .before .before .before .rails .ensures)
+returns c =
+    let read-scenario = c .before .before .before .before .before .before .before .before .before .before .before .before .before .read-scenario in
+    let found = c .before .before .before .before .before .before .before .before .before .before .before .before .before .before .before .before .before .before .found in
+    let read-map = c .before .before .before .before .before .before .before .before .before .before .before .before .before .before .before .before .before .before .before .before .before .read-map in
+    order-filed (read-map .ensures) _ (found .given .1) (omega (arith, slice-aggregate-read-map (c .before .before .before .before .before .before .before .before .before .before .before .before .before .before .before .before .before .before .before .before .before .before))) (read-scenario .ensures) _ _ (c .before .before .before .before .before .before .before .carriers-found .given .1) (c .before .before .before .rails .ensures)
 
 same-length-4 : tie.Need-same-length-4
 same-length-4 c = search needs
@@ -66,10 +70,16 @@ same-length-5 : tie.Need-same-length-5
 same-length-5 c = search needs
 
 returns-2 : tie.Need-returns-2
-returns-2 c = scenario-refused (c .before .before .before .before .before .before .before .before .before .before .before .before .before .before .before .read-map .ensures) _ (c .before .before .before .before .before .before .before .before .before .before .before .before .found .given .1) (omega (arith, slice-aggregate-read-map (c .before .before .before .before .before .before .before .before .before .before .before .before .before .before .before .before))) (c .before .before .before .before .before .before .before .read-scenario .ensures) _ (c .before .before .before .before .before .before .before .before .before .before .before .before .before .before .before .before .before .before .before .before .before .before .args .ends .now) (c .before .carriers-found2 .given .1)
+returns-2 c =
+    let found = c .before .before .before .before .before .before .before .before .before .before .before .before .found in
+    let read-map = c .before .before .before .before .before .before .before .before .before .before .before .before .before .before .before .read-map in
+    let start = c .before .before .before .before .before .before .before .before .before .before .before .before .before .before .before .before .before .before .before .before .before .before in
+    scenario-refused (read-map .ensures) _ (found .given .1) (omega (arith, slice-aggregate-read-map (c .before .before .before .before .before .before .before .before .before .before .before .before .before .before .before .before))) (c .before .before .before .before .before .before .before .read-scenario .ensures) _ (start .args .ends .now) (c .before .carriers-found2 .given .1)
 
 returns-3 : tie.Need-returns-3
-returns-3 c = map-refused (c .before .before .before .before .read-map .ensures) _ (c .before .before .before .before .before .before .before .before .before .before .before .args .ends .now) (c .before .before .before .before .before .before .before .before .before .before .before .args .starts .now) (c .before .before .before .before .before .before .before .before .before .before .before .args .goals .now) (c .before .found2 .given .1)
+returns-3 c =
+    let start = c .before .before .before .before .before .before .before .before .before .before .before in
+    map-refused (c .before .before .before .before .read-map .ensures) _ (start .args .ends .now) (start .args .starts .now) (start .args .goals .now) (c .before .found2 .given .1)
 
 pub read-order-spec : {M : Type 1} → statement M
 read-order-spec =

@@ -21,7 +21,9 @@ returns : tie.Need-returns
 returns c = scenario-there (c .before .before .before .before .before .before .before .if1 .taken) (c .before .before .before .before .read .ensures)
 
 returns-2 : tie.Need-returns-2
-returns-2 c = scenario-missing (c .before .before .before .before .before .args .scenario .now) (c .before .before .before .before .before .args .cells .now) (c .before .before .before .before .before .args .starts .now) (c .before .before .before .before .before .args .goals .now) (c .before .before .before .before .before .args .grid) (c .if1 .left)
+returns-2 c =
+    let start = c .before .before .before .before .before in
+    scenario-missing (start .args .scenario .now) (start .args .cells .now) (start .args .starts .now) (start .args .goals .now) (start .args .grid) (c .if1 .left)
 
 pub read-scenario-spec : {M : Type 1} → statement M
 read-scenario-spec = tie.close (tie.spec read-requires same-length same-length-2 returns returns-2)

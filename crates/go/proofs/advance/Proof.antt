@@ -15,8 +15,9 @@ is-in-requires c κs = search needs
 
 step-in-requires : tie.Need-step-in-requires
 step-in-requires c κs =
-    let p = c .before .before .before .before .before .before .before .before .before .before .before .before .before .before .before .pre .0 in
-    let z = c .before .before .before .before .before .before .before .before .before .before .before .before .before .before .before .pre .1 in
+    let start = c .before .before .before .before .before .before .before .before .before .before .before .before .before .before .before in
+    let p = start .pre .0 in
+    let z = start .pre .1 in
     let free = sym (c .before .before .before .before .before .before .is-in .ensures) ∙ c .before .before .before .before .before .if1 .taken in
     ((z .0, z .2, free, p .placed), (p .most, p .empty-size, z .6 .size, z .5))
 
@@ -37,11 +38,15 @@ same-length-5 c = search needs
 
 returns : tie.Need-returns
 returns c =
-    let a = c .before .before .before .before .before .before .before .before .before .before .before .before .before .before .before .before .before .before .before .before .before .before .before .before .before .before .args in
-    let p = c .before .before .before .before .before .before .before .before .before .before .before .before .before .before .before .before .before .before .before .before .before .before .before .before .before .before .pre .0 in
-    let z = c .before .before .before .before .before .before .before .before .before .before .before .before .before .before .before .before .before .before .before .before .before .before .before .before .before .before .pre .1 in
-    let free = sym (c .before .before .before .before .before .before .before .before .before .before .before .before .before .before .before .before .if1 .taken) ∙ c .before .before .before .before .before .before .before .before .before .before .before .before .before .before .before .before .before .is-in .ensures in
-    let stepped = c .before .before .before .before .before .before .before .before .before .before .step-in .ensures in (
+    let step-in = c .before .before .before .before .before .before .before .before .before .before .step-in in
+    let if1 = c .before .before .before .before .before .before .before .before .before .before .before .before .before .before .before .before .if1 in
+    let is-in = c .before .before .before .before .before .before .before .before .before .before .before .before .before .before .before .before .before .is-in in
+    let start = c .before .before .before .before .before .before .before .before .before .before .before .before .before .before .before .before .before .before .before .before .before .before .before .before .before .before in
+    let a = start .args in
+    let p = start .pre .0 in
+    let z = start .pre .1 in
+    let free = sym (if1 .taken) ∙ is-in .ensures in
+    let stepped = step-in .ensures in (
       omega (arith, stepped .0 .counted),
       λ t. stepped-free t (p .most) (z .4) (a .finished) (a .r .0) (a .w .0) (a .placement .now) (p .placed) (z .0) (z .2) (z .3) free (stepped .0),
       stepped .1 (a .finished) (z .6),

@@ -33,7 +33,9 @@ cast-finished : tie.Need-cast-finished Inv-loop μ-loop
 cast-finished c = search needs
 
 loop-holds : tie.Need-loop-holds Inv-loop μ-loop
-loop-holds c = (omega arith, omega arith, refl, refl, refl, refl, c .before .before .before .before .before .before .before .before .pre .1 .1, λ t goals. going-none _ _ _ _ _ _ _ _ _ _ (c .before .before .before .before .before .before .before .before .pre .0 .placed), refl, c .before .before .before .before .before .before .before .before .pre .1 .4)
+loop-holds c =
+    let start = c .before .before .before .before .before .before .before .before in
+    (omega arith, omega arith, refl, refl, refl, refl, start .pre .1 .1, λ t goals. going-none _ _ _ _ _ _ _ _ _ _ (start .pre .0 .placed), refl, start .pre .1 .4)
 
 mul-t17 : tie.Need-mul-t17 Inv-loop μ-loop
 mul-t17 c = search needs
@@ -43,13 +45,15 @@ shared-slice-read-t20 c = search needs
 
 advance-requires : tie.Need-advance-requires Inv-loop μ-loop
 advance-requires c κs =
-    let p = c .before .before .before .before .before .before .before .before .before .before .before .before .before .before .before .before .pre .0 in
-    let z = c .before .before .before .before .before .before .before .before .before .before .before .before .before .before .before .before .pre .1 in
+    let loop-test = c .before .before .before .before .before .before .loop-test in
+    let start = c .before .before .before .before .before .before .before .before .before .before .before .before .before .before .before .before in
+    let p = start .pre .0 in
+    let z = start .pre .1 in
     let l = c .before .before .before .before .before .before .before .loop in
     let v = l .inv in
     let b = v .7 (p .tabled) [] in
-    let h = linked-here (length (c .before .before .before .before .before .before .before .before .before .before .before .before .before .before .before .before .args .standing .now)) (c .before .before .before .before .before .before .before .before .before .before .before .before .before .before .before .before .args .table .now) (getD (l .placement) (c .before .before .before .before .before .before .before .before .before .before .before .before .before .before .before .before .args .r .0) 0) (c .before .before .before .before .before .before .before .before .before .before .before .before .before .before .before .before .args .ahead .now) (l .i) (c .before .before .before .before .before .before .loop-test .taken) (v .6) in
-    let e : length (l .standing) ≡ length (c .before .before .before .before .before .before .before .before .before .before .before .before .before .before .before .before .args .standing .now) = v .3 in (
+    let h = linked-here (length (start .args .standing .now)) (start .args .table .now) (getD (l .placement) (start .args .r .0) 0) (start .args .ahead .now) (l .i) (loop-test .taken) (v .6) in
+    let e : length (l .standing) ≡ length (start .args .standing .now) = v .3 in (
       record {
         most = omega (arith, p .most, e);
         table-size = rw e (p .table-size);
@@ -58,7 +62,7 @@ advance-requires c κs =
         tabled = rw e (p .tabled);
         levelled = rw e (p .levelled);
       },
-      (omega (arith, z .0, v .2), omega (arith, z .0, v .2), rw e (h .0), h .1, rw e (z .2), omega (arith, v .1, z .3, c .before .before .before .before .before .before .loop-test .taken), v .9),
+      (omega (arith, z .0, v .2), omega (arith, z .0, v .2), rw e (h .0), h .1, rw e (z .2), omega (arith, v .1, z .3, loop-test .taken), v .9),
     )
 
 enum-known-one : tie.Need-enum-known-one Inv-loop μ-loop
@@ -84,15 +88,18 @@ same-length-5 c = search needs
 
 returns : tie.Need-returns Inv-loop μ-loop
 returns c =
+    let advance = c .before .before .before .before .before .before .before .before .before .before .before .before .advance in
+    let loop-test = c .before .before .before .before .before .before .before .before .before .before .before .before .before .before .before .before .before .before .before .loop-test in
+    let start = c .before .before .before .before .before .before .before .before .before .before .before .before .before .before .before .before .before .before .before .before .before .before .before .before .before .before .before .before .before in
     let l = c .before .before .before .before .before .before .before .before .before .before .before .before .before .before .before .before .before .before .before .before .loop in
     let v = l .inv in (
       tt,
       λ t goals.
-          let kw : length (l .standing) ≡ length (c .before .before .before .before .before .before .before .before .before .before .before .before .before .before .before .before .before .before .before .before .before .before .before .before .before .before .before .before .before .args .standing .now) = v .3 in
-          let e : c .before .before .before .before .before .before .before .before .before .before .before .before .advance .result ≡ Failed = c .enum-told .given .1 in
-          let f = rw kw at (c .before .before .before .before .before .before .before .before .before .before .before .before .advance .ensures .1) in
-          tries-none (going-stops (v .7 t goals) (c .before .before .before .before .before .before .before .before .before .before .before .before .before .before .before .before .before .before .before .loop-test .taken) (rw e at (f t))),
-      c .before .before .before .before .before .before .before .before .before .before .before .before .advance .ensures .2,
+          let kw : length (l .standing) ≡ length (start .args .standing .now) = v .3 in
+          let e : advance .result ≡ Failed = c .enum-told .given .1 in
+          let f = rw kw at (advance .ensures .1) in
+          tries-none (going-stops (v .7 t goals) (loop-test .taken) (rw e at (f t))),
+      advance .ensures .2,
     )
 
 add-i : tie.Need-add-i Inv-loop μ-loop
@@ -103,29 +110,32 @@ loop-less c = search needs
 
 loop-again : tie.Need-loop-again Inv-loop μ-loop
 loop-again c =
-    let p = c .before .before .before .before .before .before .before .before .before .before .before .before .before .before .before .before .before .before .before .before .before .before .before .before .before .before .before .before .before .before .pre .0 in
-    let z = c .before .before .before .before .before .before .before .before .before .before .before .before .before .before .before .before .before .before .before .before .before .before .before .before .before .before .before .before .before .before .pre .1 in
+    let advance = c .before .before .before .before .before .before .before .before .before .before .before .before .before .advance in
+    let loop-test = c .before .before .before .before .before .before .before .before .before .before .before .before .before .before .before .before .before .before .before .before .loop-test in
+    let start = c .before .before .before .before .before .before .before .before .before .before .before .before .before .before .before .before .before .before .before .before .before .before .before .before .before .before .before .before .before .before in
+    let p = start .pre .0 in
+    let z = start .pre .1 in
     let l = c .before .before .before .before .before .before .before .before .before .before .before .before .before .before .before .before .before .before .before .before .before .loop in
     let v = l .inv in
     let b = v .7 (p .tabled) [] in
-    let h = linked-here (length (c .before .before .before .before .before .before .before .before .before .before .before .before .before .before .before .before .before .before .before .before .before .before .before .before .before .before .before .before .before .before .args .standing .now)) (c .before .before .before .before .before .before .before .before .before .before .before .before .before .before .before .before .before .before .before .before .before .before .before .before .before .before .before .before .before .before .args .table .now) (getD (l .placement) (c .before .before .before .before .before .before .before .before .before .before .before .before .before .before .before .before .before .before .before .before .before .before .before .before .before .before .before .before .before .before .args .r .0) 0) (c .before .before .before .before .before .before .before .before .before .before .before .before .before .before .before .before .before .before .before .before .before .before .before .before .before .before .before .before .before .before .args .ahead .now) (l .i) (c .before .before .before .before .before .before .before .before .before .before .before .before .before .before .before .before .before .before .before .before .loop-test .taken) (v .6) in
-    let kw : length (l .standing) ≡ length (c .before .before .before .before .before .before .before .before .before .before .before .before .before .before .before .before .before .before .before .before .before .before .before .before .before .before .before .before .before .before .args .standing .now) = v .3 in
-    let k = c .before .before .before .before .before .before .before .before .before .before .before .before .before .advance .kept in
-    let e : c .before .before .before .before .before .before .before .before .before .before .before .before .before .advance .result ≡ Done (c .before .one .given .0 .0) = c .before .one .given .1 in
-    let few = rw e at (c .before .before .before .before .before .before .before .before .before .before .before .before .before .advance .ensures .0) in
-    let f = rw kw at (c .before .before .before .before .before .before .before .before .before .before .before .before .before .advance .ensures .1) in
-    let hr : c .before .before .before .before .before .before .before .before .before .before .before .before .before .before .before .before .before .before .before .before .before .before .before .before .before .before .before .before .before .before .args .r .0 < length (l .placement) = omega (arith, z .0, v .2) in
-    let hf : c .before .before .before .before .before .before .before .before .before .before .before .before .before .before .before .before .before .before .before .before .before .before .before .before .before .before .before .before .before .before .args .r .0 ≤ length (l .placement) = omega (arith, z .0, v .2) in (
-      omega (arith, c .before .before .before .before .before .before .before .before .before .before .before .before .before .before .before .before .before .before .before .before .loop-test .taken),
+    let h = linked-here (length (start .args .standing .now)) (start .args .table .now) (getD (l .placement) (start .args .r .0) 0) (start .args .ahead .now) (l .i) (loop-test .taken) (v .6) in
+    let kw : length (l .standing) ≡ length (start .args .standing .now) = v .3 in
+    let k = advance .kept in
+    let e : advance .result ≡ Done (c .before .one .given .0 .0) = c .before .one .given .1 in
+    let few = rw e at (advance .ensures .0) in
+    let f = rw kw at (advance .ensures .1) in
+    let hr : start .args .r .0 < length (l .placement) = omega (arith, z .0, v .2) in
+    let hf : start .args .r .0 ≤ length (l .placement) = omega (arith, z .0, v .2) in (
+      omega (arith, loop-test .taken),
       omega (arith, few, v .1),
       omega (arith, k .1 .1 .1 .1 .0, v .2),
       omega (arith, k .1 .1 .1 .1 .1 .0, v .3),
       omega (arith, k .1 .1 .1 .1 .1 .1 .0, v .4),
       omega (arith, k .1 .1 .1 .1 .1 .1 .1 .1 .0, v .5),
-      rw (arrived (p .tabled) (p .most) (z .2) (c .before .before .before .before .before .before .before .before .before .before .before .before .before .before .before .before .before .before .before .before .before .before .before .before .before .before .before .before .before .before .args .r .0) (c .before .before .before .before .before .before .before .before .before .before .before .before .before .before .before .before .before .before .before .before .before .before .before .before .before .before .before .before .before .before .args .r .0) (getD (c .before .before .before .before .before .before .before .before .before .before .before .before .before .before .before .before .before .before .before .before .before .before .before .before .before .before .before .before .before .before .args .ahead .now) (l .i) 0) (l .placement) (b .played .placed) hr hf (h .0) (h .1) (rw e at (f (p .tabled)))) (h .2),
-      λ t goals. going-more (v .7 t goals) (c .before .before .before .before .before .before .before .before .before .before .before .before .before .before .before .before .before .before .before .before .loop-test .taken) (rw e at (f t)),
+      rw (arrived (p .tabled) (p .most) (z .2) (start .args .r .0) (start .args .r .0) (getD (start .args .ahead .now) (l .i) 0) (l .placement) (b .played .placed) hr hf (h .0) (h .1) (rw e at (f (p .tabled)))) (h .2),
+      λ t goals. going-more (v .7 t goals) (loop-test .taken) (rw e at (f t)),
       omega (arith, k .1 .1 .1 .1 .1 .1 .1 .0, v .8),
-      c .before .before .before .before .before .before .before .before .before .before .before .before .before .advance .ensures .2,
+      advance .ensures .2,
     )
 
 same-length-6 : tie.Need-same-length-6 Inv-loop μ-loop

@@ -43,34 +43,51 @@ is-letter-requires : tie.Need-is-letter-requires Inv-loop μ-loop
 is-letter-requires c κs = search needs
 
 mark-requires : tie.Need-mark-requires Inv-loop μ-loop
-mark-requires c κs = omega (arith, c .before .before .before .before .before .loop .inv .1 .1 .0, c .before .before .before .before .before .loop .inv .1 .1 .1, count-few bayLetter (letters (take (c .before .before .before .before .before .loop .i) (c .before .before .before .before .before .before .before .before .args .file .now))), letters-few (c .before .before .before .before .before .before .before .before .args .file .now) (c .before .before .before .before .before .loop .i), c .before .before .before .before .before .before .before .before .pre)
+mark-requires c κs =
+    let loop = c .before .before .before .before .before .loop in
+    let start = c .before .before .before .before .before .before .before .before in
+    omega (arith, loop .inv .1 .1 .0, loop .inv .1 .1 .1, count-few bayLetter (letters (take (loop .i) (start .args .file .now))), letters-few (start .args .file .now) (loop .i), start .pre)
 
 short-requires : tie.Need-short-requires Inv-loop μ-loop
 short-requires c κs = search needs
 
 counted-requires : tie.Need-counted-requires Inv-loop μ-loop
-counted-requires c κs = omega (arith, c .before .before .before .before .before .before .before .before .before .loop .inv .1 .1 .0, c .before .before .before .before .before .before .before .before .before .loop .inv .1 .1 .1, count-few bayLetter (letters (take (c .before .before .before .before .before .before .before .before .before .loop .i) (c .before .before .before .before .before .before .before .before .before .before .before .before .args .file .now))), letters-few (c .before .before .before .before .before .before .before .before .before .before .before .before .args .file .now) (c .before .before .before .before .before .before .before .before .before .loop .i), c .before .before .before .before .before .before .before .before .before .before .before .before .pre)
+counted-requires c κs =
+    let loop = c .before .before .before .before .before .before .before .before .before .loop in
+    let start = c .before .before .before .before .before .before .before .before .before .before .before .before in
+    omega (arith, loop .inv .1 .1 .0, loop .inv .1 .1 .1, count-few bayLetter (letters (take (loop .i) (start .args .file .now))), letters-few (start .args .file .now) (loop .i), start .pre)
 
 add-n : tie.Need-add-n Inv-loop μ-loop
-add-n c = omega (arith, c .before .before .before .before .before .before .before .before .before .before .loop .inv .1 .1 .0, letters-few (c .before .before .before .before .before .before .before .before .before .before .before .before .before .args .file .now) (c .before .before .before .before .before .before .before .before .before .before .loop .i), c .before .before .before .before .before .before .before .before .before .before .before .before .before .pre)
+add-n c =
+    let loop = c .before .before .before .before .before .before .before .before .before .before .loop in
+    let start = c .before .before .before .before .before .before .before .before .before .before .before .before .before in
+    omega (arith, loop .inv .1 .1 .0, letters-few (start .args .file .now) (loop .i), start .pre)
 
 loop-less : tie.Need-loop-less Inv-loop μ-loop
 loop-less c = search needs
 
 loop-again : tie.Need-loop-again Inv-loop μ-loop
-loop-again c = let e : letters (take (c .before .before .before .before .before .before .before .before .before .before .loop .i + 1) (c .before .before .before .before .before .before .before .before .before .before .before .before .before .args .file .now)) ≡ letters (take (c .before .before .before .before .before .before .before .before .before .before .loop .i) (c .before .before .before .before .before .before .before .before .before .before .before .before .before .args .file .now)) ++ (getD (c .before .before .before .before .before .before .before .before .before .before .before .before .before .args .file .now) (c .before .before .before .before .before .before .before .before .before .before .loop .i) 0 ∷ []) = letters-more (c .before .before .before .before .before .before .before .before .before .before .before .before .before .args .file .now) (c .before .before .before .before .before .before .before .before .before .before .loop .i) (search needs) (sym (c .before .before .before .before .before .before .before .is-letter .ensures) ∙ c .before .before .before .before .before .before .if1 .taken) in (search needs, (rw e (numbered-more (getD (c .before .before .before .before .before .before .before .before .before .before .before .before .before .args .file .now) (c .before .before .before .before .before .before .before .before .before .before .loop .i) 0) (letters (take (c .before .before .before .before .before .before .before .before .before .before .loop .i) (c .before .before .before .before .before .before .before .before .before .before .before .before .before .args .file .now))) (c .before .before .before .before .before .before .before .before .before .before .loop .inv .1 .1 .1) (c .before .before .before .before .before .before .before .before .before .before .loop .inv .1 .0) (c .before .before .before .before .mark .ensures) (c .before .before .before .short .ensures)), (omega (arith, ap length e, length-append (letters (take (c .before .before .before .before .before .before .before .before .before .before .loop .i) (c .before .before .before .before .before .before .before .before .before .before .before .before .before .args .file .now))) (getD (c .before .before .before .before .before .before .before .before .before .before .before .before .before .args .file .now) (c .before .before .before .before .before .before .before .before .before .before .loop .i) 0 ∷ []), c .before .before .before .before .before .before .before .before .before .before .loop .inv .1 .1 .0), c .counted .ensures .0 ∙ count-with (getD (c .before .before .before .before .before .before .before .before .before .before .before .before .before .args .file .now) (c .before .before .before .before .before .before .before .before .before .before .loop .i) 0) (c .before .before .before .before .before .before .before .before .before .before .loop .bays) (letters (take (c .before .before .before .before .before .before .before .before .before .before .loop .i) (c .before .before .before .before .before .before .before .before .before .before .before .before .before .args .file .now))) (c .before .before .before .before .before .before .before .before .before .before .loop .inv .1 .1 .1) ∙ ap (count bayLetter) (sym e))))
+loop-again c =
+    let loop = c .before .before .before .before .before .before .before .before .before .before .loop in
+    let start = c .before .before .before .before .before .before .before .before .before .before .before .before .before in
+    let e : letters (take (loop .i + 1) (start .args .file .now)) ≡ letters (take (loop .i) (start .args .file .now)) ++ (getD (start .args .file .now) (loop .i) 0 ∷ []) = letters-more (start .args .file .now) (loop .i) (search needs) (sym (c .before .before .before .before .before .before .before .is-letter .ensures) ∙ c .before .before .before .before .before .before .if1 .taken) in (search needs, (rw e (numbered-more (getD (start .args .file .now) (loop .i) 0) (letters (take (loop .i) (start .args .file .now))) (loop .inv .1 .1 .1) (loop .inv .1 .0) (c .before .before .before .before .mark .ensures) (c .before .before .before .short .ensures)), (omega (arith, ap length e, length-append (letters (take (loop .i) (start .args .file .now))) (getD (start .args .file .now) (loop .i) 0 ∷ []), loop .inv .1 .1 .0), c .counted .ensures .0 ∙ count-with (getD (start .args .file .now) (loop .i) 0) (loop .bays) (letters (take (loop .i) (start .args .file .now))) (loop .inv .1 .1 .1) ∙ ap (count bayLetter) (sym e))))
 
 loop-less-2 : tie.Need-loop-less-2 Inv-loop μ-loop
 loop-less-2 c = search needs
 
 loop-again-2 : tie.Need-loop-again-2 Inv-loop μ-loop
-loop-again-2 c = let e : letters (take (c .before .before .before .before .loop .i + 1) (c .before .before .before .before .before .before .before .args .file .now)) ≡ letters (take (c .before .before .before .before .loop .i) (c .before .before .before .before .before .before .before .args .file .now)) = letters-same (c .before .before .before .before .before .before .before .args .file .now) (c .before .before .before .before .loop .i) (search needs) (sym (c .before .is-letter .ensures) ∙ c .if1 .left) in (search needs, (rw e (c .before .before .before .before .loop .inv .1 .0), (rw e (c .before .before .before .before .loop .inv .1 .1 .0), rw e (c .before .before .before .before .loop .inv .1 .1 .1))))
+loop-again-2 c =
+    let loop = c .before .before .before .before .loop in
+    let start = c .before .before .before .before .before .before .before in
+    let e : letters (take (loop .i + 1) (start .args .file .now)) ≡ letters (take (loop .i) (start .args .file .now)) = letters-same (start .args .file .now) (loop .i) (search needs) (sym (c .before .is-letter .ensures) ∙ c .if1 .left) in (search needs, (rw e (loop .inv .1 .0), (rw e (loop .inv .1 .1 .0), rw e (loop .inv .1 .1 .1))))
 
 same-length : tie.Need-same-length Inv-loop μ-loop
 same-length c = wrote-length (c .before .loop .inv .1 .0)
 
 returns : tie.Need-returns Inv-loop μ-loop
-returns c = let e : (take (c .before .loop .i) (c .before .before .before .before .args .file .now)) ≡ c .before .before .before .before .args .file .now = take-all (c .before .loop .i) (c .before .before .before .before .args .file .now) (search needs) in let n = c .before .loop .inv .1 .1 .0 in (rw (n, e) at (c .before .loop .inv .1 .0), rw e at (c .before .loop .inv .1 .1 .1))
+returns c =
+    let start = c .before .before .before .before in
+    let e : (take (c .before .loop .i) (start .args .file .now)) ≡ start .args .file .now = take-all (c .before .loop .i) (start .args .file .now) (search needs) in let n = c .before .loop .inv .1 .1 .0 in (rw (n, e) at (c .before .loop .inv .1 .0), rw e at (c .before .loop .inv .1 .1 .1))
 
 pub number-spec : {M : Type 1} → statement M
 number-spec =

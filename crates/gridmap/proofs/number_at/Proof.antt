@@ -14,7 +14,9 @@ shared-slice-read-result : tie.Need-shared-slice-read-result
 shared-slice-read-result c = search needs
 
 returns : tie.Need-returns
-returns c = number-in (c .before .before .before .args .cells .now) (c .before .before .before .args .size) (c .before .before .before .args .i) (search needs)
+returns c =
+    let start = c .before .before .before in
+    number-in (start .args .cells .now) (start .args .size) (start .args .i) (search needs)
 
 returns-2 : tie.Need-returns-2
 returns-2 c = number-past (c .before .before .args .cells .now) (c .before .before .args .size) (c .before .before .args .i) (search needs)

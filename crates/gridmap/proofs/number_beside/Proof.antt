@@ -24,7 +24,9 @@ number-at-requires : tie.Need-number-at-requires
 number-at-requires c κs = search needs
 
 returns : tie.Need-returns
-returns c = c .number-at .ensures ∙ beside-in (c .before .before .before .args .cells .now) (c .before .before .before .args .size) (c .before .before .before .args .i) (c .before .before .before .args .width) (search needs)
+returns c =
+    let start = c .before .before .before in
+    c .number-at .ensures ∙ beside-in (start .args .cells .now) (start .args .size) (start .args .i) (start .args .width) (search needs)
 
 returns-2 : tie.Need-returns-2
 returns-2 c = beside-out (c .before .before .args .cells .now) (c .before .before .args .size) (c .before .before .args .i) (c .before .before .args .width) (search needs)

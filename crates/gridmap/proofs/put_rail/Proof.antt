@@ -12,7 +12,9 @@ returns : tie.Need-returns
 returns c = rail-none (c .before .before .args .ends .now) (c .before .before .args .at) (c .before .before .args .a) (c .before .before .args .b) (c .if1 .taken)
 
 returns-2 : tie.Need-returns-2
-returns-2 c = rail-half (c .before .before .before .args .ends .now) (c .before .before .before .args .at) (c .before .before .before .args .a) (c .before .before .before .args .b) (c .before .if1 .left) (c .if2 .taken)
+returns-2 c =
+    let start = c .before .before .before in
+    rail-half (start .args .ends .now) (start .args .at) (start .args .a) (start .args .b) (c .before .if1 .left) (c .if2 .taken)
 
 sub-short : tie.Need-sub-short
 sub-short c = search needs
@@ -36,7 +38,11 @@ same-length : tie.Need-same-length
 same-length c = search needs
 
 returns-3 : tie.Need-returns-3
-returns-3 c = rail-both (c .before .before .before .before .before .before .before .before .before .before .before .args .ends .now) (c .before .before .before .before .before .before .before .before .before .before .before .args .at) (c .before .before .before .before .before .before .before .before .before .before .before .args .a) (c .before .before .before .before .before .before .before .before .before .before .before .args .b) (c .before .before .before .before .before .before .before .before .before .if1 .left) (c .before .before .before .before .before .before .before .before .if2 .left) _ _ (c .before .before .before .before .before .before .short .ensures) (c .before .before .short2 .ensures)
+returns-3 c =
+    let if2 = c .before .before .before .before .before .before .before .before .if2 in
+    let if1 = c .before .before .before .before .before .before .before .before .before .if1 in
+    let start = c .before .before .before .before .before .before .before .before .before .before .before in
+    rail-both (start .args .ends .now) (start .args .at) (start .args .a) (start .args .b) (if1 .left) (if2 .left) _ _ (c .before .before .before .before .before .before .short .ensures) (c .before .before .short2 .ensures)
 
 pub put-rail-spec : {M : Type 1} → statement M
 put-rail-spec =

@@ -29,14 +29,19 @@ number-at-requires-2 : tie.Need-number-at-requires-2
 number-at-requires-2 c κs = search needs
 
 put-rail-requires-2 : tie.Need-put-rail-requires-2
-put-rail-requires-2 c κs = omega (arith, rail-next _ _ _ _ _ _ (c .before .before .before .before .put-rail .ensures), c .before .before .before .before .before .before .before .before .before .before .pre)
+put-rail-requires-2 c κs =
+    let start = c .before .before .before .before .before .before .before .before .before .before in
+    omega (arith, rail-next _ _ _ _ _ _ (c .before .before .before .before .put-rail .ensures), start .pre)
 
 same-length : tie.Need-same-length
 same-length c = search needs
 
 returns : tie.Need-returns
 unfolding railsAtIn
-returns c = wrote-then (rw (c .before .before .before .before .before .before .before .before .before .number-beside .ensures, c .before .before .before .before .before .before .before .before .before .before .number-at .ensures) at (c .before .before .before .before .before .before .before .put-rail .ensures)) (rw (c .before .before .before .before .number-at2 .ensures, c .before .before .before .before .before .before .before .before .before .before .number-at .ensures) at (c .before .before .put-rail2 .ensures))
+returns c =
+    let number-beside = c .before .before .before .before .before .before .before .before .before .number-beside in
+    let number-at = c .before .before .before .before .before .before .before .before .before .before .number-at in
+    wrote-then (rw (number-beside .ensures, number-at .ensures) at (c .before .before .before .before .before .before .before .put-rail .ensures)) (rw (c .before .before .before .before .number-at2 .ensures, number-at .ensures) at (c .before .before .put-rail2 .ensures))
 
 pub put-rails-spec : {M : Type 1} → statement M
 put-rails-spec =

@@ -27,10 +27,14 @@ cast-size : tie.Need-cast-size Inv-loop μ-loop
 cast-size c = search needs
 
 mul-size : tie.Need-mul-size Inv-loop μ-loop
-mul-size c = record { fits = omega (arith, product-small (c .before .before .before .before .args .grid .height) (c .before .before .before .before .args .grid .width) (search needs) (search needs)) }
+mul-size c =
+    let start = c .before .before .before .before in
+    record { fits = omega (arith, product-small (start .args .grid .height) (start .args .grid .width) (search needs) (search needs)) }
 
 loop-holds : tie.Need-loop-holds Inv-loop μ-loop
-loop-holds c = (search needs, (rw rails-none (wrote-none _ _), (search needs, (product-small (c .before .before .before .before .args .grid .height) (c .before .before .before .before .args .grid .width) (search needs) (search needs), (product-some (c .before .before .before .before .args .grid .height) (c .before .before .before .before .args .grid .width) 0, search needs)))))
+loop-holds c =
+    let start = c .before .before .before .before in
+    (search needs, (rw rails-none (wrote-none _ _), (search needs, (product-small (start .args .grid .height) (start .args .grid .width) (search needs) (search needs), (product-some (start .args .grid .height) (start .args .grid .width) 0, search needs)))))
 
 put-rails-requires : tie.Need-put-rails-requires Inv-loop μ-loop
 put-rails-requires c κs = (c .before .before .loop .inv .1 .1 .1 .1 .0 (search needs), omega arith, omega arith, omega arith)
@@ -42,13 +46,18 @@ loop-less : tie.Need-loop-less Inv-loop μ-loop
 loop-less c = search needs
 
 loop-again : tie.Need-loop-again Inv-loop μ-loop
-loop-again c = (search needs, (rw rails-more (wrote-then (c .before .before .before .before .before .loop .inv .1 .0) (c .before .before .put-rails .ensures)), (omega (arith, c .before .before .put-rails .ensures .counted, rails-short (c .before .before .before .before .before .before .before .before .before .before .args .cells .now) (c .before .before .before .before .before .before .before .before .before .before .args .grid .height * c .before .before .before .before .before .before .before .before .before .before .args .grid .width) (c .before .before .before .before .before .before .before .before .before .before .args .grid .width) (c .before .before .before .before .before .loop .i), c .before .before .before .before .before .loop .inv .1 .1 .0), (c .before .before .before .before .before .loop .inv .1 .1 .1 .0, (λ h. c .before .before .before .before .before .loop .inv .1 .1 .1 .1 .0 (search needs), c .before .before .before .before .before .loop .inv .1 .1 .1 .1 .1)))))
+loop-again c =
+    let loop = c .before .before .before .before .before .loop in
+    let start = c .before .before .before .before .before .before .before .before .before .before in
+    (search needs, (rw rails-more (wrote-then (loop .inv .1 .0) (c .before .before .put-rails .ensures)), (omega (arith, c .before .before .put-rails .ensures .counted, rails-short (start .args .cells .now) (start .args .grid .height * start .args .grid .width) (start .args .grid .width) (loop .i), loop .inv .1 .1 .0), (loop .inv .1 .1 .1 .0, (λ h. loop .inv .1 .1 .1 .1 .0 (search needs), loop .inv .1 .1 .1 .1 .1)))))
 
 same-length : tie.Need-same-length Inv-loop μ-loop
 same-length c = wrote-length (c .before .loop .inv .1 .0)
 
 returns : tie.Need-returns Inv-loop μ-loop
-returns c = let e : c .before .loop .i ≡ c .before .before .before .before .before .before .args .grid .height * c .before .before .before .before .before .before .args .grid .width = omega arith in rw e at (c .before .loop .inv .1 .0)
+returns c =
+    let start = c .before .before .before .before .before .before in
+    let e : c .before .loop .i ≡ start .args .grid .height * start .args .grid .width = omega arith in rw e at (c .before .loop .inv .1 .0)
 
 pub rails-spec : {M : Type 1} → statement M
 rails-spec =

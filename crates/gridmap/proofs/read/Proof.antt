@@ -27,10 +27,15 @@ same-length : tie.Need-same-length
 same-length c = search needs
 
 returns : tie.Need-returns
-returns c = reads-good (c .before .before .before .before .before .before .before .before .before .before .args .file .now) (c .before .before .before .before .before .before .before .before .before .before .args .cells .now) (c .before .before .before .before .before .found .given .0 .0) (c .before .before .before .before .before .found .given .0 .1 .0) (sym (ap sidesOf (c .before .before .before .before .before .found .given .1)) ∙ c .before .before .before .before .before .before .before .read .ensures) _ (c .before .before .number .ensures .0) _ (c .before .before .number .ensures .1)
+returns c =
+    let found = c .before .before .before .before .before .found in
+    let start = c .before .before .before .before .before .before .before .before .before .before in
+    reads-good (start .args .file .now) (start .args .cells .now) (found .given .0 .0) (found .given .0 .1 .0) (sym (ap sidesOf (found .given .1)) ∙ c .before .before .before .before .before .before .before .read .ensures) _ (c .before .before .number .ensures .0) _ (c .before .before .number .ensures .1)
 
 returns-2 : tie.Need-returns-2
-returns-2 c = reads-bad (c .before .before .before .before .before .before .args .file .now) (c .before .before .before .before .before .before .args .cells .now) _ (sym (ap sidesOf (c .before .found2 .given .1)) ∙ c .before .before .before .read .ensures)
+returns-2 c =
+    let start = c .before .before .before .before .before .before in
+    reads-bad (start .args .file .now) (start .args .cells .now) _ (sym (ap sidesOf (c .before .found2 .given .1)) ∙ c .before .before .before .read .ensures)
 
 pub read-spec : {M : Type 1} → statement M
 read-spec =

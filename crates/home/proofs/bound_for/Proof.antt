@@ -21,13 +21,15 @@ cast-c-2 c = omega (arith, c .shared-slice-known .given (c .before .before .args
 
 returns : tie.Need-returns
 returns c =
-    let z = c .before .before .before .pre in
-    z .2 ∙ sym (place-low (c .before .before .before .args .finished) (c .before .before .before .args .goals .now) (c .before .before .before .args .v .0) (omega (arith, z .2, c .if1 .taken)))
+    let start = c .before .before .before in
+    let z = start .pre in
+    z .2 ∙ sym (place-low (start .args .finished) (start .args .goals .now) (start .args .v .0) (omega (arith, z .2, c .if1 .taken)))
 
 returns-2 : tie.Need-returns-2
 returns-2 c =
-    let z = c .before .before .before .pre in
-    sym (place-high (c .before .before .before .args .finished) (c .before .before .before .args .goals .now) (c .before .before .before .args .v .0) (z .0) (omega (arith, z .2, c .if1 .left)))
+    let start = c .before .before .before in
+    let z = start .pre in
+    sym (place-high (start .args .finished) (start .args .goals .now) (start .args .v .0) (z .0) (omega (arith, z .2, c .if1 .left)))
 
 pub bound-for-spec : {M : Type 1} → statement M
 bound-for-spec =

@@ -29,7 +29,9 @@ abbrev μ-loop : tie.MeasureT-loop
     i
 
 loop-holds : tie.Need-loop-holds Inv-loop μ-loop
-loop-holds c = (omega arith, omega arith, refl, refl, refl, refl, λ h. rw (drop-of-length-le (c .before .before .before .before .before .before .before .before .before .args .bays .now) {i = length (c .before .before .before .before .before .before .before .before .before .args .bays .now)} (omega arith)) (h .settled), λ t. homed-none _ _ _ _ _ _ _ _ _ _ (c .before .before .before .before .before .before .before .before .before .pre .0 .placed), refl, c .before .before .before .before .before .before .before .before .before .pre .1 .7)
+loop-holds c =
+    let start = c .before .before .before .before .before .before .before .before .before in
+    (omega arith, omega arith, refl, refl, refl, refl, λ h. rw (drop-of-length-le (start .args .bays .now) {i = length (start .args .bays .now)} (omega arith)) (h .settled), λ t. homed-none _ _ _ _ _ _ _ _ _ _ (start .pre .0 .placed), refl, start .pre .1 .7)
 
 sub-i : tie.Need-sub-i Inv-loop μ-loop
 sub-i c = search needs
@@ -42,16 +44,18 @@ shared-slice-read-t21 c = search needs
 
 home-at-requires : tie.Need-home-at-requires Inv-loop μ-loop
 home-at-requires c κs =
-    let p = c .before .before .before .before .before .before .before .before .before .before .before .before .before .before .before .before .before .pre .0 in
-    let z = c .before .before .before .before .before .before .before .before .before .before .before .before .before .before .before .before .before .pre .1 in
+    let loop-test = c .before .before .before .before .before .before .loop-test in
+    let start = c .before .before .before .before .before .before .before .before .before .before .before .before .before .before .before .before .before in
+    let p = start .pre .0 in
+    let z = start .pre .1 in
     let l = c .before .before .before .before .before .before .before .loop in
     let v = l .inv in
     let b = v .7 (p .tabled) in
-    let one : l .i - 1 + 1 ≡ l .i = omega (arith, c .before .before .before .before .before .before .loop-test .taken) in
-    let here : l .i - 1 < length (c .before .before .before .before .before .before .before .before .before .before .before .before .before .before .before .before .before .args .bays .now) = omega (arith, c .before .before .before .before .before .before .loop-test .taken, v .0) in
-    let len : length (l .placement) ≡ length (c .before .before .before .before .before .before .before .before .before .before .before .before .before .before .before .before .before .args .goals .now) = omega (arith, v .2, z .1) in
+    let one : l .i - 1 + 1 ≡ l .i = omega (arith, loop-test .taken) in
+    let here : l .i - 1 < length (start .args .bays .now) = omega (arith, loop-test .taken, v .0) in
+    let len : length (l .placement) ≡ length (start .args .goals .now) = omega (arith, v .2, z .1) in
     let s = rw (← one) at (v .6 (z .5)) in
-    let e : length (l .standing) ≡ length (c .before .before .before .before .before .before .before .before .before .before .before .before .before .before .before .before .before .args .standing .now) = v .3 in (
+    let e : length (l .standing) ≡ length (start .args .standing .now) = v .3 in (
       record {
         most = omega (arith, p .most, e);
         table-size = rw e (p .table-size);
@@ -60,7 +64,7 @@ home-at-requires c κs =
         tabled = rw e (p .tabled);
         levelled = rw e (p .levelled);
       },
-      (z .0, omega (arith, v .2, z .1), rw e (turn-low (z .5) (z .2) (z .0) (l .i - 1) here (l .placement) len s), rw e (z .3), omega (arith, v .1, z .4, c .before .before .before .before .before .before .loop-test .taken), turn-due (z .5) (z .2) (z .0) (l .i - 1) here (l .placement) len s, rw e (z .6), v .9),
+      (z .0, omega (arith, v .2, z .1), rw e (turn-low (z .5) (z .2) (z .0) (l .i - 1) here (l .placement) len s), rw e (z .3), omega (arith, v .1, z .4, loop-test .taken), turn-due (z .5) (z .2) (z .0) (l .i - 1) here (l .placement) len s, rw e (z .6), v .9),
     )
 
 enum-known-homed : tie.Need-enum-known-homed Inv-loop μ-loop
@@ -86,35 +90,41 @@ same-length-5 c = search needs
 
 returns : tie.Need-returns Inv-loop μ-loop
 returns c =
+    let home-at = c .before .before .before .before .before .before .before .before .before .before .before .before .home-at in
+    let loop-test = c .before .before .before .before .before .before .before .before .before .before .before .before .before .before .before .before .before .before .before .loop-test in
+    let start = c .before .before .before .before .before .before .before .before .before .before .before .before .before .before .before .before .before .before .before .before .before .before .before .before .before .before .before .before .before .before in
     let l = c .before .before .before .before .before .before .before .before .before .before .before .before .before .before .before .before .before .before .before .before .loop in
     let v = l .inv in
-    let one : l .i - 1 + 1 ≡ l .i = omega (arith, c .before .before .before .before .before .before .before .before .before .before .before .before .before .before .before .before .before .before .before .loop-test .taken) in
-    let here : l .i - 1 < length (c .before .before .before .before .before .before .before .before .before .before .before .before .before .before .before .before .before .before .before .before .before .before .before .before .before .before .before .before .before .before .args .bays .now) = omega (arith, c .before .before .before .before .before .before .before .before .before .before .before .before .before .before .before .before .before .before .before .loop-test .taken, v .0) in
-    let kw : length (l .standing) ≡ length (c .before .before .before .before .before .before .before .before .before .before .before .before .before .before .before .before .before .before .before .before .before .before .before .before .before .before .before .before .before .before .args .standing .now) = v .3 in
-    let e : c .before .before .before .before .before .before .before .before .before .before .before .before .home-at .result ≡ Stuck (c .enum-told .given .0 .0) = c .enum-told .given .1 in
-    let f = rw kw at (c .before .before .before .before .before .before .before .before .before .before .before .before .home-at .ensures .1) in
-    rw e (at-most-stuck, λ t. stages-stuck (homed-stops (rw (← one) at (v .7 t)) here (rw e at (f t))), c .before .before .before .before .before .before .before .before .before .before .before .before .home-at .ensures .2)
+    let one : l .i - 1 + 1 ≡ l .i = omega (arith, loop-test .taken) in
+    let here : l .i - 1 < length (start .args .bays .now) = omega (arith, loop-test .taken, v .0) in
+    let kw : length (l .standing) ≡ length (start .args .standing .now) = v .3 in
+    let e : home-at .result ≡ Stuck (c .enum-told .given .0 .0) = c .enum-told .given .1 in
+    let f = rw kw at (home-at .ensures .1) in
+    rw e (at-most-stuck, λ t. stages-stuck (homed-stops (rw (← one) at (v .7 t)) here (rw e at (f t))), home-at .ensures .2)
 
 loop-less : tie.Need-loop-less Inv-loop μ-loop
 loop-less c = search needs
 
 loop-again : tie.Need-loop-again Inv-loop μ-loop
 loop-again c =
-    let p = c .before .before .before .before .before .before .before .before .before .before .before .before .before .before .before .before .before .before .before .before .before .before .before .before .before .before .before .before .before .before .before .pre .0 in
-    let z = c .before .before .before .before .before .before .before .before .before .before .before .before .before .before .before .before .before .before .before .before .before .before .before .before .before .before .before .before .before .before .before .pre .1 in
+    let home-at = c .before .before .before .before .before .before .before .before .before .before .before .before .before .home-at in
+    let loop-test = c .before .before .before .before .before .before .before .before .before .before .before .before .before .before .before .before .before .before .before .before .loop-test in
+    let start = c .before .before .before .before .before .before .before .before .before .before .before .before .before .before .before .before .before .before .before .before .before .before .before .before .before .before .before .before .before .before .before in
+    let p = start .pre .0 in
+    let z = start .pre .1 in
     let l = c .before .before .before .before .before .before .before .before .before .before .before .before .before .before .before .before .before .before .before .before .before .loop in
     let v = l .inv in
     let b = v .7 (p .tabled) in
-    let k = c .before .before .before .before .before .before .before .before .before .before .before .before .before .home-at .kept in
-    let one : l .i - 1 + 1 ≡ l .i = omega (arith, c .before .before .before .before .before .before .before .before .before .before .before .before .before .before .before .before .before .before .before .before .loop-test .taken) in
-    let here : l .i - 1 < length (c .before .before .before .before .before .before .before .before .before .before .before .before .before .before .before .before .before .before .before .before .before .before .before .before .before .before .before .before .before .before .before .args .bays .now) = omega (arith, c .before .before .before .before .before .before .before .before .before .before .before .before .before .before .before .before .before .before .before .before .loop-test .taken, v .0) in
-    let len : length (l .placement) ≡ length (c .before .before .before .before .before .before .before .before .before .before .before .before .before .before .before .before .before .before .before .before .before .before .before .before .before .before .before .before .before .before .before .args .goals .now) = omega (arith, v .2, z .1) in
-    let kw : length (l .standing) ≡ length (c .before .before .before .before .before .before .before .before .before .before .before .before .before .before .before .before .before .before .before .before .before .before .before .before .before .before .before .before .before .before .before .args .standing .now) = v .3 in
-    let e : c .before .before .before .before .before .before .before .before .before .before .before .before .before .home-at .result ≡ Planned (c .before .homed .given .0 .0) = c .before .homed .given .1 in
-    let few = c .before .before .before .before .before .before .before .before .before .before .before .before .before .home-at .ensures .0 .few _ e in
-    let f = rw kw at (c .before .before .before .before .before .before .before .before .before .before .before .before .before .home-at .ensures .1) in (
-      omega (arith, c .before .before .before .before .before .before .before .before .before .before .before .before .before .before .before .before .before .before .before .before .loop-test .taken, v .0),
-      omega (arith, few, v .1, c .before .before .before .before .before .before .before .before .before .before .before .before .before .before .before .before .before .before .before .before .loop-test .taken),
+    let k = home-at .kept in
+    let one : l .i - 1 + 1 ≡ l .i = omega (arith, loop-test .taken) in
+    let here : l .i - 1 < length (start .args .bays .now) = omega (arith, loop-test .taken, v .0) in
+    let len : length (l .placement) ≡ length (start .args .goals .now) = omega (arith, v .2, z .1) in
+    let kw : length (l .standing) ≡ length (start .args .standing .now) = v .3 in
+    let e : home-at .result ≡ Planned (c .before .homed .given .0 .0) = c .before .homed .given .1 in
+    let few = home-at .ensures .0 .few _ e in
+    let f = rw kw at (home-at .ensures .1) in (
+      omega (arith, loop-test .taken, v .0),
+      omega (arith, few, v .1, loop-test .taken),
       omega (arith, k .1 .1 .1 .1 .1 .0, v .2),
       omega (arith, k .1 .1 .1 .1 .1 .1 .0, v .3),
       omega (arith, k .1 .1 .1 .1 .1 .1 .1 .0, v .4),
@@ -122,7 +132,7 @@ loop-again c =
       λ h. turn-homed h (z .2) (z .0) (l .i - 1) here (l .placement) len (rw (← one) at (v .6 h)) (p .tabled) (p .most) (z .3) (b .played .placed) (rw e at (f (p .tabled))),
       λ t. homed-more (rw (← one) at (v .7 t)) here (rw e at (f t)),
       omega (arith, k .1 .1 .1 .1 .1 .1 .1 .1 .0, v .8),
-      c .before .before .before .before .before .before .before .before .before .before .before .before .before .home-at .ensures .2,
+      home-at .ensures .2,
     )
 
 same-length-6 : tie.Need-same-length-6 Inv-loop μ-loop

@@ -37,9 +37,10 @@ loop-again c =
 
 returns-2 : tie.Need-returns-2 Inv-loop μ-loop
 returns-2 c =
-    let p = c .before .before .before .pre in
+    let start = c .before .before .before in
+    let p = start .pre in
     let l = c .before .loop in
-    let all : l .v ≡ c .before .before .before .args .n = omega (arith, l .inv .0, c .loop-test .left) in
+    let all : l .v ≡ start .args .n = omega (arith, l .inv .0, c .loop-test .left) in
     λ Y t. is-one Y t (p .0) (rw all at (l .inv .1))
 
 pub is-carousel-spec : {M : Type 1} → statement M

@@ -26,7 +26,9 @@ hold-requires : tie.Need-hold-requires
 hold-requires c κs = search needs
 
 returns : tie.Need-returns
-returns c = let s = c .before .before .before .before .before .before .before .before .before .before .before in open-refused (order (s .args .bays) (now (s .args .rails)) (now (s .args .start)) (now (s .args .goal))) (now (s .args .plan)) (now (s .args .marks)) (s .args .running) (s .args .count) (c .before .before .before .checked .given .0 .0) (c .hold .result) (c .hold .ensures ∙ ap (heldOf 0) (c .before .no-lines .ensures)) (eleven-first (order (s .args .bays) (now (s .args .rails)) (now (s .args .start)) (now (s .args .goal))) (now (s .args .plan)) (now (s .args .marks)) (s .args .running) (s .args .count) (c .before .before .before .checked .given .0 .0) (ap checkedOf (sym (c .before .before .before .checked .given .1)) ∙ c .before .before .before .before .before .up-to-eleven .ensures))
+returns c =
+    let checked = c .before .before .before .checked in
+    let s = c .before .before .before .before .before .before .before .before .before .before .before in open-refused (order (s .args .bays) (now (s .args .rails)) (now (s .args .start)) (now (s .args .goal))) (now (s .args .plan)) (now (s .args .marks)) (s .args .running) (s .args .count) (checked .given .0 .0) (c .hold .result) (c .hold .ensures ∙ ap (heldOf 0) (c .before .no-lines .ensures)) (eleven-first (order (s .args .bays) (now (s .args .rails)) (now (s .args .start)) (now (s .args .goal))) (now (s .args .plan)) (now (s .args .marks)) (s .args .running) (s .args .count) (checked .given .0 .0) (ap checkedOf (sym (checked .given .1)) ∙ c .before .before .before .before .before .up-to-eleven .ensures))
 
 enum-told : tie.Need-enum-told
 enum-told c = search needs

@@ -61,17 +61,20 @@ returns-2 c =
 
 settle-requires : tie.Need-settle-requires
 settle-requires c κs =
+    let agree = c .before .before .before .agree in
     let s = c .before .before .before .before .before .before .before .before .before .before .before .before .before .before in
     let passes = ap checkedOf (sym (c .before .before .before .before .before .enum-told .given .1)) ∙ c .before .before .before .before .before .before .before .up-to-eleven .ensures in
-    (may-settle (order (s .args .bays) (now (s .args .rails)) (now (s .args .start)) (now (s .args .goal))) (now (s .args .plan)) (now (s .args .marks)) (s .args .running) (s .args .held) (compare-agrees (order (s .args .bays) (now (s .args .rails)) (now (s .args .start)) (now (s .args .goal))) (now (s .args .plan)) (now (s .args .marks)) (s .args .running) (s .args .held) passes (sym (not-false _ (c .before .if1 .left)) ∙ c .before .before .before .agree .ensures .0)), c .before .before .before .agree .ensures .1)
+    (may-settle (order (s .args .bays) (now (s .args .rails)) (now (s .args .start)) (now (s .args .goal))) (now (s .args .plan)) (now (s .args .marks)) (s .args .running) (s .args .held) (compare-agrees (order (s .args .bays) (now (s .args .rails)) (now (s .args .start)) (now (s .args .goal))) (now (s .args .plan)) (now (s .args .marks)) (s .args .running) (s .args .held) passes (sym (not-false _ (c .before .if1 .left)) ∙ agree .ensures .0)), agree .ensures .1)
 
 same-length-3 : tie.Need-same-length-3
 same-length-3 c = search needs
 
 returns-3 : tie.Need-returns-3
 returns-3 c =
+    let enum-told = c .before .before .before .before .before .before .before .before .enum-told in
+    let up-to-eleven = c .before .before .before .before .before .before .before .before .before .before .up-to-eleven in
     let s = c .before .before .before .before .before .before .before .before .before .before .before .before .before .before .before .before .before in
-    let passes = ap checkedOf (sym (c .before .before .before .before .before .before .before .before .enum-told .given .1)) ∙ c .before .before .before .before .before .before .before .before .before .before .up-to-eleven .ensures in
+    let passes = ap checkedOf (sym (enum-told .given .1)) ∙ up-to-eleven .ensures in
     billing-settled (order (s .args .bays) (now (s .args .rails)) (now (s .args .start)) (now (s .args .goal))) (now (s .args .plan)) (now (s .args .marks)) (s .args .running) (s .args .held) (s .args .name) (c .before .before .settle .result) _ (compare-agrees (order (s .args .bays) (now (s .args .rails)) (now (s .args .start)) (now (s .args .goal))) (now (s .args .plan)) (now (s .args .marks)) (s .args .running) (s .args .held) passes (sym (not-false _ (c .before .before .before .before .if1 .left)) ∙ c .before .before .before .before .before .before .agree .ensures .0)) (c .before .before .settle .ensures)
 
 pub report-spec : {M : Type 1} → statement M

@@ -71,10 +71,12 @@ same-length c = search needs
 
 returns : tie.Need-returns
 returns c =
+    let beside = c .before .before .before .before .before .before .before .before .before .before .beside in
+    let join-row = c .before .before .before .before .before .before .before .before .before .before .before .before .before .before .before .before .join-row in
     let z = c .before .before .before .before .before .before .before .before .before .before .before .before .before .before .before .before .before .before .before .before in
     let part = length (z .args .table .now) - z .args .j * z .args .n * words in
-    let row = c .before .before .before .before .before .before .before .before .before .before .before .before .before .before .before .before .join-row .ensures in
-    let found = c .before .before .before .before .before .before .before .before .before .before .beside .ensures in
+    let row = join-row .ensures in
+    let found = beside .ensures in
     row-raised _ _ _ _ _ row (z .pre .2) part _ _ _ (omega arith) found (c .before .before .before .before .before .before .join-row2 .ensures) (c .before .before .keep .ensures)
 
 pub raise-row-spec : {M : Type 1} → statement M

@@ -27,10 +27,15 @@ shared-slice-read-if2-2 : tie.Need-shared-slice-read-if2-2 Inv-loop μ-loop
 shared-slice-read-if2-2 c = search needs
 
 returns : tie.Need-returns Inv-loop μ-loop
-returns c = begins-not (c .before .before .before .before .before .before .args .word .now) (c .before .before .before .before .before .before .args .text .now) (c .before .before .before .before .before .loop .i) (search needs) (search needs) (c .if2 .taken) ∙ c .before .before .before .before .before .loop .inv .1
+returns c =
+    let loop = c .before .before .before .before .before .loop in
+    let start = c .before .before .before .before .before .before in
+    begins-not (start .args .word .now) (start .args .text .now) (loop .i) (search needs) (search needs) (c .if2 .taken) ∙ loop .inv .1
 
 returns-2 : tie.Need-returns-2 Inv-loop μ-loop
-returns-2 c = begins-short (c .before .before .before .args .word .now) (c .before .before .before .args .text .now) (c .before .before .loop .i) (search needs) (search needs) ∙ c .before .before .loop .inv .1
+returns-2 c =
+    let start = c .before .before .before in
+    begins-short (start .args .word .now) (start .args .text .now) (c .before .before .loop .i) (search needs) (search needs) ∙ c .before .before .loop .inv .1
 
 add-i : tie.Need-add-i Inv-loop μ-loop
 add-i c = search needs
@@ -39,7 +44,10 @@ loop-less : tie.Need-loop-less Inv-loop μ-loop
 loop-less c = search needs
 
 loop-again : tie.Need-loop-again Inv-loop μ-loop
-loop-again c = (search needs, sym (begins-on (c .before .before .before .before .before .before .args .word .now) (c .before .before .before .before .before .before .args .text .now) (c .before .before .before .before .before .loop .i) (search needs) (search needs) (c .if2 .left)) ∙ c .before .before .before .before .before .loop .inv .1)
+loop-again c =
+    let loop = c .before .before .before .before .before .loop in
+    let start = c .before .before .before .before .before .before in
+    (search needs, sym (begins-on (start .args .word .now) (start .args .text .now) (loop .i) (search needs) (search needs) (c .if2 .left)) ∙ loop .inv .1)
 
 returns-3 : tie.Need-returns-3 Inv-loop μ-loop
 returns-3 c = begins-all (c .before .before .args .word .now) (c .before .before .args .text .now) (c .before .loop .i) (search needs) ∙ c .before .loop .inv .1

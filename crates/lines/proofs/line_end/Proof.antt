@@ -35,7 +35,9 @@ loop-less : tie.Need-loop-less Inv-loop μ-loop
 loop-less c = search needs
 
 loop-again : tie.Need-loop-again Inv-loop μ-loop
-loop-again c = (search needs, (λ h. omega arith, end-more _ _ _ (c .before .before .before .loop .inv .0) (search needs) (c .if1 .left) (c .before .before .before .loop .inv .1 .1)))
+loop-again c =
+    let loop = c .before .before .before .loop in
+    (search needs, (λ h. omega arith, end-more _ _ _ (loop .inv .0) (search needs) (c .if1 .left) (loop .inv .1 .1)))
 
 returns-2 : tie.Need-returns-2 Inv-loop μ-loop
 returns-2 c = record { low = search needs; high = c .before .loop .inv .1 .0; plain = c .before .loop .inv .1 .1; stops = λ h. absurd (omega arith) }

@@ -24,25 +24,37 @@ add-t12 : tie.Need-add-t12
 add-t12 c = search needs
 
 returns : tie.Need-returns
-returns c = found (text-cr (c .before .before .before .before .before .before .args .file .now) (c .before .before .before .before .before .before .args .at) (c .before .before .before .before .line-end .result) (c .before .before .before .before .line-end .ensures) (search needs) (search needs) (c .if3 .taken))
+returns c =
+    let line-end = c .before .before .before .before .line-end in
+    let start = c .before .before .before .before .before .before in
+    found (text-cr (start .args .file .now) (start .args .at) (line-end .result) (line-end .ensures) (search needs) (search needs) (c .if3 .taken))
 
 add-t7 : tie.Need-add-t7
 add-t7 c = search needs
 
 returns-2 : tie.Need-returns-2
-returns-2 c = found (text-lf (c .before .before .before .before .before .before .args .file .now) (c .before .before .before .before .before .before .args .at) (c .before .before .before .before .line-end .result) (c .before .before .before .before .line-end .ensures) (search needs) (search needs) (c .if3 .left))
+returns-2 c =
+    let line-end = c .before .before .before .before .line-end in
+    let start = c .before .before .before .before .before .before in
+    found (text-lf (start .args .file .now) (start .args .at) (line-end .result) (line-end .ensures) (search needs) (search needs) (c .if3 .left))
 
 add-t13 : tie.Need-add-t13
 add-t13 c = search needs
 
 returns-3 : tie.Need-returns-3
-returns-3 c = found (text-empty (c .before .before .before .before .args .file .now) (c .before .before .before .before .args .at) (c .before .before .line-end .result) (c .before .before .line-end .ensures) (search needs) (search needs))
+returns-3 c =
+    let start = c .before .before .before .before in
+    found (text-empty (start .args .file .now) (start .args .at) (c .before .before .line-end .result) (c .before .before .line-end .ensures) (search needs) (search needs))
 
 returns-4 : tie.Need-returns-4
-returns-4 c = found (text-last (c .before .before .before .before .args .file .now) (c .before .before .before .before .args .at) (c .before .before .line-end .result) (c .before .before .line-end .ensures) (search needs) (search needs))
+returns-4 c =
+    let start = c .before .before .before .before in
+    found (text-last (start .args .file .now) (start .args .at) (c .before .before .line-end .result) (c .before .before .line-end .ensures) (search needs) (search needs))
 
 returns-5 : tie.Need-returns-5
-returns-5 c = ended (line-none (c .before .before .before .before .args .file .now) (c .before .before .before .before .args .at) (c .before .before .line-end .result) (c .before .before .line-end .ensures) (search needs) (search needs))
+returns-5 c =
+    let start = c .before .before .before .before in
+    ended (line-none (start .args .file .now) (start .args .at) (c .before .before .line-end .result) (c .before .before .line-end .ensures) (search needs) (search needs))
 
 pub next-line-spec : {M : Type 1} → statement M
 next-line-spec =

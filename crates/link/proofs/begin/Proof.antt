@@ -29,7 +29,9 @@ enum-known-found-2 : tie.Need-enum-known-found-2
 enum-known-found-2 c = search needs
 
 returns : tie.Need-returns
-returns c = begin-good (c .before .before .before .before .before .before .read .ensures) (c .before .before .before .before .before .before .before .before .before .args .link) _ (c .before .before .before .found .given .1) refl _ (c .before .start .ensures) _ (c .keep .ensures)
+returns c =
+    let start = c .before .before .before .before .before .before .before .before .before in
+    begin-good (c .before .before .before .before .before .before .read .ensures) (start .args .link) _ (c .before .before .before .found .given .1) refl _ (c .before .start .ensures) _ (c .keep .ensures)
 
 returns-2 : tie.Need-returns-2
 returns-2 c = begin-bad (c .before .before .before .before .read .ensures) (c .before .before .before .before .before .before .before .args .link) _ (c .before .found2 .given .1)

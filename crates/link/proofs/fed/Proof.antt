@@ -30,10 +30,16 @@ keep-requires : tie.Need-keep-requires
 keep-requires c κs = search needs
 
 returns : tie.Need-returns
-returns c = fed-broken (c .before .before .before .before .before .before .before .before .before .before .before .before .before .args .link) (c .before .before .before .before .before .before .before .before .before .before .before .before .before .args .bytes .now) (sym (slice-aggregate-feed-2 (c .before .before .before .before .before .before))) (sym (slice-aggregate-feed-3 (c .before .before .before .before .before))) _ _ (c .before .before .before .before .before .before .before .before .reading .ensures) (c .before .before .before .before .feed .ensures) _ (c .before .keep .ensures) (c .if1 .taken)
+returns c =
+    let reading = c .before .before .before .before .before .before .before .before .reading in
+    let start = c .before .before .before .before .before .before .before .before .before .before .before .before .before in
+    fed-broken (start .args .link) (start .args .bytes .now) (sym (slice-aggregate-feed-2 (c .before .before .before .before .before .before))) (sym (slice-aggregate-feed-3 (c .before .before .before .before .before))) _ _ (reading .ensures) (c .before .before .before .before .feed .ensures) _ (c .before .keep .ensures) (c .if1 .taken)
 
 returns-2 : tie.Need-returns-2
-returns-2 c = fed-on (c .before .before .before .before .before .before .before .before .before .before .before .before .before .args .link) (c .before .before .before .before .before .before .before .before .before .before .before .before .before .args .bytes .now) (sym (slice-aggregate-feed-2 (c .before .before .before .before .before .before))) (sym (slice-aggregate-feed-3 (c .before .before .before .before .before))) _ _ (c .before .before .before .before .before .before .before .before .reading .ensures) (c .before .before .before .before .feed .ensures) _ (c .before .keep .ensures) (c .if1 .left)
+returns-2 c =
+    let reading = c .before .before .before .before .before .before .before .before .reading in
+    let start = c .before .before .before .before .before .before .before .before .before .before .before .before .before in
+    fed-on (start .args .link) (start .args .bytes .now) (sym (slice-aggregate-feed-2 (c .before .before .before .before .before .before))) (sym (slice-aggregate-feed-3 (c .before .before .before .before .before))) _ _ (reading .ensures) (c .before .before .before .before .feed .ensures) _ (c .before .keep .ensures) (c .if1 .left)
 
 pub fed-spec : {M : Type 1} → statement M
 fed-spec =

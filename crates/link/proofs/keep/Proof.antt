@@ -46,7 +46,12 @@ bit-requires-10 : tie.Need-bit-requires-10
 bit-requires-10 c κs = search needs
 
 returns-3 : tie.Need-returns-3
-returns-3 c = keep-carrier (c .before .before .before .before .before .before .before .before .before .before .before .args .r) (c .before .before .before .before .before .before .before .before .before .before .bit .ensures) (c .before .before .before .before .before .before .before .before .before .bit2 .ensures) (c .before .before .before .before .before .before .before .before .if1 .left) (c .before .before .before .before .before .before .before .bit3 .ensures) (c .before .before .before .before .before .before .bit4 .ensures) (c .before .before .before .before .before .if2 .left) (c .before .before .before .before .bit6 .ensures) (c .before .before .before .bit7 .ensures) (c .before .before .bit8 .ensures) (c .before .bit9 .ensures) (c .bit10 .ensures)
+returns-3 c =
+    let if1 = c .before .before .before .before .before .before .before .before .if1 in
+    let bit2 = c .before .before .before .before .before .before .before .before .before .bit2 in
+    let bit = c .before .before .before .before .before .before .before .before .before .before .bit in
+    let start = c .before .before .before .before .before .before .before .before .before .before .before in
+    keep-carrier (start .args .r) (bit .ensures) (bit2 .ensures) (if1 .left) (c .before .before .before .before .before .before .before .bit3 .ensures) (c .before .before .before .before .before .before .bit4 .ensures) (c .before .before .before .before .before .if2 .left) (c .before .before .before .before .bit6 .ensures) (c .before .before .before .bit7 .ensures) (c .before .before .bit8 .ensures) (c .before .bit9 .ensures) (c .bit10 .ensures)
 
 pub keep-spec : {M : Type 1} → statement M
 keep-spec =

@@ -38,10 +38,16 @@ enum-known-found-2 : tie.Need-enum-known-found-2
 enum-known-found-2 c = search needs
 
 returns : tie.Need-returns
-returns c = over-good (c .before .before .before .before .before .before .before .before .before .before .before .before .before .before .args .link) (sym (slice-aggregate-finish-2 (c .before .before .before .before .before .before .before .before))) (sym (slice-aggregate-finish-3 (c .before .before .before .before .before .before .before))) _ _ (c .before .before .before .before .before .before .before .before .before .before .reading .ensures) (c .before .before .before .before .before .before .finish .ensures) _ (c .before .before .before .answer .ensures) _ (c .before .found .given .1)
+returns c =
+    let reading = c .before .before .before .before .before .before .before .before .before .before .reading in
+    let start = c .before .before .before .before .before .before .before .before .before .before .before .before .before .before in
+    over-good (start .args .link) (sym (slice-aggregate-finish-2 (c .before .before .before .before .before .before .before .before))) (sym (slice-aggregate-finish-3 (c .before .before .before .before .before .before .before))) _ _ (reading .ensures) (c .before .before .before .before .before .before .finish .ensures) _ (c .before .before .before .answer .ensures) _ (c .before .found .given .1)
 
 returns-2 : tie.Need-returns-2
-returns-2 c = over-bad (c .before .before .before .before .before .before .before .before .before .before .before .before .before .before .args .link) (sym (slice-aggregate-finish-2 (c .before .before .before .before .before .before .before .before))) (sym (slice-aggregate-finish-3 (c .before .before .before .before .before .before .before))) _ _ (c .before .before .before .before .before .before .before .before .before .before .reading .ensures) (c .before .before .before .before .before .before .finish .ensures) _ (c .before .before .before .answer .ensures) _ (c .before .found2 .given .1)
+returns-2 c =
+    let reading = c .before .before .before .before .before .before .before .before .before .before .reading in
+    let start = c .before .before .before .before .before .before .before .before .before .before .before .before .before .before in
+    over-bad (start .args .link) (sym (slice-aggregate-finish-2 (c .before .before .before .before .before .before .before .before))) (sym (slice-aggregate-finish-3 (c .before .before .before .before .before .before .before))) _ _ (reading .ensures) (c .before .before .before .before .before .before .finish .ensures) _ (c .before .before .before .answer .ensures) _ (c .before .found2 .given .1)
 
 pub over-spec : {M : Type 1} → statement M
 over-spec =

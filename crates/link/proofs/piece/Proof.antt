@@ -13,13 +13,19 @@ fed-requires : tie.Need-fed-requires
 fed-requires c κs = search needs
 
 returns : tie.Need-returns
-returns c = piece-more (c .before .before .before .before .before .args .link) (c .before .before .before .before .before .args .bytes .now) (c .before .before .if1 .taken) (c .before .if2 .taken) _ (c .fed .ensures)
+returns c =
+    let start = c .before .before .before .before .before in
+    piece-more (start .args .link) (start .args .bytes .now) (c .before .before .if1 .taken) (c .before .if2 .taken) _ (c .fed .ensures)
 
 returns-2 : tie.Need-returns-2
-returns-2 c = piece-long (c .before .before .before .before .args .link) (c .before .before .before .before .args .bytes .now) (c .before .if1 .taken) (c .if2 .left)
+returns-2 c =
+    let start = c .before .before .before .before in
+    piece-long (start .args .link) (start .args .bytes .now) (c .before .if1 .taken) (c .if2 .left)
 
 returns-3 : tie.Need-returns-3
-returns-3 c = piece-ended (c .before .before .before .args .link) (c .before .before .before .args .bytes .now) (c .if1 .left)
+returns-3 c =
+    let start = c .before .before .before in
+    piece-ended (start .args .link) (start .args .bytes .now) (c .if1 .left)
 
 pub piece-spec : {M : Type 1} → statement M
 piece-spec = tie.close (tie.spec fed-requires returns returns-2 returns-3)

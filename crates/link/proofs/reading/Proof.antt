@@ -44,7 +44,12 @@ yes-requires-10 : tie.Need-yes-requires-10
 yes-requires-10 c κs = search needs
 
 returns : tie.Need-returns
-returns c = reading-is (c .before .before .before .before .before .before .before .before .before .before .before .args .k) (c .before .before .before .before .before .before .before .before .before .before .yes .ensures) (c .before .before .before .before .before .before .before .before .before .yes2 .ensures) (c .before .before .before .before .before .before .before .before .yes3 .ensures) (c .before .before .before .before .before .before .before .yes4 .ensures) (c .before .before .before .before .before .before .counted .ensures) (c .before .before .before .before .before .yes5 .ensures) (c .before .before .before .before .yes6 .ensures) (c .before .before .before .yes7 .ensures) (c .before .before .yes8 .ensures) (c .before .yes9 .ensures) (c .yes10 .ensures)
+returns c =
+    let yes3 = c .before .before .before .before .before .before .before .before .yes3 in
+    let yes2 = c .before .before .before .before .before .before .before .before .before .yes2 in
+    let yes = c .before .before .before .before .before .before .before .before .before .before .yes in
+    let start = c .before .before .before .before .before .before .before .before .before .before .before in
+    reading-is (start .args .k) (yes .ensures) (yes2 .ensures) (yes3 .ensures) (c .before .before .before .before .before .before .before .yes4 .ensures) (c .before .before .before .before .before .before .counted .ensures) (c .before .before .before .before .before .yes5 .ensures) (c .before .before .before .before .yes6 .ensures) (c .before .before .before .yes7 .ensures) (c .before .before .yes8 .ensures) (c .before .yes9 .ensures) (c .yes10 .ensures)
 
 pub reading-spec : {M : Type 1} → statement M
 reading-spec =

@@ -12,7 +12,9 @@ slice-relend-prefix-report : tie.Need-slice-relend-prefix-report
 slice-relend-prefix-report c = search needs
 
 slice-aggregate-report : tie.Need-slice-aggregate-report
-slice-aggregate-report c = sym (length-take-le (c .before .before .before .before .before .before .before .args .count) (now (c .before .before .before .before .before .before .before .args .marks)) (c .before .if1 .taken))
+slice-aggregate-report c =
+    let start = c .before .before .before .before .before .before .before in
+    sym (length-take-le (start .args .count) (now (start .args .marks)) (c .before .if1 .taken))
 
 report-requires : tie.Need-report-requires
 report-requires c κs = search needs

@@ -12,7 +12,9 @@ slice-relend-prefix-slots : tie.Need-slice-relend-prefix-slots
 slice-relend-prefix-slots c = search needs
 
 slice-aggregate-slots : tie.Need-slice-aggregate-slots
-slice-aggregate-slots c = sym (length-take-le (c .before .before .before .before .before .before .before .args .room) (now (c .before .before .before .before .before .before .before .args .out)) (c .before .if1 .taken))
+slice-aggregate-slots c =
+    let start = c .before .before .before .before .before .before .before in
+    sym (length-take-le (start .args .room) (now (start .args .out)) (c .before .if1 .taken))
 
 slots-requires : tie.Need-slots-requires
 slots-requires c κs = search needs

@@ -23,7 +23,9 @@ loop-holds : tie.Need-loop-holds Inv-loop μ-loop
 loop-holds c = missed-none _ _ _ _
 
 add-loop : tie.Need-add-loop Inv-loop μ-loop
-add-loop c = let p = c .before .before .before .before .pre in let k = levels-few (c .loop .j) (c .before .before .before .before .args .n) (omega (arith, p .1)) (c .loop .inv .fits) in search needs
+add-loop c =
+    let start = c .before .before .before .before in
+    let p = start .pre in let k = levels-few (c .loop .j) (start .args .n) (omega (arith, p .1)) (c .loop .inv .fits) in search needs
 
 mul-loop : tie.Need-mul-loop Inv-loop μ-loop
 mul-loop c = search needs
@@ -44,7 +46,10 @@ returns : tie.Need-returns Inv-loop μ-loop
 returns c = missed-hit _ _ _ _ _ (c .before .before .before .loop .inv) (sym (c .before .meets .ensures) ∙ c .if1 .taken)
 
 add-j : tie.Need-add-j Inv-loop μ-loop
-add-j c = let p = c .before .before .before .before .before .before .before .pre in let k = levels-few (c .before .before .before .loop .j) (c .before .before .before .before .before .before .before .args .n) (omega (arith, p .1)) (c .before .before .before .loop .inv .fits) in search needs
+add-j c =
+    let loop = c .before .before .before .loop in
+    let start = c .before .before .before .before .before .before .before in
+    let p = start .pre in let k = levels-few (loop .j) (start .args .n) (omega (arith, p .1)) (loop .inv .fits) in search needs
 
 loop-less : tie.Need-loop-less Inv-loop μ-loop
 loop-less c = search needs

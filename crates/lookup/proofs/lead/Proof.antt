@@ -26,7 +26,9 @@ cast-u : tie.Need-cast-u Inv-loop μ-loop
 cast-u c = search needs
 
 loop-holds : tie.Need-loop-holds Inv-loop μ-loop
-loop-holds c = let a = c .before .before .before .before .before .args in let p = c .before .before .before .before .before .pre in let first : (t : Distant (a .n) (a .table .now) (a .held .now) (a .x .0) (a .e .0) (a .d)) → Leading t 0 (a .x .0) (a .path .now) = λ t. leading-first t _ (p .6) in (omega (arith, p .1), refl, leading-inside (p .7) (p .0) 0 _ _ (first (p .7)), first)
+loop-holds c =
+    let start = c .before .before .before .before .before in
+    let a = start .args in let p = start .pre in let first : (t : Distant (a .n) (a .table .now) (a .held .now) (a .x .0) (a .e .0) (a .d)) → Leading t 0 (a .x .0) (a .path .now) = λ t. leading-first t _ (p .6) in (omega (arith, p .1), refl, leading-inside (p .7) (p .0) 0 _ _ (first (p .7)), first)
 
 add-loop : tie.Need-add-loop Inv-loop μ-loop
 add-loop c = search needs
@@ -51,7 +53,9 @@ sub-row-2 c = search needs
 
 -- the row of the level that is read is in the table
 row-inside : (c : tie.In-loop Inv-loop μ-loop) → ((c .before .before .before .before .before .before .before .args .d - 1 - (c .before .loop .i + 1)) * c .before .before .before .before .before .before .before .args .n + c .before .before .before .before .before .before .before .args .e .0) * words + words ≤ length (c .before .before .before .before .before .before .before .args .table .now)
-row-inside c = let a = c .before .before .before .before .before .before .before .args in let p = c .before .before .before .before .before .before .before .pre in row-fits (a .d) (a .n) (a .d - 1 - (c .before .loop .i + 1)) (a .e .0) (p .3) (omega arith) (p .7 .home)
+row-inside c =
+    let start = c .before .before .before .before .before .before .before in
+    let a = start .args in let p = start .pre in row-fits (a .d) (a .n) (a .d - 1 - (c .before .loop .i + 1)) (a .e .0) (p .3) (omega arith) (p .7 .home)
 
 mul-row : tie.Need-mul-row Inv-loop μ-loop
 mul-row c = let k = row-inside c in search needs
@@ -78,7 +82,9 @@ part-lowest-free-end : tie.Need-part-lowest-free-end Inv-loop μ-loop
 part-lowest-free-end c = let k = row-inside c in search needs
 
 lowest-free-requires : tie.Need-lowest-free-requires Inv-loop μ-loop
-lowest-free-requires c κs = let a = c .before .before .before .before .before .before .before .before .args in let p = c .before .before .before .before .before .before .before .before .pre in let l = c .before .before .loop in let j = row-fits (a .d) (a .n) 0 (l .u) (p .3) (omega arith) (l .inv .2) in let k = lent-length (a .table .now) ((a .d - 1 - (l .i + 1)) * a .n + a .e .0) (row-inside (c .before)) in search needs
+lowest-free-requires c κs =
+    let start = c .before .before .before .before .before .before .before .before in
+    let a = start .args in let p = start .pre in let l = c .before .before .loop in let j = row-fits (a .d) (a .n) 0 (l .u) (p .3) (omega arith) (l .inv .2) in let k = lent-length (a .table .now) ((a .d - 1 - (l .i + 1)) * a .n + a .e .0) (row-inside (c .before)) in search needs
 
 same-length : tie.Need-same-length Inv-loop μ-loop
 same-length c = search needs
@@ -90,7 +96,9 @@ loop-less : tie.Need-loop-less Inv-loop μ-loop
 loop-less c = search needs
 
 loop-again : tie.Need-loop-again Inv-loop μ-loop
-loop-again c = let a = c .before .before .before .before .before .before .before .before .before .before .args in let p = c .before .before .before .before .before .before .before .before .before .before .pre in let l = c .before .before .before .before .loop in let on : (t : Distant (a .n) (a .table .now) (a .held .now) (a .x .0) (a .e .0) (a .d)) → Leading t (l .i + 1) (c .before .lowest-free .result) (set (l .path) (l .i) (l .u)) = λ t. leading-more t (p .0) (l .i) (l .u) (l .path) (l .inv .3 t) _ (p .3) (c .before .before .before .loop-test .taken) (omega arith) (c .before .lowest-free .ensures) (c .if1 .left) in (omega arith, simp length-set (omega arith), leading-inside (p .7) (p .0) (l .i + 1) _ _ (on (p .7)), on)
+loop-again c =
+    let start = c .before .before .before .before .before .before .before .before .before .before in
+    let a = start .args in let p = start .pre in let l = c .before .before .before .before .loop in let on : (t : Distant (a .n) (a .table .now) (a .held .now) (a .x .0) (a .e .0) (a .d)) → Leading t (l .i + 1) (c .before .lowest-free .result) (set (l .path) (l .i) (l .u)) = λ t. leading-more t (p .0) (l .i) (l .u) (l .path) (l .inv .3 t) _ (p .3) (c .before .before .before .loop-test .taken) (omega arith) (c .before .lowest-free .ensures) (c .if1 .left) in (omega arith, simp length-set (omega arith), leading-inside (p .7) (p .0) (l .i + 1) _ _ (on (p .7)), on)
 
 cast-path-2 : tie.Need-cast-path-2 Inv-loop μ-loop
 cast-path-2 c = search needs

@@ -27,7 +27,9 @@ first-level-requires : tie.Need-first-level-requires
 first-level-requires c κs = search needs
 
 add-if1 : tie.Need-add-if1
-add-if1 c = let p = c .before .before .before .before .before .before .before .before .before .before .before .before .pre in let k = levels-few (c .first-level .result) (c .before .before .before .before .before .before .before .before .before .before .before .before .args .n) (omega (arith, p .1)) (c .first-level .ensures .fits) in search needs
+add-if1 c =
+    let start = c .before .before .before .before .before .before .before .before .before .before .before .before in
+    let p = start .pre in let k = levels-few (c .first-level .result) (start .args .n) (omega (arith, p .1)) (c .first-level .ensures .fits) in search needs
 
 mul-if1 : tie.Need-mul-if1
 mul-if1 c = search needs
@@ -52,26 +54,47 @@ slice-aggregate-common c = search needs
 
 common-requires : tie.Need-common-requires
 common-requires c κs =
-    let p = c .before .before .before .before .before .before .before .before .before .before .before .before .before .before .before .pre in
+    let start = c .before .before .before .before .before .before .before .before .before .before .before .before .before .before .before in
+    let p = start .pre in
     (search needs, search needs, level-rowed (p .7) (p .0) (p .8) _ (p .1) _ _ (c .before .before .if1 .left) (p .2))
 
 cast-t24 : tie.Need-cast-t24
 cast-t24 c = search needs
 
 add-lead : tie.Need-add-lead
-add-lead c = let p = c .before .before .before .before .before .before .before .before .before .before .before .before .before .before .before .before .pre in let k = levels-few (c .before .before .before .before .first-level .result) (c .before .before .before .before .before .before .before .before .before .before .before .before .before .before .before .before .args .n) (omega (arith, p .1)) (c .before .before .before .before .first-level .ensures .fits) in search needs
+add-lead c =
+    let first-level = c .before .before .before .before .first-level in
+    let start = c .before .before .before .before .before .before .before .before .before .before .before .before .before .before .before .before in
+    let p = start .pre in let k = levels-few (first-level .result) (start .args .n) (omega (arith, p .1)) (first-level .ensures .fits) in search needs
 
 lead-requires : tie.Need-lead-requires
-lead-requires c κs = let p = c .before .before .before .before .before .before .before .before .before .before .before .before .before .before .before .before .before .pre in let g = looked (p .0) (p .8) (p .1) (p .9) (c .before .before .before .before .before .before .before .before .before .before .before .keep .ensures) (c .before .before .before .before .before .before .before .before .minus .ensures) (c .before .before .before .before .before .first-level .ensures) (c .before .before .before .before .if1 .left) (c .before .common .ensures) in (p .0, omega arith, end-short (p .7) g, c .before .before .before .before .if1 .left, p .3, p .5, p .6, distant (p .7) g)
+lead-requires c κs =
+    let if1 = c .before .before .before .before .if1 in
+    let minus = c .before .before .before .before .before .before .before .before .minus in
+    let keep = c .before .before .before .before .before .before .before .before .before .before .before .keep in
+    let start = c .before .before .before .before .before .before .before .before .before .before .before .before .before .before .before .before .before in
+    let p = start .pre in let g = looked (p .0) (p .8) (p .1) (p .9) (keep .ensures) (minus .ensures) (c .before .before .before .before .before .first-level .ensures) (if1 .left) (c .before .common .ensures) in (p .0, omega arith, end-short (p .7) g, if1 .left, p .3, p .5, p .6, distant (p .7) g)
 
 add-t28 : tie.Need-add-t28
-add-t28 c = let p = c .before .before .before .before .before .before .before .before .before .before .before .before .before .before .before .before .before .before .before .before .before .pre in let g = looked (p .0) (p .8) (p .1) (p .9) (c .before .before .before .before .before .before .before .before .before .before .before .before .before .before .before .keep .ensures) (c .before .before .before .before .before .before .before .before .before .before .before .before .minus .ensures) (c .before .before .before .before .before .before .before .before .before .first-level .ensures) (c .before .before .before .before .before .before .before .before .if1 .left) (c .before .before .before .before .before .common .ensures) in let k = end-short (p .7) g in search needs
+add-t28 c =
+    let if1 = c .before .before .before .before .before .before .before .before .if1 in
+    let first-level = c .before .before .before .before .before .before .before .before .before .first-level in
+    let minus = c .before .before .before .before .before .before .before .before .before .before .before .before .minus in
+    let keep = c .before .before .before .before .before .before .before .before .before .before .before .before .before .before .before .keep in
+    let start = c .before .before .before .before .before .before .before .before .before .before .before .before .before .before .before .before .before .before .before .before .before in
+    let p = start .pre in let g = looked (p .0) (p .8) (p .1) (p .9) (keep .ensures) (minus .ensures) (first-level .ensures) (if1 .left) (c .before .before .before .before .before .common .ensures) in let k = end-short (p .7) g in search needs
 
 same-length : tie.Need-same-length
 same-length c = search needs
 
 returns-2 : tie.Need-returns-2
-returns-2 c = let p = c .before .before .before .before .before .before .before .before .before .before .before .before .before .before .before .before .before .before .before .before .before .pre in let g = looked (p .0) (p .8) (p .1) (p .9) (c .before .before .before .before .before .before .before .before .before .before .before .before .before .before .before .keep .ensures) (c .before .before .before .before .before .before .before .before .before .before .before .before .minus .ensures) (c .before .before .before .before .before .before .before .before .before .first-level .ensures) (c .before .before .before .before .before .before .before .before .if1 .left) (c .before .before .before .before .before .common .ensures) in λ s q w. way-told s g _ (c .before .before .before .lead .ensures (distant s g) (c .if2 .taken)) q w _ refl
+returns-2 c =
+    let if1 = c .before .before .before .before .before .before .before .before .if1 in
+    let first-level = c .before .before .before .before .before .before .before .before .before .first-level in
+    let minus = c .before .before .before .before .before .before .before .before .before .before .before .before .minus in
+    let keep = c .before .before .before .before .before .before .before .before .before .before .before .before .before .before .before .keep in
+    let start = c .before .before .before .before .before .before .before .before .before .before .before .before .before .before .before .before .before .before .before .before .before in
+    let p = start .pre in let g = looked (p .0) (p .8) (p .1) (p .9) (keep .ensures) (minus .ensures) (first-level .ensures) (if1 .left) (c .before .before .before .before .before .common .ensures) in λ s q w. way-told s g _ (c .before .before .before .lead .ensures (distant s g) (c .if2 .taken)) q w _ refl
 
 same-length-2 : tie.Need-same-length-2
 same-length-2 c = search needs

@@ -26,7 +26,10 @@ returns-4 c = sym (or-left _ _ (or-right _ _ (eq-eqb _ _ (c .if4 .taken))))
 
 returns-5 : tie.Need-returns-5
 unfolding depend _or_
-returns-5 c = rw (ne-eqb _ _ (c .before .before .before .before .before .before .before .before .before .before .before .if1 .left), ne-eqb _ _ (c .before .before .before .before .before .before .before .before .if2 .left), ne-eqb _ _ (c .before .before .before .before .before .if3 .left), ne-eqb _ _ (c .before .before .if4 .left))
+returns-5 c =
+    let if2 = c .before .before .before .before .before .before .before .before .if2 in
+    let if1 = c .before .before .before .before .before .before .before .before .before .before .before .if1 in
+    rw (ne-eqb _ _ (if1 .left), ne-eqb _ _ (if2 .left), ne-eqb _ _ (c .before .before .before .before .before .if3 .left), ne-eqb _ _ (c .before .before .if4 .left))
 
 pub depends-spec : {M : Type 1} → statement M
 depends-spec = tie.close (tie.spec returns returns-2 returns-3 returns-4 returns-5)

@@ -53,7 +53,9 @@ returns-2 c =
     told-already (crossings (now (s .args .plan))) (now (s .args .marks)) (s .args .name) (there (c .before .before .before) .0) (c .if1 .taken)
 
 undone-before-requires : tie.Need-undone-before-requires
-undone-before-requires c κs = (omega (arith, there (c .before .before .before) .0, length-map (now (c .before .before .before .before .before .before .before .before .args .plan)) unpack), c .before .before .before .before .before .before .before .before .pre)
+undone-before-requires c κs =
+    let start = c .before .before .before .before .before .before .before .before in
+    (omega (arith, there (c .before .before .before) .0, length-map (now (start .args .plan)) unpack), start .pre)
 
 enum-known-earlier : tie.Need-enum-known-earlier
 enum-known-earlier c = search needs

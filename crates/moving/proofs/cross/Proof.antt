@@ -14,10 +14,14 @@ cast-to : tie.Need-cast-to
 cast-to c = search needs
 
 move-on-requires : tie.Need-move-on-requires
-move-on-requires c κs = let p = c .before .before .before .before .before .before .before .before .before .pre in (p .0, p .1, stands-there (p .7) (p .5) (p .0), p .4)
+move-on-requires c κs =
+    let start = c .before .before .before .before .before .before .before .before .before in
+    let p = start .pre in (p .0, p .1, stands-there (p .7) (p .5) (p .0), p .4)
 
 cast-standing : tie.Need-cast-standing
-cast-standing c = let p = c .before .before .before .before .before .before .before .before .before .before .before .before .before .before .before .before .pre in omega (arith, moved-length (c .before .before .before .before .before .before .move-on .ensures), p .7 .few, p .2)
+cast-standing c =
+    let start = c .before .before .before .before .before .before .before .before .before .before .before .before .before .before .before .before in
+    let p = start .pre in omega (arith, moved-length (c .before .before .before .before .before .before .move-on .ensures), p .7 .few, p .2)
 
 mul-standing : tie.Need-mul-standing
 mul-standing c = search needs
@@ -32,7 +36,9 @@ add-requires : tie.Need-add-requires
 add-requires c κs = search needs
 
 same-length : tie.Need-same-length
-same-length c = c .before .before .before .before .before .before .before .before .before .before .before .before .before .before .move-on .kept .0
+same-length c =
+    let move-on = c .before .before .before .before .before .before .before .before .before .before .before .before .before .before .move-on in
+    move-on .kept .0
 
 same-length-2 : tie.Need-same-length-2
 same-length-2 c = search needs
@@ -41,12 +47,16 @@ same-length-3 : tie.Need-same-length-3
 same-length-3 c = c .before .before .add .kept .0 ∙ c .before .before .before .before .before .before .remove .kept .0
 
 same-length-4 : tie.Need-same-length-4
-same-length-4 c = c .before .before .before .before .before .before .before .before .before .before .before .before .before .before .move-on .kept .1 .1 .1 .1 .0
+same-length-4 c =
+    let move-on = c .before .before .before .before .before .before .before .before .before .before .before .before .before .before .move-on in
+    move-on .kept .1 .1 .1 .1 .0
 
 returns : tie.Need-returns
 returns c =
-    let p = c .before .before .before .before .before .before .before .before .before .before .before .before .before .before .before .before .before .before .before .before .before .before .before .before .pre in
-    crossed (c .before .before .before .before .before .before .before .before .before .before .before .before .before .before .move-on .ensures) _ _ (p .7) (p .5) (p .6) (p .0) (p .1) (omega arith) (c .before .before .before .before .before .before .remove .ensures) (c .before .before .add .ensures)
+    let move-on = c .before .before .before .before .before .before .before .before .before .before .before .before .before .before .move-on in
+    let start = c .before .before .before .before .before .before .before .before .before .before .before .before .before .before .before .before .before .before .before .before .before .before .before .before in
+    let p = start .pre in
+    crossed (move-on .ensures) _ _ (p .7) (p .5) (p .6) (p .0) (p .1) (omega arith) (c .before .before .before .before .before .before .remove .ensures) (c .before .before .add .ensures)
 
 pub cross-spec : {M : Type 1} → statement M
 cross-spec =

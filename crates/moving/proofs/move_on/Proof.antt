@@ -54,7 +54,8 @@ same-length-3 c = c .before .before .store .kept .0
 
 returns : tie.Need-returns
 returns c =
-    let a = c .before .before .before .before .before .before .before .before .before .before .before .args in record {
+    let start = c .before .before .before .before .before .before .before .before .before .before .before in
+    let a = start .args in record {
       moved = refl;
       shown = refl;
       stored = c .before .before .store .ensures .0 ∙ ap (set (a .out .now) (a .at)) (c .before .before .before .pack .ensures);

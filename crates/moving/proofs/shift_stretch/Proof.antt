@@ -43,7 +43,8 @@ shared-slice-read-from c = search needs
 
 move-on-requires : tie.Need-move-on-requires Inv-loop μ-loop
 move-on-requires c κs =
-    let p = c .before .before .before .before .before .before .before .before .before .before .before .before .before .pre in
+    let start = c .before .before .before .before .before .before .before .before .before .before .before .before .before in
+    let p = start .pre in
     let l = c .before .before .before .before .before .before .loop in
     let more = c .before .before .before .before .before .loop-test .taken in
     let u = shifting-asks _ (p .4) (l .i) (l .i - 1) (omega (arith, more)) (l .inv .0) (l .inv .4) (p .2) in
@@ -54,9 +55,11 @@ loop-less c = search needs
 
 loop-again : tie.Need-loop-again Inv-loop μ-loop
 loop-again c =
-    let p = c .before .before .before .before .before .before .before .before .before .before .before .before .before .before .before .before .before .before .before .before .pre in
+    let loop-test = c .before .before .before .before .before .before .before .before .before .before .before .before .loop-test in
+    let start = c .before .before .before .before .before .before .before .before .before .before .before .before .before .before .before .before .before .before .before .before in
+    let p = start .pre in
     let l = c .before .before .before .before .before .before .before .before .before .before .before .before .before .loop in
-    let more = c .before .before .before .before .before .before .before .before .before .before .before .before .loop-test .taken in
+    let more = loop-test .taken in
     let m = c .before .before .before .before .before .before .move-on in (
       omega (arith, more, l .inv .0),
       omega (arith, m .kept .0, l .inv .1),
@@ -72,13 +75,19 @@ shared-slice-read-standing : tie.Need-shared-slice-read-standing Inv-loop μ-loo
 shared-slice-read-standing c = search needs
 
 cast-standing-2 : tie.Need-cast-standing-2 Inv-loop μ-loop
-cast-standing-2 c = let low = first-low _ (c .before .before .before .before .before .before .before .before .before .pre .4) (c .before .before .before .if1 .left) in omega (arith, low, c .before .before .before .before .before .before .before .before .before .pre .0)
+cast-standing-2 c =
+    let start = c .before .before .before .before .before .before .before .before .before in
+    let low = first-low _ (start .pre .4) (c .before .before .before .if1 .left) in omega (arith, low, start .pre .0)
 
 mul-standing : tie.Need-mul-standing Inv-loop μ-loop
-mul-standing c = let low = first-low _ (c .before .before .before .before .before .before .before .before .before .pre .4) (c .before .before .before .if1 .left) in omega (arith, low, c .before .before .before .before .before .before .before .before .before .pre .0)
+mul-standing c =
+    let start = c .before .before .before .before .before .before .before .before .before in
+    let low = first-low _ (start .pre .4) (c .before .before .before .if1 .left) in omega (arith, low, start .pre .0)
 
 slice-write-standing : tie.Need-slice-write-standing Inv-loop μ-loop
-slice-write-standing c = let low = first-low _ (c .before .before .before .before .before .before .before .before .before .pre .4) (c .before .before .before .if1 .left) in omega (arith, low, c .before .before .loop .inv .2)
+slice-write-standing c =
+    let start = c .before .before .before .before .before .before .before .before .before in
+    let low = first-low _ (start .pre .4) (c .before .before .before .if1 .left) in omega (arith, low, c .before .before .loop .inv .2)
 
 mul-remove : tie.Need-mul-remove Inv-loop μ-loop
 mul-remove c = search needs
@@ -87,22 +96,34 @@ shared-slice-read-remove : tie.Need-shared-slice-read-remove Inv-loop μ-loop
 shared-slice-read-remove c = search needs
 
 cast-remove : tie.Need-cast-remove Inv-loop μ-loop
-cast-remove c = let low = last-low _ (c .before .before .before .before .before .before .before .before .before .before .before .pre .4) (c .before .before .before .before .before .if1 .left) in omega (arith, low, c .before .before .before .before .before .before .before .before .before .before .before .pre .0)
+cast-remove c =
+    let start = c .before .before .before .before .before .before .before .before .before .before .before in
+    let low = last-low _ (start .pre .4) (c .before .before .before .before .before .if1 .left) in omega (arith, low, start .pre .0)
 
 remove-requires : tie.Need-remove-requires Inv-loop μ-loop
-remove-requires c κs = let p = c .before .before .before .before .before .before .before .before .before .before .before .pre in let low = last-low _ (p .4) (c .before .before .before .before .before .if1 .left) in omega (arith, low, p .0, p .1)
+remove-requires c κs =
+    let start = c .before .before .before .before .before .before .before .before .before .before .before in
+    let p = start .pre in let low = last-low _ (p .4) (c .before .before .before .before .before .if1 .left) in omega (arith, low, p .0, p .1)
 
 shared-slice-read-add : tie.Need-shared-slice-read-add Inv-loop μ-loop
 shared-slice-read-add c = search needs
 
 cast-add : tie.Need-cast-add Inv-loop μ-loop
-cast-add c = let low = first-low _ (c .before .before .before .before .before .before .before .before .before .before .before .before .before .before .before .before .pre .4) (c .before .before .before .before .before .before .before .before .before .before .if1 .left) in omega (arith, low, c .before .before .before .before .before .before .before .before .before .before .before .before .before .before .before .before .pre .0)
+cast-add c =
+    let if1 = c .before .before .before .before .before .before .before .before .before .before .if1 in
+    let start = c .before .before .before .before .before .before .before .before .before .before .before .before .before .before .before .before in
+    let low = first-low _ (start .pre .4) (if1 .left) in omega (arith, low, start .pre .0)
 
 add-requires : tie.Need-add-requires Inv-loop μ-loop
-add-requires c κs = let p = c .before .before .before .before .before .before .before .before .before .before .before .before .before .before .before .before .pre in let low = first-low _ (p .4) (c .before .before .before .before .before .before .before .before .before .before .if1 .left) in omega (arith, low, p .0, p .1, c .before .before .before .before .remove .kept .0)
+add-requires c κs =
+    let if1 = c .before .before .before .before .before .before .before .before .before .before .if1 in
+    let start = c .before .before .before .before .before .before .before .before .before .before .before .before .before .before .before .before in
+    let p = start .pre in let low = first-low _ (p .4) (if1 .left) in omega (arith, low, p .0, p .1, c .before .before .before .before .remove .kept .0)
 
 same-length : tie.Need-same-length Inv-loop μ-loop
-same-length c = c .before .before .before .before .before .before .before .before .before .before .before .before .loop .inv .1
+same-length c =
+    let loop = c .before .before .before .before .before .before .before .before .before .before .before .before .loop in
+    loop .inv .1
 
 same-length-2 : tie.Need-same-length-2 Inv-loop μ-loop
 same-length-2 c = search needs
@@ -111,15 +132,20 @@ same-length-3 : tie.Need-same-length-3 Inv-loop μ-loop
 same-length-3 c = c .before .before .add .kept .0 ∙ c .before .before .before .before .before .before .before .remove .kept .0
 
 same-length-4 : tie.Need-same-length-4 Inv-loop μ-loop
-same-length-4 c = c .before .before .before .before .before .before .before .before .before .before .before .before .loop .inv .3
+same-length-4 c =
+    let loop = c .before .before .before .before .before .before .before .before .before .before .before .before .loop in
+    loop .inv .3
 
 returns-2 : tie.Need-returns-2 Inv-loop μ-loop
 returns-2 c =
-    let p = c .before .before .before .before .before .before .before .before .before .before .before .before .before .before .before .before .before .before .before .pre in
+    let loop-test = c .before .before .before .before .before .before .before .before .before .before .before .loop-test in
+    let if1 = c .before .before .before .before .before .before .before .before .before .before .before .before .before .if1 in
+    let start = c .before .before .before .before .before .before .before .before .before .before .before .before .before .before .before .before .before .before .before in
+    let p = start .pre in
     let l = c .before .before .before .before .before .before .before .before .before .before .before .before .loop in
-    let none : l .i ≡ 0 = omega (arith, c .before .before .before .before .before .before .before .before .before .before .before .loop-test .left) in
+    let none : l .i ≡ 0 = omega (arith, loop-test .left) in
     let w = rw none at (l .inv .4) in
-    shifting-all _ (p .4) (c .before .before .before .before .before .before .before .before .before .before .before .before .before .if1 .left) (p .3) w (λ z. c .before .before .add .ensures z ∙ rw (c .before .before .before .before .before .before .before .remove .ensures z))
+    shifting-all _ (p .4) (if1 .left) (p .3) w (λ z. c .before .before .add .ensures z ∙ rw (c .before .before .before .before .before .before .before .remove .ensures z))
 
 pub shift-stretch-spec : {M : Type 1} → statement M
 shift-stretch-spec =

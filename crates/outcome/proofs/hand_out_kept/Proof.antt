@@ -26,7 +26,9 @@ slice-aggregate-longs : tie.Need-slice-aggregate-longs
 slice-aggregate-longs c = sym (length-take-le _ _ (c .before .before .if3 .left))
 
 longs-requires : tie.Need-longs-requires
-longs-requires c κs = rw (length-take-le _ (c .before .before .before .before .before .before .before .before .before .before .args .kept .now) (c .before .before .if3 .left)) (c .before .before .before .before .if1 .left)
+longs-requires c κs =
+    let start = c .before .before .before .before .before .before .before .before .before .before in
+    rw (length-take-le _ (start .args .kept .now) (c .before .before .if3 .left)) (c .before .before .before .before .if1 .left)
 
 returns-4 : tie.Need-returns-4
 returns-4 c = λ o before p. done-if-kept (hands-stopped _ (p .stops _ (c .before .played .given .1)))
@@ -35,8 +37,10 @@ same-length : tie.Need-same-length
 same-length c = c .before .before .longs .kept .0
 
 returns-5 : tie.Need-returns-5
-returns-5 c = λ o before p.
-    let kept = kept-of p (c .before .before .before .before .before .before .before .before .before .played2 .given .1) in
+returns-5 c =
+    let played2 = c .before .before .before .before .before .before .before .before .before .played2 in
+    λ o before p.
+    let kept = kept-of p (played2 .given .1) in
     done-if-kept (hands-plan kept (c .before .before .before .before .before .before .before .if1 .left) (c .before .before .before .before .before .before .if2 .left) (copied-out _ kept (c .before .before .before .before .before .if3 .left) (c .before .before .longs .ensures)))
 
 pub hand-out-kept-spec : {M : Type 1} → statement M

@@ -37,7 +37,9 @@ lowest-common-requires-2 : tie.Need-lowest-common-requires-2
 lowest-common-requires-2 c κs = search needs
 
 returns-2 : tie.Need-returns-2
-returns-2 c = λ e. one-found _ _ _ _ (c .before .before .before .before .before .before .before .before .before .before .join-row .ensures) _ _ (c .before .before .before .before .remove .ensures) _ (c .before .lowest-common2 .ensures) (c .if2 .taken)
+returns-2 c =
+    let join-row = c .before .before .before .before .before .before .before .before .before .before .join-row in
+    λ e. one-found _ _ _ _ (join-row .ensures) _ _ (c .before .before .before .before .remove .ensures) _ (c .before .lowest-common2 .ensures) (c .if2 .taken)
 
 slice-aggregate-remove-2 : tie.Need-slice-aggregate-remove-2
 slice-aggregate-remove-2 c = search needs
@@ -52,7 +54,10 @@ meets-requires : tie.Need-meets-requires
 meets-requires c κs = search needs
 
 returns-3 : tie.Need-returns-3
-returns-3 c = λ e. two-found _ _ _ _ (c .before .before .before .before .before .before .before .before .before .before .before .before .before .before .before .join-row .ensures) _ _ (c .before .before .before .before .before .before .before .before .before .remove .ensures) _ _ (c .before .before .before .remove2 .ensures) (sym (c .meets .ensures) ∙ e)
+returns-3 c =
+    let remove = c .before .before .before .before .before .before .before .before .before .remove in
+    let join-row = c .before .before .before .before .before .before .before .before .before .before .before .before .before .before .before .join-row in
+    λ e. two-found _ _ _ _ (join-row .ensures) _ _ (remove .ensures) _ _ (c .before .before .before .remove2 .ensures) (sym (c .meets .ensures) ∙ e)
 
 pub has-three-spec : {M : Type 1} → statement M
 has-three-spec =

@@ -36,7 +36,9 @@ cast-join : tie.Need-cast-join Inv-loop μ-loop
 cast-join c = search needs
 
 join-requires : tie.Need-join-requires Inv-loop μ-loop
-join-requires c κs = let q = c .before .before .before .before .before .before .before .before .before .pre in (search needs, omega (arith, q .0, q .4))
+join-requires c κs =
+    let start = c .before .before .before .before .before .before .before .before .before in
+    let q = start .pre in (search needs, omega (arith, q .0, q .4))
 
 slice-aggregate-join-2 : tie.Need-slice-aggregate-join-2 Inv-loop μ-loop
 slice-aggregate-join-2 c = search needs
@@ -45,7 +47,9 @@ cast-join-2 : tie.Need-cast-join-2 Inv-loop μ-loop
 cast-join-2 c = search needs
 
 join-requires-2 : tie.Need-join-requires-2 Inv-loop μ-loop
-join-requires-2 c κs = let q = c .before .before .before .before .before .before .before .before .before .before .before .before .before .pre in (search needs, omega (arith, q .0, q .5))
+join-requires-2 c κs =
+    let start = c .before .before .before .before .before .before .before .before .before .before .before .before .before in
+    let q = start .pre in (search needs, omega (arith, q .0, q .5))
 
 slice-aggregate-keep-2 : tie.Need-slice-aggregate-keep-2 Inv-loop μ-loop
 slice-aggregate-keep-2 c = search needs
@@ -63,7 +67,9 @@ cast-remove : tie.Need-cast-remove Inv-loop μ-loop
 cast-remove c = search needs
 
 remove-requires : tie.Need-remove-requires Inv-loop μ-loop
-remove-requires c κs = let q = c .before .before .before .before .before .before .before .before .before .before .before .before .before .before .before .before .before .before .before .before .before .pre in omega (arith, q .3, q .0, c .before .before .before .keep2 .kept .0)
+remove-requires c κs =
+    let start = c .before .before .before .before .before .before .before .before .before .before .before .before .before .before .before .before .before .before .before .before .before in
+    let q = start .pre in omega (arith, q .3, q .0, c .before .before .before .keep2 .kept .0)
 
 slice-aggregate-join-3 : tie.Need-slice-aggregate-join-3 Inv-loop μ-loop
 slice-aggregate-join-3 c = search needs
@@ -72,16 +78,28 @@ cast-join-3 : tie.Need-cast-join-3 Inv-loop μ-loop
 cast-join-3 c = search needs
 
 join-requires-3 : tie.Need-join-requires-3 Inv-loop μ-loop
-join-requires-3 c κs = let q = c .before .before .before .before .before .before .before .before .before .before .before .before .before .before .before .before .before .before .before .before .before .before .before .before .before .pre in (search needs, omega (arith, q .0, q .3))
+join-requires-3 c κs =
+    let start = c .before .before .before .before .before .before .before .before .before .before .before .before .before .before .before .before .before .before .before .before .before .before .before .before .before in
+    let q = start .pre in (search needs, omega (arith, q .0, q .3))
 
 loop-holds : tie.Need-loop-holds Inv-loop μ-loop
-loop-holds c = let q = c .before .before .before .before .before .before .before .before .before .before .before .before .before .before .before .before .before .before .before .before .before .before .before .before .before .before .before .pre in (search needs, search needs, omega arith, look-first (q .0) _ _ _ _ _ _ _ _ _ (c .before .before .before .before .before .before .before .before .before .before .before .before .before .before .before .before .before .before .before .before .before .keep .ensures) (c .before .before .before .before .before .before .before .before .before .before .before .before .before .before .before .before .before .join .ensures) (c .before .before .before .before .before .before .before .before .before .before .before .before .before .join2 .ensures) (c .before .join3 .ensures) (q .4) (q .5) (c .before .before .before .before .before .before .before .before .before .before .before .before .before .before .before .before .before .before .before .before .before .before .before .before .next-from .ensures) (c .before .before .before .before .before .before .before .before .before .before .before .before .before .before .before .before .before .before .before .before .before .before .before .if1 .left) (c .before .before .before .before .before .before .before .before .before .keep2 .ensures) (c .before .before .before .before .before .remove .ensures))
+loop-holds c =
+    let keep2 = c .before .before .before .before .before .before .before .before .before .keep2 in
+    let join2 = c .before .before .before .before .before .before .before .before .before .before .before .before .before .join2 in
+    let join = c .before .before .before .before .before .before .before .before .before .before .before .before .before .before .before .before .before .join in
+    let keep = c .before .before .before .before .before .before .before .before .before .before .before .before .before .before .before .before .before .before .before .before .before .keep in
+    let if1 = c .before .before .before .before .before .before .before .before .before .before .before .before .before .before .before .before .before .before .before .before .before .before .before .if1 in
+    let next-from = c .before .before .before .before .before .before .before .before .before .before .before .before .before .before .before .before .before .before .before .before .before .before .before .before .next-from in
+    let start = c .before .before .before .before .before .before .before .before .before .before .before .before .before .before .before .before .before .before .before .before .before .before .before .before .before .before .before in
+    let q = start .pre in (search needs, search needs, omega arith, look-first (q .0) _ _ _ _ _ _ _ _ _ (keep .ensures) (join .ensures) (join2 .ensures) (c .before .join3 .ensures) (q .4) (q .5) (next-from .ensures) (if1 .left) (keep2 .ensures) (c .before .before .before .before .before .remove .ensures))
 
 slice-aggregate-has-three : tie.Need-slice-aggregate-has-three Inv-loop μ-loop
 slice-aggregate-has-three c = search needs
 
 has-three-requires : tie.Need-has-three-requires Inv-loop μ-loop
-has-three-requires c κs = let q = c .before .before .before .before .before .before .before .before .before .before .before .before .before .before .before .before .before .before .before .before .before .before .before .before .before .before .before .before .before .before .pre in (omega (arith, q .1, q .3), c .before .before .loop .inv .0)
+has-three-requires c κs =
+    let start = c .before .before .before .before .before .before .before .before .before .before .before .before .before .before .before .before .before .before .before .before .before .before .before .before .before .before .before .before .before .before in
+    let q = start .pre in (omega (arith, q .1, q .3), c .before .before .loop .inv .0)
 
 returns-2 : tie.Need-returns-2 Inv-loop μ-loop
 returns-2 c = λ e. not-both e refl
@@ -93,7 +111,13 @@ is-empty-requires : tie.Need-is-empty-requires Inv-loop μ-loop
 is-empty-requires c κs = c .before .before .before .before .before .loop .inv .1
 
 returns-3 : tie.Need-returns-3 Inv-loop μ-loop
-returns-3 c = let q = c .before .before .before .before .before .before .before .before .before .before .before .before .before .before .before .before .before .before .before .before .before .before .before .before .before .before .before .before .before .before .before .before .before .before .before .pre in λ e. look-last (q .0) (q .4) (q .5) (wanted-first (q .0) _ _ _ _ _ _ _ _ _ (c .before .before .before .before .before .before .before .before .before .before .before .before .before .before .before .before .before .before .before .before .before .before .before .before .before .before .before .before .before .keep .ensures) (c .before .before .before .before .before .before .before .before .before .before .before .before .before .before .before .before .before .before .before .before .before .before .before .before .before .join .ensures) (c .before .before .before .before .before .before .before .before .before .before .before .before .before .before .before .before .before .before .before .before .before .join2 .ensures) (c .before .before .before .before .before .before .before .before .before .join3 .ensures)) (c .before .before .before .before .before .before .before .loop .inv .3) (sym (c .before .is-empty .ensures) ∙ c .if3 .taken) (c .before .before .before .before .has-three .ensures (c .before .before .before .if2 .left))
+returns-3 c =
+    let join3 = c .before .before .before .before .before .before .before .before .before .join3 in
+    let join2 = c .before .before .before .before .before .before .before .before .before .before .before .before .before .before .before .before .before .before .before .before .before .join2 in
+    let join = c .before .before .before .before .before .before .before .before .before .before .before .before .before .before .before .before .before .before .before .before .before .before .before .before .before .join in
+    let keep = c .before .before .before .before .before .before .before .before .before .before .before .before .before .before .before .before .before .before .before .before .before .before .before .before .before .before .before .before .before .keep in
+    let start = c .before .before .before .before .before .before .before .before .before .before .before .before .before .before .before .before .before .before .before .before .before .before .before .before .before .before .before .before .before .before .before .before .before .before .before in
+    let q = start .pre in λ e. look-last (q .0) (q .4) (q .5) (wanted-first (q .0) _ _ _ _ _ _ _ _ _ (keep .ensures) (join .ensures) (join2 .ensures) (join3 .ensures)) (c .before .before .before .before .before .before .before .loop .inv .3) (sym (c .before .is-empty .ensures) ∙ c .if3 .taken) (c .before .before .before .before .has-three .ensures (c .before .before .before .if2 .left))
 
 slice-aggregate-widen : tie.Need-slice-aggregate-widen Inv-loop μ-loop
 slice-aggregate-widen c = search needs
@@ -102,16 +126,25 @@ slice-aggregate-widen-2 : tie.Need-slice-aggregate-widen-2 Inv-loop μ-loop
 slice-aggregate-widen-2 c = search needs
 
 widen-requires : tie.Need-widen-requires Inv-loop μ-loop
-widen-requires c κs = let l = c .before .before .before .before .before .before .before .before .before .loop .inv in (l .0, l .1, rows (c .before .before .before .before .before .before .before .before .before .before .before .before .before .before .before .before .before .before .before .before .before .before .before .before .before .before .before .before .before .before .before .before .before .before .before .before .before .pre .1) (l .3))
+widen-requires c κs =
+    let loop = c .before .before .before .before .before .before .before .before .before .loop in
+    let start = c .before .before .before .before .before .before .before .before .before .before .before .before .before .before .before .before .before .before .before .before .before .before .before .before .before .before .before .before .before .before .before .before .before .before .before .before .before in
+    let l = loop .inv in (l .0, l .1, rows (start .pre .1) (l .3))
 
 add-d : tie.Need-add-d Inv-loop μ-loop
-add-d c = omega (arith, c .before .before .before .before .before .before .before .before .before .before .before .loop-test .taken, c .before .before .before .before .before .before .before .before .before .before .before .before .before .before .before .before .before .before .before .before .before .before .before .before .before .before .before .before .before .before .before .before .before .before .before .before .before .before .before .before .pre .0)
+add-d c =
+    let loop-test = c .before .before .before .before .before .before .before .before .before .before .before .loop-test in
+    let start = c .before .before .before .before .before .before .before .before .before .before .before .before .before .before .before .before .before .before .before .before .before .before .before .before .before .before .before .before .before .before .before .before .before .before .before .before .before .before .before .before in
+    omega (arith, loop-test .taken, start .pre .0)
 
 loop-less : tie.Need-loop-less Inv-loop μ-loop
 loop-less c = search needs
 
 loop-again : tie.Need-loop-again Inv-loop μ-loop
-loop-again c = let l = c .before .before .before .before .before .before .before .before .before .before .before .before .loop .inv in (search needs, search needs, omega arith, look-more (c .before .before .before .before .before .before .before .before .before .before .before .before .before .before .before .before .before .before .before .before .before .before .before .before .before .before .before .before .before .before .before .before .before .before .before .before .before .before .before .before .pre .6) (l .3) (c .before .before .widen .ensures))
+loop-again c =
+    let loop = c .before .before .before .before .before .before .before .before .before .before .before .before .loop in
+    let start = c .before .before .before .before .before .before .before .before .before .before .before .before .before .before .before .before .before .before .before .before .before .before .before .before .before .before .before .before .before .before .before .before .before .before .before .before .before .before .before .before in
+    let l = loop .inv in (search needs, search needs, omega arith, look-more (start .pre .6) (l .3) (c .before .before .widen .ensures))
 
 returns-4 : tie.Need-returns-4 Inv-loop μ-loop
 returns-4 c = λ e. not-both e refl

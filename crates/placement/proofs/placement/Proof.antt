@@ -57,8 +57,10 @@ shorts-requires c κs = search needs
 -- src/lib.rt:51:5
 move-done-requires : tie.Need-move-done-requires
 move-done-requires c κs =
+    let enum-told = c .before .before .before .before .before .before .before .before .enum-told in
+    let check = c .before .before .before .before .before .before .before .before .before .before .check in
     let s = c .before .before .before .before .before .before .before .before .before .before .before .before .before .before .before .before .before in
-    let passes = ap checkedOf (sym (c .before .before .before .before .before .before .before .before .enum-told .given .1)) ∙ c .before .before .before .before .before .before .before .before .before .before .check .ensures in
+    let passes = ap checkedOf (sym (enum-told .given .1)) ∙ check .ensures in
     let b = sym (c .before .before .before .before .before .before .before .bad-marks .ensures) ∙ c .before .before .before .before .before .before .if1 .left in
     (as-many (order (s .args .bays) (now (s .args .rails)) (now (s .args .start)) (now (s .args .goal))) (now (s .args .plan)) (now (s .args .marks)) (now (s .args .at)) passes b, all-there (order (s .args .bays) (now (s .args .rails)) (now (s .args .start)) (now (s .args .goal))) (now (s .args .plan)) (now (s .args .marks)) (now (s .args .at)) passes b _ (c .before .before .before .shorts .ensures))
 
@@ -69,9 +71,14 @@ same-length c = search needs
 -- src/lib.rt:29:1
 returns-4 : tie.Need-returns-4
 returns-4 c =
+    let if2 = c .before .before .before .before .before .before .before .before .if2 in
+    let if1 = c .before .before .before .before .before .before .before .before .before .if1 in
+    let bad-marks = c .before .before .before .before .before .before .before .before .before .before .bad-marks in
+    let enum-told = c .before .before .before .before .before .before .before .before .before .before .before .enum-told in
+    let check = c .before .before .before .before .before .before .before .before .before .before .before .before .before .check in
     let s = c .before .before .before .before .before .before .before .before .before .before .before .before .before .before .before .before .before .before .before .before in
-    let b = sym (c .before .before .before .before .before .before .before .before .before .before .bad-marks .ensures) ∙ c .before .before .before .before .before .before .before .before .before .if1 .left in
-    says-placed (order (s .args .bays) (now (s .args .rails)) (now (s .args .start)) (now (s .args .goal))) (now (s .args .plan)) (now (s .args .marks)) (now (s .args .at)) (ap checkedOf (sym (c .before .before .before .before .before .before .before .before .before .before .before .enum-told .given .1)) ∙ c .before .before .before .before .before .before .before .before .before .before .before .before .before .check .ensures) b (c .before .before .before .before .before .before .before .before .if2 .left) _ _ (c .before .before .before .before .before .before .shorts .ensures) (c .before .before .move-done .ensures)
+    let b = sym (bad-marks .ensures) ∙ if1 .left in
+    says-placed (order (s .args .bays) (now (s .args .rails)) (now (s .args .start)) (now (s .args .goal))) (now (s .args .plan)) (now (s .args .marks)) (now (s .args .at)) (ap checkedOf (sym (enum-told .given .1)) ∙ check .ensures) b (if2 .left) _ _ (c .before .before .before .before .before .before .shorts .ensures) (c .before .before .move-done .ensures)
 
 pub placement-spec : {M : Type 1} → statement M
 placement-spec =

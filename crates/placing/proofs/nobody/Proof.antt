@@ -50,7 +50,9 @@ same-length-2 : tie.Need-same-length-2 Inv-loop μ-loop
 same-length-2 c = search needs
 
 returns : tie.Need-returns Inv-loop μ-loop
-returns c = let l = c .before .loop in let e : l .b ≡ length (c .before .before .before .before .before .before .before .before .args .standing .now) = omega arith in rw e at (l .inv .3)
+returns c =
+    let start = c .before .before .before .before .before .before .before .before in
+    let l = c .before .loop in let e : l .b ≡ length (start .args .standing .now) = omega arith in rw e at (l .inv .3)
 
 pub nobody-spec : {M : Type 1} → statement M
 nobody-spec =

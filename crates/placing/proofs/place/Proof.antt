@@ -26,7 +26,9 @@ nobody-requires : tie.Need-nobody-requires Inv-loop μ-loop
 nobody-requires c κs = search needs
 
 loop-holds : tie.Need-loop-holds Inv-loop μ-loop
-loop-holds c = (omega arith, refl, omega arith, rw (c .before .before .before .before .nobody .kept .1 .0) (placing-none _ _ _ _ (c .before .before .before .before .nobody .ensures)))
+loop-holds c =
+    let nobody = c .before .before .before .before .nobody in
+    (omega arith, refl, omega arith, rw (nobody .kept .1 .0) (placing-none _ _ _ _ (nobody .ensures)))
 
 mul-b : tie.Need-mul-b Inv-loop μ-loop
 mul-b c = search needs
@@ -41,13 +43,19 @@ cast-standing : tie.Need-cast-standing Inv-loop μ-loop
 cast-standing c = search needs
 
 mul-standing : tie.Need-mul-standing Inv-loop μ-loop
-mul-standing c = let p = c .before .before .before .before .before .before .before .before .before .before .before .before .before .pre in omega (arith, p .4 (c .before .before .loop .c) (c .before .loop-test .taken), p .0)
+mul-standing c =
+    let start = c .before .before .before .before .before .before .before .before .before .before .before .before .before in
+    let p = start .pre in omega (arith, p .4 (c .before .before .loop .c) (c .before .loop-test .taken), p .0)
 
 slice-write-standing : tie.Need-slice-write-standing Inv-loop μ-loop
-slice-write-standing c = let p = c .before .before .before .before .before .before .before .before .before .before .before .before .before .pre in omega (arith, p .4 (c .before .before .loop .c) (c .before .loop-test .taken))
+slice-write-standing c =
+    let start = c .before .before .before .before .before .before .before .before .before .before .before .before .before in
+    let p = start .pre in omega (arith, p .4 (c .before .before .loop .c) (c .before .loop-test .taken))
 
 remove-requires : tie.Need-remove-requires Inv-loop μ-loop
-remove-requires c κs = let p = c .before .before .before .before .before .before .before .before .before .before .before .before .before .before .pre in omega (arith, p .4 (c .before .before .before .loop .c) (c .before .before .loop-test .taken), p .0)
+remove-requires c κs =
+    let start = c .before .before .before .before .before .before .before .before .before .before .before .before .before .before in
+    let p = start .pre in omega (arith, p .4 (c .before .before .before .loop .c) (c .before .before .loop-test .taken), p .0)
 
 add-c : tie.Need-add-c Inv-loop μ-loop
 add-c c = search needs
@@ -56,7 +64,10 @@ loop-less : tie.Need-loop-less Inv-loop μ-loop
 loop-less c = search needs
 
 loop-again : tie.Need-loop-again Inv-loop μ-loop
-loop-again c = let p = c .before .before .before .before .before .before .before .before .before .before .before .before .before .before .before .before .before .pre in let l = c .before .before .before .before .before .before .loop in (omega arith, simp length-set (omega arith), omega arith, placing-more _ _ _ _ _ _ (p .3) (c .before .before .before .before .before .loop-test .taken) (omega (arith, p .4 (l .c) (c .before .before .before .before .before .loop-test .taken))) (omega arith) (l .inv .3) (c .before .before .remove .ensures))
+loop-again c =
+    let loop-test = c .before .before .before .before .before .loop-test in
+    let start = c .before .before .before .before .before .before .before .before .before .before .before .before .before .before .before .before .before in
+    let p = start .pre in let l = c .before .before .before .before .before .before .loop in (omega arith, simp length-set (omega arith), omega arith, placing-more _ _ _ _ _ _ (p .3) (loop-test .taken) (omega (arith, p .4 (l .c) (loop-test .taken))) (omega arith) (l .inv .3) (c .before .before .remove .ensures))
 
 same-length : tie.Need-same-length Inv-loop μ-loop
 same-length c = search needs
@@ -65,7 +76,9 @@ same-length-2 : tie.Need-same-length-2 Inv-loop μ-loop
 same-length-2 c = search needs
 
 returns : tie.Need-returns Inv-loop μ-loop
-returns c = let p = c .before .before .before .before .before .before .before .before .before .before .before .before .pre in let l = c .before .loop in placing-all _ _ _ _ _ (p .3) (p .4) (p .2) (omega arith) (rw (c .before .before .before .before .before .before .nobody .kept .1 .0) at (l .inv .3))
+returns c =
+    let start = c .before .before .before .before .before .before .before .before .before .before .before .before in
+    let p = start .pre in let l = c .before .loop in placing-all _ _ _ _ _ (p .3) (p .4) (p .2) (omega arith) (rw (c .before .before .before .before .before .before .nobody .kept .1 .0) at (l .inv .3))
 
 pub place-spec : {M : Type 1} → statement M
 place-spec =

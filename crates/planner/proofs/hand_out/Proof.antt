@@ -28,11 +28,15 @@ returns : tie.Need-returns
 returns c = λ t. c .before .before .before .before .before .hand-out-likely .ensures t .done _ (c .before .handed .given .1)
 
 same-length-2 : tie.Need-same-length-2
-same-length-2 c = c .before .before .hand-out-again .kept .1 .1 .1 .1 .1 .1 .1 .0 ∙ c .before .before .before .before .before .before .before .before .before .hand-out-likely .kept .1 .1 .1 .1 .1 .0
+same-length-2 c =
+    let hand-out-likely = c .before .before .before .before .before .before .before .before .before .hand-out-likely in
+    c .before .before .hand-out-again .kept .1 .1 .1 .1 .1 .1 .1 .0 ∙ hand-out-likely .kept .1 .1 .1 .1 .1 .0
 
 returns-2 : tie.Need-returns-2
-returns-2 c = λ t.
-    let longer = c .before .before .before .before .before .before .before .before .before .hand-out-likely .ensures t .longer _ _ (c .before .before .before .before .before .handed2 .given .1) in
+returns-2 c =
+    let hand-out-likely = c .before .before .before .before .before .before .before .before .before .hand-out-likely in
+    λ t.
+    let longer = hand-out-likely .ensures t .longer _ _ (c .before .before .before .before .before .handed2 .given .1) in
     hands-longer longer (c .before .before .hand-out-again .ensures t)
 
 pub hand-out-spec : {M : Type 1} → statement M

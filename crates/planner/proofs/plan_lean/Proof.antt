@@ -21,13 +21,16 @@ enum-known-opened-2 c = c .match .keys2
 
 hand-out-lean-requires : tie.Need-hand-out-lean-requires
 hand-out-lean-requires c κs =
-    let a = c .before .before .before .before .before .before .before .before .before .before .before .args in
+    let opened2 = c .before .before .before .opened2 in
+    let start = c .before .before .before .before .before .before .before .before .before .before .before in
+    let a = start .args in
     let o = order (a .bays) (now (a .rails)) (now (a .start)) (now (a .goal)) in
-    let-in o (ap openedOf (sym (c .before .before .before .opened2 .given .1)) ∙ c .before .before .before .before .before .«open» .ensures .answer) (c .before .before .before .before .before .«open» .ensures .admitted _ (c .before .before .before .opened2 .given .1))
+    let-in o (ap openedOf (sym (opened2 .given .1)) ∙ c .before .before .before .before .before .«open» .ensures .answer) (c .before .before .before .before .before .«open» .ensures .admitted _ (opened2 .given .1))
 
 returns : tie.Need-returns
 returns c =
-    let a = c .before .before .before .before .before .before .before .before .before .args in
+    let start = c .before .before .before .before .before .before .before .before .before in
+    let a = start .args in
     let o = order (a .bays) (now (a .rails)) (now (a .start)) (now (a .goal)) in
     says-refused o _ _ (ap openedOf (sym (c .before .opened .given .1)) ∙ c .before .before .before .«open» .ensures .answer)
 
@@ -36,9 +39,11 @@ same-length c = c .before .before .hand-out-lean .kept .1 .1 .1 .1 .0
 
 returns-2 : tie.Need-returns-2
 returns-2 c =
-    let a = c .before .before .before .before .before .before .before .before .before .before .before .before .before .before .args in
+    let opened2 = c .before .before .before .before .before .before .opened2 in
+    let start = c .before .before .before .before .before .before .before .before .before .before .before .before .before .before in
+    let a = start .args in
     let o = order (a .bays) (now (a .rails)) (now (a .start)) (now (a .goal)) in
-    says-handed o _ _ _ (ap openedOf (sym (c .before .before .before .before .before .before .opened2 .given .1)) ∙ c .before .before .before .before .before .before .before .before .«open» .ensures .answer) (c .before .before .hand-out-lean .ensures (tabled-of o (c .before .before .before .before .before .before .before .before .«open» .ensures .admitted _ (c .before .before .before .before .before .before .opened2 .given .1))))
+    says-handed o _ _ _ (ap openedOf (sym (opened2 .given .1)) ∙ c .before .before .before .before .before .before .before .before .«open» .ensures .answer) (c .before .before .hand-out-lean .ensures (tabled-of o (c .before .before .before .before .before .before .before .before .«open» .ensures .admitted _ (opened2 .given .1))))
 
 pub plan-lean-spec : {M : Type 1} → statement M
 plan-lean-spec =

@@ -35,11 +35,12 @@ slice-aggregate-play-in c = sym (length-take-le _ _ (c .before .before .before .
 
 play-in-requires : tie.Need-play-in-requires
 play-in-requires c κs =
+    let longs = c .before .before .before .before .before .before .before .before .longs in
     let z = c .before .before .before .before .before .before .before .before .before .before .before .before .before .before .before in
     let a = z .pre .0 in
     let r = c .before .before .before .before .raise .ensures in
     let few : z .args .n * words ≤ length (z .args .table .now) = omega (arith, a .most) in
-    let same = same-raised _ _ _ _ _ _ few (c .before .before .before .before .before .before .before .before .longs .ensures) (r .3) (r .0) in
+    let same = same-raised _ _ _ _ _ _ few (longs .ensures) (r .3) (r .0) in
     (admitted-same same a, room-raised _ _ _ (r .0) (r .1), r .2)
 
 same-length : tie.Need-same-length
@@ -50,11 +51,12 @@ same-length-2 c = search needs
 
 returns : tie.Need-returns
 returns c =
+    let longs = c .before .before .before .before .before .before .before .before .before .before .before .longs in
     let z = c .before .before .before .before .before .before .before .before .before .before .before .before .before .before .before .before .before .before in
     let a = z .pre .0 in
     let r = c .before .before .before .before .before .before .before .raise .ensures in
     let few : z .args .n * words ≤ length (z .args .table .now) = omega (arith, a .most) in
-    let same = same-raised _ _ _ _ _ _ few (c .before .before .before .before .before .before .before .before .before .before .before .longs .ensures) (r .3) (r .0) in
+    let same = same-raised _ _ _ _ _ _ few (longs .ensures) (r .3) (r .0) in
     λ t. c .before .before .play-in .ensures (tabled-same same t)
 
 pub play-by-levels-spec : {M : Type 1} → statement M

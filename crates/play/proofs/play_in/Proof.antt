@@ -11,7 +11,9 @@ array-borrow-prefix-placement : tie.Need-array-borrow-prefix-placement
 array-borrow-prefix-placement c = search needs
 
 slice-aggregate-play-on : tie.Need-slice-aggregate-play-on
-slice-aggregate-play-on c = sym (places _ (omega (arith, c .before .before .before .before .before .pre .0 .few, c .before .before .before .before .before .pre .0 .most)))
+slice-aggregate-play-on c =
+    let start = c .before .before .before .before .before in
+    sym (places _ (omega (arith, start .pre .0 .few, start .pre .0 .most)))
 
 array-borrow-prefix-standing : tie.Need-array-borrow-prefix-standing
 array-borrow-prefix-standing c = search needs
@@ -29,23 +31,29 @@ array-borrow-prefix-owner : tie.Need-array-borrow-prefix-owner
 array-borrow-prefix-owner c = search needs
 
 slice-aggregate-play-on-5 : tie.Need-slice-aggregate-play-on-5
-slice-aggregate-play-on-5 c = sym (places _ (c .before .before .before .before .before .before .before .before .before .pre .0 .most))
+slice-aggregate-play-on-5 c =
+    let start = c .before .before .before .before .before .before .before .before .before in
+    sym (places _ (start .pre .0 .most))
 
 slice-aggregate-play-on-6 : tie.Need-slice-aggregate-play-on-6
 slice-aggregate-play-on-6 c = search needs
 
 play-on-requires : tie.Need-play-on-requires
 play-on-requires c κs =
-    let pre = c .before .before .before .before .before .before .before .before .before .before .before .pre in
+    let start = c .before .before .before .before .before .before .before .before .before .before .before in
+    let pre = start .pre in
     let a = pre .0 in
-    let e = places (c .before .before .before .before .before .before .before .before .before .before .before .args .n) (a .most) in
-    (rw e a, refl, places _ (omega (arith, a .few, a .most)), refl, refl, none-settled (c .before .before .before .before .before .before .before .before .before .before .before .args .start .now), rw e (pre .1), rw e (pre .2))
+    let e = places (start .args .n) (a .most) in
+    (rw e a, refl, places _ (omega (arith, a .few, a .most)), refl, refl, none-settled (start .args .start .now), rw e (pre .1), rw e (pre .2))
 
 same-length : tie.Need-same-length
 same-length c = search needs
 
 returns : tie.Need-returns
-returns c = rw (places (c .before .before .before .before .before .before .before .before .before .before .before .before .before .before .before .before .before .before .before .before .args .n) (c .before .before .before .before .before .before .before .before .before .before .before .before .before .before .before .before .before .before .before .before .pre .0 .most)) at (c .before .before .before .before .before .before .before .before .play-on .ensures)
+returns c =
+    let play-on = c .before .before .before .before .before .before .before .before .play-on in
+    let start = c .before .before .before .before .before .before .before .before .before .before .before .before .before .before .before .before .before .before .before .before in
+    rw (places (start .args .n) (start .pre .0 .most)) at (play-on .ensures)
 
 pub play-in-spec : {M : Type 1} → statement M
 play-in-spec =

@@ -19,20 +19,25 @@ place-requires c κs = search needs
 
 place-requires-2 : tie.Need-place-requires-2
 place-requires-2 c κs =
-    let pre = c .before .before .before .before .before .before .before .before .before .before .before .before .before .before .before .before .before .before .before .before .before .before .before .pre in
+    let start = c .before .before .before .before .before .before .before .before .before .before .before .before .before .before .before .before .before .before .before .before .before .before .before in
+    let pre = start .pre in
     let a = pre .0 in
-    let most : length (now (c .before .before .before .before .before .before .before .before .before .before .before .before .before .before .before .before .before .before .before .before .before .before .before .args .owner)) ≤ span = omega (arith, a .most, pre .3) in
+    let most : length (now (start .args .owner)) ≤ span = omega (arith, a .most, pre .3) in
     (most, pre .4, omega (arith, a .few, a .goals .many, pre .3), a .goals .apart, λ i h. omega (arith, a .goals .inside i h, pre .3))
 
 carry-all-requires : tie.Need-carry-all-requires
 carry-all-requires c κs =
-    let pre = c .before .before .before .before .before .before .before .before .before .before .before .before .before .before .before .before .before .before .before .before .before .before .before .before .before .before .before .before .before .before .before .before .before .before .pre in
+    let place2 = c .before .before .before .before .before .before .before .before .before .before .place2 in
+    let place = c .before .before .before .before .before .before .before .before .before .before .before .before .before .before .before .before .before .place in
+    let shorts = c .before .before .before .before .before .before .before .before .before .before .before .before .before .before .before .before .before .before .before .before .before .before .shorts in
+    let start = c .before .before .before .before .before .before .before .before .before .before .before .before .before .before .before .before .before .before .before .before .before .before .before .before .before .before .before .before .before .before .before .before .before .before in
+    let pre = start .pre in
     let a = pre .0 in
-    let e = all-copied _ _ _ (pre .2) (c .before .before .before .before .before .before .before .before .before .before .before .before .before .before .before .before .before .before .before .before .before .before .shorts .ensures) in
-    let kept : length (c .before .before .before .before .before .before .before .before .before .before .before .before .before .before .before .before .before .place .last .1 .0) ≡ length (now (c .before .before .before .before .before .before .before .before .before .before .before .before .before .before .before .before .before .before .before .before .before .before .before .before .before .before .before .before .before .before .before .before .before .before .args .standing)) = c .before .before .before .before .before .before .before .before .before .before .before .before .before .before .before .before .before .place .kept .1 .0 in
-    let placed = c .before .before .before .before .before .before .before .before .before .before .before .before .before .before .before .before .before .place .ensures in
-    let kept-owner : length (c .before .before .before .before .before .before .before .before .before .before .place2 .last .1 .0) ≡ length (now (c .before .before .before .before .before .before .before .before .before .before .before .before .before .before .before .before .before .before .before .before .before .before .before .before .before .before .before .before .before .before .before .before .before .before .args .owner)) = c .before .before .before .before .before .before .before .before .before .before .place2 .kept .1 .0 in
-    (ready-of (now (c .before .before .before .before .before .before .before .before .before .before .before .before .before .before .before .before .before .before .before .before .before .before .before .before .before .before .before .before .before .before .before .before .before .before .args .start)) (now (c .before .before .before .before .before .before .before .before .before .before .before .before .before .before .before .before .before .before .before .before .before .before .before .before .before .before .before .before .before .before .before .before .before .before .args .goal)) _ _ _ (rw kept a) (rw kept (pre .6)) (rw kept (pre .7)) e (search needs) (rw kept placed), (record { many = a .goals .many ∙ sym (ap length e); apart = a .goals .apart; inside = rw kept (a .goals .inside) }, rw kept (a .loopless), rw kept (a .reaching), rw kept (owners-of (pre .3) kept-owner (c .before .before .before .before .before .before .before .before .before .before .place2 .ensures)), rw e (pre .5)))
+    let e = all-copied _ _ _ (pre .2) (shorts .ensures) in
+    let kept : length (place .last .1 .0) ≡ length (now (start .args .standing)) = place .kept .1 .0 in
+    let placed = place .ensures in
+    let kept-owner : length (place2 .last .1 .0) ≡ length (now (start .args .owner)) = place2 .kept .1 .0 in
+    (ready-of (now (start .args .start)) (now (start .args .goal)) _ _ _ (rw kept a) (rw kept (pre .6)) (rw kept (pre .7)) e (search needs) (rw kept placed), (record { many = a .goals .many ∙ sym (ap length e); apart = a .goals .apart; inside = rw kept (a .goals .inside) }, rw kept (a .loopless), rw kept (a .reaching), rw kept (owners-of (pre .3) kept-owner (place2 .ensures)), rw e (pre .5)))
 
 same-length : tie.Need-same-length
 same-length c = search needs
@@ -56,10 +61,15 @@ same-length-7 : tie.Need-same-length-7
 same-length-7 c = search needs
 
 returns : tie.Need-returns
-returns c = λ t.
-    let e = all-copied _ _ _ (c .before .before .before .before .before .before .before .before .before .before .before .before .before .before .before .before .before .before .before .before .before .before .before .before .before .before .before .before .before .before .before .before .before .before .before .before .before .before .before .before .before .before .before .before .before .pre .2) (c .before .before .before .before .before .before .before .before .before .before .before .before .before .before .before .before .before .before .before .before .before .before .before .before .before .before .before .before .before .before .before .before .before .shorts .ensures) in
-    let kept : length (c .before .before .before .before .before .before .before .before .before .before .before .before .before .before .before .before .before .before .before .before .before .before .before .before .before .before .before .before .place .last .1 .0) ≡ length (now (c .before .before .before .before .before .before .before .before .before .before .before .before .before .before .before .before .before .before .before .before .before .before .before .before .before .before .before .before .before .before .before .before .before .before .before .before .before .before .before .before .before .before .before .before .before .args .standing)) = c .before .before .before .before .before .before .before .before .before .before .before .before .before .before .before .before .before .before .before .before .before .before .before .before .before .before .before .before .place .kept .1 .0 in
-    plays-of ((rw (kept, e) at (c .before .before .before .before .before .before .before .before .before .before .carry-all .ensures .0)) t)
+returns c =
+    let carry-all = c .before .before .before .before .before .before .before .before .before .before .carry-all in
+    let place = c .before .before .before .before .before .before .before .before .before .before .before .before .before .before .before .before .before .before .before .before .before .before .before .before .before .before .before .before .place in
+    let shorts = c .before .before .before .before .before .before .before .before .before .before .before .before .before .before .before .before .before .before .before .before .before .before .before .before .before .before .before .before .before .before .before .before .before .shorts in
+    let start = c .before .before .before .before .before .before .before .before .before .before .before .before .before .before .before .before .before .before .before .before .before .before .before .before .before .before .before .before .before .before .before .before .before .before .before .before .before .before .before .before .before .before .before .before .before in
+    λ t.
+    let e = all-copied _ _ _ (start .pre .2) (shorts .ensures) in
+    let kept : length (place .last .1 .0) ≡ length (now (start .args .standing)) = place .kept .1 .0 in
+    plays-of ((rw (kept, e) at (carry-all .ensures .0)) t)
 
 pub play-on-spec : {M : Type 1} → statement M
 play-on-spec =

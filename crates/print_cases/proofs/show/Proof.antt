@@ -10,7 +10,9 @@ use Rattle.print_cases.proofs.show.Lts as lts
 use Rattle.io.proofs.write_all.Reads as write-all-reads
 
 slice-aggregate-write-all : tie.Need-slice-aggregate-write-all
-slice-aggregate-write-all c = sym (length-take-le (c .before .before .before .args .n) (c .before .before .before .args .out .now) (search needs))
+slice-aggregate-write-all c =
+    let start = c .before .before .before in
+    sym (length-take-le (start .args .n) (start .args .out .now) (search needs))
 
 write-all-requires : tie.Need-write-all-requires
 write-all-requires c κs = search needs

@@ -29,7 +29,9 @@ cast-put-named-2 : tie.Need-cast-put-named-2
 cast-put-named-2 c = search needs
 
 put-named-requires-2 : tie.Need-put-named-requires-2
-put-named-requires-2 c κs = omega (arith, c .before .before .before .before .before .put-named .ensures .counted, named-short (text "(move c") (c .before .before .before .before .before .before .before .before .before .before .args .x .carrier .0) (search needs), c .before .before .before .before .before .before .before .before .before .before .pre)
+put-named-requires-2 c κs =
+    let start = c .before .before .before .before .before .before .before .before .before .before in
+    omega (arith, c .before .before .before .before .before .put-named .ensures .counted, named-short (text "(move c") (start .args .x .carrier .0) (search needs), start .pre)
 
 slice-aggregate-put-named-3 : tie.Need-slice-aggregate-put-named-3
 slice-aggregate-put-named-3 c = search needs
@@ -38,19 +40,30 @@ cast-put-named-3 : tie.Need-cast-put-named-3
 cast-put-named-3 c = search needs
 
 put-named-requires-3 : tie.Need-put-named-requires-3
-put-named-requires-3 c κs = omega (arith, c .before .before .before .before .before .put-named2 .ensures .counted, c .before .before .before .before .before .before .before .before .before .before .before .put-named .ensures .counted, named-short (text "(move c") (c .before .before .before .before .before .before .before .before .before .before .before .before .before .before .before .before .args .x .carrier .0) (search needs), named-short (text " b") (c .before .before .before .before .before .before .before .before .before .before .before .before .before .before .before .before .args .x .from .0) (search needs), c .before .before .before .before .before .before .before .before .before .before .before .before .before .before .before .before .pre)
+put-named-requires-3 c κs =
+    let put-named = c .before .before .before .before .before .before .before .before .before .before .before .put-named in
+    let start = c .before .before .before .before .before .before .before .before .before .before .before .before .before .before .before .before in
+    omega (arith, c .before .before .before .before .before .put-named2 .ensures .counted, put-named .ensures .counted, named-short (text "(move c") (start .args .x .carrier .0) (search needs), named-short (text " b") (start .args .x .from .0) (search needs), start .pre)
 
 slice-aggregate-put-text : tie.Need-slice-aggregate-put-text
 slice-aggregate-put-text c = search needs
 
 put-text-requires : tie.Need-put-text-requires
-put-text-requires c κs = omega (arith, c .before .before .before .before .put-named3 .ensures .counted, c .before .before .before .before .before .before .before .before .before .before .put-named2 .ensures .counted, c .before .before .before .before .before .before .before .before .before .before .before .before .before .before .before .before .put-named .ensures .counted, named-short (text "(move c") (c .before .before .before .before .before .before .before .before .before .before .before .before .before .before .before .before .before .before .before .before .before .args .x .carrier .0) (search needs), named-short (text " b") (c .before .before .before .before .before .before .before .before .before .before .before .before .before .before .before .before .before .before .before .before .before .args .x .from .0) (search needs), named-short (text " b") (c .before .before .before .before .before .before .before .before .before .before .before .before .before .before .before .before .before .before .before .before .before .args .x .to .0) (search needs), c .before .before .before .before .before .before .before .before .before .before .before .before .before .before .before .before .before .before .before .before .before .pre)
+put-text-requires c κs =
+    let put-named2 = c .before .before .before .before .before .before .before .before .before .before .put-named2 in
+    let put-named = c .before .before .before .before .before .before .before .before .before .before .before .before .before .before .before .before .put-named in
+    let start = c .before .before .before .before .before .before .before .before .before .before .before .before .before .before .before .before .before .before .before .before .before in
+    omega (arith, c .before .before .before .before .put-named3 .ensures .counted, put-named2 .ensures .counted, put-named .ensures .counted, named-short (text "(move c") (start .args .x .carrier .0) (search needs), named-short (text " b") (start .args .x .from .0) (search needs), named-short (text " b") (start .args .x .to .0) (search needs), start .pre)
 
 same-length : tie.Need-same-length
 same-length c = search needs
 
 returns : tie.Need-returns
-returns c = rw (← action-parts (crossingOf (c .before .before .before .before .before .before .before .before .before .before .before .before .before .before .before .before .before .before .before .before .before .before .before .before .args .x))) (wrote-then (wrote-then (wrote-then (c .before .before .before .before .before .before .before .before .before .before .before .before .before .before .before .before .before .before .before .put-named .ensures) (c .before .before .before .before .before .before .before .before .before .before .before .before .before .put-named2 .ensures)) (c .before .before .before .before .before .before .before .put-named3 .ensures)) (c .before .before .put-text .ensures))
+returns c =
+    let put-named2 = c .before .before .before .before .before .before .before .before .before .before .before .before .before .put-named2 in
+    let put-named = c .before .before .before .before .before .before .before .before .before .before .before .before .before .before .before .before .before .before .before .put-named in
+    let start = c .before .before .before .before .before .before .before .before .before .before .before .before .before .before .before .before .before .before .before .before .before .before .before .before in
+    rw (← action-parts (crossingOf (start .args .x))) (wrote-then (wrote-then (wrote-then (put-named .ensures) (put-named2 .ensures)) (c .before .before .before .before .before .before .before .put-named3 .ensures)) (c .before .before .put-text .ensures))
 
 pub action-spec : {M : Type 1} → statement M
 action-spec =

@@ -34,7 +34,9 @@ unpack-requires : tie.Need-unpack-requires Inv-loop μ-loop
 unpack-requires c κs = search needs
 
 action-requires : tie.Need-action-requires Inv-loop μ-loop
-action-requires c κs = omega (arith, c .before .before .before .before .loop .inv .1 .0 .counted, c .before .before .before .before .loop .inv .1 .1, c .before .before .before .before .before .before .before .pre)
+action-requires c κs =
+    let loop = c .before .before .before .before .loop in
+    omega (arith, loop .inv .1 .0 .counted, loop .inv .1 .1, c .before .before .before .before .before .before .before .pre)
 
 add-i : tie.Need-add-i Inv-loop μ-loop
 add-i c = search needs
@@ -43,7 +45,10 @@ loop-less : tie.Need-loop-less Inv-loop μ-loop
 loop-less c = search needs
 
 loop-again : tie.Need-loop-again Inv-loop μ-loop
-loop-again c = (search needs, (rw (lines-more (c .before .before .before .before .before .before .before .before .before .before .args .plan .now) (c .before .before .before .before .before .before .before .loop .i) (search needs), ← c .before .before .before .unpack .ensures) (wrote-then (c .before .before .before .before .before .before .before .loop .inv .1 .0) (c .before .before .action .ensures)), lines-short (c .before .before .before .before .before .before .before .before .before .before .args .plan .now) (c .before .before .before .before .before .before .before .loop .i) (search needs) (omega (arith, c .before .before .before .before .shared-slice-known2 .given (c .before .before .before .before .before .before .before .loop .i))) (c .before .before .before .before .before .before .before .loop .inv .1 .1)))
+loop-again c =
+    let loop = c .before .before .before .before .before .before .before .loop in
+    let start = c .before .before .before .before .before .before .before .before .before .before in
+    (search needs, (rw (lines-more (start .args .plan .now) (loop .i) (search needs), ← c .before .before .before .unpack .ensures) (wrote-then (loop .inv .1 .0) (c .before .before .action .ensures)), lines-short (start .args .plan .now) (loop .i) (search needs) (omega (arith, c .before .before .before .before .shared-slice-known2 .given (loop .i))) (loop .inv .1 .1)))
 
 same-length : tie.Need-same-length Inv-loop μ-loop
 same-length c = wrote-length (c .before .loop .inv .1 .0)

@@ -22,13 +22,17 @@ slice-aggregate-put-text : tie.Need-slice-aggregate-put-text
 slice-aggregate-put-text c = search needs
 
 put-text-requires : tie.Need-put-text-requires
-put-text-requires c κs = omega (arith, c .before .before .before .before .put-named .ensures .counted, named-short (text "; cost = ") (c .before .before .before .before .before .before .before .before .args .n) (search needs), c .before .before .before .before .before .before .before .before .pre)
+put-text-requires c κs =
+    let start = c .before .before .before .before .before .before .before .before in
+    omega (arith, c .before .before .before .before .put-named .ensures .counted, named-short (text "; cost = ") (start .args .n) (search needs), start .pre)
 
 same-length : tie.Need-same-length
 same-length c = search needs
 
 returns : tie.Need-returns
-returns c = rw (← cost-parts (c .before .before .before .before .before .before .before .before .before .before .before .args .n)) (wrote-then (c .before .before .before .before .before .before .before .put-named .ensures) (c .before .before .put-text .ensures))
+returns c =
+    let start = c .before .before .before .before .before .before .before .before .before .before .before in
+    rw (← cost-parts (start .args .n)) (wrote-then (c .before .before .before .before .before .before .before .put-named .ensures) (c .before .before .put-text .ensures))
 
 pub cost-spec : {M : Type 1} → statement M
 cost-spec =

@@ -21,7 +21,10 @@ same-length : tie.Need-same-length
 same-length c = search needs
 
 returns : tie.Need-returns
-returns c = rw (← plan-parts (c .before .before .before .before .before .before .before .before .before .before .before .args .plan .now) (c .before .before .before .before .before .before .before .before .if1 .taken)) (wrote-then (c .before .before .before .before .before .before .actions .ensures .0) (c .before .before .cost .ensures))
+returns c =
+    let if1 = c .before .before .before .before .before .before .before .before .if1 in
+    let start = c .before .before .before .before .before .before .before .before .before .before .before in
+    rw (← plan-parts (start .args .plan .now) (if1 .taken)) (wrote-then (c .before .before .before .before .before .before .actions .ensures .0) (c .before .before .cost .ensures))
 
 refusal-requires : tie.Need-refusal-requires
 refusal-requires c κs = search needs

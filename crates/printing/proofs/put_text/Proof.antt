@@ -36,7 +36,10 @@ loop-less : tie.Need-loop-less Inv-loop μ-loop
 loop-less c = search needs
 
 loop-again : tie.Need-loop-again Inv-loop μ-loop
-loop-again c = (search needs, wrote-next (c .before .before .before .before .before .before .before .before .before .args .text .now) (c .before .before .before .before .before .before .loop .i) (search needs) (c .before .before .before .before .before .before .loop .inv .1) (c .before .before .byte .ensures) (search needs))
+loop-again c =
+    let loop = c .before .before .before .before .before .before .loop in
+    let start = c .before .before .before .before .before .before .before .before .before in
+    (search needs, wrote-next (start .args .text .now) (loop .i) (search needs) (loop .inv .1) (c .before .before .byte .ensures) (search needs))
 
 add-result : tie.Need-add-result Inv-loop μ-loop
 add-result c = search needs

@@ -34,19 +34,32 @@ carried-requires : tie.Need-carried-requires
 carried-requires c κs = search needs
 
 put-named-requires-2 : tie.Need-put-named-requires-2
-put-named-requires-2 c κs = omega (arith, c .before .before .before .before .before .before .before .put-named .ensures .counted, named-short (text "; refused ") (c .before .before .before .before .before .before .before .before .number .result) (search needs))
+put-named-requires-2 c κs =
+    let number = c .before .before .before .before .before .before .before .before .number in
+    omega (arith, c .before .before .before .before .before .before .before .put-named .ensures .counted, named-short (text "; refused ") (number .result) (search needs))
 
 slice-aggregate-put-text : tie.Need-slice-aggregate-put-text
 slice-aggregate-put-text c = search needs
 
 put-text-requires : tie.Need-put-text-requires
-put-text-requires c κs = omega (arith, c .before .before .before .before .put-named2 .ensures .counted, c .before .before .before .before .before .before .before .before .before .before .before .before .put-named .ensures .counted, named-short (text "; refused ") (c .before .before .before .before .before .before .before .before .before .before .before .before .before .number .result) (search needs), named-short (text " ") (c .before .before .before .before .before .carried .result) (search needs))
+put-text-requires c κs =
+    let put-named = c .before .before .before .before .before .before .before .before .before .before .before .before .put-named in
+    let number = c .before .before .before .before .before .before .before .before .before .before .before .before .before .number in
+    omega (arith, c .before .before .before .before .put-named2 .ensures .counted, put-named .ensures .counted, named-short (text "; refused ") (number .result) (search needs), named-short (text " ") (c .before .before .before .before .before .carried .result) (search needs))
 
 same-length : tie.Need-same-length
 same-length c = search needs
 
 returns : tie.Need-returns
-returns c = (rw (← refusal-carried (refusalOf (c .before .before .before .before .before .before .before .before .before .before .before .before .before .before .before .before .before .before .before .before .args .r)) (c .before .before .before .before .before .before .before .before .carried .result) (some-carried _ _ (sym (c .before .before .before .before .before .before .before .before .before .before .before .before .carries .ensures) ∙ c .before .before .before .before .before .before .before .before .before .before .before .if1 .taken) (c .before .before .before .before .before .before .before .before .carried .ensures)), ← c .before .before .before .before .before .before .before .before .before .before .before .before .before .before .before .before .number .ensures) (wrote-then (wrote-then (c .before .before .before .before .before .before .before .before .before .before .before .before .before .before .before .put-named .ensures) (c .before .before .before .before .before .before .before .put-named2 .ensures)) (c .before .before .put-text .ensures)), omega (arith, c .before .before .put-text .ensures .counted, c .before .before .before .before .before .before .before .put-named2 .ensures .counted, c .before .before .before .before .before .before .before .before .before .before .before .before .before .before .before .put-named .ensures .counted, named-short (text "; refused ") (c .before .before .before .before .before .before .before .before .before .before .before .before .before .before .before .before .number .result) (search needs), named-short (text " ") (c .before .before .before .before .before .before .before .before .carried .result) (search needs)))
+returns c =
+    let put-named2 = c .before .before .before .before .before .before .before .put-named2 in
+    let carried = c .before .before .before .before .before .before .before .before .carried in
+    let if1 = c .before .before .before .before .before .before .before .before .before .before .before .if1 in
+    let carries = c .before .before .before .before .before .before .before .before .before .before .before .before .carries in
+    let put-named = c .before .before .before .before .before .before .before .before .before .before .before .before .before .before .before .put-named in
+    let number = c .before .before .before .before .before .before .before .before .before .before .before .before .before .before .before .before .number in
+    let start = c .before .before .before .before .before .before .before .before .before .before .before .before .before .before .before .before .before .before .before .before in
+    (rw (← refusal-carried (refusalOf (start .args .r)) (carried .result) (some-carried _ _ (sym (carries .ensures) ∙ if1 .taken) (carried .ensures)), ← number .ensures) (wrote-then (wrote-then (put-named .ensures) (put-named2 .ensures)) (c .before .before .put-text .ensures)), omega (arith, c .before .before .put-text .ensures .counted, put-named2 .ensures .counted, put-named .ensures .counted, named-short (text "; refused ") (number .result) (search needs), named-short (text " ") (carried .result) (search needs)))
 
 slice-aggregate-put-text-2 : tie.Need-slice-aggregate-put-text-2
 slice-aggregate-put-text-2 c = search needs
@@ -58,7 +71,11 @@ same-length-2 : tie.Need-same-length-2
 same-length-2 c = search needs
 
 returns-2 : tie.Need-returns-2
-returns-2 c = (rw (← refusal-plain (refusalOf (c .before .before .before .before .before .before .before .before .before .before .before .before .before .before .args .r)) (none-carried _ (sym (c .before .before .before .before .before .before .carries .ensures) ∙ c .before .before .before .before .before .if1 .left)), ← c .before .before .before .before .before .before .before .before .before .before .number .ensures) (wrote-then (c .before .before .before .before .before .before .before .before .before .put-named .ensures) (c .before .before .put-text2 .ensures)), omega (arith, c .before .before .put-text2 .ensures .counted, c .before .before .before .before .before .before .before .before .before .put-named .ensures .counted, named-short (text "; refused ") (c .before .before .before .before .before .before .before .before .before .before .number .result) (search needs)))
+returns-2 c =
+    let put-named = c .before .before .before .before .before .before .before .before .before .put-named in
+    let number = c .before .before .before .before .before .before .before .before .before .before .number in
+    let start = c .before .before .before .before .before .before .before .before .before .before .before .before .before .before in
+    (rw (← refusal-plain (refusalOf (start .args .r)) (none-carried _ (sym (c .before .before .before .before .before .before .carries .ensures) ∙ c .before .before .before .before .before .if1 .left)), ← number .ensures) (wrote-then (put-named .ensures) (c .before .before .put-text2 .ensures)), omega (arith, c .before .before .put-text2 .ensures .counted, put-named .ensures .counted, named-short (text "; refused ") (number .result) (search needs)))
 
 pub refusal-spec : {M : Type 1} → statement M
 refusal-spec =

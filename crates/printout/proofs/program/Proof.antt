@@ -38,7 +38,9 @@ same-length c = search needs
 
 -- src/lib.rt:27:1
 returns : tie.Need-returns
-returns c = hands-part (c .before .before .before .before .before .before .print .ensures .0) (omega (arith, c .before .before .before .before .before .before .print .ensures .1, slice-aggregate-print (c .before .before .before .before .before .before .before))) (c .before .before .text .ensures)
+returns c =
+    let print = c .before .before .before .before .before .before .print in
+    hands-part (print .ensures .0) (omega (arith, print .ensures .1, slice-aggregate-print (c .before .before .before .before .before .before .before))) (c .before .before .text .ensures)
 
 pub program-spec : {M : Type 1} → statement M
 program-spec =

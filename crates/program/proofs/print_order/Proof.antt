@@ -42,8 +42,10 @@ same-length c = search needs
 
 returns : tie.Need-returns
 returns c =
-    let s = c .before .before .before .before .before .before .before .before .before .before .before .before .before .before .before .args in
-    (c .before .before .print-planned .ensures .prints (plan (orderIn (s .order) (s .ends .now) (s .starts .now) (s .goals .now)) program-room) (handed-in (c .before .before .before .before .before .before .plan2 .ensures) (slice-aggregate-plan-4 (c .before .before .before .before .before .before .before))), order-room (c .before .before .before .before .before .before .plan2 .ensures) (slice-aggregate-plan-4 (c .before .before .before .before .before .before .before)) (c .before .before .print-planned .ensures))
+    let plan2 = c .before .before .before .before .before .before .plan2 in
+    let start = c .before .before .before .before .before .before .before .before .before .before .before .before .before .before .before in
+    let s = start .args in
+    (c .before .before .print-planned .ensures .prints (plan (orderIn (s .order) (s .ends .now) (s .starts .now) (s .goals .now)) program-room) (handed-in (plan2 .ensures) (slice-aggregate-plan-4 (c .before .before .before .before .before .before .before))), order-room (plan2 .ensures) (slice-aggregate-plan-4 (c .before .before .before .before .before .before .before)) (c .before .before .print-planned .ensures))
 
 pub print-order-spec : {M : Type 1} → statement M
 print-order-spec =

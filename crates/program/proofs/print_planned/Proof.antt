@@ -15,7 +15,9 @@ enum-known-answer : tie.Need-enum-known-answer
 enum-known-answer c = search needs
 
 slice-aggregate-plan : tie.Need-slice-aggregate-plan
-slice-aggregate-plan c = sym (length-take-le _ (c .before .before .before .before .before .before .args .plan .now) (c .before .before .before .before .before .before .pre .inside _ (c .before .before .answer .given .1)))
+slice-aggregate-plan c =
+    let start = c .before .before .before .before .before .before in
+    sym (length-take-le _ (start .args .plan .now) (start .pre .inside _ (c .before .before .answer .given .1)))
 
 plan-requires : tie.Need-plan-requires
 plan-requires c κs = search needs
@@ -30,7 +32,9 @@ same-length : tie.Need-same-length
 same-length c = search needs
 
 returns : tie.Need-returns
-returns c = plan-prints _ (c .before .before .before .before .before .before .answer .given .1) (c .before .before .before .before .before .before .before .before .before .before .pre) (c .before .before .plan .ensures)
+returns c =
+    let start = c .before .before .before .before .before .before .before .before .before .before in
+    plan-prints _ (c .before .before .before .before .before .before .answer .given .1) (start .pre) (c .before .before .plan .ensures)
 
 same-length-2 : tie.Need-same-length-2
 same-length-2 c = search needs

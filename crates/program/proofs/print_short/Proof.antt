@@ -33,13 +33,19 @@ plan-requires : tie.Need-plan-requires
 plan-requires c κs = search needs
 
 slice-aggregate-shorten-planned : tie.Need-slice-aggregate-shorten-planned
-slice-aggregate-shorten-planned c = sym (length-take-le _ _ (c .before .before .before .before .before .before .before .before .before .before .before .pre .0))
+slice-aggregate-shorten-planned c =
+    let start = c .before .before .before .before .before .before .before .before .before .before .before in
+    sym (length-take-le _ _ (start .pre .0))
 
 slice-aggregate-shorten-planned-2 : tie.Need-slice-aggregate-shorten-planned-2
-slice-aggregate-shorten-planned-2 c = sym (length-take-le _ _ (c .before .before .before .before .before .before .before .before .before .before .before .before .pre .1))
+slice-aggregate-shorten-planned-2 c =
+    let start = c .before .before .before .before .before .before .before .before .before .before .before .before in
+    sym (length-take-le _ _ (start .pre .1))
 
 slice-aggregate-shorten-planned-3 : tie.Need-slice-aggregate-shorten-planned-3
-slice-aggregate-shorten-planned-3 c = sym (length-take-le _ _ (c .before .before .before .before .before .before .before .before .before .before .before .before .before .pre .2))
+slice-aggregate-shorten-planned-3 c =
+    let start = c .before .before .before .before .before .before .before .before .before .before .before .before .before in
+    sym (length-take-le _ _ (start .pre .2))
 
 slice-aggregate-shorten-planned-4 : tie.Need-slice-aggregate-shorten-planned-4
 slice-aggregate-shorten-planned-4 c = search needs
@@ -61,7 +67,8 @@ same-length c = search needs
 
 returns : tie.Need-returns
 returns c =
-    let s = c .before .before .before .before .before .before .before .before .before .before .before .before .before .before .before .before .before .before .before .before .before .before .args in
+    let start = c .before .before .before .before .before .before .before .before .before .before .before .before .before .before .before .before .before .before .before .before .before .before in
+    let s = start .args in
     let short = c .before .before .before .before .before .before .shorten-planned .ensures in
     let prints = c .before .before .print-planned .ensures in
     (prints .prints (shortAnswer (plan (orderIn (s .order) (s .ends .now) (s .starts .now) (s .goals .now)) program-room)) (short .handed), short-room short prints)

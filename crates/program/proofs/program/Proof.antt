@@ -39,7 +39,9 @@ slice-aggregate-print-order-3 : tie.Need-slice-aggregate-print-order-3
 slice-aggregate-print-order-3 c = search needs
 
 print-order-requires : tie.Need-print-order-requires
-print-order-requires c κs = let s = order-stands (c .before .before .before .before .before .before .before .before .before .before .read-order .ensures) _ (c .before .before .before .before .before .ordered .given .1) (omega (arith, slice-aggregate-read-order (c .before .before .before .before .before .before .before .before .before .before .before .before .before))) (omega (arith, slice-aggregate-read-order-2 (c .before .before .before .before .before .before .before .before .before .before .before .before))) (omega (arith, slice-aggregate-read-order-3 (c .before .before .before .before .before .before .before .before .before .before .before))) in (s .rails, s .starting, s .ending)
+print-order-requires c κs =
+    let read-order = c .before .before .before .before .before .before .before .before .before .before .read-order in
+    let s = order-stands (read-order .ensures) _ (c .before .before .before .before .before .ordered .given .1) (omega (arith, slice-aggregate-read-order (c .before .before .before .before .before .before .before .before .before .before .before .before .before))) (omega (arith, slice-aggregate-read-order-2 (c .before .before .before .before .before .before .before .before .before .before .before .before))) (omega (arith, slice-aggregate-read-order-3 (c .before .before .before .before .before .before .before .before .before .before .before))) in (s .rails, s .starting, s .ending)
 
 enum-known-ordered-2 : tie.Need-enum-known-ordered-2
 enum-known-ordered-2 c = search needs
@@ -52,14 +54,19 @@ same-length c = search needs
 
 returns : tie.Need-returns
 unfolding program
-returns c = (rw (ap printed (sym ((order-stands (c .before .before .before .before .before .before .before .before .before .before .before .before .before .read-order .ensures) _ (c .before .before .before .before .before .before .before .before .ordered .given .1) (omega (arith, slice-aggregate-read-order (c .before .before .before .before .before .before .before .before .before .before .before .before .before .before .before .before))) (omega (arith, slice-aggregate-read-order-2 (c .before .before .before .before .before .before .before .before .before .before .before .before .before .before .before))) (omega (arith, slice-aggregate-read-order-3 (c .before .before .before .before .before .before .before .before .before .before .before .before .before .before)))) .answers))) (c .before .before .print-order .ensures .0), c .before .before .print-order .ensures .1)
+returns c =
+    let ordered = c .before .before .before .before .before .before .before .before .ordered in
+    let read-order = c .before .before .before .before .before .before .before .before .before .before .before .before .before .read-order in
+    (rw (ap printed (sym ((order-stands (read-order .ensures) _ (ordered .given .1) (omega (arith, slice-aggregate-read-order (c .before .before .before .before .before .before .before .before .before .before .before .before .before .before .before .before))) (omega (arith, slice-aggregate-read-order-2 (c .before .before .before .before .before .before .before .before .before .before .before .before .before .before .before))) (omega (arith, slice-aggregate-read-order-3 (c .before .before .before .before .before .before .before .before .before .before .before .before .before .before)))) .answers))) (c .before .before .print-order .ensures .0), c .before .before .print-order .ensures .1)
 
 same-length-2 : tie.Need-same-length-2
 same-length-2 c = search needs
 
 returns-2 : tie.Need-returns-2
 unfolding program
-returns-2 c = (rw (ap printed (sym (refusal-stands (c .before .before .before .before .before .before .before .before .before .before .read-order .ensures) _ (c .before .before .before .before .before .ordered2 .given .1)))) (c .before .before .refusal .ensures .0), omega (arith, c .before .before .refusal .ensures .1))
+returns-2 c =
+    let read-order = c .before .before .before .before .before .before .before .before .before .before .read-order in
+    (rw (ap printed (sym (refusal-stands (read-order .ensures) _ (c .before .before .before .before .before .ordered2 .given .1)))) (c .before .before .refusal .ensures .0), omega (arith, c .before .before .refusal .ensures .1))
 
 pub program-spec : {M : Type 1} → statement M
 program-spec =

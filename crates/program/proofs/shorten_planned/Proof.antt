@@ -15,10 +15,14 @@ enum-known-answer : tie.Need-enum-known-answer
 enum-known-answer c = search needs
 
 slice-aggregate-shorten : tie.Need-slice-aggregate-shorten
-slice-aggregate-shorten c = sym (length-take-le _ _ (c .before .before .before .before .before .before .before .before .before .pre .0 .within .inside _ (c .before .before .answer .given .1)))
+slice-aggregate-shorten c =
+    let start = c .before .before .before .before .before .before .before .before .before in
+    sym (length-take-le _ _ (start .pre .0 .within .inside _ (c .before .before .answer .given .1)))
 
 array-share-prefix-marks : tie.Need-array-share-prefix-marks
-array-share-prefix-marks c = omega (arith, c .before .before .before .before .before .before .before .before .before .pre .0 .within .inside _ (c .before .before .answer .given .1), c .before .before .before .before .before .before .before .before .before .pre .0 .sized)
+array-share-prefix-marks c =
+    let start = c .before .before .before .before .before .before .before .before .before in
+    omega (arith, start .pre .0 .within .inside _ (c .before .before .answer .given .1), start .pre .0 .sized)
 
 slice-aggregate-shorten-2 : tie.Need-slice-aggregate-shorten-2
 slice-aggregate-shorten-2 c = sym (enough _ (array-share-prefix-marks (c .before)))
@@ -39,16 +43,24 @@ same-length : tie.Need-same-length
 same-length c = search needs
 
 returns : tie.Need-returns
-returns c = written-short (c .before .before .before .before .before .before .before .before .before .before .before .before .before .before .before .before .before .pre .0) _ (c .before .before .before .before .before .before .before .before .before .before .answer .given .1) _ (marked (c .before .before .before .before .before .before .before .before .before .before .before .before .before .before .before .before .before .pre .0) _ (c .before .before .before .before .before .before .before .before .before .before .answer .given .1)) _ (c .before .before .before .before .before .before .before .before .before .before .before .before .before .before .before .before .before .pre .1) (c .before .before .before .before .before .shorten .ensures) _ (c .before .shorter .given .1)
+returns c =
+    let answer = c .before .before .before .before .before .before .before .before .before .before .answer in
+    let start = c .before .before .before .before .before .before .before .before .before .before .before .before .before .before .before .before .before in
+    written-short (start .pre .0) _ (answer .given .1) _ (marked (start .pre .0) _ (answer .given .1)) _ (start .pre .1) (c .before .before .before .before .before .shorten .ensures) _ (c .before .shorter .given .1)
 
 same-length-2 : tie.Need-same-length-2
 same-length-2 c = search needs
 
 returns-2 : tie.Need-returns-2
-returns-2 c = not-refused (c .before .before .before .before .before .before .before .before .before .before .before .before .before .before .before .before .before .pre .0) _ (c .before .before .before .before .before .before .before .before .before .before .answer .given .1) _ (marked (c .before .before .before .before .before .before .before .before .before .before .before .before .before .before .before .before .before .pre .0) _ (c .before .before .before .before .before .before .before .before .before .before .answer .given .1)) _ (c .before .before .before .before .before .before .before .before .before .before .before .before .before .before .before .before .before .pre .1) (c .before .before .before .before .before .shorten .ensures) _ (c .before .shorter2 .given .1)
+returns-2 c =
+    let answer = c .before .before .before .before .before .before .before .before .before .before .answer in
+    let start = c .before .before .before .before .before .before .before .before .before .before .before .before .before .before .before .before .before in
+    not-refused (start .pre .0) _ (answer .given .1) _ (marked (start .pre .0) _ (answer .given .1)) _ (start .pre .1) (c .before .before .before .before .before .shorten .ensures) _ (c .before .shorter2 .given .1)
 
 returns-3 : tie.Need-returns-3
-returns-3 c = refusal-stays (c .before .before .before .before .before .before .before .before .pre .0) _ (c .before .answer2 .given .1) (c .before .before .before .before .before .before .before .before .pre .1)
+returns-3 c =
+    let start = c .before .before .before .before .before .before .before .before in
+    refusal-stays (start .pre .0) _ (c .before .answer2 .given .1) (start .pre .1)
 
 pub shorten-planned-spec : {M : Type 1} → statement M
 shorten-planned-spec =

@@ -46,7 +46,10 @@ from-bay-requires : tie.Need-from-bay-requires
 from-bay-requires c κs = search needs
 
 returns-2 : tie.Need-returns-2
-returns-2 c = c .from-bay .ensures ∙ carrier-yes _ _ (c .before .before .before .before .before .before .before .before .cut .ensures) (c .before .before .before .before .before .before .before .if1 .taken) (c .before .before .before .carrier .given .0 .0) (sym (c .before .before .before .carrier .given .1) ∙ c .before .before .before .before .before .number-after .ensures)
+returns-2 c =
+    let carrier = c .before .before .before .carrier in
+    let cut = c .before .before .before .before .before .before .before .before .cut in
+    c .from-bay .ensures ∙ carrier-yes _ _ (cut .ensures) (c .before .before .before .before .before .before .before .if1 .taken) (carrier .given .0 .0) (sym (carrier .given .1) ∙ c .before .before .before .before .before .number-after .ensures)
 
 returns-3 : tie.Need-returns-3
 returns-3 c = carrier-short _ _ (c .before .cut .ensures) (c .if1 .left)

@@ -22,7 +22,10 @@ shared-slice-read-if1 : tie.Need-shared-slice-read-if1 Inv-loop μ-loop
 shared-slice-read-if1 c = search needs
 
 returns : tie.Need-returns Inv-loop μ-loop
-returns c = cut-found (c .before .before .before .before .args .b) (c .before .before .before .before .args .text .now) (c .before .before .before .loop .i) (c .before .before .loop-test .taken) (c .before .before .before .loop .inv .1) (c .if1 .taken)
+returns c =
+    let loop = c .before .before .before .loop in
+    let start = c .before .before .before .before in
+    cut-found (start .args .b) (start .args .text .now) (loop .i) (c .before .before .loop-test .taken) (loop .inv .1) (c .if1 .taken)
 
 add-i : tie.Need-add-i Inv-loop μ-loop
 add-i c = search needs
@@ -31,7 +34,10 @@ loop-less : tie.Need-loop-less Inv-loop μ-loop
 loop-less c = search needs
 
 loop-again : tie.Need-loop-again Inv-loop μ-loop
-loop-again c = (search needs, passed-one (c .before .before .before .before .args .b) (c .before .before .before .before .args .text .now) (c .before .before .before .loop .i) (c .before .before .loop-test .taken) (c .before .before .before .loop .inv .1) (c .if1 .left))
+loop-again c =
+    let loop = c .before .before .before .loop in
+    let start = c .before .before .before .before in
+    (search needs, passed-one (start .args .b) (start .args .text .now) (loop .i) (c .before .before .loop-test .taken) (loop .inv .1) (c .if1 .left))
 
 returns-2 : tie.Need-returns-2 Inv-loop μ-loop
 returns-2 c = cut-none (c .before .before .args .b) (c .before .before .args .text .now) (c .before .loop .i) (c .before .loop .inv .0) (c .loop-test .left) (c .before .loop .inv .1)

@@ -38,7 +38,9 @@ same-length : tie.Need-same-length Inv-loop μ-loop
 same-length c = search needs
 
 returns : tie.Need-returns Inv-loop μ-loop
-returns c = came-end (c .before .before .before .before .before .before .args .reports) (c .before .before .before .before .before .before .args .file .now) (c .before .before .before .before .before .before .args .out .now) (c .before .before .before .loop .inv .1 .1 .1 .1) (c .before .before .next-line .ensures .none (c .enum-told .given .1))
+returns c =
+    let start = c .before .before .before .before .before .before in
+    came-end (start .args .reports) (start .args .file .now) (start .args .out .now) (c .before .before .before .loop .inv .1 .1 .1 .1) (c .before .before .next-line .ensures .none (c .enum-told .given .1))
 
 sub-of-line : tie.Need-sub-of-line Inv-loop μ-loop
 sub-of-line c = let t = c .before .before .before .next-line .ensures .line (c .before .stop .given .0 .0) (c .before .stop .given .0 .1 .0) (c .before .stop .given .1) in omega (arith, t .low, t .high)
@@ -59,19 +61,36 @@ same-length-2 : tie.Need-same-length-2 Inv-loop μ-loop
 same-length-2 c = search needs
 
 returns-2 : tie.Need-returns-2 Inv-loop μ-loop
-returns-2 c = came-bad (c .before .before .before .before .before .before .before .before .before .before .before .args .reports) (c .before .before .before .before .before .before .before .before .before .before .before .args .file .now) (c .before .before .before .before .before .before .before .before .before .before .before .args .out .now) (c .before .before .before .before .before .before .before .before .loop .inv .1 .1 .1 .1) _ _ (c .before .before .before .before .before .before .before .next-line .ensures .line (c .before .before .before .before .before .stop .given .0 .0) (c .before .before .before .before .before .stop .given .0 .1 .0) (c .before .before .before .before .before .stop .given .1)) (c .before .before .of-line .result) (c .before .before .of-line .ensures) (sym (c .before .is-broken .ensures) ∙ c .if1 .taken)
+returns-2 c =
+    let stop = c .before .before .before .before .before .stop in
+    let loop = c .before .before .before .before .before .before .before .before .loop in
+    let start = c .before .before .before .before .before .before .before .before .before .before .before in
+    came-bad (start .args .reports) (start .args .file .now) (start .args .out .now) (loop .inv .1 .1 .1 .1) _ _ (c .before .before .before .before .before .before .before .next-line .ensures .line (stop .given .0 .0) (stop .given .0 .1 .0) (stop .given .1)) (c .before .before .of-line .result) (c .before .before .of-line .ensures) (sym (c .before .is-broken .ensures) ∙ c .if1 .taken)
 
 keep-requires : tie.Need-keep-requires Inv-loop μ-loop
-keep-requires c κs = let t = c .before .before .before .before .before .before .before .before .next-line .ensures .line (c .before .before .before .before .before .before .stop .given .0 .0) (c .before .before .before .before .before .before .stop .given .0 .1 .0) (c .before .before .before .before .before .before .stop .given .1) in omega (arith, t .on, t .within, c .before .before .before .before .before .before .before .before .before .loop .inv .1 .1 .0)
+keep-requires c κs =
+    let stop = c .before .before .before .before .before .before .stop in
+    let next-line = c .before .before .before .before .before .before .before .before .next-line in
+    let loop = c .before .before .before .before .before .before .before .before .before .loop in
+    let t = next-line .ensures .line (stop .given .0 .0) (stop .given .0 .1 .0) (stop .given .1) in omega (arith, t .on, t .within, loop .inv .1 .1 .0)
 
 add-line : tie.Need-add-line Inv-loop μ-loop
 add-line c = search needs
 
 loop-less : tie.Need-loop-less Inv-loop μ-loop
-loop-less c = let t = c .before .before .before .before .before .before .before .before .before .before .before .next-line .ensures .line (c .before .before .before .before .before .before .before .before .before .stop .given .0 .0) (c .before .before .before .before .before .before .before .before .before .stop .given .0 .1 .0) (c .before .before .before .before .before .before .before .before .before .stop .given .1) in omega (arith, t .on, t .within)
+loop-less c =
+    let stop = c .before .before .before .before .before .before .before .before .before .stop in
+    let next-line = c .before .before .before .before .before .before .before .before .before .before .before .next-line in
+    let t = next-line .ensures .line (stop .given .0 .0) (stop .given .0 .1 .0) (stop .given .1) in omega (arith, t .on, t .within)
 
 loop-again : tie.Need-loop-again Inv-loop μ-loop
-loop-again c = let t = c .before .before .before .before .before .before .before .before .before .before .before .next-line .ensures .line (c .before .before .before .before .before .before .before .before .before .stop .given .0 .0) (c .before .before .before .before .before .before .before .before .before .stop .given .0 .1 .0) (c .before .before .before .before .before .before .before .before .before .stop .given .1) in (t .within, (omega (arith, t .on, c .before .before .before .before .before .before .before .before .before .before .before .before .loop .inv .1 .0), (omega (arith, t .on, c .before .before .keep .ensures .counted, numbers-few (c .before .before .before .before .before .before .of-line .result), c .before .before .before .before .before .before .before .before .before .before .before .before .loop .inv .1 .1 .0), (wrote-length (c .before .before .keep .ensures) ∙ c .before .before .before .before .before .before .before .before .before .before .before .before .loop .inv .1 .1 .1 .0, came-next (c .before .before .before .before .before .before .before .before .before .before .before .before .before .before .before .args .reports) (c .before .before .before .before .before .before .before .before .before .before .before .before .before .before .before .args .file .now) (c .before .before .before .before .before .before .before .before .before .before .before .before .before .before .before .args .out .now) (c .before .before .before .before .before .before .before .before .before .before .before .before .loop .inv .1 .1 .1 .1) _ _ t (c .before .before .before .before .before .before .of-line .result) (c .before .before .before .before .before .before .of-line .ensures) (sym (c .before .before .before .before .before .is-broken .ensures) ∙ c .before .before .before .before .if1 .left) (c .before .before .keep .ensures)))))
+loop-again c =
+    let of-line = c .before .before .before .before .before .before .of-line in
+    let stop = c .before .before .before .before .before .before .before .before .before .stop in
+    let next-line = c .before .before .before .before .before .before .before .before .before .before .before .next-line in
+    let loop = c .before .before .before .before .before .before .before .before .before .before .before .before .loop in
+    let start = c .before .before .before .before .before .before .before .before .before .before .before .before .before .before .before in
+    let t = next-line .ensures .line (stop .given .0 .0) (stop .given .0 .1 .0) (stop .given .1) in (t .within, (omega (arith, t .on, loop .inv .1 .0), (omega (arith, t .on, c .before .before .keep .ensures .counted, numbers-few (of-line .result), loop .inv .1 .1 .0), (wrote-length (c .before .before .keep .ensures) ∙ loop .inv .1 .1 .1 .0, came-next (start .args .reports) (start .args .file .now) (start .args .out .now) (loop .inv .1 .1 .1 .1) _ _ t (of-line .result) (of-line .ensures) (sym (c .before .before .before .before .before .is-broken .ensures) ∙ c .before .before .before .before .if1 .left) (c .before .before .keep .ensures)))))
 
 pub fold-spec : {M : Type 1} → statement M
 fold-spec =

@@ -39,7 +39,9 @@ add-next : tie.Need-add-next
 add-next c = search needs
 
 cast-to-bay : tie.Need-cast-to-bay
-cast-to-bay c = let h : c .before .from .given .0 .0 ≤ 65535 = capped-low 65535 _ (numberAfter 98 (take (c .before .before .before .before .before .before .cut .result) (c .before .before .before .before .before .before .before .before .args .text .now))) (sym (c .before .from .given .1) ∙ c .before .before .before .number-after .ensures) in omega arith
+cast-to-bay c =
+    let start = c .before .before .before .before .before .before .before .before in
+    let h : c .before .from .given .0 .0 ≤ 65535 = capped-low 65535 _ (numberAfter 98 (take (c .before .before .before .before .before .before .cut .result) (start .args .text .now))) (sym (c .before .from .given .1) ∙ c .before .before .before .number-after .ensures) in omega arith
 
 sub-to-bay : tie.Need-sub-to-bay
 sub-to-bay c = search needs
@@ -54,7 +56,10 @@ to-bay-requires : tie.Need-to-bay-requires
 to-bay-requires c κs = search needs
 
 returns-2 : tie.Need-returns-2
-returns-2 c = c .to-bay .ensures ∙ from-yes _ _ (c .before .before .before .before .before .before .before .before .cut .ensures) _ (c .before .before .before .before .before .before .before .if1 .taken) (c .before .before .before .from .given .0 .0) (sym (c .before .before .before .from .given .1) ∙ c .before .before .before .before .before .number-after .ensures)
+returns-2 c =
+    let from = c .before .before .before .from in
+    let cut = c .before .before .before .before .before .before .before .before .cut in
+    c .to-bay .ensures ∙ from-yes _ _ (cut .ensures) _ (c .before .before .before .before .before .before .before .if1 .taken) (from .given .0 .0) (sym (from .given .1) ∙ c .before .before .before .before .before .number-after .ensures)
 
 returns-3 : tie.Need-returns-3
 returns-3 c = from-short _ _ (c .before .cut .ensures) _ (c .if1 .left)

@@ -36,7 +36,10 @@ enum-told : tie.Need-enum-told Inv-loop μ-loop
 enum-told c = search needs
 
 returns-2 : tie.Need-returns-2 Inv-loop μ-loop
-returns-2 c = one-stops (c .before .before .before .before .before .before .before .before .args .digits .now) (c .before .before .before .before .before .before .before .before .args .most) (c .before .before .before .before .before .loop .n) (c .before .before .before .before .before .loop .i) (c .before .before .before .before .loop-test .taken) (c .before .before .before .before .before .loop .inv .1 .1) (sym (c .enum-told .given .1) ∙ c .before .before .digit-on .ensures)
+returns-2 c =
+    let loop = c .before .before .before .before .before .loop in
+    let start = c .before .before .before .before .before .before .before .before in
+    one-stops (start .args .digits .now) (start .args .most) (loop .n) (loop .i) (c .before .before .before .before .loop-test .taken) (loop .inv .1 .1) (sym (c .enum-told .given .1) ∙ c .before .before .digit-on .ensures)
 
 add-i : tie.Need-add-i Inv-loop μ-loop
 add-i c = search needs
@@ -45,10 +48,15 @@ loop-less : tie.Need-loop-less Inv-loop μ-loop
 loop-less c = search needs
 
 loop-again : tie.Need-loop-again Inv-loop μ-loop
-loop-again c = let s = one-on (c .before .before .before .before .before .before .before .before .before .args .digits .now) (c .before .before .before .before .before .before .before .before .before .args .most) (c .before .before .before .before .before .before .loop .n) (c .before .before .before .before .before .before .loop .i) (c .before .before .before .before .before .loop-test .taken) (c .before .before .before .before .before .before .loop .inv .1 .1) (c .before .next .given .0 .0) (sym (c .before .next .given .1) ∙ c .before .before .before .digit-on .ensures) in (search needs, (s .0, s .1))
+loop-again c =
+    let loop = c .before .before .before .before .before .before .loop in
+    let start = c .before .before .before .before .before .before .before .before .before in
+    let s = one-on (start .args .digits .now) (start .args .most) (loop .n) (loop .i) (c .before .before .before .before .before .loop-test .taken) (loop .inv .1 .1) (c .before .next .given .0 .0) (sym (c .before .next .given .1) ∙ c .before .before .before .digit-on .ensures) in (search needs, (s .0, s .1))
 
 returns-3 : tie.Need-returns-3 Inv-loop μ-loop
-returns-3 c = all-read (c .before .before .before .before .args .digits .now) (c .before .before .before .before .args .most) (c .before .loop .n) (c .before .loop .i) (c .loop-test .left) (c .before .loop .inv .1 .0) (c .before .loop .inv .1 .1)
+returns-3 c =
+    let start = c .before .before .before .before in
+    all-read (start .args .digits .now) (start .args .most) (c .before .loop .n) (c .before .loop .i) (c .loop-test .left) (c .before .loop .inv .1 .0) (c .before .loop .inv .1 .1)
 
 pub number-spec : {M : Type 1} → statement M
 number-spec =

@@ -28,7 +28,9 @@ number-requires : tie.Need-number-requires
 number-requires c κs = search needs
 
 returns-2 : tie.Need-returns-2
-returns-2 c = c .number .ensures ∙ after-letter (c .before .before .before .before .before .before .args .most) (c .before .before .before .before .before .before .args .letter) (c .before .before .before .before .before .before .args .word .now) (c .before .before .before .before .if1 .left) (c .before .before .if2 .taken)
+returns-2 c =
+    let start = c .before .before .before .before .before .before in
+    c .number .ensures ∙ after-letter (start .args .most) (start .args .letter) (start .args .word .now) (c .before .before .before .before .if1 .left) (c .before .before .if2 .taken)
 
 returns-3 : tie.Need-returns-3
 returns-3 c = after-other _ _ _ (c .if2 .left)

@@ -19,7 +19,9 @@ enum-known-found : tie.Need-enum-known-found
 enum-known-found c = search needs
 
 returns : tie.Need-returns
-returns c = plan-over (c .before .before .before .before .before .before .before .before .before .args .file .now) (c .before .before .before .before .before .before .before .before .before .args .out .now) (c .before .before .before .before .before .fold .ensures) (c .before .before .found .given .0 .0) (c .before .before .found .given .1) (c .if1 .taken)
+returns c =
+    let start = c .before .before .before .before .before .before .before .before .before in
+    plan-over (start .args .file .now) (start .args .out .now) (c .before .before .before .before .before .fold .ensures) (c .before .before .found .given .0 .0) (c .before .before .found .given .1) (c .if1 .taken)
 
 give-requires : tie.Need-give-requires
 give-requires c κs = search needs
@@ -31,10 +33,16 @@ same-length : tie.Need-same-length
 same-length c = search needs
 
 returns-2 : tie.Need-returns-2
-returns-2 c = plan-gives (c .before .before .before .before .before .before .before .before .before .before .before .before .before .args .file .now) (c .before .before .before .before .before .before .before .before .before .before .before .before .before .args .out .now) (c .before .before .before .before .before .before .before .before .before .fold .ensures) (c .before .before .before .before .before .before .found .given .0 .0) (c .before .before .before .before .before .before .found .given .1) (c .before .before .before .before .if1 .left) (c .before .before .give .ensures)
+returns-2 c =
+    let found = c .before .before .before .before .before .before .found in
+    let fold = c .before .before .before .before .before .before .before .before .before .fold in
+    let start = c .before .before .before .before .before .before .before .before .before .before .before .before .before in
+    plan-gives (start .args .file .now) (start .args .out .now) (fold .ensures) (found .given .0 .0) (found .given .1) (c .before .before .before .before .if1 .left) (c .before .before .give .ensures)
 
 returns-3 : tie.Need-returns-3
-returns-3 c = plan-bad (c .before .before .before .before .before .before .before .before .args .file .now) (c .before .before .before .before .before .before .before .before .args .out .now) (c .before .before .before .before .fold .ensures) (c .before .found2 .given .0 .0) (c .before .found2 .given .1)
+returns-3 c =
+    let start = c .before .before .before .before .before .before .before .before in
+    plan-bad (start .args .file .now) (start .args .out .now) (c .before .before .before .before .fold .ensures) (c .before .found2 .given .0 .0) (c .before .found2 .given .1)
 
 pub plan-spec : {M : Type 1} → statement M
 plan-spec =

@@ -28,10 +28,16 @@ same-length : tie.Need-same-length
 same-length c = search needs
 
 returns : tie.Need-returns
-returns c = reports-give (c .before .before .before .before .before .before .before .before .before .before .before .before .args .file .now) (c .before .before .before .before .before .before .before .before .before .before .before .before .args .out .now) (c .before .before .before .before .before .before .before .before .fold .ensures) (c .before .before .before .before .before .found .given .0 .0) (c .before .before .before .before .before .found .given .1) (c .before .before .give .ensures)
+returns c =
+    let found = c .before .before .before .before .before .found in
+    let fold = c .before .before .before .before .before .before .before .before .fold in
+    let start = c .before .before .before .before .before .before .before .before .before .before .before .before in
+    reports-give (start .args .file .now) (start .args .out .now) (fold .ensures) (found .given .0 .0) (found .given .1) (c .before .before .give .ensures)
 
 returns-2 : tie.Need-returns-2
-returns-2 c = reports-bad (c .before .before .before .before .before .before .before .before .args .file .now) (c .before .before .before .before .before .before .before .before .args .out .now) (c .before .before .before .before .fold .ensures) (c .before .found2 .given .0 .0) (c .before .found2 .given .1)
+returns-2 c =
+    let start = c .before .before .before .before .before .before .before .before in
+    reports-bad (start .args .file .now) (start .args .out .now) (c .before .before .before .before .fold .ensures) (c .before .found2 .given .0 .0) (c .before .found2 .given .1)
 
 pub reports-spec : {M : Type 1} → statement M
 reports-spec =

@@ -42,7 +42,11 @@ same-length-2 : tie.Need-same-length-2
 same-length-2 c = search needs
 
 returns-3 : tie.Need-returns-3
-returns-3 c = list-fits (c .before .before .before .before .before .before .before .before .before .before .before .before .before .before .read .ensures) _ _ _ (c .before .before .before .before .before .before .before .before .before .before .found .given .1) (c .before .before .before .before .before .before .before .before .if1 .left) (c .before .before .before .before .before .before .before .if2 .left) (c .before .before .before .before .read2 .ensures)
+returns-3 c =
+    let if1 = c .before .before .before .before .before .before .before .before .if1 in
+    let found = c .before .before .before .before .before .before .before .before .before .before .found in
+    let read = c .before .before .before .before .before .before .before .before .before .before .before .before .before .before .read in
+    list-fits (read .ensures) _ _ _ (found .given .1) (if1 .left) (c .before .before .before .before .before .before .before .if2 .left) (c .before .before .before .before .read2 .ensures)
 
 returns-4 : tie.Need-returns-4
 returns-4 c = list-bad (c .before .before .before .before .before .read .ensures) _ _ _ (c .before .found2 .given .1)

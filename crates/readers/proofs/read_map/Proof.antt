@@ -34,7 +34,9 @@ same-length : tie.Need-same-length
 same-length c = search needs
 
 returns : tie.Need-returns
-returns c = lay-as (laying-by (mapped-as (c .before .before .before .before .before .before .before .before .before .before .read .ensures) (c .before .before .before .before .before .before .before .found .given .1) (omega (arith, slice-aggregate-read (c .before .before .before .before .before .before .before .before .before .before .before))))) (c .before .before .lay .ensures)
+returns c =
+    let read = c .before .before .before .before .before .before .before .before .before .before .read in
+    lay-as (laying-by (mapped-as (read .ensures) (c .before .before .before .before .before .before .before .found .given .1) (omega (arith, slice-aggregate-read (c .before .before .before .before .before .before .before .before .before .before .before))))) (c .before .before .lay .ensures)
 
 returns-2 : tie.Need-returns-2
 returns-2 c = lay-bad _ _ (map-bad (c .before .before .before .before .read .ensures) _ (c .before .found2 .given .1))

@@ -37,10 +37,16 @@ same-length-2 : tie.Need-same-length-2
 same-length-2 c = search needs
 
 returns : tie.Need-returns
-returns c = list-as (listing-by (mapped-as (c .before .before .before .before .before .before .before .before .before .before .before .before .read .ensures) (c .before .before .before .before .before .before .before .before .before .found .given .1) (omega (arith, slice-aggregate-read (c .before .before .before .before .before .before .before .before .before .before .before .before .before)))) (c .before .before .before .before .before .before .before .before .before .before .before .before .before .before .before .before .before .before .args .file .now)) (c .before .before .before .before .list .ensures)
+returns c =
+    let found = c .before .before .before .before .before .before .before .before .before .found in
+    let read = c .before .before .before .before .before .before .before .before .before .before .before .before .read in
+    let start = c .before .before .before .before .before .before .before .before .before .before .before .before .before .before .before .before .before .before in
+    list-as (listing-by (mapped-as (read .ensures) (found .given .1) (omega (arith, slice-aggregate-read (c .before .before .before .before .before .before .before .before .before .before .before .before .before)))) (start .args .file .now)) (c .before .before .before .before .list .ensures)
 
 returns-2 : tie.Need-returns-2
-returns-2 c = list-unmapped (c .before .before .before .before .before .before .before .before .before .before .args .file .now) _ _ _ (map-bad (c .before .before .before .before .read .ensures) _ (c .before .found2 .given .1))
+returns-2 c =
+    let start = c .before .before .before .before .before .before .before .before .before .before in
+    list-unmapped (start .args .file .now) _ _ _ (map-bad (c .before .before .before .before .read .ensures) _ (c .before .found2 .given .1))
 
 pub read-scenario-spec : {M : Type 1} → statement M
 read-scenario-spec =

@@ -47,16 +47,19 @@ is-in-requires c κs = search needs
 
 returns-5 : tie.Need-returns-5
 returns-5 c =
+    let if1 = c .before .before .before .before .before .before .before .before .before .before .if1 in
     let s = c .before .before .before .before .before .before .before .before .before .before .before .before .before in
-    no-rail (now (s .args .table)) (now (s .args .at)) (now (s .args .occupied)) (crossingOf (s .args .x)) (c .before .before .before .before .before .before .before .before .before .before .if1 .left) (c .before .before .before .before .before .before .before .if2 .left) (c .before .before .before .before .if3 .left) (c .before .before .before .if4 .left) (sym (c .before .is-in .ensures) ∙ not-true _ (c .if5 .taken))
+    no-rail (now (s .args .table)) (now (s .args .at)) (now (s .args .occupied)) (crossingOf (s .args .x)) (if1 .left) (c .before .before .before .before .before .before .before .if2 .left) (c .before .before .before .before .if3 .left) (c .before .before .before .if4 .left) (sym (c .before .is-in .ensures) ∙ not-true _ (c .if5 .taken))
 
 element-copy-out-result : tie.Need-element-copy-out-result
 element-copy-out-result c = search needs
 
 returns-6 : tie.Need-returns-6
 returns-6 c =
+    let if2 = c .before .before .before .before .before .before .before .before .if2 in
+    let if1 = c .before .before .before .before .before .before .before .before .before .before .before .if1 in
     let s = c .before .before .before .before .before .before .before .before .before .before .before .before .before .before in
-    by-the-mark (now (s .args .table)) (now (s .args .at)) (now (s .args .occupied)) (crossingOf (s .args .x)) (c .before .before .before .before .before .before .before .before .before .before .before .if1 .left) (c .before .before .before .before .before .before .before .before .if2 .left) (c .before .before .before .before .before .if3 .left) (c .before .before .before .before .if4 .left) (sym (c .before .before .is-in .ensures) ∙ not-false _ (c .before .if5 .left))
+    by-the-mark (now (s .args .table)) (now (s .args .at)) (now (s .args .occupied)) (crossingOf (s .args .x)) (if1 .left) (if2 .left) (c .before .before .before .before .before .if3 .left) (c .before .before .before .before .if4 .left) (sym (c .before .before .is-in .ensures) ∙ not-false _ (c .before .if5 .left))
     _ refl
 
 pub is-legal-spec : {M : Type 1} → statement M

@@ -45,7 +45,9 @@ cast-t11 : tie.Need-cast-t11 Inv-loop μ-loop
 cast-t11 c = search needs
 
 returns : tie.Need-returns Inv-loop μ-loop
-returns c = let s = c .before .before .before .before .before in found-hit (isAway (now (s .args .at)) (now (s .args .goal))) (length (now (s .args .goal))) (notHome (now (s .args .goal)) (now (s .args .at))) (c .before .before .before .before .loop .c) (c .before .before .before .before .loop .inv .1) (c .before .before .before .loop-test .taken) (ap not (ne-eqb _ _ (c .if1 .taken)))
+returns c =
+    let loop = c .before .before .before .before .loop in
+    let s = c .before .before .before .before .before in found-hit (isAway (now (s .args .at)) (now (s .args .goal))) (length (now (s .args .goal))) (notHome (now (s .args .goal)) (now (s .args .at))) (loop .c) (loop .inv .1) (c .before .before .before .loop-test .taken) (ap not (ne-eqb _ _ (c .if1 .taken)))
 
 add-c : tie.Need-add-c Inv-loop μ-loop
 add-c c = search needs
@@ -54,7 +56,9 @@ loop-less : tie.Need-loop-less Inv-loop μ-loop
 loop-less c = search needs
 
 loop-again : tie.Need-loop-again Inv-loop μ-loop
-loop-again c = let s = c .before .before .before .before .before in (search needs, found-miss (isAway (now (s .args .at)) (now (s .args .goal))) (length (now (s .args .goal))) (notHome (now (s .args .goal)) (now (s .args .at))) (c .before .before .before .before .loop .c) (c .before .before .before .before .loop .inv .1) (c .before .before .before .loop-test .taken) (ap not (eq-eqb _ _ (c .if1 .left))))
+loop-again c =
+    let loop = c .before .before .before .before .loop in
+    let s = c .before .before .before .before .before in (search needs, found-miss (isAway (now (s .args .at)) (now (s .args .goal))) (length (now (s .args .goal))) (notHome (now (s .args .goal)) (now (s .args .at))) (loop .c) (loop .inv .1) (c .before .before .before .loop-test .taken) (ap not (eq-eqb _ _ (c .if1 .left))))
 
 returns-2 : tie.Need-returns-2 Inv-loop μ-loop
 returns-2 c = let s = c .before .before in found-end (isAway (now (s .args .at)) (now (s .args .goal))) (length (now (s .args .goal))) (notHome (now (s .args .goal)) (now (s .args .at))) (c .before .loop .c) (c .before .loop .inv .1) (c .loop-test .left)

@@ -36,9 +36,10 @@ same-length c = c .before .before .before .before .before .before .loop .inv .1
 
 returns : tie.Need-returns Inv-loop μ-loop
 returns c =
+    let crossing-at = c .before .before .before .before .crossing-at in
     let s = c .before .before .before .before .before .before .before .before .before in
     let t = c .before .before .before .before .before .before .loop in
-    λ Y p. walked-illegal Y (now (s .args .table)) (now (s .args .at)) (now (s .args .plan)) (t .at) (t .occupied) (t .i) (t .inv .2 Y p) (c .before .before .before .before .before .loop-test .taken) (crossingOf (c .before .before .before .before .crossing-at .result)) (c .before .before .before .before .crossing-at .ensures)
+    λ Y p. walked-illegal Y (now (s .args .table)) (now (s .args .at)) (now (s .args .plan)) (t .at) (t .occupied) (t .i) (t .inv .2 Y p) (c .before .before .before .before .before .loop-test .taken) (crossingOf (crossing-at .result)) (crossing-at .ensures)
     (sym (c .before .is-legal .ensures .right Y (t .inv .2 Y p .stands)) ∙ not-true _ (c .if1 .taken)) (t .at)
 
 cast-carrier : tie.Need-cast-carrier Inv-loop μ-loop
@@ -75,9 +76,10 @@ loop-less c = search needs
 
 loop-again : tie.Need-loop-again Inv-loop μ-loop
 loop-again c =
+    let loop-test = c .before .before .before .before .before .before .before .before .loop-test in
     let s = c .before .before .before .before .before .before .before .before .before .before .before .before in
     let t = c .before .before .before .before .before .before .before .before .before .loop in
-    let more = c .before .before .before .before .before .before .before .before .loop-test .taken in
+    let more = loop-test .taken in
     let k = c .before .before .before .before .before .before .before .crossing-at in
     let x = crossingOf (k .result) in (
       omega (arith, more),

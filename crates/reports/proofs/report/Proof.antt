@@ -34,9 +34,11 @@ same-length c = search needs
 
 returns-2 : tie.Need-returns-2
 returns-2 c =
+    let tell = c .before .before .before .before .tell in
+    let check = c .before .before .before .before .before .before .before .before .check in
     let s = c .before .before .before .before .before .before .before .before .before .before .before .before .before .before in
-    report-told (order (s .args .bays) (now (s .args .rails)) (now (s .args .start)) (now (s .args .goal))) (now (s .args .plan)) (ap checkedOf (sym (c .before .before .before .before .before .before .enum-told .given .1)) ∙ c .before .before .before .before .before .before .before .before .check .ensures) (now (s .args .marks)) (s .args .name) (c .before .before .before .before .tell .result) _
-    (c .before .before .before .before .tell .ensures) (c .before .before .mark-accepted .ensures)
+    report-told (order (s .args .bays) (now (s .args .rails)) (now (s .args .start)) (now (s .args .goal))) (now (s .args .plan)) (ap checkedOf (sym (c .before .before .before .before .before .before .enum-told .given .1)) ∙ check .ensures) (now (s .args .marks)) (s .args .name) (tell .result) _
+    (tell .ensures) (c .before .before .mark-accepted .ensures)
 
 pub report-spec : {M : Type 1} → statement M
 report-spec =

@@ -36,7 +36,10 @@ same-length-2 : tie.Need-same-length-2
 same-length-2 c = search needs
 
 returns : tie.Need-returns
-returns c = kept-beside _ _ _ _ _ _ _ _ (c .before .before .before .before .before .before .before .before .before .before .before .before .before .before .before .beside .ensures) (c .before .before .before .before .before .before .before .before .before .before .before .meet-row .ensures) (c .before .before .before .before .before .before .before .keep .ensures) (c .before .before .keep2 .ensures)
+returns c =
+    let meet-row = c .before .before .before .before .before .before .before .before .before .before .before .meet-row in
+    let beside = c .before .before .before .before .before .before .before .before .before .before .before .before .before .before .before .beside in
+    kept-beside _ _ _ _ _ _ _ _ (beside .ensures) (meet-row .ensures) (c .before .before .before .before .before .before .before .keep .ensures) (c .before .before .keep2 .ensures)
 
 pub keep-beside-spec : {M : Type 1} → statement M
 keep-beside-spec =

@@ -12,7 +12,9 @@ slice-aggregate-beside : tie.Need-slice-aggregate-beside
 slice-aggregate-beside c = search needs
 
 beside-requires : tie.Need-beside-requires
-beside-requires c κs = (search needs, search needs, λ a h m. let l = c .before .before .before .before .before .before .pre .5 a h m in omega (arith, l, c .before .before .before .before .before .before .pre .0))
+beside-requires c κs =
+    let start = c .before .before .before .before .before .before in
+    (search needs, search needs, λ a h m. let l = start .pre .5 a h m in omega (arith, l, start .pre .0))
 
 slice-aggregate-settle : tie.Need-slice-aggregate-settle
 slice-aggregate-settle c = search needs
@@ -36,7 +38,10 @@ same-length-3 : tie.Need-same-length-3
 same-length-3 c = search needs
 
 returns : tie.Need-returns
-returns c = ring-kept _ _ _ _ _ _ _ _ _ (c .before .before .before .before .before .before .before .before .before .before .before .before .before .before .beside .ensures) (c .before .before .before .before .before .before .before .before .before .settle .ensures) (c .before .before .keep .ensures)
+returns c =
+    let settle = c .before .before .before .before .before .before .before .before .before .settle in
+    let beside = c .before .before .before .before .before .before .before .before .before .before .before .before .before .before .beside in
+    ring-kept _ _ _ _ _ _ _ _ _ (beside .ensures) (settle .ensures) (c .before .before .keep .ensures)
 
 pub next-ring-spec : {M : Type 1} → statement M
 next-ring-spec =

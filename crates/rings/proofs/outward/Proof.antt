@@ -22,7 +22,9 @@ cast-u : tie.Need-cast-u Inv-loop μ-loop
 cast-u c = search needs
 
 loop-holds : tie.Need-loop-holds Inv-loop μ-loop
-loop-holds c = let t = c .before .before .before .before .pre .5 in (omega arith, refl, going-inside t 0 _ _ (going-first t (c .before .before .before .before .args .path .now)), λ t. going-first t _)
+loop-holds c =
+    let start = c .before .before .before .before in
+    let t = start .pre .5 in (omega arith, refl, going-inside t 0 _ _ (going-first t (start .args .path .now)), λ t. going-first t _)
 
 cast-path : tie.Need-cast-path Inv-loop μ-loop
 cast-path c = search needs
@@ -43,7 +45,9 @@ loop-less : tie.Need-loop-less Inv-loop μ-loop
 loop-less c = search needs
 
 loop-again : tie.Need-loop-again Inv-loop μ-loop
-loop-again c = let a = c .before .before .before .before .before .before .before .args in let p = c .before .before .before .before .before .before .before .pre in let l = c .before .before .loop in let on : (t : Outside (a .n) (a .table .now) (a .rows .now) (a .d) (a .x .0)) → Going t (l .i + 1) (c .lowest-common .result) (set (l .path) (l .i) (l .u)) = λ t. going-more t (l .i) (l .u) (c .lowest-common .result) (l .path) (p .0) (c .before .loop-test .taken) (omega arith) (l .inv .3 t) (c .lowest-common .ensures) in (omega arith, simp length-set (omega arith), going-inside (p .5) _ _ _ (on (p .5)), on)
+loop-again c =
+    let start = c .before .before .before .before .before .before .before in
+    let a = start .args in let p = start .pre in let l = c .before .before .loop in let on : (t : Outside (a .n) (a .table .now) (a .rows .now) (a .d) (a .x .0)) → Going t (l .i + 1) (c .lowest-common .result) (set (l .path) (l .i) (l .u)) = λ t. going-more t (l .i) (l .u) (c .lowest-common .result) (l .path) (p .0) (c .before .loop-test .taken) (omega arith) (l .inv .3 t) (c .lowest-common .ensures) in (omega arith, simp length-set (omega arith), going-inside (p .5) _ _ _ (on (p .5)), on)
 
 cast-path-2 : tie.Need-cast-path-2 Inv-loop μ-loop
 cast-path-2 c = search needs

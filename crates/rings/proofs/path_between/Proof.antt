@@ -47,9 +47,10 @@ same-length-3 c = search needs
 
 returns-3 : tie.Need-returns-3
 returns-3 c =
+    let start = c .before .before .before .before .before .before .before .before .before .before .before .before .before .before .before .before .before .before in
     λ s.
     let n = c .before .before .before .before .path-near2 .ensures s in
-    let most = c .before .before .before .before .before .before .before .before .before .before .before .before .before .before .before .before .before .before .pre .0 in
+    let most = start .pre .0 in
     rw (c .path-of .ensures) (path-reached s _ n (λ k. let h = n .few k in absurd (omega (arith, h, most))))
 
 pub path-between-spec : {M : Type 1} → statement M

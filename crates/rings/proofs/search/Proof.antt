@@ -48,7 +48,11 @@ keep-requires-2 : tie.Need-keep-requires-2 Inv-loop μ-loop
 keep-requires-2 c κs = search needs
 
 loop-holds : tie.Need-loop-holds Inv-loop μ-loop
-loop-holds c = (refl, omega arith, omega arith, omega arith, omega arith, λ s. searching-first s _ _ _ _ _ _ _ _ (c .before .before .before .before .before .before .before .before .before .before .before .before .before .before .before .before .before .before .before .pre .1) (c .before .before .before .before .before .before .before .before .before .before .before .before .keep .ensures) (c .before .before .before .before .before .before .before .before .before .join .ensures) (c .before .before .before .before .before .before .alone .ensures) (c .before .before .keep2 .ensures))
+loop-holds c =
+    let join = c .before .before .before .before .before .before .before .before .before .join in
+    let keep = c .before .before .before .before .before .before .before .before .before .before .before .before .keep in
+    let start = c .before .before .before .before .before .before .before .before .before .before .before .before .before .before .before .before .before .before .before in
+    (refl, omega arith, omega arith, omega arith, omega arith, λ s. searching-first s _ _ _ _ _ _ _ _ (start .pre .1) (keep .ensures) (join .ensures) (c .before .before .before .before .before .before .alone .ensures) (c .before .before .keep2 .ensures))
 
 slice-aggregate-meets : tie.Need-slice-aggregate-meets Inv-loop μ-loop
 slice-aggregate-meets c = search needs
@@ -60,7 +64,9 @@ same-length : tie.Need-same-length Inv-loop μ-loop
 same-length c = search needs
 
 returns : tie.Need-returns Inv-loop μ-loop
-returns c = λ s. searched-wanted s _ _ _ _ _ _ (c .before .before .before .loop .inv .5 s) (sym (c .before .meets .ensures) ∙ c .if1 .taken) (c .before .before .before .loop .inv .4)
+returns c =
+    let loop = c .before .before .before .loop in
+    λ s. searched-wanted s _ _ _ _ _ _ (loop .inv .5 s) (sym (c .before .meets .ensures) ∙ c .if1 .taken) (loop .inv .4)
 
 slice-aggregate-is-empty : tie.Need-slice-aggregate-is-empty Inv-loop μ-loop
 slice-aggregate-is-empty c = search needs
@@ -72,7 +78,10 @@ same-length-2 : tie.Need-same-length-2 Inv-loop μ-loop
 same-length-2 c = search needs
 
 returns-2 : tie.Need-returns-2 Inv-loop μ-loop
-returns-2 c = let p = c .before .before .before .before .before .before .before .before .before .before .before .before .before .before .before .before .before .before .before .before .before .before .before .before .before .before .pre in λ s. searched-dry s _ _ _ _ _ _ (p .0) (p .1) (c .before .before .before .before .before .before .loop .inv .5 s) (sym (c .before .is-empty .ensures) ∙ c .if2 .taken) (c .before .before .before .before .before .before .loop .inv .4)
+returns-2 c =
+    let loop = c .before .before .before .before .before .before .loop in
+    let start = c .before .before .before .before .before .before .before .before .before .before .before .before .before .before .before .before .before .before .before .before .before .before .before .before .before .before in
+    let p = start .pre in λ s. searched-dry s _ _ _ _ _ _ (p .0) (p .1) (loop .inv .5 s) (sym (c .before .is-empty .ensures) ∙ c .if2 .taken) (loop .inv .4)
 
 add-if3 : tie.Need-add-if3 Inv-loop μ-loop
 add-if3 c = search needs
@@ -81,19 +90,27 @@ same-length-3 : tie.Need-same-length-3 Inv-loop μ-loop
 same-length-3 c = search needs
 
 returns-3 : tie.Need-returns-3 Inv-loop μ-loop
-returns-3 c = λ s. searched-all s _ _ _ _ _ _ (c .before .before .before .before .before .before .before .loop .inv .5 s) (c .if3 .taken) (c .before .before .before .before .before .before .before .loop .inv .4)
+returns-3 c =
+    let loop = c .before .before .before .before .before .before .before .loop in
+    λ s. searched-all s _ _ _ _ _ _ (loop .inv .5 s) (c .if3 .taken) (loop .inv .4)
 
 add-if4 : tie.Need-add-if4 Inv-loop μ-loop
-add-if4 c = omega (arith, c .before .before .before .before .before .before .before .before .before .before .before .before .before .before .before .before .before .before .before .before .before .before .before .before .before .before .before .pre .0, c .before .before .before .before .before .before .before .loop .inv .3)
+add-if4 c =
+    let start = c .before .before .before .before .before .before .before .before .before .before .before .before .before .before .before .before .before .before .before .before .before .before .before .before .before .before .before in
+    omega (arith, start .pre .0, c .before .before .before .before .before .before .before .loop .inv .3)
 
 mul-if4 : tie.Need-mul-if4 Inv-loop μ-loop
-mul-if4 c = omega (arith, c .before .before .before .before .before .before .before .before .before .before .before .before .before .before .before .before .before .before .before .before .before .before .before .before .before .before .before .pre .0, c .before .before .before .before .before .before .before .loop .inv .3)
+mul-if4 c =
+    let start = c .before .before .before .before .before .before .before .before .before .before .before .before .before .before .before .before .before .before .before .before .before .before .before .before .before .before .before in
+    omega (arith, start .pre .0, c .before .before .before .before .before .before .before .loop .inv .3)
 
 same-length-4 : tie.Need-same-length-4 Inv-loop μ-loop
 same-length-4 c = search needs
 
 returns-4 : tie.Need-returns-4 Inv-loop μ-loop
-returns-4 c = λ s. searched-short s _ _ _ _ _ _ (c .before .before .before .before .before .before .before .before .loop .inv .5 s) (omega (arith, c .before .if3 .left)) (c .if4 .taken) (c .before .before .before .before .before .before .before .before .loop .inv .4)
+returns-4 c =
+    let loop = c .before .before .before .before .before .before .before .before .loop in
+    λ s. searched-short s _ _ _ _ _ _ (loop .inv .5 s) (omega (arith, c .before .if3 .left)) (c .if4 .taken) (loop .inv .4)
 
 slice-aggregate-next-ring : tie.Need-slice-aggregate-next-ring Inv-loop μ-loop
 slice-aggregate-next-ring c = search needs
@@ -102,16 +119,29 @@ slice-aggregate-next-ring-2 : tie.Need-slice-aggregate-next-ring-2 Inv-loop μ-l
 slice-aggregate-next-ring-2 c = search needs
 
 next-ring-requires : tie.Need-next-ring-requires Inv-loop μ-loop
-next-ring-requires c κs = let p = c .before .before .before .before .before .before .before .before .before .before .before .before .before .before .before .before .before .before .before .before .before .before .before .before .before .before .before .before .before .before .before .pre in (search needs, search needs, search needs, omega (arith, c .before .before .before .if4 .left), omega (arith, c .before .before .before .before .if3 .left), searching-inside (p .6) _ _ _ _ _ _ (p .0) (p .1) (c .before .before .before .before .before .before .before .before .before .before .before .loop .inv .5 (p .6)))
+next-ring-requires c κs =
+    let loop = c .before .before .before .before .before .before .before .before .before .before .before .loop in
+    let start = c .before .before .before .before .before .before .before .before .before .before .before .before .before .before .before .before .before .before .before .before .before .before .before .before .before .before .before .before .before .before .before in
+    let p = start .pre in (search needs, search needs, search needs, omega (arith, c .before .before .before .if4 .left), omega (arith, c .before .before .before .before .if3 .left), searching-inside (p .6) _ _ _ _ _ _ (p .0) (p .1) (loop .inv .5 (p .6)))
 
 add-d : tie.Need-add-d Inv-loop μ-loop
-add-d c = omega (arith, c .before .before .before .before .before .before .before .before .before .before .before .before .before .before .before .before .before .before .before .before .before .before .before .before .before .before .before .before .before .before .before .before .before .before .before .before .pre .0, c .before .before .before .before .before .before .before .before .before .before .before .before .before .before .before .before .loop .inv .3)
+add-d c =
+    let loop = c .before .before .before .before .before .before .before .before .before .before .before .before .before .before .before .before .loop in
+    let start = c .before .before .before .before .before .before .before .before .before .before .before .before .before .before .before .before .before .before .before .before .before .before .before .before .before .before .before .before .before .before .before .before .before .before .before .before in
+    omega (arith, start .pre .0, loop .inv .3)
 
 loop-less : tie.Need-loop-less Inv-loop μ-loop
 loop-less c = search needs
 
 loop-again : tie.Need-loop-again Inv-loop μ-loop
-loop-again c = (omega arith, omega arith, omega arith, omega (arith, c .before .before .before .before .before .before .before .before .before .if3 .left), omega (arith, c .before .before .before .before .before .before .before .before .if4 .left), λ s. searching-more s _ _ _ _ _ _ _ _ _ (c .before .before .before .before .before .before .before .before .before .before .before .before .before .before .before .before .before .before .before .before .before .before .before .before .before .before .before .before .before .before .before .before .before .before .before .before .pre .0) (c .before .before .before .before .before .before .before .before .before .before .before .before .before .before .before .before .before .before .before .before .before .before .before .before .before .before .before .before .before .before .before .before .before .before .before .before .pre .1) (omega arith) (c .before .before .before .before .before .before .before .before .before .before .before .before .before .before .before .before .loop .inv .5 s) (sym (c .before .before .before .before .before .before .before .before .before .before .before .before .before .before .meets .ensures) ∙ c .before .before .before .before .before .before .before .before .before .before .before .before .before .if1 .left) (c .before .before .before .before .next-ring .ensures))
+loop-again c =
+    let if4 = c .before .before .before .before .before .before .before .before .if4 in
+    let if3 = c .before .before .before .before .before .before .before .before .before .if3 in
+    let if1 = c .before .before .before .before .before .before .before .before .before .before .before .before .before .if1 in
+    let meets = c .before .before .before .before .before .before .before .before .before .before .before .before .before .before .meets in
+    let loop = c .before .before .before .before .before .before .before .before .before .before .before .before .before .before .before .before .loop in
+    let start = c .before .before .before .before .before .before .before .before .before .before .before .before .before .before .before .before .before .before .before .before .before .before .before .before .before .before .before .before .before .before .before .before .before .before .before .before in
+    (omega arith, omega arith, omega arith, omega (arith, if3 .left), omega (arith, if4 .left), λ s. searching-more s _ _ _ _ _ _ _ _ _ (start .pre .0) (start .pre .1) (omega arith) (loop .inv .5 s) (sym (meets .ensures) ∙ if1 .left) (c .before .before .before .before .next-ring .ensures))
 
 pub search-spec : {M : Type 1} → statement M
 search-spec =

@@ -26,7 +26,8 @@ slice-aggregate-way-near-2 c = search needs
 
 way-near-requires-2 : tie.Need-way-near-requires-2
 way-near-requires-2 c κs =
-    let p = c .before .before .before .before .before .before .before .before .before .before .before .before .before .before .pre in
+    let start = c .before .before .before .before .before .before .before .before .before .before .before .before .before .before in
+    let p = start .pre in
     (p .0, p .1, p .2, p .3, p .4, search needs, omega (arith, p .5, c .before .before .before .before .before .before .before .way-near .kept .1 .1 .1 .1 .1 .1 .0), p .6, p .7)
 
 way-of-requires : tie.Need-way-of-requires
@@ -49,9 +50,10 @@ same-length-3 c = search needs
 
 returns-3 : tie.Need-returns-3
 returns-3 c =
+    let start = c .before .before .before .before .before .before .before .before .before .before .before .before .before .before .before .before .before .before .before in
     λ s q w.
     let n = c .before .before .before .before .way-near2 .ensures s q w in
-    let most = c .before .before .before .before .before .before .before .before .before .before .before .before .before .before .before .before .before .before .before .pre .0 in
+    let most = start .pre .0 in
     rw (c .way-of .ensures) (way-reached s _ n (λ k. let h = n .few k in absurd (omega (arith, h, most))))
 
 pub way-to-nearest-spec : {M : Type 1} → statement M

@@ -24,7 +24,9 @@ same-length-2 : tie.Need-same-length-2
 same-length-2 c = search needs
 
 returns : tie.Need-returns
-returns c = ring-settled (c .before .before .before .before .before .before .before .before .before .beside .ensures) (c .before .before .before .before .settle .ensures)
+returns c =
+    let beside = c .before .before .before .before .before .before .before .before .before .beside in
+    ring-settled (beside .ensures) (c .before .before .before .before .settle .ensures)
 
 pub widen-spec : {M : Type 1} → statement M
 widen-spec =

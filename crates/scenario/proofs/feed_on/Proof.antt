@@ -22,7 +22,9 @@ abbrev μ-loop : tie.MeasureT-loop
 μ-loop bytes grid cells starts₀ goals₀ at₀ i₀ starts goals at i = length bytes - i
 
 loop-holds : tie.Need-loop-holds Inv-loop μ-loop
-loop-holds c = (search needs, refl, refl, feeds-none (c .before .before .before .before .args .cells .now) (c .before .before .before .before .args .grid) (c .before .before .before .before .args .s) _ _)
+loop-holds c =
+    let start = c .before .before .before .before in
+    (search needs, refl, refl, feeds-none (start .args .cells .now) (start .args .grid) (start .args .s) _ _)
 
 shared-slice-read-step : tie.Need-shared-slice-read-step Inv-loop μ-loop
 shared-slice-read-step c = search needs
@@ -41,12 +43,13 @@ loop-less c = search needs
 
 loop-again : tie.Need-loop-again Inv-loop μ-loop
 loop-again c =
+    let start = c .before .before .before .before .before .before .before .before .before .before .before .before .before .before .before in
     let keeps = c .before .before .before .before .keep .ensures in
     let at = c .before .before .before .before .before .before .before .before .before .before .loop in (
       search needs,
       kept-length _ _ _ _ _ (keeps .0) ∙ at .inv .1,
       kept-length _ _ _ _ _ (keeps .1) ∙ at .inv .2,
-      feeds-next (c .before .before .before .before .before .before .before .before .before .before .before .before .before .before .before .args .cells .now) (c .before .before .before .before .before .before .before .before .before .before .before .before .before .before .before .args .grid) (c .before .before .before .before .before .before .before .before .before .before .before .before .before .before .before .args .s) (c .before .before .before .before .before .before .before .before .before .before .before .before .before .before .before .args .bytes .now) (at .i) (at .at) _ (search needs) (at .inv .3) (c .before .before .before .before .before .before .before .step .ensures) (keeps .0) (keeps .1),
+      feeds-next (start .args .cells .now) (start .args .grid) (start .args .s) (start .args .bytes .now) (at .i) (at .at) _ (search needs) (at .inv .3) (c .before .before .before .before .before .before .before .step .ensures) (keeps .0) (keeps .1),
     )
 
 same-length : tie.Need-same-length Inv-loop μ-loop

@@ -22,7 +22,10 @@ same-length-2 : tie.Need-same-length-2
 same-length-2 c = kept-length _ _ _ _ _ (c .before .before .before .before .keep .ensures .1)
 
 returns : tie.Need-returns
-returns c = ends-now (c .before .before .before .before .before .before .before .before .before .before .before .args .cells .now) (c .before .before .before .before .before .before .before .before .before .before .before .args .grid) (c .before .before .before .before .before .before .before .before .before .before .before .args .s) _ (c .before .before .before .before .before .before .before .finished .ensures) (c .before .before .before .before .keep .ensures .0) (c .before .before .before .before .keep .ensures .1)
+returns c =
+    let keep = c .before .before .before .before .keep in
+    let start = c .before .before .before .before .before .before .before .before .before .before .before in
+    ends-now (start .args .cells .now) (start .args .grid) (start .args .s) _ (c .before .before .before .before .before .before .before .finished .ensures) (keep .ensures .0) (keep .ensures .1)
 
 pub finish-on-spec : {M : Type 1} → statement M
 finish-on-spec =

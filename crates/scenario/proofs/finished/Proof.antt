@@ -19,10 +19,14 @@ closed-requires : tie.Need-closed-requires
 closed-requires c κs = search needs
 
 returns-2 : tie.Need-returns-2
-returns-2 c = λ o. finishes-line (c .before .before .before .before .before .args .cells .now) (c .before .before .before .before .before .args .grid) (c .before .before .before .before .before .args .s) (c .before .before .before .if1 .left) (c .before .before .if2 .taken) o _ (c .before .released .ensures) _ (c .closed .ensures)
+returns-2 c =
+    let start = c .before .before .before .before .before in
+    λ o. finishes-line (start .args .cells .now) (start .args .grid) (start .args .s) (c .before .before .before .if1 .left) (c .before .before .if2 .taken) o _ (c .before .released .ensures) _ (c .closed .ensures)
 
 returns-3 : tie.Need-returns-3
-returns-3 c = λ o. finishes-between (c .before .before .before .args .cells .now) (c .before .before .before .args .grid) (c .before .before .before .args .s) (c .before .if1 .left) o (c .if2 .left)
+returns-3 c =
+    let start = c .before .before .before in
+    λ o. finishes-between (start .args .cells .now) (start .args .grid) (start .args .s) (c .before .if1 .left) o (c .if2 .left)
 
 pub finished-spec : {M : Type 1} → statement M
 finished-spec = tie.close (tie.spec returns released-requires closed-requires returns-2 returns-3)

@@ -26,7 +26,11 @@ same-length-2 : tie.Need-same-length-2
 same-length-2 c = search needs
 
 returns : tie.Need-returns
-returns c = let start = c .before .before .before .before .before .before .before .before .before .before .before .before .before .before .before .before .before .before .before .args in came-all (start .cells .now) (start .grid) (start .file .now) _ _ _ (c .before .before .before .before .before .before .before .before .before .before .before .before .before .before .start .ensures) (c .before .before .before .before .before .before .before .before .before .before .before .feed-on .ensures) (c .before .before .before .before .finish-on .ensures)
+returns c =
+    let feed-on = c .before .before .before .before .before .before .before .before .before .before .before .feed-on in
+    let start-3 = c .before .before .before .before .before .before .before .before .before .before .before .before .before .before .start in
+    let start-place = c .before .before .before .before .before .before .before .before .before .before .before .before .before .before .before .before .before .before .before in
+    let start = start-place .args in came-all (start .cells .now) (start .grid) (start .file .now) _ _ _ (start-3 .ensures) (feed-on .ensures) (c .before .before .before .before .finish-on .ensures)
 
 pub fold-spec : {M : Type 1} → statement M
 fold-spec =

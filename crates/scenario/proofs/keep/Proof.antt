@@ -10,7 +10,9 @@ use Rattle.scenario.proofs.keep.Lts as lts
 use Rattle.stores.proofs.short.Reads as short-reads
 
 returns : tie.Need-returns
-returns c = (kept-same (c .before .before .before .before .before .args .s) (c .before .before .before .before .before .args .r) _ _ (c .if1 .taken), kept-same (c .before .before .before .before .before .args .s) (c .before .before .before .before .before .args .r) _ _ (c .if1 .taken))
+returns c =
+    let start = c .before .before .before .before .before in
+    (kept-same (start .args .s) (start .args .r) _ _ (c .if1 .taken), kept-same (start .args .s) (start .args .r) _ _ (c .if1 .taken))
 
 cast-at : tie.Need-cast-at
 cast-at c = search needs
@@ -28,7 +30,10 @@ same-length-2 : tie.Need-same-length-2
 same-length-2 c = search needs
 
 returns-2 : tie.Need-returns-2
-returns-2 c = (c .before .before .before .before .before .before .short .ensures ∙ kept-more (c .before .before .before .before .before .before .before .before .before .before .before .before .before .before .args .s) (c .before .before .before .before .before .before .before .before .before .before .before .before .before .before .args .r) _ _ (c .before .before .before .before .before .before .before .before .before .if1 .left), c .before .before .short2 .ensures ∙ kept-more (c .before .before .before .before .before .before .before .before .before .before .before .before .before .before .args .s) (c .before .before .before .before .before .before .before .before .before .before .before .before .before .before .args .r) _ _ (c .before .before .before .before .before .before .before .before .before .if1 .left))
+returns-2 c =
+    let if1 = c .before .before .before .before .before .before .before .before .before .if1 in
+    let start = c .before .before .before .before .before .before .before .before .before .before .before .before .before .before in
+    (c .before .before .before .before .before .before .short .ensures ∙ kept-more (start .args .s) (start .args .r) _ _ (if1 .left), c .before .before .short2 .ensures ∙ kept-more (start .args .s) (start .args .r) _ _ (if1 .left))
 
 pub keep-spec : {M : Type 1} → statement M
 keep-spec =

@@ -38,7 +38,9 @@ seen-requires c κs = search needs
 
 returns-3 : tie.Need-returns-3
 unfolding inLine
-returns-3 c = record { failed = refl; version = refl; count = refl; under = λ bay cs. rw (c .before .before .if1 .left, ne-eqb (c .before .before .before .args .b) 9 (c .before .if2 .left)) (ap (inCarrier cs (pastOf (c .before .before .before .args .s .past))) (c .seen .ensures)) }
+returns-3 c =
+    let start = c .before .before .before in
+    record { failed = refl; version = refl; count = refl; under = λ bay cs. rw (c .before .before .if1 .left, ne-eqb (start .args .b) 9 (c .before .if2 .left)) (ap (inCarrier cs (pastOf (start .args .s .past))) (c .seen .ensures)) }
 
 pub on-byte-spec : {M : Type 1} → statement M
 on-byte-spec =

@@ -43,10 +43,17 @@ same-length-2 : tie.Need-same-length-2
 same-length-2 c = wrote-length (c .before .before .before .before .before .fold2 .ensures .stored .goalsWrote)
 
 returns : tie.Need-returns
-returns c = reads-good (c .before .before .before .before .before .before .before .before .before .before .before .before .before .before .before .before .before .before .before .before .args .file .now) (c .before .before .before .before .before .before .before .before .before .before .before .before .before .before .before .before .before .before .before .before .args .grid) (c .before .before .before .before .before .before .before .before .before .before .before .before .before .before .before .before .before .before .before .before .args .cells .now) (c .before .before .before .before .before .before .before .before .enum-told .given .0 .0) (ap answerOf (sym (c .before .before .before .before .before .before .before .before .enum-told .given .1)) ∙ c .before .before .before .before .before .before .before .before .before .before .answer .ensures ∙ ended-answer (c .before .before .before .before .before .before .before .before .before .before .before .before .before .before .before .before .before .before .before .before .args .file .now) (c .before .before .before .before .before .before .before .before .before .before .before .before .before .before .before .before .before .before .before .before .args .grid) (c .before .before .before .before .before .before .before .before .before .before .before .before .before .before .before .before .before .before .before .before .args .cells .now) _ (c .before .before .before .before .before .before .before .before .before .before .before .before .before .fold .ensures)) _ (c .before .before .before .before .before .fold2 .ensures) _ (c .answer2 .ensures)
+returns c =
+    let enum-told = c .before .before .before .before .before .before .before .before .enum-told in
+    let answer = c .before .before .before .before .before .before .before .before .before .before .answer in
+    let fold = c .before .before .before .before .before .before .before .before .before .before .before .before .before .fold in
+    let start = c .before .before .before .before .before .before .before .before .before .before .before .before .before .before .before .before .before .before .before .before in
+    reads-good (start .args .file .now) (start .args .grid) (start .args .cells .now) (enum-told .given .0 .0) (ap answerOf (sym (enum-told .given .1)) ∙ answer .ensures ∙ ended-answer (start .args .file .now) (start .args .grid) (start .args .cells .now) _ (fold .ensures)) _ (c .before .before .before .before .before .fold2 .ensures) _ (c .answer2 .ensures)
 
 returns-2 : tie.Need-returns-2
-returns-2 c = reads-bad (c .before .before .before .before .before .before .before .before .before .before .before .before .before .args .file .now) (c .before .before .before .before .before .before .before .before .before .before .before .before .before .args .grid) (c .before .before .before .before .before .before .before .before .before .before .before .before .before .args .cells .now) (c .before .found .given .0 .0) _ _ (ap answerOf (sym (c .before .found .given .1)) ∙ c .before .before .before .answer .ensures ∙ ended-answer (c .before .before .before .before .before .before .before .before .before .before .before .before .before .args .file .now) (c .before .before .before .before .before .before .before .before .before .before .before .before .before .args .grid) (c .before .before .before .before .before .before .before .before .before .before .before .before .before .args .cells .now) _ (c .before .before .before .before .before .before .fold .ensures))
+returns-2 c =
+    let start = c .before .before .before .before .before .before .before .before .before .before .before .before .before in
+    reads-bad (start .args .file .now) (start .args .grid) (start .args .cells .now) (c .before .found .given .0 .0) _ _ (ap answerOf (sym (c .before .found .given .1)) ∙ c .before .before .before .answer .ensures ∙ ended-answer (start .args .file .now) (start .args .grid) (start .args .cells .now) _ (c .before .before .before .before .before .before .fold .ensures))
 
 pub read-spec : {M : Type 1} → statement M
 read-spec =

@@ -32,7 +32,9 @@ returns-4 : tie.Need-returns-4
 returns-4 c = search needs
 
 path-is-requires : tie.Need-path-is-requires
-path-is-requires c κs = (omega arith, omega arith, omega arith, c .before .before .before .before .before .before .before .before .before .before .before .before .before .pre, shown-any (opened-table (c .before .before .before .before .before .before .before .«open» .ensures) _ (c .before .before .before .before .before .y .given .1)) (c .before .before .before .before .before .before .before .before .before .before .before .before .before .pre))
+path-is-requires c κs =
+    let start = c .before .before .before .before .before .before .before .before .before .before .before .before .before in
+    (omega arith, omega arith, omega arith, start .pre, shown-any (opened-table (c .before .before .before .before .before .before .before .«open» .ensures) _ (c .before .before .before .before .before .y .given .1)) (start .pre))
 
 returns-5 : tie.Need-returns-5
 returns-5 c = search needs

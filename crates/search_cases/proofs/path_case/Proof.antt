@@ -59,7 +59,9 @@ array-share-prefix-rails : tie.Need-array-share-prefix-rails
 array-share-prefix-rails c = search needs
 
 slice-aggregate-path-agrees : tie.Need-slice-aggregate-path-agrees
-slice-aggregate-path-agrees c = sym (length-take-le _ _ (c .before .before .before .before .before .before .before .before .before .before .before .before .before .before .list16 .ensures))
+slice-aggregate-path-agrees c =
+    let list16 = c .before .before .before .before .before .before .before .before .before .before .before .before .before .before .list16 in
+    sym (length-take-le _ _ (list16 .ensures))
 
 array-share-prefix-nobody : tie.Need-array-share-prefix-nobody
 array-share-prefix-nobody c = search needs
@@ -74,7 +76,9 @@ array-share-prefix-want : tie.Need-array-share-prefix-want
 array-share-prefix-want c = search needs
 
 slice-aggregate-path-agrees-4 : tie.Need-slice-aggregate-path-agrees-4
-slice-aggregate-path-agrees-4 c = sym (length-take-le _ _ (c .before .before .before .before .before .before .before .before .before .before .before .list163 .ensures))
+slice-aggregate-path-agrees-4 c =
+    let list163 = c .before .before .before .before .before .before .before .before .before .before .before .list163 in
+    sym (length-take-le _ _ (list163 .ensures))
 
 path-agrees-requires : tie.Need-path-agrees-requires
 path-agrees-requires c κs = search needs

@@ -51,7 +51,10 @@ slice-aggregate-vacated-2 : tie.Need-slice-aggregate-vacated-2
 slice-aggregate-vacated-2 c = search needs
 
 vacated-requires : tie.Need-vacated-requires
-vacated-requires c κs = ready (c .before .before .before .before .before .before .before .before .before .«open» .ensures) _ (c .before .before .before .before .before .before .before .y .given .1) (replicate 256 0) (c .before .before .before .before .before .if1 .left) (c .before .before .before .before .before .if1 .left) (omega arith) (c .before .before .before .before .before .before .before .before .before .before .before .before .before .before .before .before .pre)
+vacated-requires c κs =
+    let if1 = c .before .before .before .before .before .if1 in
+    let start = c .before .before .before .before .before .before .before .before .before .before .before .before .before .before .before .before in
+    ready (c .before .before .before .before .before .before .before .before .before .«open» .ensures) _ (c .before .before .before .before .before .before .before .y .given .1) (replicate 256 0) (if1 .left) (if1 .left) (omega arith) (start .pre)
 
 same-length-4 : tie.Need-same-length-4
 same-length-4 c = search needs
@@ -63,7 +66,9 @@ array-share-prefix-out : tie.Need-array-share-prefix-out
 array-share-prefix-out c = search needs
 
 slice-aggregate-same64 : tie.Need-slice-aggregate-same64
-slice-aggregate-same64 c = let kept : length (c .before .before .before .before .before .before .before .before .vacated .last .1 .1 .1 .1 .1 .0) ≡ span = c .before .before .before .before .before .before .before .before .vacated .kept .1 .1 .1 .1 .1 .0 in sym (length-take-le _ _ (omega (arith, c .before .before .before .if3 .left, kept)))
+slice-aggregate-same64 c =
+    let vacated = c .before .before .before .before .before .before .before .before .vacated in
+    let kept : length (vacated .last .1 .1 .1 .1 .1 .0) ≡ span = vacated .kept .1 .1 .1 .1 .1 .0 in sym (length-take-le _ _ (omega (arith, c .before .before .before .if3 .left, kept)))
 
 same64-requires : tie.Need-same64-requires
 same64-requires c κs = search needs

@@ -62,13 +62,17 @@ array-share-prefix-rails : tie.Need-array-share-prefix-rails
 array-share-prefix-rails c = search needs
 
 slice-aggregate-vacate-agrees : tie.Need-slice-aggregate-vacate-agrees
-slice-aggregate-vacate-agrees c = sym (length-take-le _ _ (c .before .before .before .before .before .before .before .before .before .before .before .before .before .before .before .before .before .list16 .ensures))
+slice-aggregate-vacate-agrees c =
+    let list16 = c .before .before .before .before .before .before .before .before .before .before .before .before .before .before .before .before .before .list16 in
+    sym (length-take-le _ _ (list16 .ensures))
 
 array-borrow-prefix-placement : tie.Need-array-borrow-prefix-placement
 array-borrow-prefix-placement c = search needs
 
 slice-aggregate-vacate-agrees-2 : tie.Need-slice-aggregate-vacate-agrees-2
-slice-aggregate-vacate-agrees-2 c = sym (length-take-le _ _ (c .before .before .before .before .before .before .before .before .before .before .before .before .before .before .before .list162 .ensures))
+slice-aggregate-vacate-agrees-2 c =
+    let list162 = c .before .before .before .before .before .before .before .before .before .before .before .before .before .before .before .list162 in
+    sym (length-take-le _ _ (list162 .ensures))
 
 slice-aggregate-vacate-agrees-3 : tie.Need-slice-aggregate-vacate-agrees-3
 slice-aggregate-vacate-agrees-3 c = search needs
@@ -77,7 +81,9 @@ array-share-prefix-want : tie.Need-array-share-prefix-want
 array-share-prefix-want c = search needs
 
 slice-aggregate-vacate-agrees-4 : tie.Need-slice-aggregate-vacate-agrees-4
-slice-aggregate-vacate-agrees-4 c = sym (length-take-le _ _ (c .before .before .before .before .before .before .before .before .before .before .list64 .ensures))
+slice-aggregate-vacate-agrees-4 c =
+    let list64 = c .before .before .before .before .before .before .before .before .before .before .list64 in
+    sym (length-take-le _ _ (list64 .ensures))
 
 vacate-agrees-requires : tie.Need-vacate-agrees-requires
 vacate-agrees-requires c κs = search needs

@@ -18,9 +18,11 @@ slice-aggregate-vacated-by-rails c = search needs
 
 vacated-by-rails-requires : tie.Need-vacated-by-rails-requires
 vacated-by-rails-requires c κs =
-    let p = c .before .before .before .before .before .before .before .before .before .before .before .before .before .before .before .before .pre in
-    let e : length (c .before .before .before .before .before .before .before .before .place .last .1 .0) ≡ length (c .before .before .before .before .before .before .before .before .before .before .before .before .before .before .before .before .args .standing .now) = c .before .before .before .before .before .before .before .before .place .kept .1 .0 in
-    (omega (arith, p .0, e), omega (arith, p .1, e), omega (arith, p .0, e), p .2, search needs, rw e (c .before .before .before .before .before .before .before .before .place .ensures), rw e (p .6))
+    let place = c .before .before .before .before .before .before .before .before .place in
+    let start = c .before .before .before .before .before .before .before .before .before .before .before .before .before .before .before .before in
+    let p = start .pre in
+    let e : length (place .last .1 .0) ≡ length (start .args .standing .now) = place .kept .1 .0 in
+    (omega (arith, p .0, e), omega (arith, p .1, e), omega (arith, p .0, e), p .2, search needs, rw e (place .ensures), rw e (p .6))
 
 enum-told : tie.Need-enum-told
 enum-told c = search needs

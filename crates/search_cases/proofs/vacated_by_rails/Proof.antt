@@ -16,7 +16,8 @@ slice-aggregate-vacate c = sym (length-take-le _ _ (c .before .before .before .b
 
 vacate-requires : tie.Need-vacate-requires
 vacate-requires c κs =
-    let p = c .before .before .before .before .before .before .before .before .before .before .before .pre in
+    let start = c .before .before .before .before .before .before .before .before .before .before .before in
+    let p = start .pre in
     let room = rails-room _ _ (p .2) in
     (p .0, p .1, room, p .3, p .4, omega arith, p .5, shown-rails _ _ (p .2) (p .6), levelled-rails _ _ (p .2) (omega (arith, p .1)))
 

@@ -27,7 +27,9 @@ one-left-requires : tie.Need-one-left-requires Inv-loop μ-loop
 one-left-requires c κs = search needs
 
 add-n : tie.Need-add-n Inv-loop μ-loop
-add-n c = let small : c .one-left .result ≤ 1 = rw (c .one-left .ensures) (one-small (getD (now (c .before .before .before .before .before .before .args .gone)) (c .before .before .before .loop .m) 0)) in omega (arith, c .before .before .loop-test .taken, c .before .before .before .loop .inv .1)
+add-n c =
+    let loop = c .before .before .before .loop in
+    let small : c .one-left .result ≤ 1 = rw (c .one-left .ensures) (one-small (getD (now (c .before .before .before .before .before .before .args .gone)) (loop .m) 0)) in omega (arith, c .before .before .loop-test .taken, loop .inv .1)
 
 add-m : tie.Need-add-m Inv-loop μ-loop
 add-m c = search needs

@@ -60,15 +60,19 @@ next-own-requires-2 c κs =
     (omega (arith, inside), s .pre .2, length-set (t .gone) (t .m) v ∙ t .inv .2, linked-drop (now (s .args .plan)) (t .gone) (t .links) (t .inv .4) (set (t .gone) (t .m) v) (keeps-1 (t .gone) (t .m) v (omega (arith, inside, s .pre .2, t .inv .2)) (own-keeps (c .before .before .before .is-of .result) (getD (t .gone) (t .m) 0) v (c .before .before .byte-after .ensures))))
 
 loop-less : tie.Need-loop-less Inv-loop μ-loop
-loop-less c = let n = c .before .before .next-own2 .ensures in omega (arith, n .0, n .1, c .before .before .before .before .before .before .before .before .loop-test .taken)
+loop-less c =
+    let loop-test = c .before .before .before .before .before .before .before .before .loop-test in
+    let n = c .before .before .next-own2 .ensures in omega (arith, n .0, n .1, loop-test .taken)
 
 loop-again : tie.Need-loop-again Inv-loop μ-loop
 loop-again c =
+    let byte-after = c .before .before .before .before .before .byte-after in
+    let loop-test = c .before .before .before .before .before .before .before .before .loop-test in
     let s = c .before .before .before .before .before .before .before .before .before .before .before .before .before .before .before .before .before .before in
     let t = c .before .before .before .before .before .before .before .before .before .loop in
-    let v = c .before .before .before .before .before .byte-after .result in
-    let inside = c .before .before .before .before .before .before .before .before .loop-test .taken in
-    let is = c .before .before .before .before .before .byte-after .ensures ∙ ap (λ b. if b then 1 else getD (t .gone) (t .m) 0) (c .before .before .before .before .before .before .is-of .ensures) in
+    let v = byte-after .result in
+    let inside = loop-test .taken in
+    let is = byte-after .ensures ∙ ap (λ b. if b then 1 else getD (t .gone) (t .m) 0) (c .before .before .before .before .before .before .is-of .ensures) in
     let n = c .before .before .next-own2 .ensures in
     let r = c .before .before .next-own2 .result in
     let long = length-set (t .gone) (t .m) v ∙ t .inv .2 in

@@ -19,7 +19,9 @@ same-length : tie.Need-same-length
 same-length c = search needs
 
 returns-2 : tie.Need-returns-2
-returns-2 c = let s = c .before .before .before .before .before .before .before .before .before in room-written (now (s .args .plan)) (now (s .args .gone)) (now (s .args .out)) (s .pre .1) (c .before .before .before .before .before .count-left .result) _ (s .pre .2) (c .before .before .before .before .before .count-left .ensures) (c .before .before .before .before .if1 .left) (c .before .before .write-left .ensures)
+returns-2 c =
+    let count-left = c .before .before .before .before .before .count-left in
+    let s = c .before .before .before .before .before .before .before .before .before in room-written (now (s .args .plan)) (now (s .args .gone)) (now (s .args .out)) (s .pre .1) (count-left .result) _ (s .pre .2) (count-left .ensures) (c .before .before .before .before .if1 .left) (c .before .before .write-left .ensures)
 
 pub finish-spec : {M : Type 1} → statement M
 finish-spec =

@@ -26,10 +26,11 @@ behind-requires c κs = let s = c .before .before .before .before .before in (s 
 
 loop-holds : tie.Need-loop-holds Inv-loop μ-loop
 loop-holds c =
+    let crossing-at = c .before .before .before .before .crossing-at in
     let s = c .before .before .before .before .before .before .before .before in
     let b = c .before .before .behind .ensures in
-    let x = crossingOf (c .before .before .before .before .crossing-at .result) in
-    let is = ap (λ y. y .to) (sym (c .before .before .before .before .crossing-at .ensures)) in
+    let x = crossingOf (crossing-at .result) in
+    let is = ap (λ y. y .to) (sym (crossing-at .ensures)) in
     (b .0, none-over (now (s .args .gone)) (crossings (now (s .args .plan))) (x .to) (s .args .name) (now (s .args .plan)) (named (crossings (now (s .args .plan))) (s .args .name) .to) (s .args .name) _ refl is (b .1 .passed) (none-start (now (s .args .gone)) (crossings (now (s .args .plan))) (x .to) (s .args .name)))
 
 sub-next : tie.Need-sub-next Inv-loop μ-loop
@@ -43,10 +44,11 @@ same-length c = search needs
 
 returns : tie.Need-returns Inv-loop μ-loop
 returns c =
+    let crossing-at = c .before .before .before .before .before .before .before .before .crossing-at in
     let s = c .before .before .before .before .before .before .before .before .before .before .before .before in
     let t = c .before .before .before .loop in
-    let x = crossingOf (c .before .before .before .before .before .before .before .before .crossing-at .result) in
-    let is = ap (λ y. y .to) (c .before .before .before .before .before .before .before .before .crossing-at .ensures) in
+    let x = crossingOf (crossing-at .result) in
+    let is = ap (λ y. y .to) (crossing-at .ensures) in
     let up : suc (t .m - 1) ≡ t .m = omega (arith, c .before .before .loop-test .taken) in
     (omega (arith, t .inv .0), λ k l. leaving-found (now (s .args .gone)) (crossings (now (s .args .plan))) (x .to) (s .args .name) (t .m - 1) (omega (arith, t .inv .0, c .before .before .loop-test .taken)) (rw up (t .inv .1)) (sym (c .before .leaves-bay .ensures) ∙ c .if1 .taken) k (rw (sym is) at l), c .before .before .before .before .before .before .behind .ensures .2)
 
@@ -55,9 +57,10 @@ loop-less c = omega (arith, c .before .before .loop-test .taken)
 
 loop-again : tie.Need-loop-again Inv-loop μ-loop
 loop-again c =
+    let crossing-at = c .before .before .before .before .before .before .before .before .crossing-at in
     let s = c .before .before .before .before .before .before .before .before .before .before .before .before in
     let t = c .before .before .before .loop in
-    let x = crossingOf (c .before .before .before .before .before .before .before .before .crossing-at .result) in
+    let x = crossingOf (crossing-at .result) in
     let up : suc (t .m - 1) ≡ t .m = omega (arith, c .before .before .loop-test .taken) in
     (omega (arith, t .inv .0), none-more (now (s .args .gone)) (crossings (now (s .args .plan))) (x .to) (s .args .name) (t .m - 1) (rw up (t .inv .1)) (sym (c .before .leaves-bay .ensures) ∙ c .if1 .left))
 
@@ -66,10 +69,11 @@ same-length-2 c = search needs
 
 returns-2 : tie.Need-returns-2 Inv-loop μ-loop
 returns-2 c =
+    let crossing-at = c .before .before .before .before .before .before .crossing-at in
     let s = c .before .before .before .before .before .before .before .before .before .before in
     let t = c .before .loop in
-    let x = crossingOf (c .before .before .before .before .before .before .crossing-at .result) in
-    let is = ap (λ y. y .to) (c .before .before .before .before .before .before .crossing-at .ensures) in
+    let x = crossingOf (crossing-at .result) in
+    let is = ap (λ y. y .to) (crossing-at .ensures) in
     let z : t .m ≡ 0 = omega (arith, c .loop-test .left) in
     (omega arith, λ k l. leaving-none (now (s .args .gone)) (crossings (now (s .args .plan))) (x .to) (s .args .name) (rw z at (t .inv .1)) k (rw (sym is) at l), c .before .before .before .before .behind .ensures .2)
 

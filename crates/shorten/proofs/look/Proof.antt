@@ -47,16 +47,24 @@ same-length-3 : tie.Need-same-length-3
 same-length-3 c = search needs
 
 returns-3 : tie.Need-returns-3
-returns-3 c = let s = c .before .before .before .before .before .before .before .before .before .before .before .before .before .before in (look-none (now (s .args .plan)) (now (s .args .gone)) (now (s .args .todo)) (s .args .name) (s .pre .0) (s .pre .1) (sym (c .if3 .taken) ∙ c .before .before .before .last-return .ensures .1), rank-next (now (s .args .plan)) (now (s .args .gone)) (now (s .args .todo)) (s .args .name) (s .pre .0) (s .pre .1), c .before .before .before .last-return .ensures .2)
+returns-3 c =
+    let last-return = c .before .before .before .last-return in
+    let s = c .before .before .before .before .before .before .before .before .before .before .before .before .before .before in (look-none (now (s .args .plan)) (now (s .args .gone)) (now (s .args .todo)) (s .args .name) (s .pre .0) (s .pre .1) (sym (c .if3 .taken) ∙ last-return .ensures .1), rank-next (now (s .args .plan)) (now (s .args .gone)) (now (s .args .todo)) (s .args .name) (s .pre .0) (s .pre .1), last-return .ensures .2)
 
 crossing-at-requires : tie.Need-crossing-at-requires
 crossing-at-requires c κs = search needs
 
 note-leavings-requires : tie.Need-note-leavings-requires
-note-leavings-requires c κs = let s = c .before .before .before .before .before .before .before .before .before .before .before .before .before .before .before .before .before .before in (last-not-before (named (crossings (now (s .args .plan))) (s .args .name)) (crossings (now (s .args .plan))) (now (s .args .gone)) (s .args .name) (c .before .before .before .before .before .before .before .last-return .result) (c .before .before .before .before .before .before .before .last-return .ensures .1), c .before .before .before .before .before .before .before .last-return .ensures .0, s .pre .1 .long-gone, s .pre .1 .long-todo, c .before .before .before .before .before .before .before .last-return .ensures .2, eq-eqb _ _ (ap (λ y. y .carrier) (sym (c .before .before .before .crossing-at .ensures))))
+note-leavings-requires c κs =
+    let last-return = c .before .before .before .before .before .before .before .last-return in
+    let s = c .before .before .before .before .before .before .before .before .before .before .before .before .before .before .before .before .before .before in (last-not-before (named (crossings (now (s .args .plan))) (s .args .name)) (crossings (now (s .args .plan))) (now (s .args .gone)) (s .args .name) (last-return .result) (last-return .ensures .1), last-return .ensures .0, s .pre .1 .long-gone, s .pre .1 .long-todo, last-return .ensures .2, eq-eqb _ _ (ap (λ y. y .carrier) (sym (c .before .before .before .crossing-at .ensures))))
 
 drop-trip-requires : tie.Need-drop-trip-requires
-drop-trip-requires c κs = let s = c .before .before .before .before .before .before .before .before .before .before .before .before .before .before .before .before .before .before .before .before .before .before .before .before .before in (eq-eqb _ _ (ap (λ y. y .carrier) (sym (c .before .before .before .before .before .before .before .before .before .before .crossing-at .ensures))), last-not-before (named (crossings (now (s .args .plan))) (s .args .name)) (crossings (now (s .args .plan))) (now (s .args .gone)) (s .args .name) (c .before .before .before .before .before .before .before .before .before .before .before .before .before .before .last-return .result) (c .before .before .before .before .before .before .before .before .before .before .before .before .before .before .last-return .ensures .1), c .before .before .before .before .before .before .before .before .before .before .before .before .before .before .last-return .ensures .0, s .pre .1 .long-gone, c .before .before .before .before .before .before .note-leavings .ensures .2, c .before .before .before .before .before .before .before .before .before .before .before .before .before .before .before .before .before .before .before .if1 .left)
+drop-trip-requires c κs =
+    let crossing-at = c .before .before .before .before .before .before .before .before .before .before .crossing-at in
+    let last-return = c .before .before .before .before .before .before .before .before .before .before .before .before .before .before .last-return in
+    let if1 = c .before .before .before .before .before .before .before .before .before .before .before .before .before .before .before .before .before .before .before .if1 in
+    let s = c .before .before .before .before .before .before .before .before .before .before .before .before .before .before .before .before .before .before .before .before .before .before .before .before .before in (eq-eqb _ _ (ap (λ y. y .carrier) (sym (crossing-at .ensures))), last-not-before (named (crossings (now (s .args .plan))) (s .args .name)) (crossings (now (s .args .plan))) (now (s .args .gone)) (s .args .name) (last-return .result) (last-return .ensures .1), last-return .ensures .0, s .pre .1 .long-gone, c .before .before .before .before .before .before .note-leavings .ensures .2, if1 .left)
 
 same-length-4 : tie.Need-same-length-4
 same-length-4 c = search needs
@@ -69,11 +77,16 @@ same-length-6 c = search needs
 
 returns-4 : tie.Need-returns-4
 returns-4 c =
+    let note-leavings = c .before .before .before .before .before .before .before .before .before .before .before .note-leavings in
+    let crossing-at = c .before .before .before .before .before .before .before .before .before .before .before .before .before .before .before .crossing-at in
+    let if3 = c .before .before .before .before .before .before .before .before .before .before .before .before .before .before .before .before .if3 in
+    let last-return = c .before .before .before .before .before .before .before .before .before .before .before .before .before .before .before .before .before .before .before .last-return in
+    let if1 = c .before .before .before .before .before .before .before .before .before .before .before .before .before .before .before .before .before .before .before .before .before .before .before .before .if1 in
     let s = c .before .before .before .before .before .before .before .before .before .before .before .before .before .before .before .before .before .before .before .before .before .before .before .before .before .before .before .before .before .before in
-    let x = crossingOf (c .before .before .before .before .before .before .before .before .before .before .before .before .before .before .before .crossing-at .result) in
-    let n = c .before .before .before .before .before .before .before .before .before .before .before .note-leavings .ensures in
+    let x = crossingOf (crossing-at .result) in
+    let n = note-leavings .ensures in
     let d = c .before .before .before .before .drop-trip .ensures in
-    (rw (d .0) (look-cut (now (s .args .plan)) (now (s .args .gone)) (now (s .args .todo)) (s .args .name) (s .pre .0) (s .pre .1) (c .before .before .before .before .before .before .before .before .before .before .before .before .before .before .before .before .before .before .before .last-return .result) (c .before .before .before .before .before .before .before .before .before .before .before .note-leavings .result) _ x (c .before .before .before .before .before .before .before .before .before .before .before .before .before .before .before .crossing-at .ensures) (c .before .before .before .before .before .before .before .before .before .before .before .before .before .before .before .before .before .before .before .before .before .before .before .before .if1 .left) (c .before .before .before .before .before .before .before .before .before .before .before .before .before .before .before .before .if3 .left) (c .before .before .before .before .before .before .before .before .before .before .before .before .before .before .before .before .before .before .before .last-return .ensures .1) (n .0) (n .1)), rw (d .0) (cut-rank (now (s .args .plan)) (now (s .args .gone)) (now (s .args .todo)) (s .args .name) (s .pre .0) (s .pre .1) (c .before .before .before .before .before .before .before .before .before .before .before .before .before .before .before .before .before .before .before .last-return .result) (c .before .before .before .before .before .before .before .before .before .before .before .note-leavings .result) _ x (c .before .before .before .before .before .before .before .before .before .before .before .before .before .before .before .crossing-at .ensures) (c .before .before .before .before .before .before .before .before .before .before .before .before .before .before .before .before .before .before .before .before .before .before .before .before .if1 .left) (c .before .before .before .before .before .before .before .before .before .before .before .before .before .before .before .before .if3 .left) (c .before .before .before .before .before .before .before .before .before .before .before .before .before .before .before .before .before .before .before .last-return .ensures .1) (n .0) (n .1)), d .1)
+    (rw (d .0) (look-cut (now (s .args .plan)) (now (s .args .gone)) (now (s .args .todo)) (s .args .name) (s .pre .0) (s .pre .1) (last-return .result) (note-leavings .result) _ x (crossing-at .ensures) (if1 .left) (if3 .left) (last-return .ensures .1) (n .0) (n .1)), rw (d .0) (cut-rank (now (s .args .plan)) (now (s .args .gone)) (now (s .args .todo)) (s .args .name) (s .pre .0) (s .pre .1) (last-return .result) (note-leavings .result) _ x (crossing-at .ensures) (if1 .left) (if3 .left) (last-return .ensures .1) (n .0) (n .1)), d .1)
 
 pub look-spec : {M : Type 1} → statement M
 look-spec =

@@ -30,20 +30,26 @@ note-one-requires : tie.Need-note-one-requires Inv-loop μ-loop
 note-one-requires c κs = let s = c .before .before .before .before .before .before .before .before in let t = c .before .before .before .loop in (omega (arith, c .before .before .loop-test .taken, s .pre .1), s .pre .2, t .inv .3, t .inv .6)
 
 next-own-requires : tie.Need-next-own-requires Inv-loop μ-loop
-next-own-requires c κs = let s = c .before .before .before .before .before .before .before .before .before .before .before .before .before .before in (omega (arith, c .before .before .before .before .before .before .before .before .loop-test .taken), s .pre .1, s .pre .2, c .before .before .before .before .before .note-one .ensures .2)
+next-own-requires c κs =
+    let loop-test = c .before .before .before .before .before .before .before .before .loop-test in
+    let s = c .before .before .before .before .before .before .before .before .before .before .before .before .before .before in (omega (arith, loop-test .taken), s .pre .1, s .pre .2, c .before .before .before .before .before .note-one .ensures .2)
 
 loop-less : tie.Need-loop-less Inv-loop μ-loop
-loop-less c = let n = c .before .before .next-own .ensures in omega (arith, n .0, n .1, c .before .before .before .before .before .before .before .before .before .before .before .loop-test .taken)
+loop-less c =
+    let loop-test = c .before .before .before .before .before .before .before .before .before .before .before .loop-test in
+    let n = c .before .before .next-own .ensures in omega (arith, n .0, n .1, loop-test .taken)
 
 loop-again : tie.Need-loop-again Inv-loop μ-loop
 loop-again c =
+    let note-one = c .before .before .before .before .before .before .before .before .note-one in
+    let loop-test = c .before .before .before .before .before .before .before .before .before .before .before .loop-test in
     let s = c .before .before .before .before .before .before .before .before .before .before .before .before .before .before .before .before .before in
     let t = c .before .before .before .before .before .before .before .before .before .before .before .before .loop in
-    let o = c .before .before .before .before .before .before .before .before .note-one .ensures in
+    let o = note-one .ensures in
     let n = c .before .before .next-own .ensures in
     let r = c .before .before .next-own .result in
     let both = noted-both (now (s .args .gone)) (crossings (now (s .args .plan))) (s .args .carrier .0) (s .args .name) (t .m - s .args .name) (t .m) 1 (now (s .args .todo)) (t .todo) _ (t .low) _ (omega (arith, t .inv .0)) (o .0) (t .inv .5) (o .1) in
-    let own = t .inv .7 (omega (arith, c .before .before .before .before .before .before .before .before .before .before .before .loop-test .taken)) in
+    let own = t .inv .7 (omega (arith, loop-test .taken)) in
     (omega (arith, n .0, t .inv .0), omega (arith, n .1), omega (arith, o .0, t .inv .2), o .1 .long ∙ t .inv .3, search needs, noted-over (now (s .args .gone)) (crossings (now (s .args .plan))) (s .args .carrier .0) (now (s .args .plan)) (named (crossings (now (s .args .plan))) (t .m) .carrier) (s .args .name) ((t .m - s .args .name) + 1) (r - s .args .name) (t .m + 1) r (now (s .args .todo)) _ _ refl own (omega (arith, t .inv .0)) (omega (arith, n .0, t .inv .0)) (λ k u h e. n .2 k (omega arith) h e) both, n .4, λ l. n .3 l ∙ own)
 
 same-length : tie.Need-same-length Inv-loop μ-loop

@@ -37,9 +37,10 @@ same-length-2 c = search needs
 
 returns-3 : tie.Need-returns-3
 returns-3 c =
+    let last-leaving = c .before .before .before .last-leaving in
     let s = c .before .before .before .before .before .before .before .before .before .before .before .before .before .before .before in
-    let f : (k : ℕ) → LastLeaving (now (s .args .gone)) (crossings (now (s .args .plan))) (named (crossings (now (s .args .plan))) (s .args .name) .to) (s .args .name) k → c .before .before .before .last-leaving .result ≡ k = λ k l. c .before .before .before .last-leaving .ensures .1 k l in
-    (omega (arith, c .if3 .taken), noted-one (now (s .args .gone)) (crossings (now (s .args .plan))) (s .args .carrier .0) (s .args .name) (c .before .before .before .last-leaving .result) (c .before .before .before .last-leaving .result) (now (s .args .todo)) (omega (arith, c .before .before .before .last-leaving .ensures .0)) (omega arith) f, c .before .before .before .last-leaving .ensures .2)
+    let f : (k : ℕ) → LastLeaving (now (s .args .gone)) (crossings (now (s .args .plan))) (named (crossings (now (s .args .plan))) (s .args .name) .to) (s .args .name) k → last-leaving .result ≡ k = λ k l. last-leaving .ensures .1 k l in
+    (omega (arith, c .if3 .taken), noted-one (now (s .args .gone)) (crossings (now (s .args .plan))) (s .args .carrier .0) (s .args .name) (last-leaving .result) (last-leaving .result) (now (s .args .todo)) (omega (arith, last-leaving .ensures .0)) (omega arith) f, last-leaving .ensures .2)
 
 same-length-3 : tie.Need-same-length-3
 same-length-3 c = search needs
@@ -49,9 +50,10 @@ same-length-4 c = search needs
 
 returns-4 : tie.Need-returns-4
 returns-4 c =
+    let last-leaving = c .before .before .before .last-leaving in
     let s = c .before .before .before .before .before .before .before .before .before .before .before .before .before .before .before in
-    let f : (k : ℕ) → LastLeaving (now (s .args .gone)) (crossings (now (s .args .plan))) (named (crossings (now (s .args .plan))) (s .args .name) .to) (s .args .name) k → c .before .before .before .last-leaving .result ≡ k = λ k l. c .before .before .before .last-leaving .ensures .1 k l in
-    (omega arith, noted-one (now (s .args .gone)) (crossings (now (s .args .plan))) (s .args .carrier .0) (s .args .name) (s .args .low) (c .before .before .before .last-leaving .result) (now (s .args .todo)) (omega (arith, c .before .before .before .last-leaving .ensures .0)) (c .if3 .left) f, c .before .before .before .last-leaving .ensures .2)
+    let f : (k : ℕ) → LastLeaving (now (s .args .gone)) (crossings (now (s .args .plan))) (named (crossings (now (s .args .plan))) (s .args .name) .to) (s .args .name) k → last-leaving .result ≡ k = λ k l. last-leaving .ensures .1 k l in
+    (omega arith, noted-one (now (s .args .gone)) (crossings (now (s .args .plan))) (s .args .carrier .0) (s .args .name) (s .args .low) (last-leaving .result) (now (s .args .todo)) (omega (arith, last-leaving .ensures .0)) (c .if3 .left) f, last-leaving .ensures .2)
 
 pub note-one-spec : {M : Type 1} → statement M
 note-one-spec =

@@ -43,7 +43,10 @@ same-length : tie.Need-same-length
 same-length c = search needs
 
 returns-4 : tie.Need-returns-4
-returns-4 c = let s = c .before .before .before .before .before .before .before .before .before .before .before .before .before .before .before .before .before in says-room (order (s .args .bays) (now (s .args .rails)) (now (s .args .start)) (now (s .args .goal))) (now (s .args .plan)) (now (s .args .marks)) (now (s .args .out)) (ap checkedOf (sym (c .before .before .before .before .before .before .before .before .enum-told .given .1)) ∙ c .before .before .before .before .before .before .before .before .before .before .check .ensures) (sym (c .before .before .before .before .before .before .before .bad-marks .ensures) ∙ c .before .before .before .before .before .before .if1 .left) (sym (c .before .before .before .before .before .any-done .ensures) ∙ c .before .before .before .before .if2 .left) (c .before .before .shorten-checked .result) _ (c .before .before .shorten-checked .ensures)
+returns-4 c =
+    let enum-told = c .before .before .before .before .before .before .before .before .enum-told in
+    let check = c .before .before .before .before .before .before .before .before .before .before .check in
+    let s = c .before .before .before .before .before .before .before .before .before .before .before .before .before .before .before .before .before in says-room (order (s .args .bays) (now (s .args .rails)) (now (s .args .start)) (now (s .args .goal))) (now (s .args .plan)) (now (s .args .marks)) (now (s .args .out)) (ap checkedOf (sym (enum-told .given .1)) ∙ check .ensures) (sym (c .before .before .before .before .before .before .before .bad-marks .ensures) ∙ c .before .before .before .before .before .before .if1 .left) (sym (c .before .before .before .before .before .any-done .ensures) ∙ c .before .before .before .before .if2 .left) (c .before .before .shorten-checked .result) _ (c .before .before .shorten-checked .ensures)
 
 pub shorten-spec : {M : Type 1} → statement M
 shorten-spec =

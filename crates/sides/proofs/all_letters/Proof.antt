@@ -35,10 +35,14 @@ loop-less : tie.Need-loop-less Inv-loop μ-loop
 loop-less c = search needs
 
 loop-again : tie.Need-loop-again Inv-loop μ-loop
-loop-again c = (search needs, sym (all-on letter (c .before .before .before .before .before .before .args .text .now) (c .before .before .before .before .loop .i) (search needs) (sym (c .before .is-letter .ensures) ∙ c .if1 .taken)) ∙ c .before .before .before .before .loop .inv .1)
+loop-again c =
+    let loop = c .before .before .before .before .loop in
+    (search needs, sym (all-on letter (c .before .before .before .before .before .before .args .text .now) (loop .i) (search needs) (sym (c .before .is-letter .ensures) ∙ c .if1 .taken)) ∙ loop .inv .1)
 
 returns : tie.Need-returns Inv-loop μ-loop
-returns c = all-not letter (c .before .before .before .before .before .before .args .text .now) (c .before .before .before .before .loop .i) (search needs) (sym (c .before .is-letter .ensures) ∙ c .if1 .left) ∙ c .before .before .before .before .loop .inv .1
+returns c =
+    let loop = c .before .before .before .before .loop in
+    all-not letter (c .before .before .before .before .before .before .args .text .now) (loop .i) (search needs) (sym (c .before .is-letter .ensures) ∙ c .if1 .left) ∙ loop .inv .1
 
 returns-2 : tie.Need-returns-2 Inv-loop μ-loop
 returns-2 c = all-none letter (c .before .before .before .args .text .now) (c .before .loop .i) (search needs) ∙ c .before .loop .inv .1

@@ -24,7 +24,9 @@ enum-known-due : tie.Need-enum-known-due
 enum-known-due c = search needs
 
 returns : tie.Need-returns
-returns c = end-full (c .before .before .before .before .args .n) (c .before .before .before .before .args .due) (c .before .before .due .given .0 .0) (c .before .before .due .given .0 .1 .0) (c .before .before .due .given .0 .1 .1 .0) (c .before .before .due .given .1) (c .if1 .taken)
+returns c =
+    let start = c .before .before .before .before in
+    end-full (start .args .n) (start .args .due) (c .before .before .due .given .0 .0) (c .before .before .due .given .0 .1 .0) (c .before .before .due .given .0 .1 .1 .0) (c .before .before .due .given .1) (c .if1 .taken)
 
 returns-2 : tie.Need-returns-2
 unfolding dueEnd
@@ -43,7 +45,9 @@ unfolding dueEnd
 returns-5 c = end-early (c .before .before .args .n) (c .before .before .args .due) (rw (c .enum-told4 .given .1))
 
 returns-6 : tie.Need-returns-6
-returns-6 c = end-missing (c .before .before .before .before .args .n) (c .before .before .before .before .args .due) (c .before .before .due .given .0 .0) (c .before .before .due .given .0 .1 .0) (c .before .before .due .given .0 .1 .1 .0) (c .before .before .due .given .1) (c .if1 .left)
+returns-6 c =
+    let start = c .before .before .before .before in
+    end-missing (start .args .n) (start .args .due) (c .before .before .due .given .0 .0) (c .before .before .due .given .0 .1 .0) (c .before .before .due .given .0 .1 .1 .0) (c .before .before .due .given .1) (c .if1 .left)
 
 pub end-spec : {M : Type 1} → statement M
 end-spec =

@@ -13,7 +13,9 @@ all-letters-requires : tie.Need-all-letters-requires
 all-letters-requires c κs = search needs
 
 returns : tie.Need-returns
-returns c = c .all-letters .ensures ∙ row-wide (c .before .before .before .args .width) (c .before .before .before .args .text .now) (search needs)
+returns c =
+    let start = c .before .before .before in
+    c .all-letters .ensures ∙ row-wide (start .args .width) (start .args .text .now) (search needs)
 
 returns-2 : tie.Need-returns-2
 returns-2 c = row-other (c .before .before .args .width) (c .before .before .args .text .now) (c .if1 .left)

@@ -42,7 +42,9 @@ end-requires : tie.Need-end-requires Inv-loop μ-loop
 end-requires c κs = search needs
 
 returns : tie.Need-returns Inv-loop μ-loop
-returns c = c .end .ensures ∙ left-end (c .before .before .before .before .before .before .args .file .now) (c .before .before .before .before .loop .n) (c .before .before .before .before .loop .due) (c .before .before .before .before .loop .at) (c .before .before .before .next-line .ensures .none (c .before .enum-told .given .1)) ∙ c .before .before .before .before .loop .inv .1 .1
+returns c =
+    let loop = c .before .before .before .before .loop in
+    c .end .ensures ∙ left-end (c .before .before .before .before .before .before .args .file .now) (loop .n) (loop .due) (loop .at) (c .before .before .before .next-line .ensures .none (c .before .enum-told .given .1)) ∙ loop .inv .1 .1
 
 sub-take : tie.Need-sub-take Inv-loop μ-loop
 sub-take c = let t = c .before .before .before .next-line .ensures .line (c .before .stop .given .0 .0) (c .before .stop .given .0 .1 .0) (c .before .stop .given .1) in omega (arith, t .low, t .high)
@@ -63,16 +65,28 @@ enum-told-2 : tie.Need-enum-told-2 Inv-loop μ-loop
 enum-told-2 c = search needs
 
 returns-2 : tie.Need-returns-2 Inv-loop μ-loop
-returns-2 c = left-bad (c .before .before .before .before .before .before .before .before .before .before .args .file .now) (c .before .before .before .before .before .before .before .before .loop .n) (c .before .before .before .before .before .before .before .before .loop .due) (c .before .before .before .before .before .before .before .before .loop .at) (c .before .before .before .before .before .stop .given .0 .0) (c .before .before .before .before .before .stop .given .0 .1 .0) (c .before .before .before .before .before .before .before .next-line .ensures .line (c .before .before .before .before .before .stop .given .0 .0) (c .before .before .before .before .before .stop .given .0 .1 .0) (c .before .before .before .before .before .stop .given .1)) (ap takenOf (sym (c .enum-told2 .given .1)) ∙ c .before .before .take .ensures) ∙ c .before .before .before .before .before .before .before .before .loop .inv .1 .1
+returns-2 c =
+    let stop = c .before .before .before .before .before .stop in
+    let loop = c .before .before .before .before .before .before .before .before .loop in
+    let start = c .before .before .before .before .before .before .before .before .before .before in
+    left-bad (start .args .file .now) (loop .n) (loop .due) (loop .at) (stop .given .0 .0) (stop .given .0 .1 .0) (c .before .before .before .before .before .before .before .next-line .ensures .line (stop .given .0 .0) (stop .given .0 .1 .0) (stop .given .1)) (ap takenOf (sym (c .enum-told2 .given .1)) ∙ c .before .before .take .ensures) ∙ loop .inv .1 .1
 
 add-n : tie.Need-add-n Inv-loop μ-loop
 add-n c = search needs
 
 loop-less : tie.Need-loop-less Inv-loop μ-loop
-loop-less c = let t = c .before .before .before .before .before .before .before .before .next-line .ensures .line (c .before .before .before .before .before .before .stop .given .0 .0) (c .before .before .before .before .before .before .stop .given .0 .1 .0) (c .before .before .before .before .before .before .stop .given .1) in omega (arith, t .on, t .within)
+loop-less c =
+    let stop = c .before .before .before .before .before .before .stop in
+    let next-line = c .before .before .before .before .before .before .before .before .next-line in
+    let t = next-line .ensures .line (stop .given .0 .0) (stop .given .0 .1 .0) (stop .given .1) in omega (arith, t .on, t .within)
 
 loop-again : tie.Need-loop-again Inv-loop μ-loop
-loop-again c = let t = c .before .before .before .before .before .before .before .before .next-line .ensures .line (c .before .before .before .before .before .before .stop .given .0 .0) (c .before .before .before .before .before .before .stop .given .0 .1 .0) (c .before .before .before .before .before .before .stop .given .1) in (t .within, (omega (arith, t .on, c .before .before .before .before .before .before .before .before .before .loop .inv .1 .0), left-on (c .before .before .before .before .before .before .before .before .before .before .before .args .file .now) (c .before .before .before .before .before .before .before .before .before .loop .n) (c .before .before .before .before .before .before .before .before .before .loop .due) (c .before .before .before .before .before .before .before .before .before .loop .at) (c .before .before .before .before .before .before .stop .given .0 .0) (c .before .before .before .before .before .before .stop .given .0 .1 .0) (c .before .before .before .before .before .before .before .before .next-line .ensures .line (c .before .before .before .before .before .before .stop .given .0 .0) (c .before .before .before .before .before .before .stop .given .0 .1 .0) (c .before .before .before .before .before .before .stop .given .1)) (c .before .d .given .0 .0) (ap takenOf (sym (c .before .d .given .1)) ∙ c .before .before .before .take .ensures) ∙ c .before .before .before .before .before .before .before .before .before .loop .inv .1 .1))
+loop-again c =
+    let stop = c .before .before .before .before .before .before .stop in
+    let next-line = c .before .before .before .before .before .before .before .before .next-line in
+    let loop = c .before .before .before .before .before .before .before .before .before .loop in
+    let start = c .before .before .before .before .before .before .before .before .before .before .before in
+    let t = next-line .ensures .line (stop .given .0 .0) (stop .given .0 .1 .0) (stop .given .1) in (t .within, (omega (arith, t .on, loop .inv .1 .0), left-on (start .args .file .now) (loop .n) (loop .due) (loop .at) (stop .given .0 .0) (stop .given .0 .1 .0) (next-line .ensures .line (stop .given .0 .0) (stop .given .0 .1 .0) (stop .given .1)) (c .before .d .given .0 .0) (ap takenOf (sym (c .before .d .given .1)) ∙ c .before .before .before .take .ensures) ∙ loop .inv .1 .1))
 
 pub read-spec : {M : Type 1} → statement M
 read-spec =

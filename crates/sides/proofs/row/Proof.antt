@@ -15,10 +15,14 @@ add-t7 : tie.Need-add-t7
 add-t7 c = search needs
 
 returns : tie.Need-returns
-returns c = row-yes (c .before .before .before .before .args .h) (c .before .before .before .before .args .w) (c .before .before .before .before .args .rows) (c .before .before .before .before .args .text .now) (search needs) (c .before .is-row .result) (c .before .is-row .ensures) (c .if2 .taken)
+returns c =
+    let start = c .before .before .before .before in
+    row-yes (start .args .h) (start .args .w) (start .args .rows) (start .args .text .now) (search needs) (c .before .is-row .result) (c .before .is-row .ensures) (c .if2 .taken)
 
 returns-2 : tie.Need-returns-2
-returns-2 c = row-no (c .before .before .before .before .args .h) (c .before .before .before .before .args .w) (c .before .before .before .before .args .rows) (c .before .before .before .before .args .text .now) (search needs) (c .before .is-row .result) (c .before .is-row .ensures) (c .if2 .left)
+returns-2 c =
+    let start = c .before .before .before .before in
+    row-no (start .args .h) (start .args .w) (start .args .rows) (start .args .text .now) (search needs) (c .before .is-row .result) (c .before .is-row .ensures) (c .if2 .left)
 
 returns-3 : tie.Need-returns-3
 returns-3 c = row-more (c .before .before .args .h) (c .before .before .args .w) (c .before .before .args .rows) (c .before .before .args .text .now) (search needs)

@@ -47,7 +47,9 @@ within-requires-2 : tie.Need-within-requires-2
 within-requires-2 c κs = search needs
 
 returns-2 : tie.Need-returns-2
-returns-2 c = ap sideOf (c .within2 .ensures ∙ rw (c .before .digit3 .ensures .0, c .before .before .before .digit2 .ensures .0)) ∙ side-two (c .before .before .before .before .before .before .before .before .args .text .now) (search needs)
+returns-2 c =
+    let start = c .before .before .before .before .before .before .before .before in
+    ap sideOf (c .within2 .ensures ∙ rw (c .before .digit3 .ensures .0, c .before .before .before .digit2 .ensures .0)) ∙ side-two (start .args .text .now) (search needs)
 
 returns-3 : tie.Need-returns-3
 returns-3 c = side-other (c .before .before .before .args .text .now) (c .before .if1 .left) (c .if2 .left)

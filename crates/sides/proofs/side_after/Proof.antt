@@ -26,13 +26,19 @@ side-requires : tie.Need-side-requires
 side-requires c κs = search needs
 
 returns : tie.Need-returns
-returns c = c .side .ensures ∙ after-word (c .before .before .before .before .before .before .before .args .word .now) (c .before .before .before .before .before .before .before .args .text .now) (sym (c .before .before .before .before .begins-with .ensures) ∙ c .before .before .before .if1 .taken)
+returns c =
+    let start = c .before .before .before .before .before .before .before in
+    c .side .ensures ∙ after-word (start .args .word .now) (start .args .text .now) (sym (c .before .before .before .before .begins-with .ensures) ∙ c .before .before .before .if1 .taken)
 
 returns-2 : tie.Need-returns-2
-returns-2 c = after-short (c .before .before .before .before .before .args .word .now) (c .before .before .before .before .before .args .text .now) (sym (c .before .before .begins-with .ensures) ∙ c .before .if1 .taken) (search needs)
+returns-2 c =
+    let start = c .before .before .before .before .before in
+    after-short (start .args .word .now) (start .args .text .now) (sym (c .before .before .begins-with .ensures) ∙ c .before .if1 .taken) (search needs)
 
 returns-3 : tie.Need-returns-3
-returns-3 c = after-other (c .before .before .before .before .args .word .now) (c .before .before .before .before .args .text .now) (sym (c .before .begins-with .ensures) ∙ c .if1 .left)
+returns-3 c =
+    let start = c .before .before .before .before in
+    after-other (start .args .word .now) (start .args .text .now) (sym (c .before .begins-with .ensures) ∙ c .if1 .left)
 
 pub side-after-spec : {M : Type 1} → statement M
 side-after-spec =

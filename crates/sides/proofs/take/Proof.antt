@@ -22,7 +22,9 @@ is-word-requires : tie.Need-is-word-requires
 is-word-requires c κs = search needs
 
 returns : tie.Need-returns
-returns c = octile-yes (c .before .before .before .before .before .before .args .due) (c .before .before .before .before .before .before .args .text .now) (c .before .before .before .enum-told .given .1) (c .before .is-word .result) (c .before .is-word .ensures) (c .if1 .taken)
+returns c =
+    let start = c .before .before .before .before .before .before in
+    octile-yes (start .args .due) (start .args .text .now) (c .before .before .before .enum-told .given .1) (c .before .is-word .result) (c .before .is-word .ensures) (c .if1 .taken)
 
 enum-told-2 : tie.Need-enum-told-2
 enum-told-2 c = search needs
@@ -34,7 +36,9 @@ side-after-requires : tie.Need-side-after-requires
 side-after-requires c κs = search needs
 
 returns-2 : tie.Need-returns-2
-returns-2 c = height-no (c .before .before .before .before .before .before .args .due) (c .before .before .before .before .before .before .args .text .now) (c .before .before .before .enum-told2 .given .1) (c .before .side-after .result) (c .before .side-after .ensures) (c .if2 .taken)
+returns-2 c =
+    let start = c .before .before .before .before .before .before in
+    height-no (start .args .due) (start .args .text .now) (c .before .before .before .enum-told2 .given .1) (c .before .side-after .result) (c .before .side-after .ensures) (c .if2 .taken)
 
 enum-known-due : tie.Need-enum-known-due
 enum-known-due c = search needs
@@ -46,7 +50,10 @@ side-after-requires-2 : tie.Need-side-after-requires-2
 side-after-requires-2 c κs = search needs
 
 returns-3 : tie.Need-returns-3
-returns-3 c = width-no (c .before .before .before .before .before .before .before .args .due) (c .before .before .before .before .before .before .before .args .text .now) (c .before .before .before .before .due .given .0 .0) (c .before .before .before .before .due .given .1) (c .before .side-after2 .result) (c .before .side-after2 .ensures) (c .if3 .taken)
+returns-3 c =
+    let due = c .before .before .before .before .due in
+    let start = c .before .before .before .before .before .before .before in
+    width-no (start .args .due) (start .args .text .now) (due .given .0 .0) (due .given .1) (c .before .side-after2 .result) (c .before .side-after2 .ensures) (c .if3 .taken)
 
 enum-known-due-2 : tie.Need-enum-known-due-2
 enum-known-due-2 c = search needs
@@ -58,7 +65,10 @@ is-word-requires-2 : tie.Need-is-word-requires-2
 is-word-requires-2 c κs = search needs
 
 returns-4 : tie.Need-returns-4
-returns-4 c = map-yes (c .before .before .before .before .before .before .before .args .due) (c .before .before .before .before .before .before .before .args .text .now) (c .before .before .before .before .due2 .given .0 .0) (c .before .before .before .before .due2 .given .0 .1 .0) (c .before .before .before .before .due2 .given .1) (c .before .is-word2 .result) (c .before .is-word2 .ensures) (c .if4 .taken)
+returns-4 c =
+    let due2 = c .before .before .before .before .due2 in
+    let start = c .before .before .before .before .before .before .before in
+    map-yes (start .args .due) (start .args .text .now) (due2 .given .0 .0) (due2 .given .0 .1 .0) (due2 .given .1) (c .before .is-word2 .result) (c .before .is-word2 .ensures) (c .if4 .taken)
 
 enum-known-due-3 : tie.Need-enum-known-due-3
 enum-known-due-3 c = search needs
@@ -67,16 +77,26 @@ row-requires : tie.Need-row-requires
 row-requires c κs = search needs
 
 returns-5 : tie.Need-returns-5
-returns-5 c = octile-no (c .before .before .before .before .before .before .args .due) (c .before .before .before .before .before .before .args .text .now) (c .before .before .before .enum-told .given .1) (c .before .is-word .result) (c .before .is-word .ensures) (c .if1 .left)
+returns-5 c =
+    let start = c .before .before .before .before .before .before in
+    octile-no (start .args .due) (start .args .text .now) (c .before .before .before .enum-told .given .1) (c .before .is-word .result) (c .before .is-word .ensures) (c .if1 .left)
 
 returns-6 : tie.Need-returns-6
-returns-6 c = height-yes (c .before .before .before .before .before .before .args .due) (c .before .before .before .before .before .before .args .text .now) (c .before .before .before .enum-told2 .given .1) (c .before .side-after .result) (c .before .side-after .ensures) (c .if2 .left)
+returns-6 c =
+    let start = c .before .before .before .before .before .before in
+    height-yes (start .args .due) (start .args .text .now) (c .before .before .before .enum-told2 .given .1) (c .before .side-after .result) (c .before .side-after .ensures) (c .if2 .left)
 
 returns-7 : tie.Need-returns-7
-returns-7 c = width-yes (c .before .before .before .before .before .before .before .args .due) (c .before .before .before .before .before .before .before .args .text .now) (c .before .before .before .before .due .given .0 .0) (c .before .before .before .before .due .given .1) (c .before .side-after2 .result) (c .before .side-after2 .ensures) (c .if3 .left)
+returns-7 c =
+    let due = c .before .before .before .before .due in
+    let start = c .before .before .before .before .before .before .before in
+    width-yes (start .args .due) (start .args .text .now) (due .given .0 .0) (due .given .1) (c .before .side-after2 .result) (c .before .side-after2 .ensures) (c .if3 .left)
 
 returns-8 : tie.Need-returns-8
-returns-8 c = map-no (c .before .before .before .before .before .before .before .args .due) (c .before .before .before .before .before .before .before .args .text .now) (c .before .before .before .before .due2 .given .0 .0) (c .before .before .before .before .due2 .given .0 .1 .0) (c .before .before .before .before .due2 .given .1) (c .before .is-word2 .result) (c .before .is-word2 .ensures) (c .if4 .left)
+returns-8 c =
+    let due2 = c .before .before .before .before .due2 in
+    let start = c .before .before .before .before .before .before .before in
+    map-no (start .args .due) (start .args .text .now) (due2 .given .0 .0) (due2 .given .0 .1 .0) (due2 .given .1) (c .before .is-word2 .result) (c .before .is-word2 .ensures) (c .if4 .left)
 
 returns-9 : tie.Need-returns-9
 returns-9 c = c .row .ensures ∙ ap (λ d. lineTaken d (c .before .before .before .before .before .args .text .now)) (sym (c .before .before .due3 .given .1))

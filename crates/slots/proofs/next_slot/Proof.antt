@@ -69,7 +69,8 @@ element-write-bays-2 c = search needs
 returns : tie.Need-returns
 unfolding slotAfter
 returns c =
-    let s = c .before .before .before .before .before .before .before .before .args in
+    let start = c .before .before .before .before .before .before .before .before in
+    let s = start .args in
     let highest = c .higher2 .ensures ∙ ap (max (getD (now (s .carriers)) (s .x .carrier .0) 0)) (c .before .higher .ensures) in
     let e : c .higher2 .result + 1 ≡ slotAfter (now (s .carriers)) (now (s .bays)) (crossingOf (s .x)) =
     add-one (c .higher2 .result) ∙ ap suc highest in

@@ -44,18 +44,21 @@ same-length-5 c = search needs
 
 returns : tie.Need-returns
 returns c =
-    let p = c .before .before .before .before .before .before .before .before .before .before .before .before .before .before .before .before .before .before .before .before .before .before .before .before .pre .0 in
-    let z = c .before .before .before .before .before .before .before .before .before .before .before .before .before .before .before .before .before .before .before .before .before .before .before .before .pre .1 in
-    let e : c .before .before .before .before .before .before .before .before .before .before .step-to .result ≡ Failed = c .enum-told .given .1 in
-    let a = rw e at (c .before .before .before .before .before .before .before .before .before .before .step-to .ensures .1) in
+    let step-to = c .before .before .before .before .before .before .before .before .before .before .step-to in
+    let start = c .before .before .before .before .before .before .before .before .before .before .before .before .before .before .before .before .before .before .before .before .before .before .before .before in
+    let p = start .pre .0 in
+    let z = start .pre .1 in
+    let e : step-to .result ≡ Failed = c .enum-told .given .1 in
+    let a = rw e at (step-to .ensures .1) in
     let f = a (p .tabled) in
     (tt, a, rw (f .still refl) (z .6))
 
 settle-requires : tie.Need-settle-requires
 settle-requires c κs =
-    let p = c .before .before .before .before .before .before .before .before .before .before .before .before .before .before .before .before .before .before .before .before .before .before .before .before .before .before .pre .0 in
-    let z = c .before .before .before .before .before .before .before .before .before .before .before .before .before .before .before .before .before .before .before .before .before .before .before .before .before .before .pre .1 in
-    (z .6 .size, omega (arith, p .placed .inside (c .before .before .before .before .before .before .before .before .before .before .before .before .before .before .before .before .before .before .before .before .before .before .before .before .before .before .args .r .0) (z .0), p .most), omega (arith, z .2, p .most))
+    let start = c .before .before .before .before .before .before .before .before .before .before .before .before .before .before .before .before .before .before .before .before .before .before .before .before .before .before in
+    let p = start .pre .0 in
+    let z = start .pre .1 in
+    (z .6 .size, omega (arith, p .placed .inside (start .args .r .0) (z .0), p .most), omega (arith, z .2, p .most))
 
 same-length-6 : tie.Need-same-length-6
 same-length-6 c = search needs
@@ -74,13 +77,16 @@ same-length-10 c = search needs
 
 returns-2 : tie.Need-returns-2
 returns-2 c =
-    let p = c .before .before .before .before .before .before .before .before .before .before .before .before .before .before .before .before .before .before .before .before .before .before .before .before .before .before .before .before .before .pre .0 in
-    let z = c .before .before .before .before .before .before .before .before .before .before .before .before .before .before .before .before .before .before .before .before .before .before .before .before .before .before .before .before .before .pre .1 in
-    let e : c .before .before .before .before .before .before .before .before .before .before .before .before .before .before .before .step-to .result ≡ Done (c .before .before .before .before .before .stepped .given .0 .0) = c .before .before .before .before .before .stepped .given .1 in
-    let a = rw e at (c .before .before .before .before .before .before .before .before .before .before .before .before .before .before .before .step-to .ensures .1) in (
-      rw e at (c .before .before .before .before .before .before .before .before .before .before .before .before .before .before .before .step-to .ensures .0),
+    let stepped = c .before .before .before .before .before .stepped in
+    let step-to = c .before .before .before .before .before .before .before .before .before .before .before .before .before .before .before .step-to in
+    let start = c .before .before .before .before .before .before .before .before .before .before .before .before .before .before .before .before .before .before .before .before .before .before .before .before .before .before .before .before .before in
+    let p = start .pre .0 in
+    let z = start .pre .1 in
+    let e : step-to .result ≡ Done (stepped .given .0 .0) = stepped .given .1 in
+    let a = rw e at (step-to .ensures .1) in (
+      rw e at (step-to .ensures .0),
       a,
-      settled-after (p .tabled) (p .most) (z .4) (c .before .before .before .before .before .before .before .before .before .before .before .before .before .before .before .before .before .before .before .before .before .before .before .before .before .before .before .before .before .args .finished) (c .before .before .before .before .before .before .before .before .before .before .before .before .before .before .before .before .before .before .before .before .before .before .before .before .before .before .before .before .before .args .r .0) (c .before .before .before .before .before .before .before .before .before .before .before .before .before .before .before .before .before .before .before .before .before .before .before .before .before .before .before .before .before .args .w .0) (c .before .before .before .before .before .before .before .before .before .before .before .before .before .before .before .before .before .before .before .before .before .before .before .before .before .before .before .before .before .args .placement .now) (p .placed) (z .0) (z .1) (z .2) (z .3)
+      settled-after (p .tabled) (p .most) (z .4) (start .args .finished) (start .args .r .0) (start .args .w .0) (start .args .placement .now) (p .placed) (z .0) (z .1) (z .2) (z .3)
           (a (p .tabled)) (z .6) (c .before .before .settle .kept .0) (c .before .before .settle .ensures),
     )
 

@@ -21,9 +21,10 @@ slice-read-t14 c = search needs
 
 cross-requires : tie.Need-cross-requires
 cross-requires c κs =
-    let a = c .before .before .before .before .before .before .before .before .before .before .before .args in
-    let z = c .before .before .before .before .before .before .before .before .before .before .before .pre .0 in
-    let s = c .before .before .before .before .before .before .before .before .before .before .before .pre .1 in (
+    let start = c .before .before .before .before .before .before .before .before .before .before .before in
+    let a = start .args in
+    let z = start .pre .0 in
+    let s = start .pre .1 in (
       z .3 .inside (a .r .0) (z .0),
       z .1,
       s .0,
@@ -36,9 +37,10 @@ cross-requires c κs =
 
 settle-requires : tie.Need-settle-requires
 settle-requires c κs =
-    let z = c .before .before .before .before .before .before .before .before .before .before .before .before .before .before .before .before .before .before .before .before .before .pre .0 in
-    let s = c .before .before .before .before .before .before .before .before .before .before .before .before .before .before .before .before .before .before .before .before .before .pre .1 in
-    (s .2, omega (arith, z .3 .inside (c .before .before .before .before .before .before .before .before .before .before .before .before .before .before .before .before .before .before .before .before .before .args .r .0) (z .0), s .0), omega (arith, z .1, s .0))
+    let start = c .before .before .before .before .before .before .before .before .before .before .before .before .before .before .before .before .before .before .before .before .before in
+    let z = start .pre .0 in
+    let s = start .pre .1 in
+    (s .2, omega (arith, z .3 .inside (start .args .r .0) (z .0), s .0), omega (arith, z .1, s .0))
 
 same-length : tie.Need-same-length
 same-length c = search needs
@@ -57,9 +59,11 @@ same-length-5 c = search needs
 
 returns : tie.Need-returns
 returns c =
-    let a = c .before .before .before .before .before .before .before .before .before .before .before .before .before .before .before .before .before .before .before .before .before .before .before .before .args in
-    let z = c .before .before .before .before .before .before .before .before .before .before .before .before .before .before .before .before .before .before .before .before .before .before .before .before .pre .0 in
-    let crossed = c .before .before .before .before .before .before .before .before .before .before .before .before .cross .ensures in
+    let cross = c .before .before .before .before .before .before .before .before .before .before .before .before .cross in
+    let start = c .before .before .before .before .before .before .before .before .before .before .before .before .before .before .before .before .before .before .before .before .before .before .before .before in
+    let a = start .args in
+    let z = start .pre .0 in
+    let crossed = cross .ensures in
     (crossed, settled-free (a .r .0) (a .w .0) (a .placement .now) (z .3) (z .0) crossed (c .before .before .settle .kept .0) (c .before .before .settle .ensures))
 
 pub step-in-spec : {M : Type 1} → statement M

@@ -19,19 +19,27 @@ slice-aggregate-put-named-2 : tie.Need-slice-aggregate-put-named-2
 slice-aggregate-put-named-2 c = search needs
 
 put-named-requires-2 : tie.Need-put-named-requires-2
-put-named-requires-2 c κs = omega (arith, c .before .before .before .before .put-named .ensures .counted, named-short (text "p edge ") (c .before .before .before .before .before .before .before .before .args .bays) (search needs))
+put-named-requires-2 c κs =
+    let start = c .before .before .before .before .before .before .before .before in
+    omega (arith, c .before .before .before .before .put-named .ensures .counted, named-short (text "p edge ") (start .args .bays) (search needs))
 
 slice-aggregate-put-text : tie.Need-slice-aggregate-put-text
 slice-aggregate-put-text c = search needs
 
 put-text-requires : tie.Need-put-text-requires
-put-text-requires c κs = omega (arith, c .before .before .before .before .before .before .before .before .before .put-named .ensures .counted, c .before .before .before .before .put-named2 .ensures .counted, named-short (text "p edge ") (c .before .before .before .before .before .before .before .before .before .before .before .before .before .args .bays) (search needs), named-short (text " ") (c .before .before .before .before .before .before .before .before .before .before .before .before .before .args .rails) (search needs))
+put-text-requires c κs =
+    let put-named = c .before .before .before .before .before .before .before .before .before .put-named in
+    let start = c .before .before .before .before .before .before .before .before .before .before .before .before .before in
+    omega (arith, put-named .ensures .counted, c .before .before .before .before .put-named2 .ensures .counted, named-short (text "p edge ") (start .args .bays) (search needs), named-short (text " ") (start .args .rails) (search needs))
 
 same-length : tie.Need-same-length
 same-length c = search needs
 
 returns : tie.Need-returns
-returns c = head-done (c .before .before .before .before .before .before .before .before .before .before .before .before .before .before .before .before .args .bays) (c .before .before .before .before .before .before .before .before .before .before .before .before .before .before .before .before .args .rails) (search needs, search needs) (c .before .before .before .before .before .before .before .before .before .before .before .before .put-named .ensures) (c .before .before .before .before .before .before .before .put-named2 .ensures) (c .before .before .put-text .ensures)
+returns c =
+    let put-named = c .before .before .before .before .before .before .before .before .before .before .before .before .put-named in
+    let start = c .before .before .before .before .before .before .before .before .before .before .before .before .before .before .before .before in
+    head-done (start .args .bays) (start .args .rails) (search needs, search needs) (put-named .ensures) (c .before .before .before .before .before .before .before .put-named2 .ensures) (c .before .before .put-text .ensures)
 
 pub head-spec : {M : Type 1} → statement M
 head-spec =

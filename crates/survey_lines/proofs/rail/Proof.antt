@@ -27,19 +27,27 @@ add-put-named-2 : tie.Need-add-put-named-2
 add-put-named-2 c = search needs
 
 put-named-requires-2 : tie.Need-put-named-requires-2
-put-named-requires-2 c κs = omega (arith, c .before .before .before .before .put-named .ensures .counted, named-short (text "e ") (c .before .before .before .before .before .before .before .before .args .a + 1) (search needs), c .before .before .before .before .before .before .before .before .pre)
+put-named-requires-2 c κs =
+    let start = c .before .before .before .before .before .before .before .before in
+    omega (arith, c .before .before .before .before .put-named .ensures .counted, named-short (text "e ") (start .args .a + 1) (search needs), start .pre)
 
 slice-aggregate-put-text : tie.Need-slice-aggregate-put-text
 slice-aggregate-put-text c = search needs
 
 put-text-requires : tie.Need-put-text-requires
-put-text-requires c κs = omega (arith, c .before .before .before .before .before .before .before .before .before .put-named .ensures .counted, c .before .before .before .before .put-named2 .ensures .counted, named-short (text "e ") (c .before .before .before .before .before .before .before .before .before .before .before .before .before .args .a + 1) (search needs), named-short (text " ") (c .before .before .before .before .before .before .before .before .before .before .before .before .before .args .b + 1) (search needs), c .before .before .before .before .before .before .before .before .before .before .before .before .before .pre)
+put-text-requires c κs =
+    let put-named = c .before .before .before .before .before .before .before .before .before .put-named in
+    let start = c .before .before .before .before .before .before .before .before .before .before .before .before .before in
+    omega (arith, put-named .ensures .counted, c .before .before .before .before .put-named2 .ensures .counted, named-short (text "e ") (start .args .a + 1) (search needs), named-short (text " ") (start .args .b + 1) (search needs), start .pre)
 
 same-length : tie.Need-same-length
 same-length c = search needs
 
 returns : tie.Need-returns
-returns c = rail-done (c .before .before .before .before .before .before .before .before .before .before .before .before .before .before .before .before .args .a + 1) (c .before .before .before .before .before .before .before .before .before .before .before .before .before .before .before .before .args .b + 1) (search needs, search needs) (c .before .before .before .before .before .before .before .before .before .before .before .before .before .before .before .before .args .a) (c .before .before .before .before .before .before .before .before .before .before .before .before .before .before .before .before .args .b) refl refl (c .before .before .before .before .before .before .before .before .before .before .before .before .put-named .ensures) (c .before .before .before .before .before .before .before .put-named2 .ensures) (c .before .before .put-text .ensures)
+returns c =
+    let put-named = c .before .before .before .before .before .before .before .before .before .before .before .before .put-named in
+    let start = c .before .before .before .before .before .before .before .before .before .before .before .before .before .before .before .before in
+    rail-done (start .args .a + 1) (start .args .b + 1) (search needs, search needs) (start .args .a) (start .args .b) refl refl (put-named .ensures) (c .before .before .before .before .before .before .before .put-named2 .ensures) (c .before .before .put-text .ensures)
 
 pub rail-spec : {M : Type 1} → statement M
 rail-spec =

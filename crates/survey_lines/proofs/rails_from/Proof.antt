@@ -41,7 +41,9 @@ shared-slice-read-rail-2 : tie.Need-shared-slice-read-rail-2 Inv-loop μ-loop
 shared-slice-read-rail-2 c = search needs
 
 rail-requires : tie.Need-rail-requires Inv-loop μ-loop
-rail-requires c κs = omega (arith, c .before .before .before .before .loop .inv .1 .1 .1 .short, c .before .before .before .before .loop .inv .1 .1 .0, c .before .before .before .before .before .before .before .pre .1)
+rail-requires c κs =
+    let loop = c .before .before .before .before .loop in
+    omega (arith, loop .inv .1 .1 .1 .short, loop .inv .1 .1 .0, c .before .before .before .before .before .before .before .pre .1)
 
 add-k : tie.Need-add-k Inv-loop μ-loop
 add-k c = search needs
@@ -50,7 +52,9 @@ loop-less : tie.Need-loop-less Inv-loop μ-loop
 loop-less c = search needs
 
 loop-again : tie.Need-loop-again Inv-loop μ-loop
-loop-again c = (search needs, (search needs, (c .before .before .before .before .before .before .before .loop .inv .1 .1 .0, written-rail (c .before .before .before .before .before .before .before .loop .k) (search needs) (c .before .before .before .before .before .before .before .loop .inv .1 .1 .1) (c .before .before .rail .ensures .0) (c .before .before .rail .ensures .1))))
+loop-again c =
+    let loop = c .before .before .before .before .before .before .before .loop in
+    (search needs, (search needs, (loop .inv .1 .1 .0, written-rail (loop .k) (search needs) (loop .inv .1 .1 .1) (c .before .before .rail .ensures .0) (c .before .before .rail .ensures .1))))
 
 same-length : tie.Need-same-length Inv-loop μ-loop
 same-length c = c .before .loop .inv .1 .0

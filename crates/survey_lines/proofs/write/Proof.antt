@@ -20,7 +20,9 @@ same-length : tie.Need-same-length
 same-length c = search needs
 
 returns : tie.Need-returns
-returns c = record { wrote = rw (← file-parts (c .before .before .before .before .before .before .before .before .before .before .args .bays) (c .before .before .before .before .before .before .before .before .before .before .args .rails .now)) (wrote-then (c .before .before .before .before .before .before .head .ensures .0) (c .before .before .rails-from .ensures .wrote)); short = c .before .before .rails-from .ensures .short }
+returns c =
+    let start = c .before .before .before .before .before .before .before .before .before .before in
+    record { wrote = rw (← file-parts (start .args .bays) (start .args .rails .now)) (wrote-then (c .before .before .before .before .before .before .head .ensures .0) (c .before .before .rails-from .ensures .wrote)); short = c .before .before .rails-from .ensures .short }
 
 pub write-spec : {M : Type 1} → statement M
 write-spec = tie.close (tie.spec head-requires rails-from-requires same-length returns)

@@ -23,7 +23,9 @@ refused-requires : tie.Need-refused-requires
 refused-requires c κs = search needs
 
 returns : tie.Need-returns
-returns c = accept-refused (c .before .before .before .before .before .before .before .args .bays) (c .before .before .before .before .before .before .before .args .ends .now) (c .before .before .before .before .before .before .before .args .rails .now) _ _ (ap testedOf (sym (c .before .before .tested .given .1)) ∙ c .before .before .before .before .test .ensures) (c .refused .ensures .0) (ap verdictOf (c .refused .ensures .1))
+returns c =
+    let start = c .before .before .before .before .before .before .before in
+    accept-refused (start .args .bays) (start .args .ends .now) (start .args .rails .now) _ _ (ap testedOf (sym (c .before .before .tested .given .1)) ∙ c .before .before .before .before .test .ensures) (c .refused .ensures .0) (ap verdictOf (c .refused .ensures .1))
 
 enum-told : tie.Need-enum-told
 enum-told c = search needs
@@ -32,7 +34,9 @@ refused-requires-2 : tie.Need-refused-requires-2
 refused-requires-2 c κs = search needs
 
 returns-2 : tie.Need-returns-2
-returns-2 c = accept-room (c .before .before .before .before .before .before .before .args .bays) (c .before .before .before .before .before .before .before .args .ends .now) (c .before .before .before .before .before .before .before .args .rails .now) _ (ap testedOf (sym (c .before .before .enum-told .given .1)) ∙ c .before .before .before .before .test .ensures) (c .before .if1 .taken) (c .refused2 .ensures .0) (ap verdictOf (c .refused2 .ensures .1))
+returns-2 c =
+    let start = c .before .before .before .before .before .before .before in
+    accept-room (start .args .bays) (start .args .ends .now) (start .args .rails .now) _ (ap testedOf (sym (c .before .before .enum-told .given .1)) ∙ c .before .before .before .before .test .ensures) (c .before .if1 .taken) (c .refused2 .ensures .0) (ap verdictOf (c .refused2 .ensures .1))
 
 shorts-requires : tie.Need-shorts-requires
 shorts-requires c κs = search needs
@@ -41,7 +45,9 @@ same-length : tie.Need-same-length
 same-length c = search needs
 
 returns-3 : tie.Need-returns-3
-returns-3 c = accept-all (c .before .before .before .before .before .before .before .before .before .before .args .bays) (c .before .before .before .before .before .before .before .before .before .before .args .ends .now) (c .before .before .before .before .before .before .before .before .before .before .args .rails .now) _ (ap testedOf (sym (c .before .before .before .before .before .enum-told .given .1)) ∙ c .before .before .before .before .before .before .before .test .ensures) _ (c .before .before .before .before .if1 .left) refl refl (c .before .before .shorts .ensures)
+returns-3 c =
+    let start = c .before .before .before .before .before .before .before .before .before .before in
+    accept-all (start .args .bays) (start .args .ends .now) (start .args .rails .now) _ (ap testedOf (sym (c .before .before .before .before .before .enum-told .given .1)) ∙ c .before .before .before .before .before .before .before .test .ensures) _ (c .before .before .before .before .if1 .left) refl refl (c .before .before .shorts .ensures)
 
 pub accept-spec : {M : Type 1} → statement M
 accept-spec =

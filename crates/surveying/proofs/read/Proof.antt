@@ -23,7 +23,9 @@ same-length : tie.Need-same-length
 same-length c = search needs
 
 returns : tie.Need-returns
-returns c = c .before .before .settle .ensures .says (c .before .before .before .before .before .before .before .before .before .before .args .file .now) _ (search needs) (search needs) (c .before .before .before .before .before .before .read .ensures)
+returns c =
+    let start = c .before .before .before .before .before .before .before .before .before .before in
+    c .before .before .settle .ensures .says (start .args .file .now) _ (search needs) (search needs) (c .before .before .before .before .before .before .read .ensures)
 
 pub read-spec : {M : Type 1} → statement M
 read-spec =

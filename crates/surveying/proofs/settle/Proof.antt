@@ -28,13 +28,17 @@ take-over-requires : tie.Need-take-over-requires
 take-over-requires c κs = search needs
 
 returns : tie.Need-returns
-returns c = record { says = λ file empty sized long reads. settle-bad file (c .before .before .before .before .before .before .args .found) empty (c .before .before .before .before .before .before .args .room .now) (c .before .before .before .before .before .before .args .rails .now) _ _ reads _ (c .before .before .found .given .1) (c .refused .ensures .0) (ap verdictOf (c .refused .ensures .1)) refl }
+returns c =
+    let start = c .before .before .before .before .before .before in
+    record { says = λ file empty sized long reads. settle-bad file (start .args .found) empty (start .args .room .now) (start .args .rails .now) _ _ reads _ (c .before .before .found .given .1) (c .refused .ensures .0) (ap verdictOf (c .refused .ensures .1)) refl }
 
 same-length : tie.Need-same-length
 same-length c = search needs
 
 returns-2 : tie.Need-returns-2
-returns-2 c = record { says = λ file empty sized long reads. settle-yard file (c .before .before .before .before .before .before .before .before .before .args .found) empty (c .before .before .before .before .before .before .before .before .before .args .room .now) (c .before .before .before .before .before .before .before .before .before .args .rails .now) _ _ reads _ _ (c .before .before .before .before .before .found2 .given .1) sized long (c .before .before .take-over .ensures) }
+returns-2 c =
+    let start = c .before .before .before .before .before .before .before .before .before in
+    record { says = λ file empty sized long reads. settle-yard file (start .args .found) empty (start .args .room .now) (start .args .rails .now) _ _ reads _ _ (c .before .before .before .before .before .found2 .given .1) sized long (c .before .before .take-over .ensures) }
 
 pub settle-spec : {M : Type 1} → statement M
 settle-spec =

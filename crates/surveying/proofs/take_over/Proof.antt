@@ -17,10 +17,14 @@ refused-requires : tie.Need-refused-requires
 refused-requires c κs = search needs
 
 returns : tie.Need-returns
-returns c = take-long (c .before .before .before .before .args .bays) (c .before .before .before .before .args .count) (c .before .before .before .before .args .room .now) (c .before .before .before .before .args .rails .now) _ (c .before .if1 .taken) (c .refused .ensures .0) (ap verdictOf (c .refused .ensures .1))
+returns c =
+    let start = c .before .before .before .before in
+    take-long (start .args .bays) (start .args .count) (start .args .room .now) (start .args .rails .now) _ (c .before .if1 .taken) (c .refused .ensures .0) (ap verdictOf (c .refused .ensures .1))
 
 slice-aggregate-accept : tie.Need-slice-aggregate-accept
-slice-aggregate-accept c = sym (length-take-le (c .before .before .before .before .args .count) (c .before .before .before .before .args .room .now) (c .before .if1 .left))
+slice-aggregate-accept c =
+    let start = c .before .before .before .before in
+    sym (length-take-le (start .args .count) (start .args .room .now) (c .before .if1 .left))
 
 accept-requires : tie.Need-accept-requires
 accept-requires c κs = search needs
@@ -29,7 +33,9 @@ same-length : tie.Need-same-length
 same-length c = search needs
 
 returns-2 : tie.Need-returns-2
-returns-2 c = take-whole (c .before .before .before .before .before .before .before .before .args .bays) (c .before .before .before .before .before .before .before .before .args .count) (c .before .before .before .before .before .before .before .before .args .room .now) (c .before .before .before .before .before .before .before .before .args .rails .now) _ _ (c .before .before .before .before .before .if1 .left) (c .before .before .accept .ensures)
+returns-2 c =
+    let start = c .before .before .before .before .before .before .before .before in
+    take-whole (start .args .bays) (start .args .count) (start .args .room .now) (start .args .rails .now) _ _ (c .before .before .before .before .before .if1 .left) (c .before .before .accept .ensures)
 
 pub take-over-spec : {M : Type 1} → statement M
 take-over-spec =

@@ -19,13 +19,17 @@ enum-known-opened : tie.Need-enum-known-opened
 enum-known-opened c = search needs
 
 returns : tie.Need-returns
-returns c = ap openedOf (sym (c .before .opened .given .1)) ∙ c .before .before .before .«open» .ensures .answer ∙ three-are-six (c .before .before .before .before .before .before .before .args .bays) (c .before .before .before .before .before .before .before .args .rails .now)
+returns c =
+    let start = c .before .before .before .before .before .before .before in
+    ap openedOf (sym (c .before .opened .given .1)) ∙ c .before .before .before .«open» .ensures .answer ∙ three-are-six (start .args .bays) (start .args .rails .now)
 
 enum-told : tie.Need-enum-told
 enum-told c = search needs
 
 returns-2 : tie.Need-returns-2
-returns-2 c = ap openedOf (sym (c .enum-told .given .1)) ∙ c .before .before .«open» .ensures .answer ∙ three-are-six (c .before .before .before .before .before .before .args .bays) (c .before .before .before .before .before .before .args .rails .now)
+returns-2 c =
+    let start = c .before .before .before .before .before .before in
+    ap openedOf (sym (c .enum-told .given .1)) ∙ c .before .before .«open» .ensures .answer ∙ three-are-six (start .args .bays) (start .args .rails .now)
 
 pub test-spec : {M : Type 1} → statement M
 test-spec =

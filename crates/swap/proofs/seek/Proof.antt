@@ -42,9 +42,10 @@ shared-slice-read-u c = search needs
 
 cast-u : tie.Need-cast-u Inv-loop μ-loop Inv-nearest μ-nearest
 cast-u c =
-    let p = c .before .before .before .before .before .before .before .pre .0 in
-    let z = c .before .before .before .before .before .before .before .pre .1 in
-    let a = c .before .before .before .before .before .before .before .args in
+    let start = c .before .before .before .before .before .before .before in
+    let p = start .pre .0 in
+    let z = start .pre .1 in
+    let a = start .args in
     let hu = p .placed .inside (a .r .0) (z .0) in
     omega (arith, hu, p .most)
 
@@ -53,9 +54,10 @@ slice-aggregate-alone c = search needs
 
 alone-requires : tie.Need-alone-requires Inv-loop μ-loop Inv-nearest μ-nearest
 alone-requires c κs =
-    let p = c .before .before .before .before .before .before .before .before .pre .0 in
-    let z = c .before .before .before .before .before .before .before .before .pre .1 in
-    let a = c .before .before .before .before .before .before .before .before .args in
+    let start = c .before .before .before .before .before .before .before .before in
+    let p = start .pre .0 in
+    let z = start .pre .1 in
+    let a = start .args in
     let hu = p .placed .inside (a .r .0) (z .0) in
     (omega arith, omega (arith, hu, p .most))
 
@@ -64,17 +66,19 @@ slice-aggregate-alone-2 c = search needs
 
 alone-requires-2 : tie.Need-alone-requires-2 Inv-loop μ-loop Inv-nearest μ-nearest
 alone-requires-2 c κs =
-    let p = c .before .before .before .before .before .before .before .before .before .before .before .pre .0 in
-    let z = c .before .before .before .before .before .before .before .before .before .before .before .pre .1 in
-    let a = c .before .before .before .before .before .before .before .before .before .before .before .args in
+    let start = c .before .before .before .before .before .before .before .before .before .before .before in
+    let p = start .pre .0 in
+    let z = start .pre .1 in
+    let a = start .args in
     let hu = p .placed .inside (a .r .0) (z .0) in
     (omega arith, omega (arith, hu, p .most))
 
 nearest-holds : tie.Need-nearest-holds Inv-loop μ-loop Inv-nearest μ-nearest
 nearest-holds c =
-    let p = c .before .before .before .before .before .before .before .before .before .before .before .before .before .pre .0 in
-    let z = c .before .before .before .before .before .before .before .before .before .before .before .before .before .pre .1 in
-    let a = c .before .before .before .before .before .before .before .before .before .before .before .before .before .args in
+    let start = c .before .before .before .before .before .before .before .before .before .before .before .before .before in
+    let p = start .pre .0 in
+    let z = start .pre .1 in
+    let a = start .args in
     let hu = p .placed .inside (a .r .0) (z .0) in
     (refl, search needs, search needs, omega arith, λ t h. widening-first (freeShown t) _ (zeros words) hu (λ b l. refl) (λ b. c .before .before .before .before .alone .ensures b ∙ (unfold _or_ in rw (mem-zeros words b))) (c .before .alone2 .ensures), λ t b. sought-first t _ _ _)
 
@@ -87,21 +91,24 @@ next-from-requires c κs = search needs
 
 loop-holds : tie.Need-loop-holds Inv-loop μ-loop Inv-nearest μ-nearest
 loop-holds c =
-    let p = c .before .before .before .before .before .before .before .before .before .before .before .before .before .before .before .before .before .pre .0 in
-    let z = c .before .before .before .before .before .before .before .before .before .before .before .before .before .before .before .before .before .pre .1 in
-    let a = c .before .before .before .before .before .before .before .before .before .before .before .before .before .before .before .before .before .args in
+    let nearest = c .before .before .before .nearest in
+    let start = c .before .before .before .before .before .before .before .before .before .before .before .before .before .before .before .before .before in
+    let p = start .pre .0 in
+    let z = start .pre .1 in
+    let a = start .args in
     let hu = p .placed .inside (a .r .0) (z .0) in
     let l = c .next-from .ensures in
-    (refl, l .upto, l .hit, λ t b. sought-start t _ _ _ (p .most) hu _ _ (c .before .before .before .nearest .inv .4 t (c .before .before .if1 .left) .ringing) _ (c .before .before .before .nearest .inv .5 t b) l)
+    (refl, l .upto, l .hit, λ t b. sought-start t _ _ _ (p .most) hu _ _ (nearest .inv .4 t (c .before .before .if1 .left) .ringing) _ (nearest .inv .5 t b) l)
 
 cast-t31 : tie.Need-cast-t31 Inv-loop μ-loop Inv-nearest μ-nearest
 cast-t31 c = search needs
 
 try-junction-requires : tie.Need-try-junction-requires Inv-loop μ-loop Inv-nearest μ-nearest
 try-junction-requires c κs =
-    let p = c .before .before .before .before .before .before .before .before .before .before .before .before .before .before .before .before .before .before .before .before .pre .0 in
-    let z = c .before .before .before .before .before .before .before .before .before .before .before .before .before .before .before .before .before .before .before .before .pre .1 in
-    let a = c .before .before .before .before .before .before .before .before .before .before .before .before .before .before .before .before .before .before .before .before .args in
+    let start = c .before .before .before .before .before .before .before .before .before .before .before .before .before .before .before .before .before .before .before .before in
+    let p = start .pre .0 in
+    let z = start .pre .1 in
+    let a = start .args in
     let hu = p .placed .inside (a .r .0) (z .0) in
     let h = c .before .loop-test .taken in
     let i = sym (c .before .before .before .before .before .before .nearest .inv .4 (p .tabled) (c .before .before .before .before .before .if1 .left) .ringing _ h) ∙ c .before .before .loop .inv .2 h in
@@ -128,21 +135,27 @@ loop-less c = search needs
 
 loop-again : tie.Need-loop-again Inv-loop μ-loop Inv-nearest μ-nearest
 loop-again c =
-    let p = c .before .before .before .before .before .before .before .before .before .before .before .before .before .before .before .before .before .before .before .before .before .before .before .before .before .before .before .pre .0 in
-    let z = c .before .before .before .before .before .before .before .before .before .before .before .before .before .before .before .before .before .before .before .before .before .before .before .before .before .before .before .pre .1 in
-    let a = c .before .before .before .before .before .before .before .before .before .before .before .before .before .before .before .before .before .before .before .before .before .before .before .before .before .before .before .args in
+    let try-junction = c .before .before .before .before .before .before .try-junction in
+    let loop-test = c .before .before .before .before .before .before .before .before .loop-test in
+    let loop = c .before .before .before .before .before .before .before .before .before .loop in
+    let if1 = c .before .before .before .before .before .before .before .before .before .before .before .before .if1 in
+    let nearest = c .before .before .before .before .before .before .before .before .before .before .before .before .before .nearest in
+    let start = c .before .before .before .before .before .before .before .before .before .before .before .before .before .before .before .before .before .before .before .before .before .before .before .before .before .before .before in
+    let p = start .pre .0 in
+    let z = start .pre .1 in
+    let a = start .args in
     let hu = p .placed .inside (a .r .0) (z .0) in
-    let h = c .before .before .before .before .before .before .before .before .loop-test .taken in
+    let h = loop-test .taken in
     let l = c .next-from2 .ensures in
-    let e : c .before .before .before .before .before .before .try-junction .result ≡ Failed = c .before .before .enum-told .given .1 in (
+    let e : try-junction .result ≡ Failed = c .before .before .enum-told .given .1 in (
       search needs,
       l .upto,
       l .hit,
       λ t b.
-          let same = c .before .before .before .before .before .before .before .before .before .before .before .before .before .nearest .inv .4 t (c .before .before .before .before .before .before .before .before .before .before .before .before .if1 .left) .ringing in
-          let i = sym (same _ h) ∙ c .before .before .before .before .before .before .before .before .before .loop .inv .2 h in
+          let same = nearest .inv .4 t (if1 .left) .ringing in
+          let i = sym (same _ h) ∙ loop .inv .2 h in
           let near = near-of b (reached-from t (a .r .0) (a .s .0) (a .placement .now) (p .most) hu _ _ i) in
-          sought-more t _ _ _ (p .most) hu _ _ same _ _ (c .before .before .before .before .before .before .before .before .before .loop .inv .3 t b) (c .before .before .before .before .before .before .try-junction .ensures .1 t near .fails e) l,
+          sought-more t _ _ _ (p .most) hu _ _ same _ _ (loop .inv .3 t b) (try-junction .ensures .1 t near .fails e) l,
     )
 
 slice-aggregate-widen : tie.Need-slice-aggregate-widen Inv-loop μ-loop Inv-nearest μ-nearest
@@ -153,9 +166,10 @@ slice-aggregate-widen-2 c = search needs
 
 widen-requires : tie.Need-widen-requires Inv-loop μ-loop Inv-nearest μ-nearest
 widen-requires c κs =
-    let p = c .before .before .before .before .before .before .before .before .before .before .before .before .before .before .before .before .before .before .before .before .before .pre .0 in
-    let z = c .before .before .before .before .before .before .before .before .before .before .before .before .before .before .before .before .before .before .before .before .before .pre .1 in
-    let a = c .before .before .before .before .before .before .before .before .before .before .before .before .before .before .before .before .before .before .before .before .before .args in
+    let start = c .before .before .before .before .before .before .before .before .before .before .before .before .before .before .before .before .before .before .before .before .before in
+    let p = start .pre .0 in
+    let z = start .pre .1 in
+    let a = start .args in
     let hu = p .placed .inside (a .r .0) (z .0) in
     let n = c .before .before .before .before .before .before .before .nearest .inv in
     (n .1, n .2, widening-rows (freeShown (p .tabled)) _ (p .most) hu (p .table-size) (n .4 (p .tabled) (c .before .before .before .before .before .before .if1 .left)))
@@ -168,18 +182,22 @@ nearest-less c = search needs
 
 nearest-again : tie.Need-nearest-again Inv-loop μ-loop Inv-nearest μ-nearest
 nearest-again c =
-    let p = c .before .before .before .before .before .before .before .before .before .before .before .before .before .before .before .before .before .before .before .before .before .before .before .before .pre .0 in
-    let z = c .before .before .before .before .before .before .before .before .before .before .before .before .before .before .before .before .before .before .before .before .before .before .before .before .pre .1 in
-    let a = c .before .before .before .before .before .before .before .before .before .before .before .before .before .before .before .before .before .before .before .before .before .before .before .before .args in
+    let loop = c .before .before .before .before .before .before .loop in
+    let if1 = c .before .before .before .before .before .before .before .before .before .if1 in
+    let nearest = c .before .before .before .before .before .before .before .before .before .before .nearest in
+    let start = c .before .before .before .before .before .before .before .before .before .before .before .before .before .before .before .before .before .before .before .before .before .before .before .before in
+    let p = start .pre .0 in
+    let z = start .pre .1 in
+    let a = start .args in
     let hu = p .placed .inside (a .r .0) (z .0) in
-    let n = c .before .before .before .before .before .before .before .before .before .before .nearest .inv in
-    let h = c .before .before .before .before .before .before .before .before .before .if1 .left in (
-      omega (arith, c .before .before .before .before .before .before .loop .inv .0, n .0),
+    let n = nearest .inv in
+    let h = if1 .left in (
+      omega (arith, loop .inv .0, n .0),
       search needs,
       search needs,
       omega arith,
       λ t k. widening-more (freeShown t) _ (p .most) hu k (n .4 t h) (c .before .before .widen .ensures),
-      λ t b. sought-next t _ _ _ (p .most) hu _ _ (n .4 t h .ringing) _ (c .before .before .before .before .before .before .loop .inv .3 t b) (c .before .before .before .before .before .loop-test .left),
+      λ t b. sought-next t _ _ _ (p .most) hu _ _ (n .4 t h .ringing) _ (loop .inv .3 t b) (c .before .before .before .before .before .loop-test .left),
     )
 
 same-length : tie.Need-same-length Inv-loop μ-loop Inv-nearest μ-nearest
@@ -187,9 +205,10 @@ same-length c = c .before .nearest .inv .0
 
 returns : tie.Need-returns Inv-loop μ-loop Inv-nearest μ-nearest
 returns c =
-    let p = c .before .before .before .before .before .before .before .before .before .before .before .before .before .before .before .pre .0 in
-    let z = c .before .before .before .before .before .before .before .before .before .before .before .before .before .before .before .pre .1 in
-    let a = c .before .before .before .before .before .before .before .before .before .before .before .before .before .before .before .args in
+    let start = c .before .before .before .before .before .before .before .before .before .before .before .before .before .before .before in
+    let p = start .pre .0 in
+    let z = start .pre .1 in
+    let a = start .args in
     let hu = p .placed .inside (a .r .0) (z .0) in
     (tt, λ t b. (sought-end t _ _ _ (p .most) hu _ (c .if1 .taken) (c .before .nearest .inv .5 t b), tt))
 
@@ -198,18 +217,23 @@ same-length-2 c = search needs
 
 returns-2 : tie.Need-returns-2 Inv-loop μ-loop Inv-nearest μ-nearest
 returns-2 c =
-    let p = c .before .before .before .before .before .before .before .before .before .before .before .before .before .before .before .before .before .before .before .before .before .before .before .before .before .before .pre .0 in
-    let z = c .before .before .before .before .before .before .before .before .before .before .before .before .before .before .before .before .before .before .before .before .before .before .before .before .before .before .pre .1 in
-    let a = c .before .before .before .before .before .before .before .before .before .before .before .before .before .before .before .before .before .before .before .before .before .before .before .before .before .before .args in
+    let try-junction = c .before .before .before .before .before .try-junction in
+    let loop = c .before .before .before .before .before .before .before .before .loop in
+    let if1 = c .before .before .before .before .before .before .before .before .before .before .before .if1 in
+    let nearest = c .before .before .before .before .before .before .before .before .before .before .before .before .nearest in
+    let start = c .before .before .before .before .before .before .before .before .before .before .before .before .before .before .before .before .before .before .before .before .before .before .before .before .before .before in
+    let p = start .pre .0 in
+    let z = start .pre .1 in
+    let a = start .args in
     let hu = p .placed .inside (a .r .0) (z .0) in
     let h = c .before .before .before .before .before .before .before .loop-test .taken in
-    let e : c .before .before .before .before .before .try-junction .result ≡ Done (c .before .tried .given .0 .0) = c .before .tried .given .1 in (
-      rw e at (c .before .before .before .before .before .try-junction .ensures .0),
+    let e : try-junction .result ≡ Done (c .before .tried .given .0 .0) = c .before .tried .given .1 in (
+      rw e at (try-junction .ensures .0),
       λ t b.
-          let i = sym (c .before .before .before .before .before .before .before .before .before .before .before .before .nearest .inv .4 t (c .before .before .before .before .before .before .before .before .before .before .before .if1 .left) .ringing _ h) ∙ c .before .before .before .before .before .before .before .before .loop .inv .2 h in
+          let i = sym (nearest .inv .4 t (if1 .left) .ringing _ h) ∙ loop .inv .2 h in
           let near = near-of b (reached-from t (a .r .0) (a .s .0) (a .placement .now) (p .most) hu _ _ i) in
-          let w = c .before .before .before .before .before .try-junction .ensures .1 t near in
-          (sought-found t _ _ _ _ _ (c .before .before .before .before .before .before .before .before .loop .inv .3 t b) i (w .fits _ e), w .logged _ e),
+          let w = try-junction .ensures .1 t near in
+          (sought-found t _ _ _ _ _ (loop .inv .3 t b) i (w .fits _ e), w .logged _ e),
     )
 
 pub seek-spec : {M : Type 1} → statement M

@@ -54,7 +54,10 @@ cast-t23 : tie.Need-cast-t23
 cast-t23 c = search needs
 
 returns-3 : tie.Need-returns-3
-returns-3 c = two-spare _ _ _ _ _ _ _ (c .before .before .before .before .before .before .before .before .before .before .before .before .before .before .join-row .ensures) (c .before .before .before .before .before .before .before .before .before .before .remove .ensures) (c .before .before .before .before .before .before .before .lowest-common .ensures) (c .before .before .before .before .before .before .if1 .left) (c .before .before .before .before .remove2 .ensures) (c .before .lowest-common2 .ensures) (c .if2 .left)
+returns-3 c =
+    let remove = c .before .before .before .before .before .before .before .before .before .before .remove in
+    let join-row = c .before .before .before .before .before .before .before .before .before .before .before .before .before .before .join-row in
+    two-spare _ _ _ _ _ _ _ (join-row .ensures) (remove .ensures) (c .before .before .before .before .before .before .before .lowest-common .ensures) (c .before .before .before .before .before .before .if1 .left) (c .before .before .before .before .remove2 .ensures) (c .before .lowest-common2 .ensures) (c .if2 .left)
 
 pub spare-bays-spec : {M : Type 1} → statement M
 spare-bays-spec =

@@ -31,8 +31,9 @@ slice-read-t18-2 c = search needs
 
 spare-bays-requires : tie.Need-spare-bays-requires
 spare-bays-requires c κs =
-    let p = c .before .before .before .before .before .before .before .before .before .pre .0 in
-    let z = c .before .before .before .before .before .before .before .before .before .pre .1 in
+    let start = c .before .before .before .before .before .before .before .before .before in
+    let p = start .pre .0 in
+    let z = start .pre .1 in
     let hr = p .placed .inside _ (z .0) in
     let hs = p .placed .inside _ (z .1) in
     (omega (arith, hr, p .table-size), omega (arith, hs, p .most), p .empty-size)
@@ -42,8 +43,9 @@ enum-known-spare c = search needs
 
 swap-beside-requires : tie.Need-swap-beside-requires
 swap-beside-requires c κs =
-    let p = c .before .before .before .before .before .before .before .before .before .before .before .before .before .before .before .before .pre .0 in
-    let z = c .before .before .before .before .before .before .before .before .before .before .before .before .before .before .before .before .pre .1 in
+    let start = c .before .before .before .before .before .before .before .before .before .before .before .before .before .before .before .before in
+    let p = start .pre .0 in
+    let z = start .pre .1 in
     (z .0, z .1, omega (arith, p .placed .few, p .most), p .placed .inside _ (z .0), p .placed .inside _ (z .1), z .3)
 
 same-length : tie.Need-same-length
@@ -57,11 +59,14 @@ same-length-3 c = search needs
 
 returns : tie.Need-returns
 returns c =
-    let p = c .before .before .before .before .before .before .before .before .before .before .before .before .before .before .before .before .before .before .before .before .before .before .before .pre .0 in
-    let z = c .before .before .before .before .before .before .before .before .before .before .before .before .before .before .before .before .before .before .before .before .before .before .before .pre .1 in
-    let g = c .before .before .before .before .before .before .before .before .before .before .before .spare .given in
-    let e : c .before .before .before .before .before .before .before .before .before .before .before .before .before .spare-bays .result ≡ Both (g .0 .0) (g .0 .1 .0) = g .1 in
-    let two = rw e at (c .before .before .before .before .before .before .before .before .before .before .before .before .before .spare-bays .ensures) in
+    let spare = c .before .before .before .before .before .before .before .before .before .before .before .spare in
+    let spare-bays = c .before .before .before .before .before .before .before .before .before .before .before .before .before .spare-bays in
+    let start = c .before .before .before .before .before .before .before .before .before .before .before .before .before .before .before .before .before .before .before .before .before .before .before in
+    let p = start .pre .0 in
+    let z = start .pre .1 in
+    let g = spare .given in
+    let e : spare-bays .result ≡ Both (g .0 .0) (g .0 .1 .0) = g .1 in
+    let two = rw e at (spare-bays .ensures) in
     let w = c .before .before .before .before .before .before .swap-beside .ensures in
     let few = rw length-exchange at (w .2 .counted) in (
       omega (arith, few),

@@ -44,23 +44,29 @@ same-length-3 c = search needs
 
 returns : tie.Need-returns
 returns c =
-    let p = c .before .before .before .before .before .before .before .before .before .before .before .before .before .before .before .pre .0 in
-    let z = c .before .before .before .before .before .before .before .before .before .before .before .before .before .before .before .pre .1 in
-    let e : c .before .before .before .before .seek .result ≡ Missing = c .enum-told .given .1 in
-    (tt, λ t b. not-found t (p .placed) refl _ _ (z .0) (z .1) (z .2) b (sym (ap junctionAt e) ∙ c .before .before .before .before .seek .ensures .1 t b .0))
+    let seek = c .before .before .before .before .seek in
+    let start = c .before .before .before .before .before .before .before .before .before .before .before .before .before .before .before in
+    let p = start .pre .0 in
+    let z = start .pre .1 in
+    let e : seek .result ≡ Missing = c .enum-told .given .1 in
+    (tt, λ t b. not-found t (p .placed) refl _ _ (z .0) (z .1) (z .2) b (sym (ap junctionAt e) ∙ seek .ensures .1 t b .0))
 
 trade-requires : tie.Need-trade-requires
 trade-requires c κs =
-    let p = c .before .before .before .before .before .before .before .before .before .before .before .before .before .before .before .before .before .before .pre .0 in
-    let z = c .before .before .before .before .before .before .before .before .before .before .before .before .before .before .before .before .before .before .pre .1 in
+    let start = c .before .before .before .before .before .before .before .before .before .before .before .before .before .before .before .before .before .before in
+    let p = start .pre .0 in
+    let z = start .pre .1 in
     (z .0, z .1, omega (arith, p .placed .few, p .most), p .placed .inside _ (z .0), p .placed .inside _ (z .1))
 
 add-requires : tie.Need-add-requires
 add-requires c κs =
-    let z = c .before .before .before .before .before .before .before .before .before .before .before .before .before .before .before .before .before .before .before .before .before .before .before .pre .1 in
-    let g = c .before .before .before .before .before .before .before .before .found .given in
-    let e : c .before .before .before .before .before .before .before .before .before .before .before .before .seek .result ≡ At (g .0 .0) (g .0 .1 .0) = g .1 in
-    let m = rw e at (c .before .before .before .before .before .before .before .before .before .before .before .before .seek .ensures .0) in
+    let found = c .before .before .before .before .before .before .before .before .found in
+    let seek = c .before .before .before .before .before .before .before .before .before .before .before .before .seek in
+    let start = c .before .before .before .before .before .before .before .before .before .before .before .before .before .before .before .before .before .before .before .before .before .before .before in
+    let z = start .pre .1 in
+    let g = found .given in
+    let e : seek .result ≡ At (g .0 .0) (g .0 .1 .0) = g .1 in
+    let m = rw e at (seek .ensures .0) in
     omega (arith, m, z .3)
 
 same-length-4 : tie.Need-same-length-4
@@ -74,17 +80,23 @@ same-length-6 c = search needs
 
 returns-2 : tie.Need-returns-2
 returns-2 c =
+    let trade = c .before .before .before .before .before .trade in
+    let found = c .before .before .before .before .before .before .before .before .before .found in
+    let out = c .before .before .before .before .before .before .before .before .before .before .before .before .out in
+    let seek = c .before .before .before .before .before .before .before .before .before .before .before .before .before .seek in
+    let place-in = c .before .before .before .before .before .before .before .before .before .before .before .before .before .before .before .before .before .place-in in
+    let start = c .before .before .before .before .before .before .before .before .before .before .before .before .before .before .before .before .before .before .before .before .before .before .before .before in
     let sum = c .add .ensures in
-    let p = c .before .before .before .before .before .before .before .before .before .before .before .before .before .before .before .before .before .before .before .before .before .before .before .before .pre .0 in
-    let z = c .before .before .before .before .before .before .before .before .before .before .before .before .before .before .before .before .before .before .before .before .before .before .before .before .pre .1 in
-    let g = c .before .before .before .before .before .before .before .before .before .found .given in
-    let e : c .before .before .before .before .before .before .before .before .before .before .before .before .before .seek .result ≡ At (g .0 .0) (g .0 .1 .0) = g .1 in
-    let m = rw e at (c .before .before .before .before .before .before .before .before .before .before .before .before .before .seek .ensures .0) in (
+    let p = start .pre .0 in
+    let z = start .pre .1 in
+    let g = found .given in
+    let e : seek .result ≡ At (g .0 .0) (g .0 .1 .0) = g .1 in
+    let m = rw e at (seek .ensures .0) in (
       omega (arith, m, sum .crossings),
       λ t b.
-          let q = c .before .before .before .before .before .before .before .before .before .before .before .before .before .seek .ensures .1 t b in
+          let q = seek .ensures .1 t b in
           let f = sym (ap junctionAt e) ∙ q .0 in
-          committed t (p .placed) refl _ _ (z .0) (z .1) (z .2) b _ f _ _ _ (c .before .before .before .before .before .trade .ensures .0) (c .before .before .before .before .before .trade .ensures .1) (c .before .before .before .before .before .before .before .before .before .before .before .before .before .before .before .before .before .place-in .ensures) (c .before .before .before .before .before .before .before .before .before .before .before .before .out .given) (rw e at (q .1)) sum,
+          committed t (p .placed) refl _ _ (z .0) (z .1) (z .2) b _ f _ _ _ (trade .ensures .0) (trade .ensures .1) (place-in .ensures) (out .given) (rw e at (q .1)) sum,
     )
 
 pub swap-far-spec : {M : Type 1} → statement M

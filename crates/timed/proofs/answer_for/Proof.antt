@@ -35,7 +35,10 @@ slice-aggregate-plan-order-3 : tie.Need-slice-aggregate-plan-order-3
 slice-aggregate-plan-order-3 c = search needs
 
 plan-order-requires : tie.Need-plan-order-requires
-plan-order-requires c κs = let s = order-stands (c .before .before .before .before .before .before .before .before .before .before .read-order .ensures) _ (c .before .before .before .before .before .ordered .given .1) (omega (arith, slice-aggregate-read-order (c .before .before .before .before .before .before .before .before .before .before .before .before .before))) (omega (arith, slice-aggregate-read-order-2 (c .before .before .before .before .before .before .before .before .before .before .before .before))) (omega (arith, slice-aggregate-read-order-3 (c .before .before .before .before .before .before .before .before .before .before .before))) in (s .rails, s .starting, s .ending, c .before .before .before .before .before .before .before .before .before .before .before .before .before .before .before .before .before .pre)
+plan-order-requires c κs =
+    let read-order = c .before .before .before .before .before .before .before .before .before .before .read-order in
+    let start = c .before .before .before .before .before .before .before .before .before .before .before .before .before .before .before .before .before in
+    let s = order-stands (read-order .ensures) _ (c .before .before .before .before .before .ordered .given .1) (omega (arith, slice-aggregate-read-order (c .before .before .before .before .before .before .before .before .before .before .before .before .before))) (omega (arith, slice-aggregate-read-order-2 (c .before .before .before .before .before .before .before .before .before .before .before .before))) (omega (arith, slice-aggregate-read-order-3 (c .before .before .before .before .before .before .before .before .before .before .before))) in (s .rails, s .starting, s .ending, start .pre)
 
 enum-known-ordered-2 : tie.Need-enum-known-ordered-2
 enum-known-ordered-2 c = search needs
@@ -44,10 +47,16 @@ same-length : tie.Need-same-length
 same-length c = search needs
 
 returns : tie.Need-returns
-returns c = let s = order-stands (c .before .before .before .before .before .before .before .before .before .before .before .before .before .read-order .ensures) _ (c .before .before .before .before .before .before .before .before .ordered .given .1) (omega (arith, slice-aggregate-read-order (c .before .before .before .before .before .before .before .before .before .before .before .before .before .before .before .before))) (omega (arith, slice-aggregate-read-order-2 (c .before .before .before .before .before .before .before .before .before .before .before .before .before .before .before))) (omega (arith, slice-aggregate-read-order-3 (c .before .before .before .before .before .before .before .before .before .before .before .before .before .before))) in rw (ap (shortOr (c .before .before .before .before .before .before .before .before .before .before .before .before .before .before .before .before .before .before .before .before .args .shorten)) (sym (s .answers))) (c .before .before .plan-order .ensures)
+returns c =
+    let ordered = c .before .before .before .before .before .before .before .before .ordered in
+    let read-order = c .before .before .before .before .before .before .before .before .before .before .before .before .before .read-order in
+    let start = c .before .before .before .before .before .before .before .before .before .before .before .before .before .before .before .before .before .before .before .before in
+    let s = order-stands (read-order .ensures) _ (ordered .given .1) (omega (arith, slice-aggregate-read-order (c .before .before .before .before .before .before .before .before .before .before .before .before .before .before .before .before))) (omega (arith, slice-aggregate-read-order-2 (c .before .before .before .before .before .before .before .before .before .before .before .before .before .before .before))) (omega (arith, slice-aggregate-read-order-3 (c .before .before .before .before .before .before .before .before .before .before .before .before .before .before))) in rw (ap (shortOr (start .args .shorten)) (sym (s .answers))) (c .before .before .plan-order .ensures)
 
 returns-2 : tie.Need-returns-2
-returns-2 c = rw (ap (shortOr (c .before .before .before .before .before .before .before .before .before .before .before .before .before .args .shorten)) (sym (refusal-stands (c .before .before .before .before .before .before .read-order .ensures) _ (c .before .ordered2 .given .1)))) (refused-or-ready (c .before .before .before .before .before .before .before .before .before .before .before .before .before .args .shorten) _ _ (c .before .before .before .before .before .before .before .before .before .before .before .before .before .pre))
+returns-2 c =
+    let start = c .before .before .before .before .before .before .before .before .before .before .before .before .before in
+    rw (ap (shortOr (start .args .shorten)) (sym (refusal-stands (c .before .before .before .before .before .before .read-order .ensures) _ (c .before .ordered2 .given .1)))) (refused-or-ready (start .args .shorten) _ _ (start .pre))
 
 pub answer-for-spec : {M : Type 1} → statement M
 answer-for-spec =

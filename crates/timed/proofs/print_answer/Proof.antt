@@ -20,7 +20,9 @@ slice-aggregate-pass-2 : tie.Need-slice-aggregate-pass-2
 slice-aggregate-pass-2 c = search needs
 
 pass-requires : tie.Need-pass-requires
-pass-requires c κs = let s = c .before .before .before .before .before .before .before in let inside = s .pre .within .inside _ (c .before .before .before .answer .given .1) in let n = length-take-le _ (s .args .plan .now) inside in let sized = s .pre .sized in (omega arith, omega arith, s .pre .fits _ (c .before .before .before .answer .given .1))
+pass-requires c κs =
+    let answer = c .before .before .before .answer in
+    let s = c .before .before .before .before .before .before .before in let inside = s .pre .within .inside _ (answer .given .1) in let n = length-take-le _ (s .args .plan .now) inside in let sized = s .pre .sized in (omega arith, omega arith, s .pre .fits _ (answer .given .1))
 
 slice-aggregate-print : tie.Need-slice-aggregate-print
 slice-aggregate-print c = let s = c .before .before .before .before .before .before .before .before .before .before in sym (length-take-le _ _ (s .pre .within .inside _ (c .before .before .before .before .before .before .answer .given .1)))
@@ -32,7 +34,9 @@ slice-aggregate-print-2 : tie.Need-slice-aggregate-print-2
 slice-aggregate-print-2 c = let s = c .before .before .before .before .before .before .before .before .before .before .before in let inside = s .pre .within .inside _ (c .before .before .before .before .before .before .before .answer .given .1) in let sized = s .pre .sized in sym (length-take-le _ _ (omega arith))
 
 print-requires : tie.Need-print-requires
-print-requires c κs = let s = c .before .before .before .before .before .before .before .before .before .before .before .before in let inside = s .pre .within .inside _ (c .before .before .before .before .before .before .before .before .answer .given .1) in let sized = s .pre .sized in let n = length-take-le _ (s .args .plan .now) inside in (omega arith, length-take-le _ _ (omega arith) ∙ sym n)
+print-requires c κs =
+    let answer = c .before .before .before .before .before .before .before .before .answer in
+    let s = c .before .before .before .before .before .before .before .before .before .before .before .before in let inside = s .pre .within .inside _ (answer .given .1) in let sized = s .pre .sized in let n = length-take-le _ (s .args .plan .now) inside in (omega arith, length-take-le _ _ (omega arith) ∙ sym n)
 
 enum-known-answer-2 : tie.Need-enum-known-answer-2
 enum-known-answer-2 c = search needs
@@ -44,7 +48,9 @@ same-length : tie.Need-same-length
 same-length c = search needs
 
 returns : tie.Need-returns
-returns c = let s = c .before .before .before .before .before .before .before .before .before .before .before .before .before .before .before in let q = c .before .before .before .before .before .before .before .before .before .before .before .answer .given .1 in plan-prints (s .args .edition) _ q (slots-stand (s .args .edition) (s .args .plan .now) _ _ _ (s .pre .within .inside _ q) (c .before .before .before .before .before .before .before .pass .ensures)) (c .before .before .print .ensures)
+returns c =
+    let answer = c .before .before .before .before .before .before .before .before .before .before .before .answer in
+    let s = c .before .before .before .before .before .before .before .before .before .before .before .before .before .before .before in let q = answer .given .1 in plan-prints (s .args .edition) _ q (slots-stand (s .args .edition) (s .args .plan .now) _ _ _ (s .pre .within .inside _ q) (c .before .before .before .before .before .before .before .pass .ensures)) (c .before .before .print .ensures)
 
 same-length-2 : tie.Need-same-length-2
 same-length-2 c = search needs

@@ -39,7 +39,10 @@ same-length-2 : tie.Need-same-length-2
 same-length-2 c = search needs
 
 returns-2 : tie.Need-returns-2
-returns-2 c = known-says _ _ _ (sym (c .before .before .before .before .before .before .before .before .before .known .ensures) ∙ not-false _ (c .before .before .before .before .before .before .before .before .if1 .left)) (c .before .before .before .before .before .before .answer-for .ensures .handed) (c .before .before .hand2 .ensures)
+returns-2 c =
+    let if1 = c .before .before .before .before .before .before .before .before .if1 in
+    let known = c .before .before .before .before .before .before .before .before .before .known in
+    known-says _ _ _ (sym (known .ensures) ∙ not-false _ (if1 .left)) (c .before .before .before .before .before .before .answer-for .ensures .handed) (c .before .before .hand2 .ensures)
 
 pub program-spec : {M : Type 1} → statement M
 program-spec =

@@ -40,9 +40,10 @@ cast-put-named-2 c = search needs
 
 put-named-requires-2 : tie.Need-put-named-requires-2
 put-named-requires-2 c κs =
+    let put-number = c .before .before .before .before .before .before .before .before .before .before .before .put-number in
     let s = c .before .before .before .before .before .before .before .before .before .before .before .before .before .before .before in
     let t = c .before .before .before .before .before .before .before .before .before .before .before .before .time-of in
-    omega (arith, c .before .before .before .before .before .before .before .before .before .before .before .put-number .ensures .counted, decimal-short (t .result) (omega (arith, t .ensures .1)), c .before .before .before .before .before .put-named .ensures .counted, named-short (text ": (move c") (s .args .x .carrier .0) (search needs), s .pre)
+    omega (arith, put-number .ensures .counted, decimal-short (t .result) (omega (arith, t .ensures .1)), c .before .before .before .before .before .put-named .ensures .counted, named-short (text ": (move c") (s .args .x .carrier .0) (search needs), s .pre)
 
 slice-aggregate-put-named-3 : tie.Need-slice-aggregate-put-named-3
 slice-aggregate-put-named-3 c = search needs
@@ -52,28 +53,38 @@ cast-put-named-3 c = search needs
 
 put-named-requires-3 : tie.Need-put-named-requires-3
 put-named-requires-3 c κs =
+    let put-named = c .before .before .before .before .before .before .before .before .before .before .before .put-named in
+    let put-number = c .before .before .before .before .before .before .before .before .before .before .before .before .before .before .before .before .before .put-number in
     let s = c .before .before .before .before .before .before .before .before .before .before .before .before .before .before .before .before .before .before .before .before .before in
     let t = c .before .before .before .before .before .before .before .before .before .before .before .before .before .before .before .before .before .before .time-of in
-    omega (arith, c .before .before .before .before .before .before .before .before .before .before .before .before .before .before .before .before .before .put-number .ensures .counted, decimal-short (t .result) (omega (arith, t .ensures .1)), c .before .before .before .before .before .before .before .before .before .before .before .put-named .ensures .counted, named-short (text ": (move c") (s .args .x .carrier .0) (search needs), c .before .before .before .before .before .put-named2 .ensures .counted, named-short (text " b") (s .args .x .from .0) (search needs), s .pre)
+    omega (arith, put-number .ensures .counted, decimal-short (t .result) (omega (arith, t .ensures .1)), put-named .ensures .counted, named-short (text ": (move c") (s .args .x .carrier .0) (search needs), c .before .before .before .before .before .put-named2 .ensures .counted, named-short (text " b") (s .args .x .from .0) (search needs), s .pre)
 
 slice-aggregate-put-text : tie.Need-slice-aggregate-put-text
 slice-aggregate-put-text c = search needs
 
 put-text-requires : tie.Need-put-text-requires
 put-text-requires c κs =
+    let put-named2 = c .before .before .before .before .before .before .before .before .before .before .put-named2 in
+    let put-named = c .before .before .before .before .before .before .before .before .before .before .before .before .before .before .before .before .put-named in
+    let put-number = c .before .before .before .before .before .before .before .before .before .before .before .before .before .before .before .before .before .before .before .before .before .before .put-number in
     let s = c .before .before .before .before .before .before .before .before .before .before .before .before .before .before .before .before .before .before .before .before .before .before .before .before .before .before in
     let t = c .before .before .before .before .before .before .before .before .before .before .before .before .before .before .before .before .before .before .before .before .before .before .before .time-of in
-    omega (arith, c .before .before .before .before .before .before .before .before .before .before .before .before .before .before .before .before .before .before .before .before .before .before .put-number .ensures .counted, decimal-short (t .result) (omega (arith, t .ensures .1)), c .before .before .before .before .before .before .before .before .before .before .before .before .before .before .before .before .put-named .ensures .counted, named-short (text ": (move c") (s .args .x .carrier .0) (search needs), c .before .before .before .before .before .before .before .before .before .before .put-named2 .ensures .counted, named-short (text " b") (s .args .x .from .0) (search needs), c .before .before .before .before .put-named3 .ensures .counted, named-short (text " b") (s .args .x .to .0) (search needs), s .pre)
+    omega (arith, put-number .ensures .counted, decimal-short (t .result) (omega (arith, t .ensures .1)), put-named .ensures .counted, named-short (text ": (move c") (s .args .x .carrier .0) (search needs), put-named2 .ensures .counted, named-short (text " b") (s .args .x .from .0) (search needs), c .before .before .before .before .put-named3 .ensures .counted, named-short (text " b") (s .args .x .to .0) (search needs), s .pre)
 
 same-length : tie.Need-same-length
 same-length c = search needs
 
 returns : tie.Need-returns
 returns c =
-    let s = c .before .before .before .before .before .before .before .before .before .before .before .before .before .before .before .before .before .before .before .before .before .before .before .before .before .before .before .before .before .args in
-    let time = rw (c .before .before .before .before .before .before .before .before .before .before .before .before .before .before .before .before .before .before .before .before .before .before .before .before .before .before .time-of .ensures .0) at (c .before .before .before .before .before .before .before .before .before .before .before .before .before .before .before .before .before .before .before .before .before .before .before .before .before .put-number .ensures) in
+    let put-named2 = c .before .before .before .before .before .before .before .before .before .before .before .before .before .put-named2 in
+    let put-named = c .before .before .before .before .before .before .before .before .before .before .before .before .before .before .before .before .before .before .before .put-named in
+    let put-number = c .before .before .before .before .before .before .before .before .before .before .before .before .before .before .before .before .before .before .before .before .before .before .before .before .before .put-number in
+    let time-of = c .before .before .before .before .before .before .before .before .before .before .before .before .before .before .before .before .before .before .before .before .before .before .before .before .before .before .time-of in
+    let start = c .before .before .before .before .before .before .before .before .before .before .before .before .before .before .before .before .before .before .before .before .before .before .before .before .before .before .before .before .before in
+    let s = start .args in
+    let time = rw (time-of .ensures .0) at (put-number .ensures) in
     rw (← line-parts (s .slot) (crossingOf (s .x)))
-    (wrote-then (wrote-then (wrote-then (wrote-then time (c .before .before .before .before .before .before .before .before .before .before .before .before .before .before .before .before .before .before .before .put-named .ensures)) (c .before .before .before .before .before .before .before .before .before .before .before .before .before .put-named2 .ensures)) (c .before .before .before .before .before .before .before .put-named3 .ensures)) (c .before .before .put-text .ensures))
+    (wrote-then (wrote-then (wrote-then (wrote-then time (put-named .ensures)) (put-named2 .ensures)) (c .before .before .before .before .before .before .before .put-named3 .ensures)) (c .before .before .put-text .ensures))
 
 pub line-spec : {M : Type 1} → statement M
 line-spec =

@@ -50,10 +50,11 @@ loop-less c = search needs
 
 loop-again : tie.Need-loop-again Inv-loop μ-loop
 loop-again c =
-    let s = c .before .before .before .before .before .before .before .before .before .before .before .before .args in
+    let start = c .before .before .before .before .before .before .before .before .before .before .before .before in
+    let s = start .args in
     let t = c .before .before .before .before .before .before .before .before .loop in
     let more = c .before .before .before .before .before .before .before .loop-test .taken in
-    let there : t .i < length (s .slots .now) = omega (arith, c .before .before .before .before .before .before .before .before .before .before .before .before .pre .1) in (
+    let there : t .i < length (s .slots .now) = omega (arith, start .pre .1) in (
       search needs,
       (
         rw (lines-more (s .slots .now) (s .plan .now) (t .i) more there, ← c .before .before .before .unpack .ensures) (wrote-then (t .inv .1 .0) (c .before .before .line .ensures)),
@@ -67,9 +68,10 @@ same-length c =
 
 returns : tie.Need-returns Inv-loop μ-loop
 returns c =
-    let s = c .before .before .before .before .before .args in
+    let start = c .before .before .before .before .before in
+    let s = start .args in
     let t = c .before .loop in
-    let all-slots = take-all (t .i) (s .slots .now) (omega (arith, c .before .before .before .before .before .pre .1, c .loop-test .left)) in
+    let all-slots = take-all (t .i) (s .slots .now) (omega (arith, start .pre .1, c .loop-test .left)) in
     let all-plan = take-all (t .i) (s .plan .now) (c .loop-test .left) in
     (rw (all-slots, all-plan) at (t .inv .1 .0), omega (arith, t .inv .1 .0 .counted, t .inv .1 .1))
 

@@ -17,7 +17,8 @@ same-length c = search needs
 
 returns : tie.Need-returns
 returns c =
-    let s = c .before .before .before .before .before .before .before .before .before .before .before .args in
+    let start = c .before .before .before .before .before .before .before .before .before .before .before in
+    let s = start .args in
     rw (← print-parts (s .slots .now) (s .plan .now)) (wrote-then (c .before .before .before .before .before .before .lines .ensures .0) (c .before .before .cost .ensures))
 
 pub print-spec : {M : Type 1} → statement M

@@ -29,7 +29,9 @@ array-borrow-prefix-bays : tie.Need-array-borrow-prefix-bays
 array-borrow-prefix-bays c = search needs
 
 slice-aggregate-attempt-on : tie.Need-slice-aggregate-attempt-on
-slice-aggregate-attempt-on c = sym (ap length (c .before .before .before .before .before .before .before .before .copy .ensures))
+slice-aggregate-attempt-on c =
+    let copy = c .before .before .before .before .before .before .before .before .copy in
+    sym (ap length (copy .ensures))
 
 array-borrow-prefix-carriers : tie.Need-array-borrow-prefix-carriers
 array-borrow-prefix-carriers c = search needs
@@ -42,10 +44,13 @@ slice-aggregate-attempt-on-3 c = search needs
 
 attempt-on-requires : tie.Need-attempt-on-requires
 attempt-on-requires c κs =
-    let p = c .before .before .before .before .before .before .before .before .before .before .before .before .before .before .before .before .before .before .before .pre .0 in
-    let z = c .before .before .before .before .before .before .before .before .before .before .before .before .before .before .before .before .before .before .before .pre .1 in
-    let e = c .before .before .before .before .before .before .before .before .before .before .before .copy .ensures in
-    let d = c .before .before .before .before .before .before .before .before .copy2 .ensures in
+    let copy2 = c .before .before .before .before .before .before .before .before .copy2 in
+    let copy = c .before .before .before .before .before .before .before .before .before .before .before .copy in
+    let start = c .before .before .before .before .before .before .before .before .before .before .before .before .before .before .before .before .before .before .before in
+    let p = start .pre .0 in
+    let z = start .pre .1 in
+    let e = copy .ensures in
+    let d = copy2 .ensures in
     (ready-copy p _ _ _ e d (search needs) (c .before .before .before .before .before .keep .ensures .row), (rw e (z .0), rw e (z .1), z .2, rw d (z .3), rw d (z .4), z .5, z .6))
 
 same-length : tie.Need-same-length
@@ -53,9 +58,12 @@ same-length c = c .before .before .before .before .before .attempt-on .kept .1 .
 
 returns : tie.Need-returns
 returns c =
-    let e = c .before .before .before .before .before .before .before .before .before .before .before .before .before .before .before .before .before .copy .ensures in
-    let d = c .before .before .before .before .before .before .before .before .before .before .before .before .before .before .copy2 .ensures in
-    (c .before .before .before .before .before .attempt-on .ensures .0, rw (e, d) at (c .before .before .before .before .before .attempt-on .ensures .1))
+    let attempt-on = c .before .before .before .before .before .attempt-on in
+    let copy2 = c .before .before .before .before .before .before .before .before .before .before .before .before .before .before .copy2 in
+    let copy = c .before .before .before .before .before .before .before .before .before .before .before .before .before .before .before .before .before .copy in
+    let e = copy .ensures in
+    let d = copy2 .ensures in
+    (attempt-on .ensures .0, rw (e, d) at (attempt-on .ensures .1))
 
 pub attempt-spec : {M : Type 1} → statement M
 attempt-spec =

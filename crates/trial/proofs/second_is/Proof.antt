@@ -20,7 +20,9 @@ shared-slice-read-result c = search needs
 
 returns-2 : tie.Need-returns-2
 unfolding _and_
-returns-2 c = let h : ltb 1 (length (c .before .before .before .args .path .now)) ≡ true = lt-ltb 1 (length (c .before .before .before .args .path .now)) (omega (arith, c .before .before .if1 .left)) in rw h
+returns-2 c =
+    let start = c .before .before .before in
+    let h : ltb 1 (length (start .args .path .now)) ≡ true = lt-ltb 1 (length (start .args .path .now)) (omega (arith, c .before .before .if1 .left)) in rw h
 
 pub second-is-spec : {M : Type 1} → statement M
 second-is-spec =

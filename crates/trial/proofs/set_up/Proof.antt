@@ -16,8 +16,9 @@ use Rattle.trial.proofs.set_up.Tie as tie
 
 bring-requires : tie.Need-bring-requires
 bring-requires c κs =
-    let p = c .before .before .before .before .before .before .before .before .before .before .pre .0 in
-    let z = c .before .before .before .before .before .before .before .before .before .before .pre .1 in
+    let start = c .before .before .before .before .before .before .before .before .before .before in
+    let p = start .pre .0 in
+    let z = start .pre .1 in
     (p, (z .0, z .1, z .2, z .4, omega (arith, z .5, z .6)))
 
 enum-known-brought : tie.Need-enum-known-brought
@@ -40,8 +41,9 @@ same-length-4 c = search needs
 
 returns : tie.Need-returns
 returns c =
-    let e : c .before .before .before .before .before .before .before .before .before .before .bring .result ≡ Failed = c .enum-told .given .1 in
-    (pair-none _ _, λ t led. not-brought (tried-failed (rw e at (c .before .before .before .before .before .before .before .before .before .before .bring .ensures .1 t))))
+    let bring = c .before .before .before .before .before .before .before .before .before .before .bring in
+    let e : bring .result ≡ Failed = c .enum-told .given .1 in
+    (pair-none _ _, λ t led. not-brought (tried-failed (rw e at (bring .ensures .1 t))))
 
 cast-follower : tie.Need-cast-follower
 cast-follower c = search needs
@@ -54,15 +56,18 @@ slice-read-t25 c = search needs
 
 clear-two-requires : tie.Need-clear-two-requires
 clear-two-requires c κs =
-    let p = c .before .before .before .before .before .before .before .before .before .before .before .before .before .before .before .before .before .before .before .before .before .before .before .before .before .before .before .before .pre .0 in
-    let z = c .before .before .before .before .before .before .before .before .before .before .before .before .before .before .before .before .before .before .before .before .before .before .before .before .before .before .before .before .pre .1 in
-    let e : c .before .before .before .before .before .before .before .before .before .before .before .before .before .before .before .before .before .bring .result ≡ Done (c .before .before .before .before .before .before .before .brought .given .0 .0) = c .before .before .before .before .before .before .before .brought .given .1 in
-    let few = rw e at (c .before .before .before .before .before .before .before .before .before .before .before .before .before .before .before .before .before .bring .ensures .0) in
-    let d = tried-done (rw e at (c .before .before .before .before .before .before .before .before .before .before .before .before .before .before .before .before .before .bring .ensures .1 (p .tabled))) in
-    let kp : length (c .before .before .before .before .before .before .before .before .before .before .before .before .before .before .before .before .before .bring .last .1 .1 .1 .1 .0) ≡ length (c .before .before .before .before .before .before .before .before .before .before .before .before .before .before .before .before .before .before .before .before .before .before .before .before .before .before .before .before .args .placement .now) = c .before .before .before .before .before .before .before .before .before .before .before .before .before .before .before .before .before .bring .kept .1 .1 .1 .1 .0 in
-    let kw : length (c .before .before .before .before .before .before .before .before .before .before .before .before .before .before .before .before .before .bring .last .1 .1 .1 .1 .1 .0) ≡ length (c .before .before .before .before .before .before .before .before .before .before .before .before .before .before .before .before .before .before .before .before .before .before .before .before .before .before .before .before .args .standing .now) = c .before .before .before .before .before .before .before .before .before .before .before .before .before .before .before .before .before .bring .kept .1 .1 .1 .1 .1 .0 in
-    let kf = c .before .before .before .before .before .before .before .before .before .before .before .before .before .before .before .before .before .bring .kept .1 .1 .1 .1 .1 .1 .0 in
-    (ready-again p _ _ _ kw kf (d .2 .placed), (rw kp (z .0), rw kp (z .1), z .2, omega (arith, z .3, kw), rw kw (d .2 .placed .inside (c .before .before .before .before .before .before .before .before .before .before .before .before .before .before .before .before .before .before .before .before .before .before .before .before .before .before .before .before .args .m .0) (rw kp (z .1))), omega (arith, few, z .5, z .6)))
+    let brought = c .before .before .before .before .before .before .before .brought in
+    let bring = c .before .before .before .before .before .before .before .before .before .before .before .before .before .before .before .before .before .bring in
+    let start = c .before .before .before .before .before .before .before .before .before .before .before .before .before .before .before .before .before .before .before .before .before .before .before .before .before .before .before .before in
+    let p = start .pre .0 in
+    let z = start .pre .1 in
+    let e : bring .result ≡ Done (brought .given .0 .0) = brought .given .1 in
+    let few = rw e at (bring .ensures .0) in
+    let d = tried-done (rw e at (bring .ensures .1 (p .tabled))) in
+    let kp : length (bring .last .1 .1 .1 .1 .0) ≡ length (start .args .placement .now) = bring .kept .1 .1 .1 .1 .0 in
+    let kw : length (bring .last .1 .1 .1 .1 .1 .0) ≡ length (start .args .standing .now) = bring .kept .1 .1 .1 .1 .1 .0 in
+    let kf = bring .kept .1 .1 .1 .1 .1 .1 .0 in
+    (ready-again p _ _ _ kw kf (d .2 .placed), (rw kp (z .0), rw kp (z .1), z .2, omega (arith, z .3, kw), rw kw (d .2 .placed .inside (start .args .m .0) (rw kp (z .1))), omega (arith, few, z .5, z .6)))
 
 same-length-5 : tie.Need-same-length-5
 same-length-5 c = search needs
@@ -78,16 +83,20 @@ same-length-8 c = search needs
 
 returns-2 : tie.Need-returns-2
 returns-2 c =
-    let p = c .before .before .before .before .before .before .before .before .before .before .before .before .before .before .before .before .before .before .before .before .before .before .before .before .before .before .before .before .before .before .before .before .before .before .before .before .before .pre .0 in
-    let z = c .before .before .before .before .before .before .before .before .before .before .before .before .before .before .before .before .before .before .before .before .before .before .before .before .before .before .before .before .before .before .before .before .before .before .before .before .before .pre .1 in
-    let e : c .before .before .before .before .before .before .before .before .before .before .before .before .before .before .before .before .before .before .before .before .before .before .before .before .before .before .bring .result ≡ Done (c .before .before .before .before .before .before .before .before .before .before .before .before .before .before .before .before .brought .given .0 .0) = c .before .before .before .before .before .before .before .before .before .before .before .before .before .before .before .before .brought .given .1 in
-    let few = rw e at (c .before .before .before .before .before .before .before .before .before .before .before .before .before .before .before .before .before .before .before .before .before .before .before .before .before .before .bring .ensures .0) in
-    let kw : length (c .before .before .before .before .before .before .before .before .before .before .before .before .before .before .before .before .before .before .before .before .before .before .before .before .before .before .bring .last .1 .1 .1 .1 .1 .0) ≡ length (c .before .before .before .before .before .before .before .before .before .before .before .before .before .before .before .before .before .before .before .before .before .before .before .before .before .before .before .before .before .before .before .before .before .before .before .before .before .args .standing .now) = c .before .before .before .before .before .before .before .before .before .before .before .before .before .before .before .before .before .before .before .before .before .before .before .before .before .before .bring .kept .1 .1 .1 .1 .1 .0 in
-    let d = tried-done (rw e at (c .before .before .before .before .before .before .before .before .before .before .before .before .before .before .before .before .before .before .before .before .before .before .before .before .before .before .bring .ensures .1 (p .tabled))) in (
-      pair-from bring-most (omega (arith, d .2 .counted)) (omega (arith, few, z .5)) (c .before .before .before .before .before .before .before .before .clear-two .ensures .0),
+    let clear-two = c .before .before .before .before .before .before .before .before .clear-two in
+    let brought = c .before .before .before .before .before .before .before .before .before .before .before .before .before .before .before .before .brought in
+    let bring = c .before .before .before .before .before .before .before .before .before .before .before .before .before .before .before .before .before .before .before .before .before .before .before .before .before .before .bring in
+    let start = c .before .before .before .before .before .before .before .before .before .before .before .before .before .before .before .before .before .before .before .before .before .before .before .before .before .before .before .before .before .before .before .before .before .before .before .before .before in
+    let p = start .pre .0 in
+    let z = start .pre .1 in
+    let e : bring .result ≡ Done (brought .given .0 .0) = brought .given .1 in
+    let few = rw e at (bring .ensures .0) in
+    let kw : length (bring .last .1 .1 .1 .1 .1 .0) ≡ length (start .args .standing .now) = bring .kept .1 .1 .1 .1 .1 .0 in
+    let d = tried-done (rw e at (bring .ensures .1 (p .tabled))) in (
+      pair-from bring-most (omega (arith, d .2 .counted)) (omega (arith, few, z .5)) (clear-two .ensures .0),
       λ t led.
-          let x = tried-done (rw e at (c .before .before .before .before .before .before .before .before .before .before .before .before .before .before .before .before .before .before .before .before .before .before .before .before .before .before .bring .ensures .1 t)) in
-          set-up-all (x .0) (x .1) (x .2) ((rw kw at (c .before .before .before .before .before .before .before .before .clear-two .ensures .1)) t (led .sound) (at-junction (x .0) led (p .placed .apart) (z .0) (z .1) (z .2) (x .1) _ (x .2 .moved))),
+          let x = tried-done (rw e at (bring .ensures .1 t)) in
+          set-up-all (x .0) (x .1) (x .2) ((rw kw at (clear-two .ensures .1)) t (led .sound) (at-junction (x .0) led (p .placed .apart) (z .0) (z .1) (z .2) (x .1) _ (x .2 .moved))),
     )
 
 pub set-up-spec : {M : Type 1} → statement M

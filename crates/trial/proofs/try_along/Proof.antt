@@ -27,9 +27,10 @@ slice-aggregate-path-between-2 c = search needs
 
 path-between-requires : tie.Need-path-between-requires
 path-between-requires c κs =
-    let p = c .before .before .before .before .before .before .before .before .before .pre .0 in
-    let z = c .before .before .before .before .before .before .before .before .before .pre .1 in
-    (p .most, p .placed .inside (c .before .before .before .before .before .before .before .before .before .args .r .0) (z .0), z .3, omega (arith, p .table-size), refl, omega (arith, p .most), freeShown (p .tabled))
+    let start = c .before .before .before .before .before .before .before .before .before in
+    let p = start .pre .0 in
+    let z = start .pre .1 in
+    (p .most, p .placed .inside (start .args .r .0) (z .0), z .3, omega (arith, p .table-size), refl, omega (arith, p .most), freeShown (p .tabled))
 
 enum-known-k : tie.Need-enum-known-k
 enum-known-k c = c .match .keys1
@@ -42,26 +43,33 @@ returns c = (tt, λ t near. path-missing near ((rw (c .enum-told .given .1) at (
 
 array-share-prefix-path : tie.Need-array-share-prefix-path
 array-share-prefix-path c =
-    let p = c .before .before .before .before .before .before .before .before .before .before .before .before .before .before .pre .0 in
-    let f = rw (c .before .k .given .1) at (c .before .before .before .before .path-between .ensures (freeShown (p .tabled))) in
-    let kept : length (c .before .before .before .before .path-between .last .1 .1 .1 .1 .1 .0) ≡ span = c .before .before .before .before .path-between .kept .1 .1 .1 .1 .1 .0 in
+    let path-between = c .before .before .before .before .path-between in
+    let start = c .before .before .before .before .before .before .before .before .before .before .before .before .before .before in
+    let p = start .pre .0 in
+    let f = rw (c .before .k .given .1) at (path-between .ensures (freeShown (p .tabled))) in
+    let kept : length (path-between .last .1 .1 .1 .1 .1 .0) ≡ span = path-between .kept .1 .1 .1 .1 .1 .0 in
     omega (arith, f .fits, p .most, kept)
 
 slice-aggregate-try-on : tie.Need-slice-aggregate-try-on
 slice-aggregate-try-on c =
-    let p = c .before .before .before .before .before .before .before .before .before .before .before .before .before .before .before .pre .0 in
-    let f = rw (c .before .before .k .given .1) at (c .before .before .before .before .before .path-between .ensures (freeShown (p .tabled))) in
-    let kept : length (c .before .before .before .before .before .path-between .last .1 .1 .1 .1 .1 .0) ≡ span = c .before .before .before .before .before .path-between .kept .1 .1 .1 .1 .1 .0 in
+    let path-between = c .before .before .before .before .before .path-between in
+    let start = c .before .before .before .before .before .before .before .before .before .before .before .before .before .before .before in
+    let p = start .pre .0 in
+    let f = rw (c .before .before .k .given .1) at (path-between .ensures (freeShown (p .tabled))) in
+    let kept : length (path-between .last .1 .1 .1 .1 .1 .0) ≡ span = path-between .kept .1 .1 .1 .1 .1 .0 in
     sym (length-take-le _ _ (omega (arith, f .fits, p .most, kept)))
 
 try-on-requires : tie.Need-try-on-requires
 try-on-requires c κs =
-    let p = c .before .before .before .before .before .before .before .before .before .before .before .before .before .before .before .before .pre .0 in
-    let z = c .before .before .before .before .before .before .before .before .before .before .before .before .before .before .before .before .pre .1 in
-    let f = rw (c .before .before .before .k .given .1) at (c .before .before .before .before .before .before .path-between .ensures (freeShown (p .tabled))) in
-    let kept : length (c .before .before .before .before .before .before .path-between .last .1 .1 .1 .1 .1 .0) ≡ span = c .before .before .before .before .before .before .path-between .kept .1 .1 .1 .1 .1 .0 in
-    let len : length (take (c .before .before .before .k .given .0 .0) (c .before .before .before .before .before .before .path-between .last .1 .1 .1 .1 .1 .0)) ≡ c .before .before .before .k .given .0 .0 = length-take-le _ _ (omega (arith, f .fits, p .most, kept)) in
-    let q = path-found (p .tabled) _ _ _ (p .placed .inside (c .before .before .before .before .before .before .before .before .before .before .before .before .before .before .before .before .args .r .0) (z .0)) (z .3) (f .same) in
+    let k = c .before .before .before .k in
+    let path-between = c .before .before .before .before .before .before .path-between in
+    let start = c .before .before .before .before .before .before .before .before .before .before .before .before .before .before .before .before in
+    let p = start .pre .0 in
+    let z = start .pre .1 in
+    let f = rw (k .given .1) at (path-between .ensures (freeShown (p .tabled))) in
+    let kept : length (path-between .last .1 .1 .1 .1 .1 .0) ≡ span = path-between .kept .1 .1 .1 .1 .1 .0 in
+    let len : length (take (k .given .0 .0) (path-between .last .1 .1 .1 .1 .1 .0)) ≡ k .given .0 .0 = length-take-le _ _ (omega (arith, f .fits, p .most, kept)) in
+    let q = path-found (p .tabled) _ _ _ (p .placed .inside (start .args .r .0) (z .0)) (z .3) (f .same) in
     (p, (z .0, z .1, z .2, z .3, q .2, omega (arith, len, f .fits, p .most), z .4, q .1))
 
 same-length : tie.Need-same-length
@@ -69,10 +77,12 @@ same-length c = c .before .before .try-on .kept .1 .1 .1 .1 .1 .1 .1 .1 .0
 
 returns-2 : tie.Need-returns-2
 returns-2 c =
-    let p = c .before .before .before .before .before .before .before .before .before .before .before .before .before .before .before .before .before .before .before .pre .0 in
-    let z = c .before .before .before .before .before .before .before .before .before .before .before .before .before .before .before .before .before .before .before .pre .1 in (
+    let path-between = c .before .before .before .before .before .before .before .before .before .path-between in
+    let start = c .before .before .before .before .before .before .before .before .before .before .before .before .before .before .before .before .before .before .before in
+    let p = start .pre .0 in
+    let z = start .pre .1 in (
       c .before .before .try-on .ensures .0,
-      λ t near. c .before .before .try-on .ensures .1 t near (path-found t _ _ _ (p .placed .inside (c .before .before .before .before .before .before .before .before .before .before .before .before .before .before .before .before .before .before .before .args .r .0) (z .0)) (z .3) ((rw (c .before .before .before .before .before .before .k .given .1) at (c .before .before .before .before .before .before .before .before .before .path-between .ensures (freeShown t))) .same) .0),
+      λ t near. c .before .before .try-on .ensures .1 t near (path-found t _ _ _ (p .placed .inside (start .args .r .0) (z .0)) (z .3) ((rw (c .before .before .before .before .before .before .k .given .1) at (path-between .ensures (freeShown t))) .same) .0),
     )
 
 pub try-along-spec : {M : Type 1} → statement M

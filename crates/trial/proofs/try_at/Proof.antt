@@ -23,17 +23,19 @@ slice-aggregate-try-on c = search needs
 
 try-on-requires : tie.Need-try-on-requires
 try-on-requires c κs =
-    let p = c .before .before .before .before .before .before .before .before .before .before .before .pre .0 in
-    let z = c .before .before .before .before .before .before .before .before .before .before .before .pre .1 in
-    (p, (z .0, z .1, z .2, z .3, alone-inside _ _ (p .placed .inside (c .before .before .before .before .before .before .before .before .before .before .before .args .r .0) (z .0)), omega arith, z .4, omega arith))
+    let start = c .before .before .before .before .before .before .before .before .before .before .before in
+    let p = start .pre .0 in
+    let z = start .pre .1 in
+    (p, (z .0, z .1, z .2, z .3, alone-inside _ _ (p .placed .inside (start .args .r .0) (z .0)), omega arith, z .4, omega arith))
 
 same-length : tie.Need-same-length
 same-length c = c .before .before .try-on .kept .1 .1 .1 .1 .1 .1 .1 .1 .0
 
 returns : tie.Need-returns
 returns c =
-    let z = c .before .before .before .before .before .before .before .before .before .before .before .before .before .before .pre .1 in
-    let own : bayOf (c .before .before .before .before .before .before .before .before .before .before .before .before .before .before .args .placement .now) (c .before .before .before .before .before .before .before .before .before .before .before .before .before .before .args .r .0) ≡ c .before .before .before .before .before .before .before .before .before .before .before .before .before .before .args .v .0 = c .before .before .before .before .before .if1 .taken in
+    let start = c .before .before .before .before .before .before .before .before .before .before .before .before .before .before in
+    let z = start .pre .1 in
+    let own : bayOf (start .args .placement .now) (start .args .r .0) ≡ start .args .v .0 = c .before .before .before .before .before .if1 .taken in
     (c .before .before .try-on .ensures .0, λ t near. c .before .before .try-on .ensures .1 t near (path-own near (in-bays t (z .3)) own))
 
 cast-is-in : tie.Need-cast-is-in
@@ -74,11 +76,12 @@ same-length-2 c = c .before .before .try-on2 .kept .1 .1 .1 .1 .1 .1 .1 .1 .0
 
 returns-2 : tie.Need-returns-2
 returns-2 c =
+    let if1 = c .before .before .before .before .before .before .before .before .if1 in
     let s = c .before .before .before .before .before .before .before .before .before .before .before .before .before .before .before .before .before in
     let p = s .pre .0 in
     let z = s .pre .1 in
     let rail = sym (c .before .before .before .before .before .if2 .taken) ∙ c .before .before .before .before .before .before .is-in .ensures in
-    (c .before .before .try-on2 .ensures .0, λ t near. c .before .before .try-on2 .ensures .1 t near (path-beside t _ _ (p .most) (p .placed .inside (s .args .r .0) (z .0)) (z .3) (c .before .before .before .before .before .before .before .before .if1 .left) rail))
+    (c .before .before .try-on2 .ensures .0, λ t near. c .before .before .try-on2 .ensures .1 t near (path-beside t _ _ (p .most) (p .placed .inside (s .args .r .0) (z .0)) (z .3) (if1 .left) rail))
 
 try-along-requires : tie.Need-try-along-requires
 try-along-requires c κs = search needs

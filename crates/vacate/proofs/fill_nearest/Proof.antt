@@ -33,12 +33,14 @@ same-length c = refl
 
 returns : tie.Need-returns
 returns c =
-    let p = c .before .before .before .before .before .before .before .before .before .before .before .before .pre in
+    let start = c .before .before .before .before .before .before .before .before .before .before .before .before in
+    let p = start .pre in
     λ s. vacates-none s (p .0) _ (p .1) (p .8) _ _ (sym (p .6)) (sym (p .7)) (ap endOf (sym (c .enum-told .given .1)) ∙ c .before .before .before .way-out .ensures s (isEmpty _) (p .8 .empties) .nearest ∙ sym (nearest-empty _ _ _ _))
 
 array-share-prefix-path : tie.Need-array-share-prefix-path
 array-share-prefix-path c =
-    let p = c .before .before .before .before .before .before .before .before .before .before .before .before .before .pre in
+    let start = c .before .before .before .before .before .before .before .before .before .before .before .before .before in
+    let p = start .pre in
     let w = c .before .before .before .before .way-out in
     let t = rw (c .before .e .given .1) at (w .ensures (p .9) (isEmpty _) (p .8 .empties)) in
     let kept : length (w .last .1 .1 .1 .1 .1 .0) ≡ span = w .kept .1 .1 .1 .1 .1 .0 in
@@ -46,7 +48,8 @@ array-share-prefix-path c =
 
 slice-aggregate-shift : tie.Need-slice-aggregate-shift
 slice-aggregate-shift c =
-    let p = c .before .before .before .before .before .before .before .before .before .before .before .before .before .before .pre in
+    let start = c .before .before .before .before .before .before .before .before .before .before .before .before .before .before in
+    let p = start .pre in
     let w = c .before .before .before .before .before .way-out in
     let t = rw (c .before .before .e .given .1) at (w .ensures (p .9) (isEmpty _) (p .8 .empties)) in
     let kept : length (w .last .1 .1 .1 .1 .1 .0) ≡ span = w .kept .1 .1 .1 .1 .1 .0 in
@@ -54,35 +57,48 @@ slice-aggregate-shift c =
 
 shift-requires : tie.Need-shift-requires
 shift-requires c κs =
-    let p = c .before .before .before .before .before .before .before .before .before .before .before .before .before .before .before .before .before .before .pre in
+    let e = c .before .before .before .before .before .before .e in
+    let start = c .before .before .before .before .before .before .before .before .before .before .before .before .before .before .before .before .before .before in
+    let p = start .pre in
     let w = c .before .before .before .before .before .before .before .before .before .way-out in
-    let t = rw (c .before .before .before .before .before .before .e .given .1) at (w .ensures (p .9) (isEmpty _) (p .8 .empties)) in
+    let t = rw (e .given .1) at (w .ensures (p .9) (isEmpty _) (p .8 .empties)) in
     let kept : length (w .last .1 .1 .1 .1 .1 .0) ≡ span = w .kept .1 .1 .1 .1 .1 .0 in
-    let len : length (take (c .before .before .before .before .before .before .e .given .0 .1 .0) (w .last .1 .1 .1 .1 .1 .0)) ≡ c .before .before .before .before .before .before .e .given .0 .1 .0 = length-take-le _ _ (omega (arith, t .fits, p .0, kept)) in
-    (p .0, p .4, omega (arith, len, t .fits, p .0, p .5), p .8, can-shift (p .9) (p .0) _ (p .1) (p .8) (c .before .before .before .before .before .before .before .before .before .before .before .before .before .before .before .before .before .before .args .out .now) (c .before .before .before .before .before .before .before .before .before .before .before .before .before .before .before .before .before .before .args .at) (sym (p .6)) (sym (p .7)) _ (t .nearest ∙ sym (nearest-empty _ _ _ _)) _ (t .path _ refl))
+    let len : length (take (e .given .0 .1 .0) (w .last .1 .1 .1 .1 .1 .0)) ≡ e .given .0 .1 .0 = length-take-le _ _ (omega (arith, t .fits, p .0, kept)) in
+    (p .0, p .4, omega (arith, len, t .fits, p .0, p .5), p .8, can-shift (p .9) (p .0) _ (p .1) (p .8) (start .args .out .now) (start .args .at) (sym (p .6)) (sym (p .7)) _ (t .nearest ∙ sym (nearest-empty _ _ _ _)) _ (t .path _ refl))
 
 same-length-2 : tie.Need-same-length-2
-same-length-2 c = c .before .before .before .before .before .before .before .before .shift .kept .1 .0
+same-length-2 c =
+    let shift = c .before .before .before .before .before .before .before .before .shift in
+    shift .kept .1 .0
 
 same-length-3 : tie.Need-same-length-3
-same-length-3 c = c .before .before .before .before .before .before .before .before .shift .kept .1 .1 .0
+same-length-3 c =
+    let shift = c .before .before .before .before .before .before .before .before .shift in
+    shift .kept .1 .1 .0
 
 same-length-4 : tie.Need-same-length-4
-same-length-4 c = c .before .before .before .before .before .before .before .before .shift .kept .1 .1 .1 .0
+same-length-4 c =
+    let shift = c .before .before .before .before .before .before .before .before .shift in
+    shift .kept .1 .1 .1 .0
 
 same-length-5 : tie.Need-same-length-5
-same-length-5 c = c .before .before .before .before .before .before .before .before .shift .kept .1 .1 .1 .1 .0
+same-length-5 c =
+    let shift = c .before .before .before .before .before .before .before .before .shift in
+    shift .kept .1 .1 .1 .1 .0
 
 returns-2 : tie.Need-returns-2
 returns-2 c =
-    let p = c .before .before .before .before .before .before .before .before .before .before .before .before .before .before .before .before .before .before .before .before .before .before .before .before .before .before .before .pre in
+    let shift = c .before .before .before .before .before .before .before .before .shift in
+    let e = c .before .before .before .before .before .before .before .before .before .before .before .before .before .before .before .e in
+    let start = c .before .before .before .before .before .before .before .before .before .before .before .before .before .before .before .before .before .before .before .before .before .before .before .before .before .before .before in
+    let p = start .pre in
     let w = c .before .before .before .before .before .before .before .before .before .before .before .before .before .before .before .before .before .before .way-out in
-    let t = rw (c .before .before .before .before .before .before .before .before .before .before .before .before .before .before .before .e .given .1) at (w .ensures (p .9) (isEmpty _) (p .8 .empties)) in
+    let t = rw (e .given .1) at (w .ensures (p .9) (isEmpty _) (p .8 .empties)) in
     let kept : length (w .last .1 .1 .1 .1 .1 .0) ≡ span = w .kept .1 .1 .1 .1 .1 .0 in
-    let len : length (take (c .before .before .before .before .before .before .before .before .before .before .before .before .before .before .before .e .given .0 .1 .0) (w .last .1 .1 .1 .1 .1 .0)) ≡ c .before .before .before .before .before .before .before .before .before .before .before .before .before .before .before .e .given .0 .1 .0 = length-take-le _ _ (omega (arith, t .fits, p .0, kept)) in
+    let len : length (take (e .given .0 .1 .0) (w .last .1 .1 .1 .1 .1 .0)) ≡ e .given .0 .1 .0 = length-take-le _ _ (omega (arith, t .fits, p .0, kept)) in
     λ s.
-    let v = rw (c .before .before .before .before .before .before .before .before .before .before .before .before .before .before .before .e .given .1) at (w .ensures s (isEmpty _) (p .8 .empties)) in
-    vacates-filled s (p .0) _ (p .1) (p .8) _ _ (sym (p .6)) (sym (p .7)) _ (v .nearest ∙ sym (nearest-empty _ _ _ _)) _ (v .path _ refl) _ _ _ _ _ _ refl refl (omega (arith, len, t .fits)) (c .before .before .before .before .before .before .before .before .shift .ensures)
+    let v = rw (e .given .1) at (w .ensures s (isEmpty _) (p .8 .empties)) in
+    vacates-filled s (p .0) _ (p .1) (p .8) _ _ (sym (p .6)) (sym (p .7)) _ (v .nearest ∙ sym (nearest-empty _ _ _ _)) _ (v .path _ refl) _ _ _ _ _ _ refl refl (omega (arith, len, t .fits)) (shift .ensures)
 
 pub fill-nearest-spec : {M : Type 1} → statement M
 fill-nearest-spec =

@@ -20,7 +20,9 @@ same-length : tie.Need-same-length
 same-length c = refl
 
 returns : tie.Need-returns
-returns c = let p = c .before .before .before .before .before .before .before .before .before .before .pre in λ s. vacates-empty s (p .0) _ (p .1) (p .6) _ _ (sym (c .if1 .taken) ∙ c .before .is-in .ensures)
+returns c =
+    let start = c .before .before .before .before .before .before .before .before .before .before in
+    let p = start .pre in λ s. vacates-empty s (p .0) _ (p .1) (p .6) _ _ (sym (c .if1 .taken) ∙ c .before .is-in .ensures)
 
 is-in-requires-2 : tie.Need-is-in-requires-2
 is-in-requires-2 c κs = search needs
@@ -29,11 +31,14 @@ same-length-2 : tie.Need-same-length-2
 same-length-2 c = refl
 
 returns-2 : tie.Need-returns-2
-returns-2 c = let p = c .before .before .before .before .before .before .before .before .before .before .before .before .pre in λ s. vacates-held s (p .0) _ (p .1) (p .6) _ _ (sym (c .before .before .if1 .left) ∙ c .before .before .before .is-in .ensures) (sym (c .if2 .taken) ∙ c .before .is-in2 .ensures)
+returns-2 c =
+    let start = c .before .before .before .before .before .before .before .before .before .before .before .before in
+    let p = start .pre in λ s. vacates-held s (p .0) _ (p .1) (p .6) _ _ (sym (c .before .before .if1 .left) ∙ c .before .before .before .is-in .ensures) (sym (c .if2 .taken) ∙ c .before .is-in2 .ensures)
 
 free-requires : tie.Need-free-requires
 free-requires c κs =
-    let p = c .before .before .before .before .before .before .before .before .before .before .before .before .before .pre in
+    let start = c .before .before .before .before .before .before .before .before .before .before .before .before .before in
+    let p = start .pre in
     (search needs, search needs, search needs, table-rowed (p .7 .joins) (p .0) _ (p .1) (p .2))
 
 cast-t19 : tie.Need-cast-t19
@@ -41,50 +46,83 @@ cast-t19 c = search needs
 
 cross-requires : tie.Need-cross-requires
 cross-requires c κs =
-    let p = c .before .before .before .before .before .before .before .before .before .before .before .before .before .before .before .before .before .before .before .pre in
-    let out = c .before .before .before .before .before .before .before .before .before .before .before .before .before .before .before .before .before .before .before .args .out .now in
-    let at = c .before .before .before .before .before .before .before .before .before .before .before .before .before .before .before .before .before .before .before .args .at in
-    let full = sym (c .before .before .before .before .before .before .before .before .before .if1 .left) ∙ c .before .before .before .before .before .before .before .before .before .before .is-in .ensures in
-    let unheld = sym (c .before .before .before .before .before .before .before .if2 .left) ∙ c .before .before .before .before .before .before .before .before .is-in2 .ensures in
-    let low = c .before .before .before .before .before .free .ensures in
-    let there : c .before .before .before .before .before .free .result < span = c .before .before .before .before .if3 .taken in
+    let free = c .before .before .before .before .before .free in
+    let is-in2 = c .before .before .before .before .before .before .before .before .is-in2 in
+    let if1 = c .before .before .before .before .before .before .before .before .before .if1 in
+    let is-in = c .before .before .before .before .before .before .before .before .before .before .is-in in
+    let start = c .before .before .before .before .before .before .before .before .before .before .before .before .before .before .before .before .before .before .before in
+    let p = start .pre in
+    let out = start .args .out .now in
+    let at = start .args .at in
+    let full = sym (if1 .left) ∙ is-in .ensures in
+    let unheld = sym (c .before .before .before .before .before .before .before .if2 .left) ∙ is-in2 .ensures in
+    let low = free .ensures in
+    let there : free .result < span = c .before .before .before .before .if3 .taken in
     (p .1, inside-e (p .7) (p .0) _ (p .1) (p .6) out at full unheld _ low there, p .0, p .4, omega (arith, p .5), full-in (p .7) (p .0) _ (p .1) (p .6) out at full unheld _ low there, empty-e (p .7) (p .0) _ (p .1) (p .6) out at full unheld _ low there, p .6)
 
 same-length-3 : tie.Need-same-length-3
-same-length-3 c = c .before .before .before .before .before .before .before .before .cross .kept .0
+same-length-3 c =
+    let cross = c .before .before .before .before .before .before .before .before .cross in
+    cross .kept .0
 
 same-length-4 : tie.Need-same-length-4
-same-length-4 c = c .before .before .before .before .before .before .before .before .cross .kept .1 .0
+same-length-4 c =
+    let cross = c .before .before .before .before .before .before .before .before .cross in
+    cross .kept .1 .0
 
 same-length-5 : tie.Need-same-length-5
-same-length-5 c = c .before .before .before .before .before .before .before .before .cross .kept .1 .1 .0
+same-length-5 c =
+    let cross = c .before .before .before .before .before .before .before .before .cross in
+    cross .kept .1 .1 .0
 
 same-length-6 : tie.Need-same-length-6
-same-length-6 c = c .before .before .before .before .before .before .before .before .cross .kept .1 .1 .1 .1 .1 .0
+same-length-6 c =
+    let cross = c .before .before .before .before .before .before .before .before .cross in
+    cross .kept .1 .1 .1 .1 .1 .0
 
 returns-3 : tie.Need-returns-3
 returns-3 c =
-    let p = c .before .before .before .before .before .before .before .before .before .before .before .before .before .before .before .before .before .before .before .before .before .before .before .before .before .before .before .before .pre in
-    let full = sym (c .before .before .before .before .before .before .before .before .before .before .before .before .before .before .before .before .before .before .if1 .left) ∙ c .before .before .before .before .before .before .before .before .before .before .before .before .before .before .before .before .before .before .before .is-in .ensures in
-    let unheld = sym (c .before .before .before .before .before .before .before .before .before .before .before .before .before .before .before .before .if2 .left) ∙ c .before .before .before .before .before .before .before .before .before .before .before .before .before .before .before .before .before .is-in2 .ensures in
-    λ s. vacates-beside s (p .0) _ (p .1) (p .6) _ _ full unheld _ (c .before .before .before .before .before .before .before .before .before .before .before .before .before .before .free .ensures) (c .before .before .before .before .before .before .before .before .before .before .before .before .before .if3 .taken) _ _ _ _ _ _ refl refl (c .before .before .before .before .before .before .before .before .cross .ensures)
+    let cross = c .before .before .before .before .before .before .before .before .cross in
+    let if3 = c .before .before .before .before .before .before .before .before .before .before .before .before .before .if3 in
+    let free = c .before .before .before .before .before .before .before .before .before .before .before .before .before .before .free in
+    let if2 = c .before .before .before .before .before .before .before .before .before .before .before .before .before .before .before .before .if2 in
+    let is-in2 = c .before .before .before .before .before .before .before .before .before .before .before .before .before .before .before .before .before .is-in2 in
+    let if1 = c .before .before .before .before .before .before .before .before .before .before .before .before .before .before .before .before .before .before .if1 in
+    let is-in = c .before .before .before .before .before .before .before .before .before .before .before .before .before .before .before .before .before .before .before .is-in in
+    let start = c .before .before .before .before .before .before .before .before .before .before .before .before .before .before .before .before .before .before .before .before .before .before .before .before .before .before .before .before in
+    let p = start .pre in
+    let full = sym (if1 .left) ∙ is-in .ensures in
+    let unheld = sym (if2 .left) ∙ is-in2 .ensures in
+    λ s. vacates-beside s (p .0) _ (p .1) (p .6) _ _ full unheld _ (free .ensures) (if3 .taken) _ _ _ _ _ _ refl refl (cross .ensures)
 
 fill-nearest-requires : tie.Need-fill-nearest-requires
 fill-nearest-requires c κs =
-    let p = c .before .before .before .before .before .before .before .before .before .before .before .before .before .before .before .before .before .before .before .pre in
-    (p .0, p .1, p .2, p .3, p .4, p .5, sym (c .before .before .before .before .before .before .before .before .before .before .is-in .ensures) ∙ c .before .before .before .before .before .before .before .before .before .if1 .left, sym (c .before .before .before .before .before .before .before .before .is-in2 .ensures) ∙ c .before .before .before .before .before .before .before .if2 .left, p .6, p .7, p .8)
+    let is-in2 = c .before .before .before .before .before .before .before .before .is-in2 in
+    let if1 = c .before .before .before .before .before .before .before .before .before .if1 in
+    let is-in = c .before .before .before .before .before .before .before .before .before .before .is-in in
+    let start = c .before .before .before .before .before .before .before .before .before .before .before .before .before .before .before .before .before .before .before in
+    let p = start .pre in
+    (p .0, p .1, p .2, p .3, p .4, p .5, sym (is-in .ensures) ∙ if1 .left, sym (is-in2 .ensures) ∙ c .before .before .before .before .before .before .before .if2 .left, p .6, p .7, p .8)
 
 same-length-7 : tie.Need-same-length-7
-same-length-7 c = c .before .before .before .before .before .before .before .before .fill-nearest .kept .1 .1 .1 .0
+same-length-7 c =
+    let fill-nearest = c .before .before .before .before .before .before .before .before .fill-nearest in
+    fill-nearest .kept .1 .1 .1 .0
 
 same-length-8 : tie.Need-same-length-8
-same-length-8 c = c .before .before .before .before .before .before .before .before .fill-nearest .kept .1 .1 .1 .1 .0
+same-length-8 c =
+    let fill-nearest = c .before .before .before .before .before .before .before .before .fill-nearest in
+    fill-nearest .kept .1 .1 .1 .1 .0
 
 same-length-9 : tie.Need-same-length-9
-same-length-9 c = c .before .before .before .before .before .before .before .before .fill-nearest .kept .1 .1 .1 .1 .1 .0
+same-length-9 c =
+    let fill-nearest = c .before .before .before .before .before .before .before .before .fill-nearest in
+    fill-nearest .kept .1 .1 .1 .1 .1 .0
 
 same-length-10 : tie.Need-same-length-10
-same-length-10 c = c .before .before .before .before .before .before .before .before .fill-nearest .kept .1 .1 .1 .1 .1 .1 .0
+same-length-10 c =
+    let fill-nearest = c .before .before .before .before .before .before .before .before .fill-nearest in
+    fill-nearest .kept .1 .1 .1 .1 .1 .1 .0
 
 returns-4 : tie.Need-returns-4
 returns-4 c = search needs

@@ -39,7 +39,9 @@ way-to-nearest-requires-2 : tie.Need-way-to-nearest-requires-2
 way-to-nearest-requires-2 c κs = search needs
 
 same-length-3 : tie.Need-same-length-3
-same-length-3 c = c .before .before .way-to-nearest2 .kept .1 .1 .1 .1 .1 .0 ∙ c .before .before .before .before .before .before .before .before .way .kept .1 .1 .1 .1 .1 .0
+same-length-3 c =
+    let way = c .before .before .before .before .before .before .before .before .way in
+    c .before .before .way-to-nearest2 .kept .1 .1 .1 .1 .1 .0 ∙ way .kept .1 .1 .1 .1 .1 .0
 
 returns-3 : tie.Need-returns-3
 returns-3 c = search needs

@@ -22,7 +22,8 @@ loop-holds c = let p = c .before .before .before .before .pre in (omega arith, o
 
 meet-word-requires : tie.Need-meet-word-requires Inv-loop μ-loop
 meet-word-requires c κs =
-    let p = c .before .before .before .before .before .before .before .before .before .pre in
+    let start = c .before .before .before .before .before .before .before .before .before in
+    let p = start .pre in
     let l = c .before .before .before .before .loop in
     (omega arith, p .0, l .inv .1, l .inv .3, rw (l .inv .2) (meeting-room _ _ (l .inv .4) (omega arith) (p .3)))
 

@@ -41,8 +41,9 @@ slice-write-seen c = search needs
 
 enqueue-requires : tie.Need-enqueue-requires
 enqueue-requires c κs =
-    let p = c .before .before .before .before .before .before .before .before .before .before .pre in
-    let a = c .before .before .before .before .before .before .before .before .before .before .args in
+    let start = c .before .before .before .before .before .before .before .before .before .before in
+    let p = start .pre in
+    let a = start .args in
     (p .0, omega arith, rw (word-new (a .table .now) (a .seen .now) (a .a) (a .i) (c .before .before .before .before .slice-known4 .given _ .fits)) (p .4))
 
 same-length : tie.Need-same-length
@@ -55,7 +56,9 @@ same-length-3 : tie.Need-same-length-3
 same-length-3 c = search needs
 
 returns-2 : tie.Need-returns-2
-returns-2 c = word-met _ _ _ _ (c .before .before .before .before .before .before .before .before .before .slice-known4 .given _ .fits) _ _ _ _ _ _ (omega arith) (c .before .before .before .before .enqueue .ensures)
+returns-2 c =
+    let slice-known4 = c .before .before .before .before .before .before .before .before .before .slice-known4 in
+    word-met _ _ _ _ (slice-known4 .given _ .fits) _ _ _ _ _ _ (omega arith) (c .before .before .before .before .enqueue .ensures)
 
 pub meet-word-spec : {M : Type 1} → statement M
 meet-word-spec =

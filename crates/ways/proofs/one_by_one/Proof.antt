@@ -34,8 +34,9 @@ same-length c = search needs
 
 returns : tie.Need-returns Inv-loop μ-loop
 returns c =
-    let p = c .before .before .before .before .before .before .before .pre in
-    let a = c .before .before .before .before .before .before .before .args in
+    let start = c .before .before .before .before .before .before .before in
+    let p = start .pre in
+    let a = start .args in
     λ s q w. way-here s (p .0) _ (p .1) (p .6) _ (sym (c .before .is-in .ensures) ∙ c .if1 .taken) q w _ _ refl (take-suc-set (a .path .now) 0 (a .x .0) (omega arith))
 
 slice-aggregate-keep : tie.Need-slice-aggregate-keep Inv-loop μ-loop
@@ -67,10 +68,14 @@ slice-write-path-2 c = search needs
 
 loop-holds : tie.Need-loop-holds Inv-loop μ-loop
 loop-holds c =
-    let p = c .before .before .before .before .before .before .before .before .before .before .before .before .before .before .before .before .before .before .before .pre in
-    let a = c .before .before .before .before .before .before .before .before .before .before .before .before .before .before .before .before .before .before .before .args in
-    let miss = sym (c .before .before .before .before .before .before .before .before .before .before .before .before .before .is-in .ensures) ∙ c .before .before .before .before .before .before .before .before .before .before .before .before .if1 .left in
-    (omega arith, omega arith, omega arith, refl, simp length-set (p .5), search needs, search needs, λ s. stage-first s (p .0) _ (p .1) (p .6) _ _ _ _ _ _ zeros-low miss (c .before .before .before .before .before .before .before .before .before .before .keep .ensures) (c .before .before .before .before .before .before .before .join .ensures) (take-suc-set (a .path .now) 0 (a .x .0) (omega arith)))
+    let keep = c .before .before .before .before .before .before .before .before .before .before .keep in
+    let if1 = c .before .before .before .before .before .before .before .before .before .before .before .before .if1 in
+    let is-in = c .before .before .before .before .before .before .before .before .before .before .before .before .before .is-in in
+    let start = c .before .before .before .before .before .before .before .before .before .before .before .before .before .before .before .before .before .before .before in
+    let p = start .pre in
+    let a = start .args in
+    let miss = sym (is-in .ensures) ∙ if1 .left in
+    (omega arith, omega arith, omega arith, refl, simp length-set (p .5), search needs, search needs, λ s. stage-first s (p .0) _ (p .1) (p .6) _ _ _ _ _ _ zeros-low miss (keep .ensures) (c .before .before .before .before .before .before .before .join .ensures) (take-suc-set (a .path .now) 0 (a .x .0) (omega arith)))
 
 slice-aggregate-pass : tie.Need-slice-aggregate-pass Inv-loop μ-loop
 slice-aggregate-pass c = search needs
@@ -80,7 +85,8 @@ slice-aggregate-pass-2 c = search needs
 
 pass-requires : tie.Need-pass-requires Inv-loop μ-loop
 pass-requires c κs =
-    let p = c .before .before .before .before .before .before .before .before .before .before .before .before .before .before .before .before .before .before .before .before .before .before .before .pre in
+    let start = c .before .before .before .before .before .before .before .before .before .before .before .before .before .before .before .before .before .before .before .before .before .before .before in
+    let p = start .pre in
     let l = c .before .before .before .loop in
     (p .0, p .2, l .inv .0, l .inv .1, l .inv .5, l .inv .4, l .inv .6, (_, _, l .inv .7 (p .7) .queue))
 
@@ -91,13 +97,16 @@ same-length-2 c =
 
 returns-2 : tie.Need-returns-2 Inv-loop μ-loop
 returns-2 c =
-    let p = c .before .before .before .before .before .before .before .before .before .before .before .before .before .before .before .before .before .before .before .before .before .before .before .before .before .before .before .before .before .pre in
+    let start = c .before .before .before .before .before .before .before .before .before .before .before .before .before .before .before .before .before .before .before .before .before .before .before .before .before .before .before .before .before in
+    let p = start .pre in
     let l = c .before .before .before .before .before .before .before .before .before .loop in
     let w = c .before .before .before .before .before .pass in
     λ s q f. way-nowhere s (p .0) _ (p .1) (p .6) _ _ _ _ _ _ _ (l .inv .7 s) _ _ _ _ (w .ensures _ _ (l .inv .7 s .queue)) (l .inv .0) (rw (w .kept .1 .1 .1 .1 .1 .0) (l .inv .4)) (c .if2 .taken) q f _
 
 add-d : tie.Need-add-d Inv-loop μ-loop
-add-d c = let l = c .before .before .before .before .before .before .before .before .before .loop in omega (arith, l .inv .2, c .before .before .before .before .before .before .before .before .before .before .before .before .before .before .before .before .before .before .before .before .before .before .before .before .before .before .before .before .before .pre .0)
+add-d c =
+    let start = c .before .before .before .before .before .before .before .before .before .before .before .before .before .before .before .before .before .before .before .before .before .before .before .before .before .before .before .before .before in
+    let l = c .before .before .before .before .before .before .before .before .before .loop in omega (arith, l .inv .2, start .pre .0)
 
 slice-aggregate-common : tie.Need-slice-aggregate-common Inv-loop μ-loop
 slice-aggregate-common c = search needs
@@ -107,18 +116,22 @@ slice-aggregate-common-2 c = search needs
 
 common-requires : tie.Need-common-requires Inv-loop μ-loop
 common-requires c κs =
-    let p = c .before .before .before .before .before .before .before .before .before .before .before .before .before .before .before .before .before .before .before .before .before .before .before .before .before .before .before .before .before .before .before .pre in
+    let minus = c .before .before .before .before .before .before .before .before .before .before .before .before .before .minus in
+    let keep2 = c .before .before .before .before .before .before .before .before .before .before .before .before .before .before .before .before .keep2 in
+    let start = c .before .before .before .before .before .before .before .before .before .before .before .before .before .before .before .before .before .before .before .before .before .before .before .before .before .before .before .before .before .before .before in
+    let p = start .pre in
     let l = c .before .before .before .before .before .before .before .before .before .before .before .loop in
     let w = c .before .before .before .before .before .before .before .pass in
     let g = w .ensures _ _ (l .inv .7 (p .7) .queue) in
-    (search needs, search needs, free-rowed (p .7) (p .0) _ (p .1) (p .6) _ _ _ _ _ _ _ (l .inv .7 (p .7)) _ _ _ _ g (l .inv .0) (rw (w .kept .1 .1 .1 .1 .1 .0) (l .inv .4)) (omega (arith, g .more, c .before .before .if2 .left)) _ _ _ (c .before .before .before .before .before .before .before .before .before .before .before .before .before .before .before .before .keep2 .ensures) (c .before .before .before .before .before .before .before .before .before .before .before .before .before .minus .ensures) (p .2))
+    (search needs, search needs, free-rowed (p .7) (p .0) _ (p .1) (p .6) _ _ _ _ _ _ _ (l .inv .7 (p .7)) _ _ _ _ g (l .inv .0) (rw (w .kept .1 .1 .1 .1 .1 .0) (l .inv .4)) (omega (arith, g .more, c .before .before .if2 .left)) _ _ _ (keep2 .ensures) (minus .ensures) (p .2))
 
 slice-aggregate-trace : tie.Need-slice-aggregate-trace Inv-loop μ-loop
 slice-aggregate-trace c = search needs
 
 trace-requires : tie.Need-trace-requires Inv-loop μ-loop
 trace-requires c κs =
-    let p = c .before .before .before .before .before .before .before .before .before .before .before .before .before .before .before .before .before .before .before .before .before .before .before .before .before .before .before .before .before .before .before .before .before .before .before .pre in
+    let start = c .before .before .before .before .before .before .before .before .before .before .before .before .before .before .before .before .before .before .before .before .before .before .before .before .before .before .before .before .before .before .before .before .before .before .before in
+    let p = start .pre in
     let l = c .before .before .before .before .before .before .before .before .before .before .before .before .before .before .before .loop in
     let w = c .before .before .before .before .before .before .before .before .before .before .before .pass in
     let g = w .ensures _ _ (l .inv .7 (p .7) .queue) in
@@ -129,35 +142,44 @@ cast-t44 c = search needs
 
 add-t46 : tie.Need-add-t46 Inv-loop μ-loop
 add-t46 c =
+    let start = c .before .before .before .before .before .before .before .before .before .before .before .before .before .before .before .before .before .before .before .before .before .before .before .before .before .before .before .before .before .before .before .before .before .before .before .before .before .before in
     let l = c .before .before .before .before .before .before .before .before .before .before .before .before .before .before .before .before .before .before .loop in
-    omega (arith, l .inv .0, l .inv .1, l .inv .2, c .before .before .before .before .before .before .before .before .before .before .before .before .before .before .before .before .before .before .before .before .before .before .before .before .before .before .before .before .before .before .before .before .before .before .before .before .before .before .pre .0)
+    omega (arith, l .inv .0, l .inv .1, l .inv .2, start .pre .0)
 
 same-length-3 : tie.Need-same-length-3 Inv-loop μ-loop
 same-length-3 c =
+    let pass = c .before .before .before .before .before .before .before .before .before .before .before .before .before .before .pass in
     let l = c .before .before .before .before .before .before .before .before .before .before .before .before .before .before .before .before .before .before .loop in
-    c .before .before .trace .kept .1 .1 .1 .0 ∙ c .before .before .before .before .before .before .before .before .before .before .before .before .before .before .pass .kept .1 .1 .1 .1 .1 .0 ∙ rw length-set at (l .inv .3)
+    c .before .before .trace .kept .1 .1 .1 .0 ∙ pass .kept .1 .1 .1 .1 .1 .0 ∙ rw length-set at (l .inv .3)
 
 returns-3 : tie.Need-returns-3 Inv-loop μ-loop
 returns-3 c =
-    let p = c .before .before .before .before .before .before .before .before .before .before .before .before .before .before .before .before .before .before .before .before .before .before .before .before .before .before .before .before .before .before .before .before .before .before .before .before .before .before .pre in
+    let if2 = c .before .before .before .before .before .before .before .before .before .if2 in
+    let minus = c .before .before .before .before .before .before .before .before .before .before .before .before .before .before .before .before .before .before .before .before .minus in
+    let keep2 = c .before .before .before .before .before .before .before .before .before .before .before .before .before .before .before .before .before .before .before .before .before .before .before .keep2 in
+    let start = c .before .before .before .before .before .before .before .before .before .before .before .before .before .before .before .before .before .before .before .before .before .before .before .before .before .before .before .before .before .before .before .before .before .before .before .before .before .before in
+    let p = start .pre in
     let l = c .before .before .before .before .before .before .before .before .before .before .before .before .before .before .before .before .before .before .loop in
     let v = c .before .before .before .before .before .before .before .before .before .before .before .before .before .before .pass in
     λ s q f.
     let g = v .ensures _ _ (l .inv .7 s .queue) in
-    way-found s (p .0) _ (p .1) (p .6) _ _ _ _ _ _ _ (l .inv .7 s) _ _ _ _ g (l .inv .0) (rw (v .kept .1 .1 .1 .1 .1 .0) (l .inv .4)) (omega (arith, g .more, c .before .before .before .before .before .before .before .before .before .if2 .left)) _ _ _ (c .before .before .before .before .before .before .before .before .before .before .before .before .before .before .before .before .before .before .before .before .before .before .before .keep2 .ensures) (c .before .before .before .before .before .before .before .before .before .before .before .before .before .before .before .before .before .before .before .before .minus .ensures) _ (c .before .before .before .before .before .before .common .ensures) (c .before .before .before .before .before .if3 .taken) q f _ _ refl (c .before .before .trace .ensures)
+    way-found s (p .0) _ (p .1) (p .6) _ _ _ _ _ _ _ (l .inv .7 s) _ _ _ _ g (l .inv .0) (rw (v .kept .1 .1 .1 .1 .1 .0) (l .inv .4)) (omega (arith, g .more, if2 .left)) _ _ _ (keep2 .ensures) (minus .ensures) _ (c .before .before .before .before .before .before .common .ensures) (c .before .before .before .before .before .if3 .taken) q f _ _ refl (c .before .before .trace .ensures)
 
 loop-less : tie.Need-loop-less Inv-loop μ-loop
 loop-less c = let l = c .before .before .before .before .before .before .before .before .before .before .before .before .before .loop in omega (arith, l .inv .0, l .inv .1)
 
 loop-again : tie.Need-loop-again Inv-loop μ-loop
 loop-again c =
-    let p = c .before .before .before .before .before .before .before .before .before .before .before .before .before .before .before .before .before .before .before .before .before .before .before .before .before .before .before .before .before .before .before .before .before .pre in
+    let minus = c .before .before .before .before .before .before .before .before .before .before .before .before .before .before .before .minus in
+    let keep2 = c .before .before .before .before .before .before .before .before .before .before .before .before .before .before .before .before .before .before .keep2 in
+    let start = c .before .before .before .before .before .before .before .before .before .before .before .before .before .before .before .before .before .before .before .before .before .before .before .before .before .before .before .before .before .before .before .before .before in
+    let p = start .pre in
     let l = c .before .before .before .before .before .before .before .before .before .before .before .before .before .loop in
     let w = c .before .before .before .before .before .before .before .before .before .pass in
     let g = w .ensures _ _ (l .inv .7 (p .7) .queue) in
     let kept = w .kept .1 .1 .1 .1 .1 .0 in
     let grew = c .before .before .before .before .if2 .left in
-    (omega (arith, g .more, grew), g .most, omega (arith, l .inv .0, l .inv .2), kept ∙ l .inv .3, rw kept (l .inv .4), search needs, search needs, λ s. let h = w .ensures _ _ (l .inv .7 s .queue) in stage-more s (p .0) _ (p .1) (p .6) _ _ _ _ _ _ _ (l .inv .7 s) _ _ _ _ h (l .inv .0) (rw kept (l .inv .4)) (omega (arith, h .more, grew)) _ _ _ (c .before .before .before .before .before .before .before .before .before .before .before .before .before .before .before .before .before .before .keep2 .ensures) (c .before .before .before .before .before .before .before .before .before .before .before .before .before .before .before .minus .ensures) _ (c .before .common .ensures) (c .if3 .left))
+    (omega (arith, g .more, grew), g .most, omega (arith, l .inv .0, l .inv .2), kept ∙ l .inv .3, rw kept (l .inv .4), search needs, search needs, λ s. let h = w .ensures _ _ (l .inv .7 s .queue) in stage-more s (p .0) _ (p .1) (p .6) _ _ _ _ _ _ _ (l .inv .7 s) _ _ _ _ h (l .inv .0) (rw kept (l .inv .4)) (omega (arith, h .more, grew)) _ _ _ (keep2 .ensures) (minus .ensures) _ (c .before .common .ensures) (c .if3 .left))
 
 pub one-by-one-spec : {M : Type 1} → statement M
 one-by-one-spec =

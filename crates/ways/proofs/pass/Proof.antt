@@ -33,10 +33,11 @@ slice-read-meet c =
 
 meet-requires : tie.Need-meet-requires Inv-loop μ-loop
 meet-requires c κs =
-    let p = c .before .before .before .before .before .before .before .before .before .before .pre in
+    let start = c .before .before .before .before .before .before .before .before .before .before in
+    let p = start .pre in
     let l = c .before .before .before .before .before .loop in
     let g = l .inv .4 (p .7 .0) (p .7 .1) (p .7 .2) in
-    let room : c .before .before .before .before .before .before .before .before .before .before .args .n ≤ length (l .met) = omega (arith, l .inv .2, p .5) in
+    let room : start .args .n ≤ length (l .met) = omega (arith, l .inv .2, p .5) in
     (omega (arith, passed-inside g (p .0) room (omega (arith, g .more))), l .inv .1, l .inv .3, omega (arith, room, passed-room g (p .0) room (omega (arith, g .more))))
 
 add-done : tie.Need-add-done Inv-loop μ-loop
@@ -47,7 +48,8 @@ loop-less c = search needs
 
 loop-again : tie.Need-loop-again Inv-loop μ-loop
 loop-again c =
-    let p = c .before .before .before .before .before .before .before .before .before .before .before .before .before .before .before .before .before .pre in
+    let start = c .before .before .before .before .before .before .before .before .before .before .before .before .before .before .before .before .before in
+    let p = start .pre in
     let l = c .before .before .before .before .before .before .before .before .before .before .before .before .loop in (
       omega arith,
       search needs,

@@ -18,7 +18,8 @@ by-queue-requires c κs = search needs
 
 path-by-queue-requires : tie.Need-path-by-queue-requires
 path-by-queue-requires c κs =
-    let p = c .before .before .before .before .before .before .before .before .pre in
+    let start = c .before .before .before .before .before .before .before .before in
+    let p = start .pre in
     let t = and-right _ _ (sym (c .before .before .by-queue .ensures) ∙ c .before .if1 .taken) in
     (p .0, p .1, p .2, p .3, p .4, p .5, not-true _ (and-left _ _ t), not-true _ (and-right _ _ t), p .6)
 

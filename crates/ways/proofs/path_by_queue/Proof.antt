@@ -31,16 +31,20 @@ same-length c = search needs
 
 returns : tie.Need-returns
 returns c =
-    let p = c .before .before .before .before .before .before .before .before .before .before .before .before .before .before .pre in
-    λ s. path-none s (p .0) _ _ (p .1) (p .2) (p .6) (p .7) _ (rw (c .enum-told .given .1) at (c .before .before .before .before .one-by-one .ensures s _ (λ b h. c .before .before .before .before .before .before .before .before .alone .ensures b)))
+    let alone = c .before .before .before .before .before .before .before .before .alone in
+    let start = c .before .before .before .before .before .before .before .before .before .before .before .before .before .before in
+    let p = start .pre in
+    λ s. path-none s (p .0) _ _ (p .1) (p .2) (p .6) (p .7) _ (rw (c .enum-told .given .1) at (c .before .before .before .before .one-by-one .ensures s _ (λ b h. alone .ensures b)))
 
 same-length-2 : tie.Need-same-length-2
 same-length-2 c = search needs
 
 returns-2 : tie.Need-returns-2
 returns-2 c =
-    let p = c .before .before .before .before .before .before .before .before .before .before .before .before .before .before .before .pre in
-    λ s. path-first s (p .0) _ _ (p .1) (p .2) (p .6) (p .7) _ _ _ (rw (c .before .m .given .1) at (c .before .before .before .before .before .one-by-one .ensures s _ (λ b h. c .before .before .before .before .before .before .before .before .before .alone .ensures b)))
+    let alone = c .before .before .before .before .before .before .before .before .before .alone in
+    let start = c .before .before .before .before .before .before .before .before .before .before .before .before .before .before .before in
+    let p = start .pre in
+    λ s. path-first s (p .0) _ _ (p .1) (p .2) (p .6) (p .7) _ _ _ (rw (c .before .m .given .1) at (c .before .before .before .before .before .one-by-one .ensures s _ (λ b h. alone .ensures b)))
 
 pub path-by-queue-spec : {M : Type 1} → statement M
 path-by-queue-spec =

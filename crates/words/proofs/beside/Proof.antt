@@ -32,7 +32,9 @@ loop-less : tie.Need-loop-less Inv-loop μ-loop
 loop-less c = search needs
 
 loop-again : tie.Need-loop-again Inv-loop μ-loop
-loop-again c = let e : (c .before .before .before .before .loop .i + 1) * 64 ≡ c .before .before .before .before .loop .i * 64 + 64 = omega arith in (omega arith, omega arith, rw e (c .before .join-word .ensures))
+loop-again c =
+    let loop = c .before .before .before .before .loop in
+    let e : (loop .i + 1) * 64 ≡ loop .i * 64 + 64 = omega arith in (omega arith, omega arith, rw e (c .before .join-word .ensures))
 
 slice-aggregate-keep : tie.Need-slice-aggregate-keep Inv-loop μ-loop
 slice-aggregate-keep c = search needs
@@ -44,7 +46,9 @@ same-length : tie.Need-same-length Inv-loop μ-loop
 same-length c = search needs
 
 returns : tie.Need-returns Inv-loop μ-loop
-returns c = let e : c .before .before .before .before .before .before .loop .i * 64 ≡ span = omega arith in beside-kept _ _ _ _ _ _ (c .before .before .keep .ensures) (rw e at (c .before .before .before .before .before .before .loop .inv .2))
+returns c =
+    let loop = c .before .before .before .before .before .before .loop in
+    let e : loop .i * 64 ≡ span = omega arith in beside-kept _ _ _ _ _ _ (c .before .before .keep .ensures) (rw e at (loop .inv .2))
 
 pub beside-spec : {M : Type 1} → statement M
 beside-spec =

@@ -31,9 +31,10 @@ lowest-of-requires c κs = search needs
 
 join-row-requires : tie.Need-join-row-requires Inv-loop μ-loop
 join-row-requires c κs =
+    let start = c .before .before .before .before .before .before .before .before in
     let l = c .before .before .before .loop in
     let low = rest-low _ _ _ (l .left) (l .inv .1) (omega arith) in
-    (omega arith, rw (c .lowest-of .ensures) (c .before .before .before .before .before .before .before .before .pre .3 _ (omega arith) (rest-member _ _ _ (l .left) (l .inv .1) (omega arith))))
+    (omega arith, rw (c .lowest-of .ensures) (start .pre .3 _ (omega arith) (rest-member _ _ _ (l .left) (l .inv .1) (omega arith))))
 
 sub-left : tie.Need-sub-left Inv-loop μ-loop
 sub-left c = search needs

@@ -42,7 +42,9 @@ is-in-requires : tie.Need-is-in-requires Inv-loop μ-loop
 is-in-requires c κs = search needs
 
 returns-2 : tie.Need-returns-2 Inv-loop μ-loop
-returns-2 c = let l = c .before .before .before .before .before .before .before .loop in finds-at _ _ (l .c) (l .inv .2 ∙ bad-here _ _ _ (l .c) (omega arith) (used-bad _ _ (l .c) _ _ (c .before .before .before .before .before .before .before .before .before .pre) (c .before .before .before .before .wide .ensures) (l .inv .3) _ (omega arith) (c .before .is-in .ensures) ∙ c .if2 .taken)) (omega arith)
+returns-2 c =
+    let start = c .before .before .before .before .before .before .before .before .before in
+    let l = c .before .before .before .before .before .before .before .loop in finds-at _ _ (l .c) (l .inv .2 ∙ bad-here _ _ _ (l .c) (omega arith) (used-bad _ _ (l .c) _ _ (start .pre) (c .before .before .before .before .wide .ensures) (l .inv .3) _ (omega arith) (c .before .is-in .ensures) ∙ c .if2 .taken)) (omega arith)
 
 slice-aggregate-add : tie.Need-slice-aggregate-add Inv-loop μ-loop
 slice-aggregate-add c = search needs
@@ -58,11 +60,13 @@ loop-less c = search needs
 
 loop-again : tie.Need-loop-again Inv-loop μ-loop
 loop-again c =
+    let wide = c .before .before .before .before .before .before .before .wide in
+    let start = c .before .before .before .before .before .before .before .before .before .before .before .before in
     let l = c .before .before .before .before .before .before .before .before .before .before .loop in (
       omega arith,
       omega arith,
-      l .inv .2 ∙ bad-later _ _ _ (l .c) (omega arith) (used-bad _ _ (l .c) _ _ (c .before .before .before .before .before .before .before .before .before .before .before .before .pre) (c .before .before .before .before .before .before .before .wide .ensures) (l .inv .3) _ (omega arith) (c .before .before .before .before .is-in .ensures) ∙ c .before .before .before .if2 .left),
-      used-more _ (l .c) _ _ (omega arith) (l .inv .3) (λ x. c .before .add .ensures x ∙ rw (c .before .before .before .before .before .before .before .wide .ensures)),
+      l .inv .2 ∙ bad-later _ _ _ (l .c) (omega arith) (used-bad _ _ (l .c) _ _ (start .pre) (wide .ensures) (l .inv .3) _ (omega arith) (c .before .before .before .before .is-in .ensures) ∙ c .before .before .before .if2 .left),
+      used-more _ (l .c) _ _ (omega arith) (l .inv .3) (λ x. c .before .add .ensures x ∙ rw (wide .ensures)),
     )
 
 returns-3 : tie.Need-returns-3 Inv-loop μ-loop

@@ -54,11 +54,14 @@ is-bad-requires c κs = search needs
 
 returns : tie.Need-returns Inv-loop μ-loop
 returns c =
+    let start = c .before .before .before .before .before .before .before .before .before .before in
     let l = c .before .before .before .before .before .before .before .before .loop in
-    lays-bad _ _ _ (l .i) (l .inv .2 ∙ bad-here _ _ _ (l .i) (omega (arith, rails-length (c .before .before .before .before .before .before .before .before .before .before .args .rails .now))) (rail-tested _ _ (l .i) _ _ _ (c .before .before .before .before .before .before .before .before .before .before .pre .0) (omega arith) (c .before .before .before .before .before .wide .ensures) (c .before .before .before .wide2 .ensures) (l .inv .3) _ (c .before .is-bad .ensures) ∙ c .if1 .taken))
+    lays-bad _ _ _ (l .i) (l .inv .2 ∙ bad-here _ _ _ (l .i) (omega (arith, rails-length (start .args .rails .now))) (rail-tested _ _ (l .i) _ _ _ (start .pre .0) (omega arith) (c .before .before .before .before .before .wide .ensures) (c .before .before .before .wide2 .ensures) (l .inv .3) _ (c .before .is-bad .ensures) ∙ c .if1 .taken))
 
 lay-requires : tie.Need-lay-requires Inv-loop μ-loop
-lay-requires c κs = let l = c .before .before .before .before .before .before .before .before .before .loop in let p = rail-inside _ _ (l .i) _ _ _ (c .before .before .before .before .before .before .before .before .before .before .before .pre .0) (omega arith) (c .before .before .before .before .before .before .wide .ensures) (c .before .before .before .before .wide2 .ensures) (l .inv .3) _ (c .before .before .is-bad .ensures) (c .before .if1 .left) in (omega arith, omega arith)
+lay-requires c κs =
+    let start = c .before .before .before .before .before .before .before .before .before .before .before in
+    let l = c .before .before .before .before .before .before .before .before .before .loop in let p = rail-inside _ _ (l .i) _ _ _ (start .pre .0) (omega arith) (c .before .before .before .before .before .before .wide .ensures) (c .before .before .before .before .wide2 .ensures) (l .inv .3) _ (c .before .before .is-bad .ensures) (c .before .if1 .left) in (omega arith, omega arith)
 
 add-i : tie.Need-add-i Inv-loop μ-loop
 add-i c = search needs
@@ -68,12 +71,16 @@ loop-less c = search needs
 
 loop-again : tie.Need-loop-again Inv-loop μ-loop
 loop-again c =
+    let is-bad = c .before .before .before .is-bad in
+    let wide2 = c .before .before .before .before .before .wide2 in
+    let wide = c .before .before .before .before .before .before .before .wide in
+    let start = c .before .before .before .before .before .before .before .before .before .before .before .before in
     let l = c .before .before .before .before .before .before .before .before .before .before .loop in
-    let p = rail-inside _ _ (l .i) _ _ _ (c .before .before .before .before .before .before .before .before .before .before .before .before .pre .0) (omega arith) (c .before .before .before .before .before .before .before .wide .ensures) (c .before .before .before .before .before .wide2 .ensures) (l .inv .3) _ (c .before .before .before .is-bad .ensures) (c .before .before .if1 .left) in (
+    let p = rail-inside _ _ (l .i) _ _ _ (start .pre .0) (omega arith) (wide .ensures) (wide2 .ensures) (l .inv .3) _ (is-bad .ensures) (c .before .before .if1 .left) in (
       omega arith,
       l .inv .1,
-      l .inv .2 ∙ bad-later _ _ _ (l .i) (omega (arith, rails-length (c .before .before .before .before .before .before .before .before .before .before .before .before .args .rails .now))) (rail-tested _ _ (l .i) _ _ _ (c .before .before .before .before .before .before .before .before .before .before .before .before .pre .0) (omega arith) (c .before .before .before .before .before .before .before .wide .ensures) (c .before .before .before .before .before .wide2 .ensures) (l .inv .3) _ (c .before .before .before .is-bad .ensures) ∙ c .before .before .if1 .left),
-      rail-laid _ _ (l .i) _ _ _ (c .before .before .before .before .before .before .before .before .before .before .before .before .pre .0) (omega arith) (c .before .before .before .before .before .before .before .wide .ensures) (c .before .before .before .before .before .wide2 .ensures) (l .inv .3) _ (p .0) (p .1) (c .lay .ensures),
+      l .inv .2 ∙ bad-later _ _ _ (l .i) (omega (arith, rails-length (start .args .rails .now))) (rail-tested _ _ (l .i) _ _ _ (start .pre .0) (omega arith) (wide .ensures) (wide2 .ensures) (l .inv .3) _ (is-bad .ensures) ∙ c .before .before .if1 .left),
+      rail-laid _ _ (l .i) _ _ _ (start .pre .0) (omega arith) (wide .ensures) (wide2 .ensures) (l .inv .3) _ (p .0) (p .1) (c .lay .ensures),
     )
 
 returns-2 : tie.Need-returns-2 Inv-loop μ-loop

@@ -40,7 +40,9 @@ enum-known-apart c = search needs
 
 cast-t21 : tie.Need-cast-t21
 cast-t21 c =
-    let p1 = past-1 _ _ _ (c .before .before .before .before .before .before .before .before .before .before .bad-size .ensures) (c .before .before .before .before .before .before .before .before .before .if1 .left) in
+    let if1 = c .before .before .before .before .before .before .before .before .before .if1 in
+    let bad-size = c .before .before .before .before .before .before .before .before .before .before .bad-size in
+    let p1 = past-1 _ _ _ (bad-size .ensures) (if1 .left) in
     let laid = c .before .before .before .before .before .before .before .bad-rail .ensures in
     let all = c .before .before .before .before .before .enum-told .given .1 in
     let p2 = past-2 _ _ p1 _ _ laid all in
@@ -49,7 +51,9 @@ cast-t21 c =
 
 returns-3 : tie.Need-returns-3
 returns-3 c =
-    let p1 = past-1 _ _ _ (c .before .before .before .before .before .before .before .before .before .before .bad-size .ensures) (c .before .before .before .before .before .before .before .before .before .if1 .left) in
+    let if1 = c .before .before .before .before .before .before .before .before .before .if1 in
+    let bad-size = c .before .before .before .before .before .before .before .before .before .before .bad-size in
+    let p1 = past-1 _ _ _ (bad-size .ensures) (if1 .left) in
     let laid = c .before .before .before .before .before .before .before .bad-rail .ensures in
     let all = c .before .before .before .before .before .enum-told .given .1 in
     let p2 = past-2 _ _ p1 _ _ laid all in
@@ -61,12 +65,16 @@ enum-told-2 c = search needs
 
 sub-if2 : tie.Need-sub-if2
 sub-if2 c =
-    let p1 = past-1 _ _ _ (c .before .before .before .before .before .before .before .before .before .bad-size .ensures) (c .before .before .before .before .before .before .before .before .if1 .left) in
+    let if1 = c .before .before .before .before .before .before .before .before .if1 in
+    let bad-size = c .before .before .before .before .before .before .before .before .before .bad-size in
+    let p1 = past-1 _ _ _ (bad-size .ensures) (if1 .left) in
     let z = fitting _ _ p1 in omega arith
 
 returns-4 : tie.Need-returns-4
 returns-4 c =
-    let p1 = past-1 _ _ _ (c .before .before .before .before .before .before .before .before .before .before .bad-size .ensures) (c .before .before .before .before .before .before .before .before .before .if1 .left) in
+    let if1 = c .before .before .before .before .before .before .before .before .before .if1 in
+    let bad-size = c .before .before .before .before .before .before .before .before .before .before .bad-size in
+    let p1 = past-1 _ _ _ (bad-size .ensures) (if1 .left) in
     let laid = c .before .before .before .before .before .before .before .bad-rail .ensures in
     let all = c .before .before .before .before .before .enum-told .given .1 in
     let p2 = past-2 _ _ p1 _ _ laid all in
@@ -76,7 +84,9 @@ returns-4 c =
 
 bad-place-requires : tie.Need-bad-place-requires
 bad-place-requires c κs =
-    let p1 = past-1 _ _ _ (c .before .before .before .before .before .before .before .before .before .before .bad-size .ensures) (c .before .before .before .before .before .before .before .before .before .if1 .left) in
+    let if1 = c .before .before .before .before .before .before .before .before .before .if1 in
+    let bad-size = c .before .before .before .before .before .before .before .before .before .before .bad-size in
+    let p1 = past-1 _ _ _ (bad-size .ensures) (if1 .left) in
     fitting _ _ p1 .few-bays
 
 enum-known-from : tie.Need-enum-known-from
@@ -84,9 +94,13 @@ enum-known-from c = search needs
 
 cast-t28 : tie.Need-cast-t28
 cast-t28 c =
-    let p1 = past-1 _ _ _ (c .before .before .before .before .before .before .before .before .before .before .before .before .before .before .bad-size .ensures) (c .before .before .before .before .before .before .before .before .before .before .before .before .before .if1 .left) in
-    let laid = c .before .before .before .before .before .before .before .before .before .before .before .bad-rail .ensures in
-    let all = c .before .before .before .before .before .before .before .before .before .enum-told .given .1 in
+    let enum-told = c .before .before .before .before .before .before .before .before .before .enum-told in
+    let bad-rail = c .before .before .before .before .before .before .before .before .before .before .before .bad-rail in
+    let if1 = c .before .before .before .before .before .before .before .before .before .before .before .before .before .if1 in
+    let bad-size = c .before .before .before .before .before .before .before .before .before .before .before .before .before .before .bad-size in
+    let p1 = past-1 _ _ _ (bad-size .ensures) (if1 .left) in
+    let laid = bad-rail .ensures in
+    let all = enum-told .given .1 in
     let p2 = past-2 _ _ p1 _ _ laid all in
     let apart = c .before .before .before .before .before .before .before .lowest-apart .ensures _ (table-of _ _ _ (laid .laid all)) in
     let p3 = past-3 _ _ p2 _ apart (c .before .before .before .before .before .enum-told2 .given .1) in
@@ -96,9 +110,13 @@ cast-t28 c =
 
 returns-5 : tie.Need-returns-5
 returns-5 c =
-    let p1 = past-1 _ _ _ (c .before .before .before .before .before .before .before .before .before .before .before .before .before .before .bad-size .ensures) (c .before .before .before .before .before .before .before .before .before .before .before .before .before .if1 .left) in
-    let laid = c .before .before .before .before .before .before .before .before .before .before .before .bad-rail .ensures in
-    let all = c .before .before .before .before .before .before .before .before .before .enum-told .given .1 in
+    let enum-told = c .before .before .before .before .before .before .before .before .before .enum-told in
+    let bad-rail = c .before .before .before .before .before .before .before .before .before .before .before .bad-rail in
+    let if1 = c .before .before .before .before .before .before .before .before .before .before .before .before .before .if1 in
+    let bad-size = c .before .before .before .before .before .before .before .before .before .before .before .before .before .before .bad-size in
+    let p1 = past-1 _ _ _ (bad-size .ensures) (if1 .left) in
+    let laid = bad-rail .ensures in
+    let all = enum-told .given .1 in
     let p2 = past-2 _ _ p1 _ _ laid all in
     let apart = c .before .before .before .before .before .before .before .lowest-apart .ensures _ (table-of _ _ _ (laid .laid all)) in
     let p3 = past-3 _ _ p2 _ apart (c .before .before .before .before .before .enum-told2 .given .1) in
@@ -111,7 +129,9 @@ enum-told-3 c = search needs
 
 bad-place-requires-2 : tie.Need-bad-place-requires-2
 bad-place-requires-2 c κs =
-    let p1 = past-1 _ _ _ (c .before .before .before .before .before .before .before .before .before .before .before .before .before .bad-size .ensures) (c .before .before .before .before .before .before .before .before .before .before .before .before .if1 .left) in
+    let if1 = c .before .before .before .before .before .before .before .before .before .before .before .before .if1 in
+    let bad-size = c .before .before .before .before .before .before .before .before .before .before .before .before .before .bad-size in
+    let p1 = past-1 _ _ _ (bad-size .ensures) (if1 .left) in
     fitting _ _ p1 .few-bays
 
 enum-known-to : tie.Need-enum-known-to
@@ -119,12 +139,18 @@ enum-known-to c = search needs
 
 cast-t31 : tie.Need-cast-t31
 cast-t31 c =
-    let p1 = past-1 _ _ _ (c .before .before .before .before .before .before .before .before .before .before .before .before .before .before .before .before .before .bad-size .ensures) (c .before .before .before .before .before .before .before .before .before .before .before .before .before .before .before .before .if1 .left) in
-    let laid = c .before .before .before .before .before .before .before .before .before .before .before .before .before .before .bad-rail .ensures in
-    let all = c .before .before .before .before .before .before .before .before .before .before .before .before .enum-told .given .1 in
+    let enum-told2 = c .before .before .before .before .before .before .before .before .enum-told2 in
+    let lowest-apart = c .before .before .before .before .before .before .before .before .before .before .lowest-apart in
+    let enum-told = c .before .before .before .before .before .before .before .before .before .before .before .before .enum-told in
+    let bad-rail = c .before .before .before .before .before .before .before .before .before .before .before .before .before .before .bad-rail in
+    let if1 = c .before .before .before .before .before .before .before .before .before .before .before .before .before .before .before .before .if1 in
+    let bad-size = c .before .before .before .before .before .before .before .before .before .before .before .before .before .before .before .before .before .bad-size in
+    let p1 = past-1 _ _ _ (bad-size .ensures) (if1 .left) in
+    let laid = bad-rail .ensures in
+    let all = enum-told .given .1 in
     let p2 = past-2 _ _ p1 _ _ laid all in
-    let apart = c .before .before .before .before .before .before .before .before .before .before .lowest-apart .ensures _ (table-of _ _ _ (laid .laid all)) in
-    let p3 = past-3 _ _ p2 _ apart (c .before .before .before .before .before .before .before .before .enum-told2 .given .1) in
+    let apart = lowest-apart .ensures _ (table-of _ _ _ (laid .laid all)) in
+    let p3 = past-3 _ _ p2 _ apart (enum-told2 .given .1) in
     let p4 = past-4 _ _ p3 (c .before .before .before .before .before .before .before .if2 .left) in
     let starts = c .before .before .before .before .before .before .bad-place .ensures in
     let p5 = past-5 _ _ p4 _ starts (c .before .before .before .before .enum-told3 .given .1) in
@@ -133,12 +159,18 @@ cast-t31 c =
 
 returns-6 : tie.Need-returns-6
 returns-6 c =
-    let p1 = past-1 _ _ _ (c .before .before .before .before .before .before .before .before .before .before .before .before .before .before .before .before .before .bad-size .ensures) (c .before .before .before .before .before .before .before .before .before .before .before .before .before .before .before .before .if1 .left) in
-    let laid = c .before .before .before .before .before .before .before .before .before .before .before .before .before .before .bad-rail .ensures in
-    let all = c .before .before .before .before .before .before .before .before .before .before .before .before .enum-told .given .1 in
+    let enum-told2 = c .before .before .before .before .before .before .before .before .enum-told2 in
+    let lowest-apart = c .before .before .before .before .before .before .before .before .before .before .lowest-apart in
+    let enum-told = c .before .before .before .before .before .before .before .before .before .before .before .before .enum-told in
+    let bad-rail = c .before .before .before .before .before .before .before .before .before .before .before .before .before .before .bad-rail in
+    let if1 = c .before .before .before .before .before .before .before .before .before .before .before .before .before .before .before .before .if1 in
+    let bad-size = c .before .before .before .before .before .before .before .before .before .before .before .before .before .before .before .before .before .bad-size in
+    let p1 = past-1 _ _ _ (bad-size .ensures) (if1 .left) in
+    let laid = bad-rail .ensures in
+    let all = enum-told .given .1 in
     let p2 = past-2 _ _ p1 _ _ laid all in
-    let apart = c .before .before .before .before .before .before .before .before .before .before .lowest-apart .ensures _ (table-of _ _ _ (laid .laid all)) in
-    let p3 = past-3 _ _ p2 _ apart (c .before .before .before .before .before .before .before .before .enum-told2 .given .1) in
+    let apart = lowest-apart .ensures _ (table-of _ _ _ (laid .laid all)) in
+    let p3 = past-3 _ _ p2 _ apart (enum-told2 .given .1) in
     let p4 = past-4 _ _ p3 (c .before .before .before .before .before .before .before .if2 .left) in
     let starts = c .before .before .before .before .before .before .bad-place .ensures in
     let p5 = past-5 _ _ p4 _ starts (c .before .before .before .before .enum-told3 .given .1) in
@@ -150,11 +182,16 @@ enum-told-4 c = search needs
 
 returns-7 : tie.Need-returns-7
 returns-7 c =
-    let p1 = past-1 _ _ _ (c .before .before .before .before .before .before .before .before .before .before .before .before .before .before .before .before .bad-size .ensures) (c .before .before .before .before .before .before .before .before .before .before .before .before .before .before .before .if1 .left) in
-    let laid = c .before .before .before .before .before .before .before .before .before .before .before .before .before .bad-rail .ensures in
-    let all = c .before .before .before .before .before .before .before .before .before .before .before .enum-told .given .1 in
+    let lowest-apart = c .before .before .before .before .before .before .before .before .before .lowest-apart in
+    let enum-told = c .before .before .before .before .before .before .before .before .before .before .before .enum-told in
+    let bad-rail = c .before .before .before .before .before .before .before .before .before .before .before .before .before .bad-rail in
+    let if1 = c .before .before .before .before .before .before .before .before .before .before .before .before .before .before .before .if1 in
+    let bad-size = c .before .before .before .before .before .before .before .before .before .before .before .before .before .before .before .before .bad-size in
+    let p1 = past-1 _ _ _ (bad-size .ensures) (if1 .left) in
+    let laid = bad-rail .ensures in
+    let all = enum-told .given .1 in
     let p2 = past-2 _ _ p1 _ _ laid all in
-    let apart = c .before .before .before .before .before .before .before .before .before .lowest-apart .ensures _ (table-of _ _ _ (laid .laid all)) in
+    let apart = lowest-apart .ensures _ (table-of _ _ _ (laid .laid all)) in
     let p3 = past-3 _ _ p2 _ apart (c .before .before .before .before .before .before .before .enum-told2 .given .1) in
     let p4 = past-4 _ _ p3 (c .before .before .before .before .before .before .if2 .left) in
     let starts = c .before .before .before .before .before .bad-place .ensures in

@@ -31,7 +31,10 @@ add-requires-2 : tie.Need-add-requires-2 Inv-loop μ-loop
 add-requires-2 c κs = search needs
 
 loop-holds : tie.Need-loop-holds Inv-loop μ-loop
-loop-holds c = (omega arith, refl, omega arith, λ Y t. seeing-first Y _ _ (c .before .before .before .before .before .before .before .before .before .before .before .before .pre .0) (c .before .before .before .before .before .before .before .before .before .before .before .before .pre .1) t _ _ _ _ (c .before .before .before .before .before .before .before .before .before .clear .ensures) (c .before .before .before .before .before .add .ensures) (mem-zeros words) (c .before .add2 .ensures))
+loop-holds c =
+    let clear = c .before .before .before .before .before .before .before .before .before .clear in
+    let start = c .before .before .before .before .before .before .before .before .before .before .before .before in
+    (omega arith, refl, omega arith, λ Y t. seeing-first Y _ _ (start .pre .0) (start .pre .1) t _ _ _ _ (clear .ensures) (c .before .before .before .before .before .add .ensures) (mem-zeros words) (c .before .add2 .ensures))
 
 slice-aggregate-next-from : tie.Need-slice-aggregate-next-from Inv-loop μ-loop
 slice-aggregate-next-from c = search needs
@@ -43,7 +46,10 @@ same-length : tie.Need-same-length Inv-loop μ-loop
 same-length c = search needs
 
 returns : tie.Need-returns Inv-loop μ-loop
-returns c = record { same = λ Y t. seen-dry Y _ _ (c .before .before .before .before .before .before .before .before .before .before .before .before .before .before .before .before .before .pre .0) (c .before .before .before .before .before .before .before .before .before .before .before .before .before .before .before .before .before .pre .1) t (c .before .before .before .before .loop .d) _ _ (c .before .before .before .before .loop .inv .3 Y t) _ (c .before .next-from .ensures) (c .if1 .taken) }
+returns c =
+    let loop = c .before .before .before .before .loop in
+    let start = c .before .before .before .before .before .before .before .before .before .before .before .before .before .before .before .before .before in
+    record { same = λ Y t. seen-dry Y _ _ (start .pre .0) (start .pre .1) t (loop .d) _ _ (loop .inv .3 Y t) _ (c .before .next-from .ensures) (c .if1 .taken) }
 
 slice-aggregate-beside : tie.Need-slice-aggregate-beside Inv-loop μ-loop
 slice-aggregate-beside c = search needs
@@ -71,14 +77,18 @@ loop-less c = search needs
 
 loop-again : tie.Need-loop-again Inv-loop μ-loop
 loop-again c =
+    let beside = c .before .before .before .before .before .before .before .before .beside in
+    let start = c .before .before .before .before .before .before .before .before .before .before .before .before .before .before .before .before .before .before .before .before .before .before .before .before .before .before .before .before .before in
     let l = c .before .before .before .before .before .before .before .before .before .before .before .before .before .before .before .before .loop in
-    (omega arith, omega arith, omega arith, λ Y t. seeing-more Y _ _ (c .before .before .before .before .before .before .before .before .before .before .before .before .before .before .before .before .before .before .before .before .before .before .before .before .before .before .before .before .before .pre .0) (c .before .before .before .before .before .before .before .before .before .before .before .before .before .before .before .before .before .before .before .before .before .before .before .before .before .before .before .before .before .pre .1) t (l .d) _ _ _ _ _ (l .inv .3 Y t) (c .before .before .before .before .before .before .before .before .beside .ensures) (c .before .before .before .settle .ensures))
+    (omega arith, omega arith, omega arith, λ Y t. seeing-more Y _ _ (start .pre .0) (start .pre .1) t (l .d) _ _ _ _ _ (l .inv .3 Y t) (beside .ensures) (c .before .before .before .settle .ensures))
 
 same-length-2 : tie.Need-same-length-2 Inv-loop μ-loop
 same-length-2 c = search needs
 
 returns-2 : tie.Need-returns-2 Inv-loop μ-loop
-returns-2 c = record { same = λ Y t. seen-all Y _ _ (c .before .before .before .before .before .before .before .before .before .before .before .before .before .before .pre .0) (c .before .before .before .before .before .before .before .before .before .before .before .before .before .before .pre .1) t (c .before .loop .d) _ _ (c .before .loop .inv .3 Y t) (omega arith) }
+returns-2 c =
+    let start = c .before .before .before .before .before .before .before .before .before .before .before .before .before .before in
+    record { same = λ Y t. seen-all Y _ _ (start .pre .0) (start .pre .1) t (c .before .loop .d) _ _ (c .before .loop .inv .3 Y t) (omega arith) }
 
 pub reach-spec : {M : Type 1} → statement M
 reach-spec =

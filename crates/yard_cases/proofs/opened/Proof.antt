@@ -33,7 +33,9 @@ array-share-prefix-rails : tie.Need-array-share-prefix-rails
 array-share-prefix-rails c = search needs
 
 slice-aggregate-open : tie.Need-slice-aggregate-open
-slice-aggregate-open c = sym (length-take-le _ _ (c .before .before .before .before .before .before .before .before .list16 .ensures))
+slice-aggregate-open c =
+    let list16 = c .before .before .before .before .before .before .before .before .list16 in
+    sym (length-take-le _ _ (list16 .ensures))
 
 array-share-prefix-start : tie.Need-array-share-prefix-start
 array-share-prefix-start c = search needs

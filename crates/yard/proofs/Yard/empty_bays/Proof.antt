@@ -24,10 +24,14 @@ count-requires : tie.Need-count-requires
 count-requires c κs = search needs
 
 sub-result : tie.Need-sub-result
-sub-result c = let o = c .before .before .before .occupied .ensures in omega (arith, c .count .ensures, occupied-ones (c .before .before .before .before .before .before .before .args .self .bays) (c .before .before .before .before .before .before .before .args .place .now) _ (omega arith) (omega arith) o, occupied-few (c .before .before .before .before .before .before .before .args .self .bays) (c .before .before .before .before .before .before .before .args .place .now) _ (omega arith) (omega arith) o)
+sub-result c =
+    let start = c .before .before .before .before .before .before .before in
+    let o = c .before .before .before .occupied .ensures in omega (arith, c .count .ensures, occupied-ones (start .args .self .bays) (start .args .place .now) _ (omega arith) (omega arith) o, occupied-few (start .args .self .bays) (start .args .place .now) _ (omega arith) (omega arith) o)
 
 returns-2 : tie.Need-returns-2
-returns-2 c = let o = c .before .before .before .occupied .ensures in record { within = λ h. ap (λ k. c .before .before .before .before .before .before .before .args .self .bays - k) (c .count .ensures ∙ occupied-ones (c .before .before .before .before .before .before .before .args .self .bays) (c .before .before .before .before .before .before .before .args .place .now) _ (omega arith) (omega arith) o); beyond = λ h. absurd (omega arith) }
+returns-2 c =
+    let start = c .before .before .before .before .before .before .before in
+    let o = c .before .before .before .occupied .ensures in record { within = λ h. ap (λ k. start .args .self .bays - k) (c .count .ensures ∙ occupied-ones (start .args .self .bays) (start .args .place .now) _ (omega arith) (omega arith) o); beyond = λ h. absurd (omega arith) }
 
 pub empty-bays-spec : {M : Type 1} → statement M
 empty-bays-spec =
