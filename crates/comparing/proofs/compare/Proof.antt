@@ -7,13 +7,6 @@ use Rattle.comparing.proofs.Handing.{begins}
 use borrow.Author.Needs.{needs}
 use Rattle.comparing.proofs.compare.Statement.{statement}
 use Rattle.comparing.proofs.compare.Tie as tie
-use Rattle.comparing.proofs.compare.Reads as reads
-use Rattle.comparing.proofs.compare.Lts as lts
-use Rattle.comparing.proofs.differ.Reads as differ-reads
-use Rattle.comparing.proofs.longer_of.Reads as longer-of-reads
-use Rattle.comparing.proofs.number_of.Reads as number-of-reads
-use Rattle.comparing.proofs.rest.Reads as rest-reads
-use Rattle.comparing.proofs.value_of.Reads as value-of-reads
 
 -- src/lib.rt:178:9
 differ-requires : tie.Need-differ-requires

@@ -10,9 +10,6 @@ use Rattle.comparing.proofs.Counting.{Counting, counting-start, countin
 use borrow.Author.Needs.{needs}
 use Rattle.comparing.proofs.count.Statement.{statement}
 use Rattle.comparing.proofs.count.Tie as tie
-use Rattle.comparing.proofs.count.Reads as reads
-use Rattle.comparing.proofs.count.Lts as lts
-use Rattle.docket.proofs.unpack.Reads as unpack-reads
 
 abbrev Inv-loop : tie.InvT-loop
 Inv-loop list counts₀ i₀ counts i = Counting list counts i

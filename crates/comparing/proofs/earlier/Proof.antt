@@ -6,8 +6,6 @@ use Rattle.comparing.specs.Statements.{countedOf}
 use borrow.Author.Needs.{needs}
 use Rattle.comparing.proofs.earlier.Statement.{statement}
 use Rattle.comparing.proofs.earlier.Tie as tie
-use Rattle.comparing.proofs.earlier.Reads as reads
-use Rattle.comparing.proofs.earlier.Lts as lts
 
 -- src/lib.rt:54:24
 enum-known-one : tie.Need-enum-known-one

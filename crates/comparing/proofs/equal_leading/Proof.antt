@@ -8,9 +8,6 @@ use Rattle.comparing.proofs.Filling.{Passing, passing-start, passing-st
 use borrow.Author.Needs.{needs}
 use Rattle.comparing.proofs.equal_leading.Statement.{statement}
 use Rattle.comparing.proofs.equal_leading.Tie as tie
-use Rattle.comparing.proofs.equal_leading.Reads as reads
-use Rattle.comparing.proofs.equal_leading.Lts as lts
-use Rattle.comparing.proofs.lower.Reads as lower-reads
 
 abbrev Inv-loop : tie.InvT-loop
 Inv-loop first second both equal₀ equal = Passing first second equal

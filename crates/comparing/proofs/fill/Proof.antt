@@ -10,9 +10,6 @@ use borrow.Author.Needs.{needs}
 use Rattle.paper.specs.Limits.{most-carriers}
 use Rattle.comparing.proofs.fill.Statement.{statement}
 use Rattle.comparing.proofs.fill.Tie as tie
-use Rattle.comparing.proofs.fill.Reads as reads
-use Rattle.comparing.proofs.fill.Lts as lts
-use Rattle.comparing.proofs.less.Reads as less-reads
 
 abbrev Inv-loop : tie.InvT-loop
 Inv-loop firsts seconds differences₀ c₀ differences c = Filling seconds firsts differences c

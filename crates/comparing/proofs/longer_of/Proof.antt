@@ -1,13 +1,10 @@
 -- `comparing::longer_of` meets its contract: by the lengths, where the comparison is granted.
 -- Assumes nothing.
 use denote.Ref.{now}
-use native.Mathlib.Omega.{arith}
 use Rattle.comparing.proofs.Handing.{tells-second, tells-first}
 use borrow.Author.Needs.{needs}
 use Rattle.comparing.proofs.longer_of.Statement.{statement}
 use Rattle.comparing.proofs.longer_of.Tie as tie
-use Rattle.comparing.proofs.longer_of.Reads as reads
-use Rattle.comparing.proofs.longer_of.Lts as lts
 
 -- src/lib.rt:141:16
 enum-told : tie.Need-enum-told

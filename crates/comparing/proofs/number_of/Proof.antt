@@ -6,9 +6,6 @@ use Rattle.comparing.specs.Comparing.{numberBy}
 use borrow.Author.Needs.{needs}
 use Rattle.comparing.proofs.number_of.Statement.{statement}
 use Rattle.comparing.proofs.number_of.Tie as tie
-use Rattle.comparing.proofs.number_of.Reads as reads
-use Rattle.comparing.proofs.number_of.Lts as lts
-use Rattle.docket.proofs.number.Reads as number-reads
 
 -- src/lib.rt:125:32
 enum-told : tie.Need-enum-told

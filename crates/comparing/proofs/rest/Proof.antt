@@ -6,8 +6,6 @@ use Rattle.comparing.proofs.Handing.{begins-within, hands-second, hands
 use borrow.Author.Needs.{needs}
 use Rattle.comparing.proofs.rest.Statement.{statement}
 use Rattle.comparing.proofs.rest.Tie as tie
-use Rattle.comparing.proofs.rest.Reads as reads
-use Rattle.comparing.proofs.rest.Lts as lts
 
 -- src/lib.rt:156:26
 enum-known-answer : tie.Need-enum-known-answer

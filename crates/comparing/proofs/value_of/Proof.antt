@@ -6,9 +6,6 @@ use Rattle.comparing.specs.Comparing.{valueBy}
 use borrow.Author.Needs.{needs}
 use Rattle.comparing.proofs.value_of.Statement.{statement}
 use Rattle.comparing.proofs.value_of.Tie as tie
-use Rattle.comparing.proofs.value_of.Reads as reads
-use Rattle.comparing.proofs.value_of.Lts as lts
-use Rattle.docket.proofs.carried.Reads as carried-reads
 
 -- src/lib.rt:134:26
 enum-known-answer : tie.Need-enum-known-answer
