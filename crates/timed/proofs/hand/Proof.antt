@@ -1,6 +1,5 @@
 -- `timed::hand` meets its contract: what is counted without room is what is written with it.
 -- Assumes nothing.
-use denote.Ref.{now}
 use Rattle.timed.proofs.Printing.{hands-room, hands-whole}
 use borrow.Author.Needs.{needs}
 use Rattle.timed.proofs.hand.Statement.{statement}

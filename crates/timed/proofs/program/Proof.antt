@@ -1,9 +1,9 @@
 -- `timed::program` meets its contract: 20 before any file is looked at, then what the files ask for.
 -- Assumes nothing.
 use mathlib.Core.Path.{sym, _∙_}
-use native.Mathlib.Omega.{arith}
 use borrow.Author.Tests.{not-true, not-false}
-use Rattle.timed.proofs.Readying.{refused-ready, edition-says, known-says}
+use Rattle.program.proofs.Readying.{refused-ready}
+use Rattle.timed.proofs.Printing.{edition-says, known-says}
 use borrow.Author.Needs.{needs}
 use Rattle.timed.proofs.program.Statement.{statement}
 use Rattle.timed.proofs.program.Tie as tie

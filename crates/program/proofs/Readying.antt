@@ -2,16 +2,15 @@
 use mathlib.Core.Path.{_≡_, refl, sym, _∙_, ap}
 use mathlib.Core.List.{List, map}
 use mathlib.Core.Bool.{Bool, true, false}
-use mathlib.Core.Option.{Option, none}
-use Prim.Native.Nat.{ℕ, _<_, _≤_}
+use Prim.Native.Nat.{ℕ, _≤_}
 use native.Mathlib.Omega.{arith}
 use lib.ListN.{length, take, getD, length-map}
 use Rattle.paper.specs.Limits.{most-bays}
-use Rattle.paper.specs.Yard.{Crossing, pack, unpack, crossings, named}
+use Rattle.paper.specs.Yard.{pack, unpack, crossings, named}
 use Rattle.paper.specs.Order.{Order}
-use Rattle.paper.specs.Answers.{Answer, accepted, refused, plan, check}
+use Rattle.paper.specs.Answers.{refused, plan}
 use Rattle.paper.specs.OnePass.{Fits}
-use Rattle.paper.specs.Program.{programAnswer, program-room}
+use Rattle.paper.specs.Program.{program-room}
 use Rattle.paper.proofs.Tests.{never}
 use Rattle.paper.proofs.Packing.{named-is}
 use Rattle.paper.proofs.Handing.{handed-passes, check-fits}
@@ -19,18 +18,12 @@ use Rattle.docket.specs.declared.Refusal.{Refusal}
 use Rattle.docket.specs.Reading.{refusalOf}
 use Rattle.planner.specs.declared.Planned.{Planned}
 use Rattle.planner.specs.declared.Planned.the-variants.{Accepted, Refused}
-use Rattle.planner.specs.Statement.{long, told, plannedOf}
-use Rattle.program.specs.Printout.{Within, Handed}
-use Rattle.program.specs.Short.{shortAnswer, PlannedIn, ShortIn}
-use Rattle.program.proofs.Telling.{by-answer}
+use Rattle.planner.specs.Statement.{long, told}
 use Rattle.trips.specs.Trips.{shorten}
 use Rattle.trips.proofs.Shortened.{shortened-passes}
-use Rattle.paper.specs.Text.{Text}
-use Rattle.paper.specs.Docket.{edition}
-use Rattle.docket.specs.declared.Verdict.{Verdict}
-use Rattle.editions.specs.Editions.{isKnown}
-use Rattle.timed.specs.Timed.{shortOr, printedTimed, programTimed}
-use Rattle.timed.specs.Handing.{Slottable, Ready, TimedSays, HandsOver}
+use Rattle.program.specs.Short.{shortAnswer, shortOr, PlannedIn, ShortIn}
+use Rattle.program.specs.Ready.{Ready}
+use Rattle.program.proofs.Telling.{by-answer}
 
 -- lists that read as the same crossings fit the same tables
 fits-same : (a b : List ℕ) → crossings a ≡ crossings b → Fits most-bays most-bays b → Fits most-bays most-bays a
@@ -91,16 +84,3 @@ module _ {o : Order} {r : Planned} {list : List ℕ} where
 pub refused-or-ready : (b : Bool) (d : Refusal) (list : List ℕ) → length list ≡ program-room → Ready (shortOr b (refused (refusalOf d))) (Refused d) list
 refused-or-ready true d list h = refused-ready d list h
 refused-or-ready false d list h = refused-ready d list h
-
--- ## The whole print
-
-module _ (b : Bool) (mapFile scenarioFile : Option Text) {e : ℕ} {r : Planned} {list out : List ℕ} {answer : Verdict} {out′ : List ℕ} where
-  pub edition-says : isKnown e ≡ false → Handed r list (refused edition) → HandsOver e r list out answer out′
-      → TimedSays (programTimed e b mapFile scenarioFile) out answer out′
-  unfolding programTimed printedTimed
-  edition-says k h p = rw k (p .hands (refused edition) h)
-
-  pub known-says : isKnown e ≡ true → Handed r list (shortOr b (programAnswer mapFile scenarioFile)) → HandsOver e r list out answer out′
-      → TimedSays (programTimed e b mapFile scenarioFile) out answer out′
-  unfolding programTimed
-  known-says k h p = rw k (p .hands (shortOr b (programAnswer mapFile scenarioFile)) h)

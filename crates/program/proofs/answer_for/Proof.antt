@@ -1,14 +1,13 @@
--- `timed::answer_for` meets its contract: 14 and 15 are answered as they are, and an order's lists hold all of it.
+-- `program::answer_for` meets its contract: 14 and 15 are answered as they are, and an order's lists hold all of it.
 -- Assumes nothing.
 use mathlib.Core.Path.{sym, ap}
 use native.Mathlib.Omega.{arith}
+use Rattle.program.specs.Short.{shortOr}
 use Rattle.program.proofs.Ordering.{order-stands, refusal-stands}
-use Rattle.timed.specs.Timed.{shortOr}
-use Rattle.timed.specs.Handing.{Ready}
-use Rattle.timed.proofs.Readying.{refused-or-ready}
+use Rattle.program.proofs.Readying.{refused-or-ready}
 use borrow.Author.Needs.{needs}
-use Rattle.timed.proofs.answer_for.Statement.{statement}
-use Rattle.timed.proofs.answer_for.Tie as tie
+use Rattle.program.proofs.answer_for.Statement.{statement}
+use Rattle.program.proofs.answer_for.Tie as tie
 
 slice-aggregate-read-order : tie.Need-slice-aggregate-read-order
 slice-aggregate-read-order c = search needs

@@ -1,13 +1,13 @@
--- `timed::plan_order` meets its contract: the planner's answer, shortened or not, fits the tables of slots.
+-- `program::plan_order` meets its contract: the planner's answer, shortened or not, fits the tables of slots.
 -- Assumes nothing.
 use mathlib.Core.Path.{sym}
 use native.Mathlib.Omega.{arith}
 use lib.Seq.{length-take-le}
 use Rattle.program.proofs.Shortening.{planned-in}
-use Rattle.timed.proofs.Readying.{short-or-ready, plain-or-ready}
+use Rattle.program.proofs.Readying.{short-or-ready, plain-or-ready}
 use borrow.Author.Needs.{needs}
-use Rattle.timed.proofs.plan_order.Statement.{statement}
-use Rattle.timed.proofs.plan_order.Tie as tie
+use Rattle.program.proofs.plan_order.Statement.{statement}
+use Rattle.program.proofs.plan_order.Tie as tie
 
 slice-aggregate-plan : tie.Need-slice-aggregate-plan
 slice-aggregate-plan c = sym (length-take-le _ _ (c .before .before .before .before .before .before .pre .0))
