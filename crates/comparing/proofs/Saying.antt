@@ -1,5 +1,5 @@
 -- What comparing says, way out by way out: each refusal comes after the tests before it have passed, and past the last the differences are those counted.
-use mathlib.Core.Path.{_≡_, refl, sym, _∙_, ap, ap₂}
+use mathlib.Core.Path.{_≡_, sym, _∙_, ap, ap₂}
 use mathlib.Core.Bool.{false}
 use mathlib.Core.List.{List, map}
 use mathlib.Core.Option.{none, some}
@@ -20,17 +20,13 @@ use Rattle.docket.specs.declared.Refusal.{Refusal}
 use Rattle.docket.specs.declared.Refusal.the-variants.{Size, Start, Room}
 use Rattle.comparing.specs.Comparing.{firstAbove, refusal, comparison, equalLeading, difference, differences, differencesBy}
 use Rattle.paper.specs.Docket.{granted}
+use Rattle.paper.proofs.Reach.{count-length}
 use Rattle.comparing.specs.Statements.{Counts, CountSays, FillSays, DifferSays}
 use Rattle.comparing.specs.declared.Counted.{Counted}
 use Rattle.docket.specs.declared.Verdict.the-variants.{Granted, Denied}
 use Rattle.comparing.proofs.Exchanged.{Passed, passed-granted}
 
 -- what is counted for each carrier gives the differences
-up-long : (a k : ℕ) → length (countFrom a k) ≡ k
-unfolding countFrom
-up-long a zero = refl
-up-long a (suc k) = ap suc (up-long (suc a) k)
-
 up-at : (f : ℕ → ℤ) (a k i : ℕ) → i < k → getD (map f (countFrom a k)) i (pos 0) ≡ f (a + i)
 unfolding countFrom
 up-at f a zero i h = absurd (omega arith)
@@ -41,7 +37,7 @@ filled-differences : (first second firsts seconds : List ℕ) (filled : List ℤ
     → filled ≡ differences first second
 filled-differences first second firsts seconds filled f s says =
     ext-getD (pos 0) filled (differences first second)
-    (says .long ∙ sym (length-map (upTo most-carriers) (difference first second) ∙ up-long 0 most-carriers))
+    (says .long ∙ sym (length-map (upTo most-carriers) (difference first second) ∙ count-length 0 most-carriers))
     (λ c h.
     let low : c < most-carriers = rw (← says .long) h in
     says .less c low

@@ -52,7 +52,7 @@ unfolding filter
 filter-none [] = refl
 filter-none (x ∷ xs) = filter-none xs
 
-count-length : (a k : ℕ) → length (countFrom a k) ≡ k
+pub count-length : (a k : ℕ) → length (countFrom a k) ≡ k
 unfolding countFrom
 count-length a zero = refl
 count-length a (suc k) = ap suc (count-length (suc a) k)

@@ -18,7 +18,7 @@ use Rattle.paper.proofs.Tests.{never}
 use Rattle.paper.proofs.Planning.{accepted-exactly}
 use Rattle.paper.proofs.Handing.{handed-passes, check-fits}
 use Rattle.printing.specs.Parts.{named, actionLines}
-use Rattle.printing.proofs.Digits.{tenTo, short}
+use Rattle.paper.proofs.Digits.{tenTo, short}
 use Rattle.printing.proofs.Lines.{action-parts, cost-parts, lines-none, lines-more, plan-parts}
 use Rattle.planner.specs.declared.Planned.{Planned}
 use Rattle.trips.specs.Trips.{shorten}

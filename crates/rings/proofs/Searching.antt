@@ -11,13 +11,12 @@ use native.Mathlib.Omega.{arith}
 use lib.Dec.{eqb}
 use lib.ListN.{getD, List·getD-eq-default, length}
 use borrow.Author.Tests.{not-true}
-use Rattle.paper.specs.Basics.{if_then_else_, _and_, _or_, any, filter, elem, without, upTo, In}
+use Rattle.paper.specs.Basics.{_and_, _or_, any, filter, elem, without, upTo, In}
 use Rattle.paper.specs.Yard.{Bay, Yard, joined}
 use Rattle.paper.specs.Path.{nextRing, ringsFrom, rings}
-use Rattle.paper.proofs.Tests.{by-cases, not-both, and-left, and-right, and-both, or-left, or-right, or-cases}
+use Rattle.paper.proofs.Tests.{by-cases, not-both, and-left, and-right, and-both, or-left, or-right, or-cases, same-test}
 use Rattle.paper.proofs.Members.{In-head, In-append, In-append-left, In-append-right, filter-in, filter-passes, in-filter, any-of, any-some, without-out, in-without, count-high, in-count}
-use Rattle.paper.proofs.Rings.{joined-sym, ring-zero}
-use Rattle.paper.proofs.Rings.{ring-free, ringsFrom-length}
+use Rattle.paper.proofs.Rings.{joined-sym, ring-zero, ring-free, ringsFrom-length}
 use Rattle.words.specs.Sets.{mem, memRow, Kept, Settled, span, words, anyBelow, reaches, Beside, members}
 use Rattle.words.proofs.Sets.{row-zero}
 use Rattle.words.proofs.Besides.{equal-tests, anyBelow-some, anyBelow-of}
@@ -147,10 +146,6 @@ ring-kept table d seen ring rows seen′ ring′ rows′ next p s k = record {
 }
 
 -- ## Where the search stands
-
-same-test : (t : Bool) → (if t then true else false) ≡ t
-same-test true = refl
-same-test false = refl
 
 pub elem-one : (b x : ℕ) → elem b (x ∷ []) ≡ eqb b x
 unfolding elem

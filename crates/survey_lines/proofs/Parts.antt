@@ -6,14 +6,14 @@ use native.Mathlib.Omega.{arith}
 use native.Mathlib.Numerals.{add-one}
 use lib.ListN.{length, getD, drop, length-append, length-drop}
 use lib.Seq.{drop-cons}
-use Rattle.paper.specs.Yard.{Bay, Rail}
+use Rattle.paper.specs.Yard.{Bay}
 use Rattle.paper.specs.Docket.{railsOf}
 use Rattle.paper.specs.Text.{Text, text, LF}
 use Rattle.paper.specs.Print.{decimal, ended}
 use Rattle.stores.specs.Writing.{Wrote}
 use Rattle.stores.proofs.Stores.{wrote-none, wrote-then}
 use Rattle.printing.specs.Parts.{named}
-use Rattle.printing.proofs.Digits.{decimal-short}
+use Rattle.paper.proofs.Digits.{decimal-short}
 use Rattle.survey.specs.Survey.{headLine, railLine, railLines, surveyOf}
 
 five : (a x b y l : Text) → (a ++ x) ++ (b ++ y) ++ l ≡ (((a ++ x) ++ b) ++ y) ++ l
