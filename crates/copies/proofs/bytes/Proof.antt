@@ -1,13 +1,13 @@
--- `handing::copy` meets its contract. The first places are copied, and the rest is as it was.
+-- `copies::bytes` meets its contract. The first places are copied, and the rest is as it was.
 -- Assumes nothing.
 use mathlib.Core.Path.{_≡_, refl}
 use Prim.Native.Nat.{_≤_, _-_}
 use native.Mathlib.Omega.{arith}
 use lib.ListN.{length}
 use Rattle.copies.proofs.Copies.{copied, copied-more, copied-all}
 use borrow.Author.Needs.{needs}
-use Rattle.handing.proofs.copy.Statement.{statement}
-use Rattle.handing.proofs.copy.Tie as tie
+use Rattle.copies.proofs.bytes.Statement.{statement}
+use Rattle.copies.proofs.bytes.Tie as tie
 
 abbrev Inv-loop : tie.InvT-loop
 Inv-loop to₀ from i₀ to i = (i ≤ length from) × (length to ≡ length to₀) × (to ≡ copied to₀ from i)
@@ -39,8 +39,8 @@ same-length c = search needs
 returns : tie.Need-returns Inv-loop μ-loop
 returns c = copied-all _ _ _ _ (c .before .loop .inv .0) (c .loop-test .left) (c .before .loop .inv .2)
 
-pub copy-spec : {M : Type 1} → statement M
-copy-spec =
+pub bytes-spec : {M : Type 1} → statement M
+bytes-spec =
     tie.close
     (tie.spec
     Inv-loop
