@@ -47,7 +47,7 @@ unfolding filter
 filter-all [] = refl
 filter-all (x ∷ xs) = ap suc (filter-all xs)
 
-filter-none : (xs : List ℕ) → filter (λ x. false) xs ≡ []
+pub filter-none : (xs : List ℕ) → filter (λ x. false) xs ≡ []
 unfolding filter
 filter-none [] = refl
 filter-none (x ∷ xs) = filter-none xs

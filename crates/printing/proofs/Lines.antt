@@ -50,7 +50,7 @@ pub none-carried : (o : Option ℕ) → isSome o ≡ false → o ≡ none
 none-carried none e = refl
 none-carried (some a) e = let z : _≡_ {A = ℕ} 0 1 = cc in absurd (omega arith)
 
-ended-append : (ls ms : List Text) → ended (ls ++ ms) ≡ ended ls ++ ended ms
+pub ended-append : (ls ms : List Text) → ended (ls ++ ms) ≡ ended ls ++ ended ms
 unfolding ended
 ended-append [] ms = refl
 ended-append (l ∷ ls) ms = rw (ended-append ls ms) (sym (append-assoc l (LF ∷ ended ls) (ended ms)))
