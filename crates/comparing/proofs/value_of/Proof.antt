@@ -7,23 +7,18 @@ use borrow.Author.Needs.{needs}
 use Rattle.comparing.proofs.value_of.Statement.{statement}
 use Rattle.comparing.proofs.value_of.Tie as tie
 
--- src/lib.rt:134:26
 enum-known-answer : tie.Need-enum-known-answer
 enum-known-answer c = search needs
 
--- src/lib.rt:135:25
 enum-known-answer-2 : tie.Need-enum-known-answer-2
 enum-known-answer-2 c = search needs
 
--- src/lib.rt:135:31
 carried-requires : tie.Need-carried-requires
 carried-requires c κs = search needs
 
--- src/lib.rt:130:1
 returns : tie.Need-returns
 returns c = search needs
 
--- src/lib.rt:130:1
 returns-2 : tie.Need-returns-2
 returns-2 c = c .carried .ensures ∙ sym (ap (λ a. valueBy (verdictOf a)) (c .before .before .answer2 .given .1))
 

@@ -9,8 +9,6 @@ use Rattle.yard.specs.Opening.{openedOf}
 use Rattle.survey.proofs.Three.{three-are-six}
 use Rattle.surveying.proofs.test.Statement.{statement}
 use Rattle.surveying.proofs.test.Tie as tie
-use Rattle.surveying.proofs.test.Reads as reads
-use Rattle.surveying.proofs.test.Lts as lts
 
 slice-aggregate-nobody : tie.Need-slice-aggregate-nobody
 slice-aggregate-nobody c = search needs
