@@ -1,10 +1,10 @@
--- A refusal is told as `refused` tells it; the rest is read off.
+-- A refusal is told as `numbers::refused` tells it; the rest is read off.
 use Rattle.ledger.specs.Statements.{agreementOf}
-use Rattle.numbers.specs.Numbers.{agreementNumber, agreementValue}
+use Rattle.log_numbers.specs.Agreeing.{agreementNumber, agreementValue}
 use Rattle.numbers.proofs.Telling.{told-as}
 use borrow.Author.Needs.{needs}
-use Rattle.numbers.proofs.told_agreement.Statement.{statement}
-use Rattle.numbers.proofs.told_agreement.Tie as tie
+use Rattle.log_numbers.proofs.told_agreement.Statement.{statement}
+use Rattle.log_numbers.proofs.told_agreement.Tie as tie
 
 enum-told : tie.Need-enum-told
 enum-told c = search needs

@@ -1,11 +1,11 @@
--- `numbers::told_planned` meets its contract: the plan's length or the refusal is told as `told` tells it.
+-- `plan_numbers::told_planned` meets its contract: the plan's length or the refusal is told as `numbers::told` tells it.
 -- Assumes nothing.
 use Rattle.numbers.specs.Numbers.{verdictNumber, verdictValue}
 use Rattle.numbers.proofs.Telling.{told-as}
 use mathlib.Core.Path.{sym}
 use borrow.Author.Needs.{needs}
-use Rattle.numbers.proofs.told_planned.Statement.{statement}
-use Rattle.numbers.proofs.told_planned.Tie as tie
+use Rattle.plan_numbers.proofs.told_planned.Statement.{statement}
+use Rattle.plan_numbers.proofs.told_planned.Tie as tie
 
 parked-in-requires : tie.Need-parked-in-requires
 parked-in-requires c κs = search needs

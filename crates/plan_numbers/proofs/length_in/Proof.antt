@@ -1,11 +1,11 @@
--- `numbers::length_in` meets its contract, answer by answer.
+-- `plan_numbers::length_in` meets its contract, answer by answer.
 -- Assumes nothing.
 use mathlib.Core.Path.{sym, ap}
 use Rattle.planner.specs.Statement.{plannedOf, uncounted}
-use Rattle.numbers.specs.Numbers.{verdictFor}
+use Rattle.plan_numbers.specs.Planned.{verdictFor}
 use borrow.Author.Needs.{needs}
-use Rattle.numbers.proofs.length_in.Statement.{statement}
-use Rattle.numbers.proofs.length_in.Tie as tie
+use Rattle.plan_numbers.proofs.length_in.Statement.{statement}
+use Rattle.plan_numbers.proofs.length_in.Tie as tie
 
 enum-known-answer : tie.Need-enum-known-answer
 enum-known-answer c = search needs
