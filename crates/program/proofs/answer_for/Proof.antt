@@ -43,7 +43,7 @@ enum-known-ordered-2 : tie.Need-enum-known-ordered-2
 enum-known-ordered-2 c = search needs
 
 same-length : tie.Need-same-length
-same-length c = search needs
+same-length c = c .before .before .plan-order .kept .1 .1 .1 .1 .1 .0
 
 returns : tie.Need-returns
 returns c =

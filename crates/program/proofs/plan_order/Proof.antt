@@ -50,7 +50,7 @@ shorten-planned-requires c κs =
     (planned-in (c .before .before .before .before .before .before .plan .ensures) (slice-aggregate-plan-4 (c .before .before .before .before .before .before .before)) (slice-aggregate-shorten-planned-4 (c .before)), start .pre .3)
 
 same-length : tie.Need-same-length
-same-length c = search needs
+same-length c = c .before .before .shorten-planned .kept .1 .1 .1 .1 .1 .1 .0
 
 returns : tie.Need-returns
 returns c =

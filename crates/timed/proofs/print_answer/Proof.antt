@@ -44,7 +44,7 @@ refusal-requires : tie.Need-refusal-requires
 refusal-requires c κs = search needs
 
 same-length : tie.Need-same-length
-same-length c = search needs
+same-length c = c .before .before .print .kept .1 .1 .0
 
 returns : tie.Need-returns
 returns c =
@@ -52,7 +52,7 @@ returns c =
     let s = c .before .before .before .before .before .before .before .before .before .before .before .before .before .before .before in let q = answer .given .1 in plan-prints (s .args .edition) _ q (slots-stand (s .args .edition) (s .args .plan .now) _ _ _ (s .pre .within .inside _ q) (c .before .before .before .before .before .before .before .pass .ensures)) (c .before .before .print .ensures)
 
 same-length-2 : tie.Need-same-length-2
-same-length-2 c = search needs
+same-length-2 c = c .before .before .refusal .kept .1 .0
 
 returns-2 : tie.Need-returns-2
 returns-2 c = let s = c .before .before .before .before .before .before .before .before .before in refusal-prints (s .args .edition) _ (c .before .before .before .before .before .answer2 .given .1) (c .before .before .refusal .ensures .0)
