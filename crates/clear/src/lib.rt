@@ -27,15 +27,15 @@ pub enum Two {
 }
 
 // A round through the others: from which bay on, and the tally before it.
-pub struct Round {
-    pub from: usize,
-    pub at: Tally,
+struct Round {
+    from: usize,
+    at: Tally,
 }
 
 // The bay that is kept first, and the round in which a second is looked for.
-pub struct First {
-    pub kept: Bay,
-    pub round: Round,
+struct First {
+    kept: Bay,
+    round: Round,
 }
 
 // The first of the others in the round that can be vacated is vacated.

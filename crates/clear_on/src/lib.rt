@@ -33,13 +33,13 @@ pub struct OneKept {
 }
 
 // What an attempt goes by besides x: the junction, the neighbour that is held with it, and the neighbour that is emptied after x.
-pub struct Aside {
-    pub junction: Bay,
-    pub held: Bay,
-    pub emptied: Bay,
+struct Aside {
+    junction: Bay,
+    held: Bay,
+    emptied: Bay,
 }
 
-// The first way, on a placement that is used up: x is vacated, holding the junction and the bay behind it; then the kept bay, holding x as well.
+// The first way, on a placement that is used up: x is vacated, holding the junction and a neighbour; then the other one, holding x as well.
 fn vacate_both(
     table: &[u64],
     aside: Aside,

@@ -27,11 +27,11 @@ pub enum Spare {
 }
 
 // The bays of an exchange: the junction, the bay behind it where the follower stands, and the two that are kept, the lower one first.
-pub struct Exchange {
-    pub junction: Bay,
-    pub behind: Bay,
-    pub lower: Bay,
-    pub higher: Bay,
+struct Exchange {
+    junction: Bay,
+    behind: Bay,
+    lower: Bay,
+    higher: Bay,
 }
 
 // Whether the trial at v, which is not r's own bay, is bound to fail: v is blocked.

@@ -9,12 +9,10 @@ use docket::Bay;
 use docket::Carrier;
 use rings::Path;
 ghost use mathlib.Core.Path.{_≡_};
-ghost use Prim.Native.Nat.{ℕ, min, max, _≤_, _<_};
+ghost use Prim.Native.Nat.{min, max};
 ghost use lib.Dec.{eqb, ltb};
 ghost use lib.ListN.{length, getD};
 ghost use Rattle.paper.specs.Basics.{_and_};
-ghost use Rattle.words.specs.Sets.{span};
-ghost use Rattle.moving.specs.Bounds.{room-step};
 ghost use Rattle.acting.specs.Acting.{Ready};
 ghost use Rattle.trial.specs.Trying.{LedAsks, SetUpSays, LedSays, TrialAsks, TrialOnAsks, TrialOnSays, TrialSays};
 
