@@ -81,7 +81,7 @@ impl Yard {
         Yard::open_in(bays, rails, start, goal, crossings, table)
     }
 
-    // The same in a table that is empty: one that was just made need not be cleared once more, which takes longer than a small yard's tests.
+    // The same in a table that is empty: one that was just made need not be cleared once more.
     pub fn open_in(
         bays: u64,
         rails: &[u16],
