@@ -12,7 +12,7 @@ use Rattle.paper.specs.Yard.{Crossing, crossings, named}
 use Rattle.paper.specs.Dependence.{done, slots}
 use Rattle.paper.specs.OnePass.{Fits}
 use Rattle.paper.proofs.Tests.{by-cases}
-use Rattle.slots.specs.Turn.{Turned, slotAfter}
+use Rattle.slots.specs.Turn.{Turned}
 use Rattle.slots.proofs.Passing.{Tables, still, tables-start, still-start, tables-on, still-on, still-end}
 use Rattle.bills.specs.Billing.{highestDone}
 
@@ -39,12 +39,12 @@ pub rising-on : (plan marks carriers bays : List ℕ) (highest i : ℕ) → Risi
     → (s : ℕ) (carriers′ bays′ : List ℕ) → Turned carriers bays x s carriers′ bays′
     → (high : ℕ) → high ≡ (if done (getD marks i 0) then max highest s else highest) → Rising plan marks carriers′ bays′ high (i + 1)
 rising-on plan marks carriers bays highest i p more same fits x is s carriers′ bays′ turned high e =
-    let next = still-on plan carriers bays i (p .tables) more fits x is in
+    let next = still-on (p .tables) more fits is turned in
     let mark : drop i marks ≡ getD marks i 0 ∷ drop (i + 1) marks = rw add-one (drop-cons marks i 0 (omega arith)) in
-    rw (e, turned .of-carriers, turned .of-bays, turned .slot)
+    rw e
     (record {
-      tables = tables-on plan carriers bays i (p .tables) more fits x is;
-      whole = passed highest (slotAfter carriers bays x) (getD marks i 0) _ _ ∙ ap (max highest) (sym (ap₂ highestDone next mark)) ∙ p .whole;
+      tables = tables-on (p .tables) more fits is turned;
+      whole = passed highest s (getD marks i 0) _ _ ∙ ap (max highest) (sym (ap₂ highestDone next mark)) ∙ p .whole;
     })
 
 pub rising-end : (plan marks carriers bays : List ℕ) (highest i : ℕ) → Rising plan marks carriers bays highest i → length plan ≤ i
@@ -52,6 +52,6 @@ pub rising-end : (plan marks carriers bays : List ℕ) (highest i : ℕ) → Ris
 unfolding highestDone
 rising-end plan marks carriers bays highest i p h =
     let none : highestDone (still plan carriers bays i) (drop i marks) ≡ 0 =
-    ap (λ l. highestDone l (drop i marks)) (still-end plan carriers bays i h) in
+    ap (λ l. highestDone l (drop i marks)) (still-end (p .tables) h) in
     let e : highest ≡ max highest 0 = omega arith in
     e ∙ ap (max highest) (sym none) ∙ p .whole

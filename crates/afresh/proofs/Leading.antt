@@ -5,7 +5,7 @@ use Prim.Native.Nat.{ℕ, _≤_, _<_, _+_}
 use native.Mathlib.Omega.{arith}
 use borrow.Author.Tests.{lt-ltb, le-ltb, eqb-true, eqb-false}
 use lib.Dec.{eqb}
-use lib.ListN.{length, getD, set, replicate, length-set}
+use lib.ListN.{length, getD, set, replicate, length-set, getD-replicate}
 use lib.Seq.{getD-set-same, getD-set-other, ext-getD}
 use Rattle.paper.specs.Limits.{most-bays}
 use Rattle.paper.specs.Yard.{Carrier, Placement, Crossing, crossings, named, after, move, most-crossings}
@@ -13,7 +13,7 @@ use Rattle.paper.specs.Dependence.{doneOf}
 use Rattle.paper.proofs.Tests.{by-cases}
 use Rattle.bills.specs.Billing.{untouched}
 use Rattle.afresh.specs.Working.{ledTo, Led}
-use Rattle.afresh.proofs.Passing.{Moving, moving-start, moving-done, moving-undone, moving-ends, getD-replicate}
+use Rattle.afresh.proofs.Passing.{Moving, moving-start, moving-done, moving-undone, moving-ends}
 
 -- ## The carriers led one by one
 
@@ -64,7 +64,7 @@ pub standing-start : (plan marks : List ℕ) (at₀ : Placement) → length plan
 standing-start plan marks at₀ short = record {
   at = at₀;
   moving = moving-start plan marks at₀;
-  leads = λ c h. rw (getD-replicate most-bays untouched c h, le-ltb untouched (length plan) short) refl;
+  leads = λ c h. rw (getD-replicate {A = ℕ} most-bays c untouched 0 h, le-ltb untouched (length plan) short) refl;
 }
 
 module _ (plan marks : List ℕ) (len : length marks ≡ length plan) (at₀ : Placement) (long : length at₀ ≡ most-bays) (last : List ℕ) (all-last : length last ≡ most-bays) (i : ℕ)

@@ -2,13 +2,14 @@
 -- there, and then what the rest gives, is the whole.
 use mathlib.Core.Path.{_≡_, refl, sym, _∙_, ap, ap₂}
 use mathlib.Core.List.{List, [], _∷_}
-use Prim.Native.Nat.{ℕ, zero, suc, _≤_, _<_, _+_}
+use Prim.Native.Nat.{ℕ, suc, _≤_, _<_, _+_}
 use native.Mathlib.Omega.{arith}
 use native.Mathlib.Numerals.{add-one}
 use borrow.Author.Tests.{eq-eqb, ne-eqb, eqb-true, eqb-false}
 use lib.Dec.{eqb}
-use lib.ListN.{length, getD, drop, set, replicate, length-set, length-replicate}
+use lib.ListN.{length, getD, drop, set, replicate, length-set, length-replicate, getD-replicate}
 use lib.Seq.{drop-cons, getD-set-same, getD-set-other}
+use Rattle.lists.proofs.Lists.{low-zeros, low-set}
 use Rattle.paper.specs.Basics.{if_then_else_, _and_}
 use Rattle.paper.specs.Limits.{most-bays}
 use Rattle.paper.specs.Yard.{Placement, Carrier, Crossing, crossings, named, after, move}
@@ -109,24 +110,14 @@ pub record Billing (plan marks billed last : List ℕ) (i : ℕ) : Type 0 where
   pub counts : (c : Carrier) → c < most-bays → getD billed c 0 + countOf c (rest plan marks i) ≡ countOf c (rest plan marks 0)
   pub names : (c : Carrier) → c < most-bays → lastFrom plan marks c (getD last c 0) i ≡ lastFrom plan marks c untouched 0
 
-pub getD-replicate : (k v c : ℕ) → c < k → getD (replicate k v) c 0 ≡ v
-getD-replicate zero v c h = absurd (omega arith)
-getD-replicate (suc k) v zero h = refl
-getD-replicate (suc k) v (suc c) h = getD-replicate k v c (omega arith)
-
-zeros-low : (k c : ℕ) → getD (replicate k 0) c 0 ≤ 0
-zeros-low zero c = omega arith
-zeros-low (suc k) zero = omega arith
-zeros-low (suc k) (suc c) = zeros-low k c
-
 pub billing-start : (plan marks : List ℕ) → Billing plan marks (replicate most-bays 0) (replicate most-bays untouched) 0
 billing-start plan marks = record {
   within = omega arith;
   all-billed = length-replicate {A = ℕ} most-bays 0;
   all-last = length-replicate {A = ℕ} most-bays untouched;
-  low = zeros-low most-bays;
-  counts = λ c h. let z = getD-replicate most-bays 0 c h in omega arith;
-  names = λ c h. ap (λ l. lastFrom plan marks c l 0) (getD-replicate most-bays untouched c h);
+  low = low-zeros most-bays;
+  counts = λ c h. let z = getD-replicate {A = ℕ} most-bays c 0 0 h in omega arith;
+  names = λ c h. ap (λ l. lastFrom plan marks c l 0) (getD-replicate {A = ℕ} most-bays c untouched 0 h);
 }
 
 count-cons : (c : Carrier) (x : Crossing) (xs : List Crossing) → countOf c (x ∷ xs) ≡ (if eqb (x .carrier) c then suc (countOf c xs) else countOf c xs)
@@ -158,9 +149,7 @@ module _ (plan marks : List ℕ) (len : length marks ≡ length plan) (billed la
           within = omega arith;
           all-billed = length-set billed (x .carrier) _ ∙ b .all-billed;
           all-last = length-set last (x .carrier) i ∙ b .all-last;
-          low = λ c. by-cases (eqb c (x .carrier))
-              (λ z. rw (eqb-true c (x .carrier) z, getD-set-same billed (x .carrier) (getD billed (x .carrier) 0 + 1) 0 hb) (let l = b .low (x .carrier) in omega arith))
-              (λ z. rw (getD-set-other billed (x .carrier) c (getD billed (x .carrier) 0 + 1) 0 (eqb-false c (x .carrier) z)) (let l = b .low c in omega arith));
+          low = let l = b .low (x .carrier) in low-set billed (x .carrier) _ i (i + 1) (b .low) (omega arith) (omega arith);
           counts = λ c h.
               let r = ap (countOf c) (rest-done plan marks len i more e) ∙ count-cons c (named (crossings plan) i) (rest plan marks (i + 1)) in
               let w = b .counts c h in

@@ -14,7 +14,6 @@ use Rattle.plans.proofs.Rest.{fits-named}
 use Rattle.slots.specs.Turn.{Turned}
 use Rattle.bills.specs.Billing.{untouched}
 use Rattle.afresh.specs.Working.{Led, Billed}
-use Rattle.afresh.specs.declared.Slots.{Slots}
 use Rattle.afresh.proofs.Passing.{Billing, billing-start, billing-done, billing-undone, billing-counts, billing-names}
 use Rattle.afresh.proofs.Highest.{Rising, rising-start, rising-on, rising-end}
 use Rattle.afresh.proofs.Asking.{Asking, asking-start, asking-on}

@@ -5,5 +5,4 @@ pub mod Highest
 pub mod Last
 pub mod Summing
 pub mod Demand3
-pub mod Worked
 pub mod Nailed

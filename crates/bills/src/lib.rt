@@ -1,10 +1,9 @@
 // What is kept beside a plan as its reports come in: one running record and one account line for each carrier. C reads both, so their fields lie in order.
-use yard::Yard;
 
 // Where the carriers stand, how many crossings are done, and the highest slot in which anything is done, or 0. The places beyond the carriers are 0.
 #[repr(C)]
 pub struct Record {
-    pub at: [u16; Yard::BAYS],
+    pub at: [u16; paper::BAYS],
     pub done: u32,
     pub highest: u32,
 }
@@ -18,4 +17,4 @@ pub struct Line {
 }
 
 // No name is as high.
-pub const UNTOUCHED: u32 = Yard::CROSSINGS as u32;
+pub const UNTOUCHED: u32 = paper::CROSSINGS as u32;

@@ -23,7 +23,7 @@ use Rattle.paper.proofs.Playing.{Apart, Sound, after-append, after-length, bay-
 use Rattle.paper.proofs.Vacating.{Shiftable, plan-apart, shift-one, shift-cons, shift-shifts, vacate-vacates, path-shiftable}
 use Rattle.paper.proofs.Actions.{eqb-comm, same-moves, then-split, cross-split, pulled}
 use Rattle.paper.proofs.Shortest.{inward-head}
-use Rattle.paper.proofs.Swapping.{Chain, way-tail, bring-brings, once-clears, clear-clears}
+use Rattle.paper.proofs.Swapping.{Chain, way-tail, bring-brings, once-clears, clear-clears, way-second}
 use Rattle.blocked.specs.Blocked.{Blocked}
 
 -- ## A vacate leaves every bay occupied but the one that it vacates
@@ -275,19 +275,6 @@ module _ (Y : Yard) (sound : Sound Y) (v : Bay) (reached : Bay → Bool)
         nb (once-still b p apart full)
 
 -- ## The trial
-
-route-chain : (Y : Yard) (held : List Bay) (u : Bay) (l : List Bay) (v : Bay) → Route Y held u l v → Chain Y u l v
-route-chain Y held u [] v r = r
-route-chain Y held u (x ∷ xs) v r = (r .0, route-chain Y held x xs v (r .2))
-
-route-second : (Y : Yard) (held : List Bay) (u : Bay) (l : List Bay) (v : Bay) → Route Y held u l v → ltb 1 (length (u ∷ l)) ≡ true
-    → Chain Y (getD (u ∷ l) 1 0) (drop 2 (u ∷ l)) v
-route-second Y held u [] v r h = not-both h refl
-route-second Y held u (x ∷ xs) v r h = route-chain Y held x xs v (r .2)
-
--- the bays ahead on a way, after its second bay
-way-second : (Y : Yard) (held : List Bay) (u : Bay) (l : List Bay) (v : Bay) → Way Y held u l v → ltb 1 (length l) ≡ true → Chain Y (getD l 1 0) (drop 2 l) v
-way-second Y held u l v w h = rw (w .starts) (route-second Y held u (w .rest) v (w .route) (rw (w .starts) at h))
 
 -- with two bays kept there are three neighbours that are reached
 finish-never : (Y : Yard) (L M : Carrier) (v b : Bay) (made : Made) (kept : List Bay) (m : Made) (P : Type 0)

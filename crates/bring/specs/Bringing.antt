@@ -3,11 +3,12 @@
 use mathlib.Core.List.{List, [], _∷_}
 use Rattle.paper.specs.Procedure.{Made, Action, only, bring}
 use Rattle.paper.specs.Yard.{Bay, Carrier, Yard, Placement, crossing, bayOf}
+use Rattle.bring.specs.declared.Couple.{Couple}
 
 -- l goes into x, and m follows into l's bay
 abbrev pub entering : Carrier → Carrier → Bay → Placement → Made
 entering L M x p = only (crossing L (bayOf p L) x ∷ crossing M (bayOf p M) (bayOf p L) ∷ [])
 
 -- (the code's function has the same name)
-abbrev pub brings : Carrier → Carrier → List Bay → Yard → Action
-brings L M path Y p = bring Y L M path p
+abbrev pub brings : Couple → List Bay → Yard → Action
+brings couple path Y p = bring Y (couple .leader .0) (couple .follower .0) path p

@@ -18,10 +18,15 @@ ghost use Rattle.acting.specs.Acting.{Ready, Tallied, Within, TriesAs};
 ghost use Rattle.bring.specs.Bringing.{entering, brings};
 ghost use Rattle.bring.specs.Turning.{Crossings, Small, Holds, turned, numbers};
 
-// l crosses into the empty bay x, and m into l's old bay.
+// Two carriers that go one behind the other: the follower enters the bay that the leader leaves.
+pub struct Couple {
+    pub leader: Carrier,
+    pub follower: Carrier,
+}
+
+// The leader crosses into the empty bay x, and the follower into the leader's old bay.
 pub fn enter(
-    l: Carrier,
-    m: Carrier,
+    couple: Couple,
     x: Bay,
     placement: &mut [u16],
     standing: &mut [u16],
@@ -30,9 +35,9 @@ pub fn enter(
     at: Tally,
 ) -> Tally
     requires { ⌜
-        (l .0 < length (now placement))
-        × (m .0 < length (now placement))
-        × (m .0 ≡ l .0 → ⊥)
+        (couple .leader .0 < length (now placement))
+        × (couple .follower .0 < length (now placement))
+        × (couple .follower .0 ≡ couple .leader .0 → ⊥)
         × (x .0 < length (now standing))
         × (length (now standing) ≤ span)
         × (length (now empty) ≡ words)
@@ -41,24 +46,23 @@ pub fn enter(
         × Placed (length (now standing)) (now placement) (now standing) (now empty)
         ⌝ }
     ensures { λ r. ⌜
-        Tallied (entering (l .0) (m .0) (x .0) (now (placement .entry))) (length (now (standing .entry)))
+        Tallied (entering (couple .leader .0) (couple .follower .0) (x .0) (now (placement .entry))) (length (now (standing .entry)))
         (now (placement .entry)) (now (placement .exit)) (now (standing .exit)) (now (empty .exit)) (now (out .entry)) at (now (out .exit)) r
         ⌝ }
 {
-    let first = l.0 as usize;
-    let second = m.0 as usize;
+    let first = couple.leader.0 as usize;
+    let second = couple.follower.0 as usize;
     let u = Bay(placement[first]);
     let w = Bay(placement[second]);
     let a = acting::cross(placement, standing, empty, u, x, out, at);
     acting::cross(placement, standing, empty, w, u, out, a)
 }
 
-// One bay of the path: it is vacated, holding both carriers' bays; l crosses into it, and m into l's old bay. Vacating an empty bay moves
-// nothing, so it needs no search.
+// One bay of the path: it is vacated, holding both carriers' bays, and then entered. Vacating an empty bay moves nothing, so it needs no
+// search.
 fn bring_one(
     table: &[u64],
-    l: Carrier,
-    m: Carrier,
+    couple: Couple,
     x: Bay,
     placement: &mut [u16],
     standing: &mut [u16],
@@ -68,24 +72,24 @@ fn bring_one(
 ) -> Tried
     requires { ⌜ Ready (now table) (now placement) (now standing) (now empty) ⌝ }
     requires { ⌜
-        (l .0 < length (now placement))
-        × (m .0 < length (now placement))
-        × (m .0 ≡ l .0 → ⊥)
+        (couple .leader .0 < length (now placement))
+        × (couple .follower .0 < length (now placement))
+        × (couple .follower .0 ≡ couple .leader .0 → ⊥)
         × (x .0 < length (now standing))
         × (at .crossings < room-vacate)
         ⌝ }
     ensures { λ r. ⌜
         Within at entry-most r
-        × TriesAs (brings (l .0) (m .0) (x .0 ∷ []))
+        × TriesAs (brings couple (x .0 ∷ []))
         (now (table .entry)) (now (placement .entry)) (now (standing .entry)) (now (out .entry)) at
         (now (placement .exit)) (now (standing .exit)) (now (empty .exit)) (now (out .exit)) r
         ⌝ }
 {
     if words::is_in(empty, x.0 as usize) {
-        return Tried::Done(enter(l, m, x, placement, standing, empty, out, at));
+        return Tried::Done(enter(couple, x, placement, standing, empty, out, at));
     }
-    let first = l.0 as usize;
-    let second = m.0 as usize;
+    let first = couple.leader.0 as usize;
+    let second = couple.follower.0 as usize;
     let u = placement[first];
     let w = placement[second];
     let mut held = [0u64; words::WORDS];
@@ -99,15 +103,14 @@ fn bring_one(
         crossings: done.crossings,
         parked: done.parked,
     };
-    Tried::Done(enter(l, m, x, placement, standing, empty, out, a))
+    Tried::Done(enter(couple, x, placement, standing, empty, out, a))
 }
 
-// Bring, along the bays that the leader l has yet to enter.
+// Bring, along the bays that the leader has yet to enter.
 pub fn bring(
     table: &[u64],
     path: &[u16],
-    l: Carrier,
-    m: Carrier,
+    couple: Couple,
     placement: &mut [u16],
     standing: &mut [u16],
     empty: &mut [u64],
@@ -116,15 +119,15 @@ pub fn bring(
 ) -> Tried
     requires { ⌜ Ready (now table) (now placement) (now standing) (now empty) ⌝ }
     requires { ⌜
-        (l .0 < length (now placement))
-        × (m .0 < length (now placement))
-        × (m .0 ≡ l .0 → ⊥)
+        (couple .leader .0 < length (now placement))
+        × (couple .follower .0 < length (now placement))
+        × (couple .follower .0 ≡ couple .leader .0 → ⊥)
         × ((k : ℕ) → k < length (now path) → getD (now path) k 0 < length (now standing))
         × (at .crossings + entry-most * length (now path) < room-vacate)
         ⌝ }
     ensures { λ r. ⌜
         Within at (entry-most * length (now (path .entry))) r
-        × TriesAs (brings (l .0) (m .0) (now (path .entry)))
+        × TriesAs (brings couple (now (path .entry)))
         (now (table .entry)) (now (placement .entry)) (now (standing .entry)) (now (out .entry)) at
         (now (placement .exit)) (now (standing .exit)) (now (empty .exit)) (now (out .exit)) r
         ⌝ }
@@ -133,7 +136,7 @@ pub fn bring(
     let mut i = 0;
     while i < path.len() {
         let x = Bay(path[i]);
-        let one = bring_one(table, l, m, x, placement, standing, empty, out, count);
+        let one = bring_one(table, couple, x, placement, standing, empty, out, count);
         let Tried::Done(done) = one else {
             return Tried::Failed;
         };

@@ -8,19 +8,15 @@ use Prim.Native.Nat.{ℕ, zero, suc, _<_, _≤_, _+_}
 use native.Mathlib.Omega.{arith}
 use lib.ListN.{length}
 use Rattle.paper.specs.Yard.{Carrier, Yard, Placement, after, carousel}
-use Rattle.paper.specs.Procedure.{Made, only, together, Outcome, planned, stuck, carry, carryFrom, procedure}
+use Rattle.paper.specs.Procedure.{Made, only, together, planned, stuck, carry, carryFrom, procedure}
 use Rattle.paper.proofs.Tests.{never}
 use Rattle.paper.proofs.Playing.{Sound, Good, after-length}
-use Rattle.paper.proofs.Carrying.{plan-good, carry-carries, procedure-right}
+use Rattle.paper.proofs.Carrying.{plan-good, carry-carries, procedure-right, by-outcome}
 use Rattle.carousels.specs.Round.{Round}
 use Rattle.carousels.specs.Leads.{Leads}
 use Rattle.carousels.proofs.Leading.{leads-by, leads-on, leads-back, leads-length}
 use Rattle.carousels.proofs.Stepping.{next-runs}
 use Rattle.carousels.proofs.Turning.{Home, carry-planned}
-
-pub by-outcome : {P : Type 0} (x : Outcome) → ((m : Made) → x ≡ planned m → P) → ((c : Carrier) → x ≡ stuck c → P) → P
-by-outcome (planned m) f g = f m refl
-by-outcome (stuck c) f g = g c refl
 
 module _ (Y : Yard) (sound : Sound Y) (goals : Placement) (goals-good : Good Y goals) where
   -- a plan is a legal list that leads to the goals, on any yard

@@ -2,8 +2,8 @@
 -- have to change their order.
 -- Assumes nothing.
 use mathlib.Core.Path.{_≡_, refl}
-use mathlib.Core.List.{List, [], _∷_}
-use Rattle.paper.specs.Yard.{Bay, Yard, crossing}
+use mathlib.Core.List.{[], _∷_}
+use Rattle.paper.specs.Yard.{Yard, crossing}
 use Rattle.paper.specs.Procedure.{only, planned, stuck, procedure}
 use Rattle.paper.specs.Docket.{yardBy}
 use Rattle.worked.proofs.Worked.{computing}

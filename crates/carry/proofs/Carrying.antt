@@ -3,20 +3,20 @@
 -- Assumes nothing.
 use mathlib.Core.Path.{_≡_, sym, _∙_, ap, refl}
 use mathlib.Core.Bool.{true, false}
-use mathlib.Core.List.{List, [], _∷_, _++_, append-nil, append-assoc, dropLast}
+use mathlib.Core.List.{List, [], _∷_, _++_, dropLast}
 use mathlib.Core.Option.{none, some}
-use Prim.Native.Nat.{ℕ, suc, _≤_, _<_, _-_, _+_}
+use Prim.Native.Nat.{ℕ, zero, suc, _≤_, _<_, _-_, _+_, _*_}
 use native.Mathlib.Omega.{arith}
 use native.Mathlib.Numerals.{add-one}
-use lib.ListN.{length, drop, take}
+use lib.ListN.{length, getD, drop, take, length-drop}
 use lib.Dec.{eqb}
-use lib.Seq.{take-suc}
+use lib.Seq.{take-suc, take-nil, getD-drop, getD-take, length-take-le}
 use borrow.Author.Tests.{eqb-false, eqb-true}
 use mathlib.Core.Logic.{inl, inr, ⊎-elim}
-use Rattle.paper.specs.Basics.{_or_, elem}
-use Rattle.paper.specs.Path.{Route}
+use Rattle.paper.specs.Basics.{_or_, elem, if_then_else_}
+use Rattle.paper.specs.Path.{Route, pathBetween}
 use Rattle.paper.specs.Procedure.{Made, only, together, step, Outcome, planned, stuck, orStuck, onward, _next_, pathOf, go, wayHome, along, carry, carryFrom, procedure}
-use Rattle.paper.specs.Yard.{Bay, Carrier, Yard, Placement, bayOf, Crossing, after, carousel}
+use Rattle.paper.specs.Yard.{Bay, Carrier, Yard, Placement, bayOf, after, carousel}
 use Rattle.step.proofs.Stepping.{sound-of}
 use Rattle.paper.proofs.Carrying.{Gone, go-goes, path-short, carry-carries}
 use Rattle.paper.proofs.Members.{nothing-in-nil, out-cons}
@@ -26,61 +26,76 @@ use Rattle.go.specs.Going.{planOf, Linked}
 use Rattle.words.specs.Sets.{mem, span, words}
 use Rattle.words.proofs.Sets.{zeros}
 use Rattle.rings.specs.Search.{Shown}
-use Rattle.rings.specs.Ways.{PathFound}
+use Rattle.rings.specs.Ways.{PathFound, pathOf as pathsOf}
 use Rattle.rings.specs.declared.Path.{Path}
 use Rattle.rings.proofs.Searching.{elem-append, elem-one}
-use Rattle.home.specs.Homing.{Settled, AtMost, Stages, Homeward}
+use Rattle.home.specs.Homing.{Stages}
 use Rattle.paper.proofs.Making.{together-assoc, together-none, none-together}
+use Rattle.moving.specs.Bounds.{swap-most}
 use Rattle.moving.specs.Placed.{Placed}
 use Rattle.acting.specs.Acting.{Tabled, Tallied, nothing}
 use Rattle.acting.specs.declared.Tally.{Tally}
 use Rattle.acting.proofs.Acting.{tallied-none, tallied-then}
 use Rattle.clear_on.proofs.Attempting.{in-bays}
-use Rattle.trial.proofs.Copying.{part}
 use Rattle.step.specs.Asking.{Loopless, BaysBelow}
-use Rattle.home.proofs.Homing.{stages-done, stages-stuck}
-use Rattle.carry.specs.Carrying.{Goals, HomeBelow, EndsAt, OnPath, Settles, PathPast}
+use Rattle.home.proofs.Homing.{stages-done}
+use Rattle.home.proofs.Settling.{Settled, Homeward}
+use Rattle.carry.specs.Carrying.{Goals, HomeBelow, Bound, EndsAt, OnPath, Settles, PathPast, Goes, Arrives}
 use Rattle.home.specs.declared.Staged.the-variants.{Planned}
 use Rattle.home.specs.declared.Staged.{Staged}
 use Rattle.home.specs.declared.Staged.the-variants.{Stuck}
+use Rattle.carry.specs.declared.Gone.the-variants.{There, Nowhere}
 use Rattle.docket.specs.declared.Carrier.{Carrier as Named}
 
 -- ## Lists
 
-pub drop-last-short : (l : List Bay) → length l < 2 → dropLast l ≡ []
+drop-last-short : (l : List Bay) → length l < 2 → dropLast l ≡ []
 drop-last-short [] h = refl
 drop-last-short (x ∷ []) h = refl
 drop-last-short (x ∷ y ∷ l) h = absurd (omega arith)
 
-drop-last-take : (l : List Bay) → take (length l - 1) l ≡ dropLast l
-drop-last-take [] = refl
-drop-last-take (x ∷ []) = refl
-drop-last-take (x ∷ y ∷ l) =
-    let e : suc (suc (length l)) - 1 ≡ suc (length (y ∷ l) - 1) = omega arith in
-    rw e (ap (λ (t : List Bay). x ∷ t) (drop-last-take (y ∷ l)))
+drop-last-length : (l : List Bay) → length (dropLast l) ≡ length l - 1
+drop-last-length [] = refl
+drop-last-length (x ∷ []) = refl
+drop-last-length (x ∷ y ∷ l) = let h = drop-last-length (y ∷ l) in omega arith
 
-pub drop-last-long : (l : List Bay) → length (dropLast l) ≤ length l
-drop-last-long [] = omega arith
-drop-last-long (x ∷ []) = omega arith
-drop-last-long (x ∷ y ∷ l) = let h = drop-last-long (y ∷ l) in omega arith
-
-part-between : (u : Bay) (ahead : List Bay) → take (length (u ∷ ahead) - 1 - 1) (drop 1 (u ∷ ahead)) ≡ dropLast ahead
-part-between u ahead = let e : length (u ∷ ahead) - 1 - 1 ≡ length ahead - 1 = omega arith in rw e (drop-last-take ahead)
+drop-last-get : (l : List Bay) (i : ℕ) → i < length (dropLast l) → getD (dropLast l) i 0 ≡ getD l i 0
+drop-last-get [] i h = absurd (omega arith)
+drop-last-get (x ∷ []) i h = absurd (omega arith)
+drop-last-get (x ∷ y ∷ l) zero h = refl
+drop-last-get (x ∷ y ∷ l) (suc i) h = drop-last-get (y ∷ l) i (omega arith)
 
 last-split : (u : Bay) (l : List Bay) (v : Bay) → 1 ≤ length l → EndsAt u l v → l ≡ dropLast l ++ (v ∷ [])
 last-split u [] v h e = absurd (omega arith)
 last-split u (x ∷ []) v h e = ap (λ (z : Bay). z ∷ []) e
 last-split u (x ∷ y ∷ l) v h e = ap (λ (t : List Bay). x ∷ t) (last-split x (y ∷ l) v (omega arith) e)
 
--- the code's parts of a path: from its second bay on, and that without its last bay
-pub part-ahead : (path : List ℕ) (u : Bay) (ahead : List Bay) → path ≡ u ∷ ahead → take (length path - 1) (drop 1 path) ≡ ahead
-part-ahead path u ahead e = part path 1 ∙ ap (drop 1) e
+-- ## The path in its room
 
-pub part-home : (path : List ℕ) (u : Bay) (ahead : List Bay) → path ≡ u ∷ ahead → take (length path - 1 - 1) (drop 1 path) ≡ dropLast ahead
-part-home path u ahead e = rw e (part-between u ahead)
+-- the code's part from the second bay on
+pub part-ahead : (k : ℕ) (room : List ℕ) → take (k - 1) (drop 1 room) ≡ drop 1 (take k room)
+part-ahead zero room = refl
+part-ahead (suc k) room = let e : suc k - 1 ≡ k = omega arith in rw e (plain room)
+  where
+    plain : (l : List ℕ) → take k (drop 1 l) ≡ drop 1 (take (suc k) l)
+    plain [] = take-nil k
+    plain (x ∷ l) = refl
 
-pub at-most-more : {at : Tally} {j : ℕ} {m : Tally} {k : ℕ} {z : Staged} → m .crossings + k ≤ at .crossings + j → AtMost m k z → AtMost at j z
-at-most-more h a = record { few = λ b e. let f = a .few b e in omega arith }
+-- the bays between the first of a path and its last, the path being the first k in the room
+abbrev pub between : ℕ → List ℕ → List Bay
+between k room = dropLast (drop 1 (take k room))
+
+pub ahead-length : (k : ℕ) (room : List ℕ) → k ≤ length room → length (drop 1 (take k room)) ≡ k - 1
+ahead-length k room h = length-drop 1 (take k room) ∙ ap (λ (j : ℕ). j - 1) (length-take-le k room h)
+
+pub between-length : (k : ℕ) (room : List ℕ) → k ≤ length room → length (between k room) ≡ k - 2
+between-length k room h = omega (arith, drop-last-length (drop 1 (take k room)), ahead-length k room h)
+
+pub between-get : (k : ℕ) (room : List ℕ) → k ≤ length room → (i : ℕ) → i < length (between k room) → getD room (i + 1) 0 ≡ getD (between k room) i 0
+between-get k room h i low =
+    let inside : 1 + i < k = omega (arith, between-length k room h, low) in
+    let e : i + 1 ≡ 1 + i = omega arith in
+    rw e (sym (drop-last-get (drop 1 (take k room)) i low ∙ getD-drop 1 (take k room) i 0 ∙ getD-take k room (1 + i) 0 inside))
 
 -- ## The bays of the finished carriers
 
@@ -148,7 +163,7 @@ module _ {n : ℕ} {table : List ℕ} (t : Tabled n table) (most : n ≤ span) (
         ))
         (goes-there .others c low))
 
-    pub homeward : (q : Placement) → q ≡ after p (a .moves) → 1 ≤ length (way .ahead) → Homeward n table goals (r + 1) (dropLast (way .ahead)) q
+    homeward : (q : Placement) → q ≡ after p (a .moves) → 1 ≤ length (way .ahead) → Homeward n table goals (r + 1) (dropLast (way .ahead)) q
     homeward q moved long =
         let split = sym (last-split (bayOf p r) (way .ahead) (bayOf goals r) long (way .ends)) in
         rw add-one (record {
@@ -167,17 +182,17 @@ module _ {n : ℕ} {table : List ℕ} (t : Tabled n table) (most : n ≤ span) (
     unfolding carry along _next_
     carry-is = rw (← short, ahead-is)
 
-    pub carried-stuck : {out : List ℕ} {at : Tally} {p′ standing′ empty′ out′ : List ℕ} {f : Named} → f .0 ≡ r → planOf gone ≡ none → Stages (carry (t .yard) goals r p) n p out at p′ standing′ empty′ out′ (Stuck f)
+    carried-stuck : planOf gone ≡ none → carry (t .yard) goals r p ≡ stuck r
     unfolding onward
-    carried-stuck q e = stages-stuck (carry-is ∙ rw (go-none (t .yard) goals r (way .ahead) p e) (ap stuck (sym q)))
+    carried-stuck e = carry-is ∙ rw (go-none (t .yard) goals r (way .ahead) p e)
 
     module _ (a : Made) (e : planOf gone ≡ some a) where
-      pub carried-short : {out : List ℕ} {at : Tally} {p′ standing′ empty′ out′ : List ℕ} {m : Tally} → length (way .ahead) < 2 → Tallied a n p p′ standing′ empty′ out at out′ m
+      carried-short : {out : List ℕ} {at : Tally} {p′ standing′ empty′ out′ : List ℕ} {m : Tally} → length (way .ahead) < 2 → Tallied a n p p′ standing′ empty′ out at out′ m
           → Stages (carry (t .yard) goals r p) n p out at p′ standing′ empty′ out′ (Planned m)
       unfolding onward wayHome
       carried-short h w = stages-done (carry-is ∙ rw (plan-some gone a e, drop-last-short (way .ahead) h) (ap planned (together-none a))) w
 
-      pub carried-home : {out out₁ : List ℕ} {at m : Tally} {q standing₁ empty₁ p′ standing′ empty′ out′ : List ℕ} {z : Staged} → Tallied a n p q standing₁ empty₁ out at out₁ m
+      carried-home : {out out₁ : List ℕ} {at m : Tally} {q standing₁ empty₁ p′ standing′ empty′ out′ : List ℕ} {z : Staged} → Tallied a n p q standing₁ empty₁ out at out₁ m
           → Stages (wayHome (t .yard) goals (r + 1) (dropLast (way .ahead)) q) n q out₁ m p′ standing′ empty′ out′ z → Stages (carry (t .yard) goals r p) n p out at p′ standing′ empty′ out′ z
       unfolding onward
       carried-home w s′ = let s = rw add-one at s′ in record {
@@ -209,7 +224,7 @@ pub past-none : {n : ℕ} {table held : List ℕ} (s : Shown n table held) (f : 
     → PathFound f u v room r → PathPast s u v room r
 past-none s f u v room r same bare e found = record { fits = found .fits; same = rw (← e, ← same, ← bare) (found .same) }
 
-pub on-path : {n : ℕ} {table : List ℕ} (t : Tabled n table) → n ≤ span → Loopless n table → (goals : List ℕ) (r : Carrier) (p : Placement) {standing empty : List ℕ} → Placed n p standing empty
+on-path : {n : ℕ} {table : List ℕ} (t : Tabled n table) → n ≤ span → Loopless n table → (goals : List ℕ) (r : Carrier) (p : Placement) {standing empty : List ℕ} → Placed n p standing empty
     → Goals n goals p → r < length p → HomeBelow r goals p → (path : List ℕ) → some path ≡ pathOf (t .yard) goals r p → OnPath n table (bayOf p r) (bayOf goals r) path
 on-path t most loopless goals r p k g hr hm path e =
     let s = path-short (t .yard) (sound-of t most loopless) goals (g .apart) r p path (record { apart = k .apart; inside = λ i h. in-bays t (k .inside i h) }) (sym (g .many)) hr
@@ -224,10 +239,80 @@ on-path t most loopless goals r p k g hr hm path e =
     }
 
 -- where there is no path r is stuck
-pub carried-nowhere : {n : ℕ} {table : List ℕ} (t : Tabled n table) (goals : List ℕ) (r : Carrier) (p : Placement) {out : List ℕ} {at : Tally} {p′ standing′ empty′ out′ : List ℕ} {f : Named} → f .0 ≡ r
-    → none ≡ pathOf (t .yard) goals r p → Stages (carry (t .yard) goals r p) n p out at p′ standing′ empty′ out′ (Stuck f)
+pub carried-nowhere : (Y : Yard) (goals : List ℕ) (r : Carrier) (p : Placement) → none ≡ pathOf Y goals r p → carry Y goals r p ≡ stuck r
 unfolding carry
-carried-nowhere t goals r p q e = stages-stuck (rw (← e) (ap stuck (sym q)))
+carried-nowhere Y goals r p e = rw (← e)
+
+-- ## Where r has gone
+
+module _ {Y : Yard} {goals : Placement} {r : Carrier} {n : ℕ} {p out : List ℕ} {at : Tally} {p′ standing′ empty′ out′ room : List ℕ} where
+  pub went-there : {k : ℕ} {m : Tally} (a : Made) → some (take k room) ≡ pathOf Y goals r p → planOf (go Y goals r (drop 1 (take k room)) p) ≡ some a
+      → Tallied a n p p′ standing′ empty′ out at out′ m → Goes Y goals r n p out at p′ standing′ empty′ out′ room (There k m)
+  went-there {k} {m} a short e w = record {
+    there = λ j b d.
+        let same : k ≡ j = cc in
+        let same-m : m ≡ b = cc in
+        rw (← same, ← same-m) (short, a, e, w);
+    nowhere = λ d. never (cc);
+  }
+
+  pub went-nowhere : carry Y goals r p ≡ stuck r → Goes Y goals r n p out at p′ standing′ empty′ out′ room Nowhere
+  went-nowhere e = record { there = λ j b d. never (cc); nowhere = λ d. e }
+
+module _ {n : ℕ} {r : Carrier} {at : Tally} {p settled : List ℕ} where
+  pub arrives : {k : ℕ} {m : Tally} → k ≤ n → m .crossings ≤ at .crossings + swap-most * k → BaysBelow (r + 1) p settled → Arrives n r at p settled (There k m)
+  arrives {k} {m} fits few below = record {
+    fits = λ j b d. let same : k ≡ j = cc in rw same at fits;
+    few = λ j b d.
+        let same : k ≡ j = cc in
+        let same-m : m ≡ b = cc in
+        rw (same, same-m) at few;
+    below = λ j b d. below;
+  }
+
+  pub arrives-nowhere : Arrives n r at p settled Nowhere
+  arrives-nowhere = record { fits = λ j b d. never (cc); few = λ j b d. never (cc); below = λ j b d. never (cc) }
+
+-- the path that is found leads to r's goal
+module _ {n : ℕ} {table : List ℕ} (t : Tabled n table) (most : n ≤ span) (loopless : Loopless n table) (r : Carrier) (p : Placement) {standing empty : List ℕ} (k : Placed n p standing empty)
+    (hr : r < length p) {v : Bay} (b : Bound n p r v) where
+  pub way-there : {settled room : List ℕ} {z : Path} (s : BaysBelow r p settled) → PathPast (settledShown t r p s) (bayOf p r) v room z → pathsOf z room ≡ pathOf (t .yard) (b .goals) r p
+  way-there s f = f .same ∙ ap (λ (w : Bay). pathBetween (t .yard) (if carousel (t .yard) then take r p else []) (bayOf p r) w) (sym (b .own))
+
+  module _ (room : List ℕ) (m : ℕ) (short : some (take m room) ≡ pathOf (t .yard) (b .goals) r p) where
+    pub way-of : OnPath n table (bayOf p r) (bayOf (b .goals) r) (take m room)
+    way-of = on-path t most loopless (b .goals) r p k (b .each) hr (b .below) (take m room) short
+
+    pub ahead-of : drop 1 (take m room) ≡ way-of .ahead
+    ahead-of = ap (drop 1) (way-of .starts)
+
+    pub linked-of : Linked n table (bayOf p r) (drop 1 (take m room))
+    linked-of = rw ahead-of (way-of .linked)
+
+    pub long-of : 1 ≤ length (take m room)
+    long-of = let e = ap length (way-of .starts) in omega arith
+
+    pub gone-stuck : planOf (go (t .yard) (b .goals) r (drop 1 (take m room)) p) ≡ none → carry (t .yard) (b .goals) r p ≡ stuck r
+    gone-stuck e = carried-stuck t most loopless (b .goals) r p k (b .each) hr (b .below) (take m room) way-of short (rw ahead-of at e)
+
+    module _ (a : Made) (e : planOf (go (t .yard) (b .goals) r (drop 1 (take m room)) p) ≡ some a) where
+      went : planOf (go (t .yard) (b .goals) r (way-of .ahead) p) ≡ some a
+      went = rw ahead-of at e
+
+      pub gone-homeward : (q : Placement) → q ≡ after p (a .moves) → 2 ≤ length (take m room) → Homeward n table (b .goals) (r + 1) (between m room) q
+      gone-homeward q moved long =
+          let l = ap length (way-of .starts) in
+          rw (ap dropLast ahead-of) (homeward t most loopless (b .goals) r p k (b .each) hr (b .below) (take m room) way-of a went q moved (omega arith))
+
+      pub gone-short : {out : List ℕ} {at : Tally} {p′ standing′ empty′ out′ : List ℕ} {c : Tally} → length (take m room) < 3 → Tallied a n p p′ standing′ empty′ out at out′ c
+          → Stages (carry (t .yard) (b .goals) r p) n p out at p′ standing′ empty′ out′ (Planned c)
+      gone-short h w =
+          let l = ap length (way-of .starts) in
+          carried-short t most loopless (b .goals) r p k (b .each) hr (b .below) (take m room) way-of short a went (omega arith) w
+
+      pub gone-home : {out out₁ : List ℕ} {at c : Tally} {q standing₁ empty₁ p′ standing′ empty′ out′ : List ℕ} {z : Staged} → Tallied a n p q standing₁ empty₁ out at out₁ c
+          → Stages (wayHome (t .yard) (b .goals) (r + 1) (between m room) q) n q out₁ c p′ standing′ empty′ out′ z → Stages (carry (t .yard) (b .goals) r p) n p out at p′ standing′ empty′ out′ z
+      gone-home w s = carried-home t most loopless (b .goals) r p k (b .each) hr (b .below) (take m room) way-of short a went w (rw (ap dropLast ahead-of) at s)
 
 -- ## All carriers
 

@@ -3,92 +3,31 @@ use acting::Tally;
 use acting::Tried;
 use docket::Bay;
 use docket::Carrier;
+use go::Turn;
+use home::HomeBay;
 use home::Staged;
 use rings::Path;
 ghost use mathlib.Core.Path.{_≡_};
 ghost use Prim.Native.Nat.{_*_, _≤_, _<_};
-ghost use lib.ListN.{length, getD};
+ghost use lib.ListN.{length};
 ghost use Rattle.words.specs.Sets.{words, span};
 ghost use Rattle.rings.specs.Search.{Shown};
-ghost use Rattle.moving.specs.Bounds.{room-carrier};
 ghost use Rattle.acting.specs.Acting.{Ready};
 ghost use Rattle.step.specs.Asking.{Loopless, BaysBelow};
 ghost use Rattle.home.specs.Homing.{Owners};
-ghost use Rattle.carry.specs.Carrying.{Goals, OnPath, Reaching, HomeBelow, KindTold, PathPast, CarryAlongSays, CarrySays, CarryAllSays};
+ghost use Rattle.carry.specs.Carrying.{Goals, Reaching, KindTold, PathPast, CarryAsks, GoalAsks, OwnedAsks, GoAlongSays, CarrySays, CarryAllSays};
 
-// Carrier r goes the path, whose first bay is its own, then those that it displaced go home. At its goal r is finished, and its bay settled.
-fn carry_along(
-    table: &[u64],
-    goals: &[u16],
-    owner: &[u16],
-    r: Carrier,
-    path: &[u16],
-    placement: &mut [u16],
-    standing: &mut [u16],
-    empty: &mut [u64],
-    settled: &mut [u64],
-    out: &mut [u64],
-    at: Tally,
-) -> Staged
-    requires { ⌜ Ready (now table) (now placement) (now standing) (now empty) ⌝ }
-    requires { ⌜
-        (r .0 < length (now placement))
-        × Goals (length (now standing)) (now goals) (now placement)
-        × Loopless (length (now standing)) (now table)
-        × HomeBelow (r .0) (now goals) (now placement)
-        × (length (now path) ≤ span)
-        × OnPath (length (now standing)) (now table) (getD (now placement) (r .0) 0) (getD (now goals) (r .0) 0) (now path)
-        × (at .crossings < room-carrier)
-        × Owners (length (now standing)) (now goals) (now owner)
-        × BaysBelow (r .0) (now placement) (now settled)
-        ⌝ }
-    ensures { λ z. ⌜
-        CarryAlongSays (now (goals .entry)) (r .0) (now (path .entry))
-        (now (table .entry)) (now (placement .entry)) (now (standing .entry)) (now (out .entry)) at
-        (now (placement .exit)) (now (standing .exit)) (now (empty .exit)) (now (settled .exit)) (now (out .exit)) z
-        ⌝ }
-{
-    if path.len() < 1 {
-        return Staged::Stuck(r);
-    }
-    let gone = go::go(
-        table,
-        &path[1..],
-        r,
-        placement,
-        standing,
-        empty,
-        settled,
-        out,
-        at,
-    );
-    let Tried::Done(done) = gone else {
-        return Staged::Stuck(r);
-    };
-    let m = Tally {
-        crossings: done.crossings,
-        parked: done.parked,
-    };
-    let own = r.0 as usize;
-    words::add(settled, placement[own] as usize);
-    if path.len() < 3 {
-        return Staged::Planned(m);
-    }
-    let finished = own + 1;
-    let last = path.len() - 1;
-    home::way_home(
-        table,
-        goals,
-        owner,
-        finished,
-        &path[1..last],
-        placement,
-        standing,
-        empty,
-        settled,
-        out,
-        m,
-    )
+// A carrier's turn, with its goal, and whether the yard is a carousel, where its path leads past the finished carriers.
+struct ToGoal {
+    turn: Turn,
+    goal: Bay,
+    in_carousel: bool,
+}
+
+// The number of bays on the path that the carrier has gone, and the tally afterwards; or it could not go there.
+enum Gone {
+    There(usize, Tally),
+    Nowhere,
 }
 
 // The shortest path from u to v past the bays avoided: in a carousel the settled ones, elsewhere none.
@@ -122,59 +61,124 @@ fn path_past(
     ways::path_between(table, n, &none, u, v, path)
 }
 
-// Carrier r goes its path. Where there is none, r is stuck.
-fn carry(
+// Carrier r goes the path from its bay to its goal. There it is finished, and its bay settled.
+fn go_along(
     table: &[u64],
-    goals: &[u16],
-    owner: &[u16],
-    in_carousel: bool,
-    r: Carrier,
+    to: ToGoal,
     placement: &mut [u16],
     standing: &mut [u16],
     empty: &mut [u64],
     settled: &mut [u64],
     out: &mut [u64],
-    at: Tally,
-) -> Staged
+    path: &mut [u16],
+) -> Gone
     requires { ⌜ Ready (now table) (now placement) (now standing) (now empty) ⌝ }
-    requires { ⌜
-        (r .0 < length (now placement))
-        × Goals (length (now standing)) (now goals) (now placement)
-        × Loopless (length (now standing)) (now table)
-        × HomeBelow (r .0) (now goals) (now placement)
-        × Reaching (length (now standing)) (now table)
-        × (at .crossings < room-carrier)
-        × Owners (length (now standing)) (now goals) (now owner)
-        × BaysBelow (r .0) (now placement) (now settled)
-        × KindTold (length (now standing)) (now table) in_carousel
-        ⌝ }
+    requires { ⌜ CarryAsks to (now table) (now placement) (now standing) (now settled) ⌝ }
+    requires { ⌜ GoalAsks to (now placement) (now standing) × (length (now path) ≡ span) ⌝ }
     ensures { λ z. ⌜
-        CarrySays (now (goals .entry)) (r .0)
-        (now (table .entry)) (now (placement .entry)) (now (standing .entry)) (now (out .entry)) at
-        (now (placement .exit)) (now (standing .exit)) (now (empty .exit)) (now (settled .exit)) (now (out .exit)) z
+        GoAlongSays to
+        (now (table .entry)) (now (placement .entry)) (now (standing .entry)) (now (out .entry))
+        (now (placement .exit)) (now (standing .exit)) (now (empty .exit)) (now (settled .exit)) (now (out .exit)) (now (path .exit)) z
         ⌝ }
 {
+    let turn = to.turn;
+    let v = to.goal;
+    let r = turn.carrier;
     let own = r.0 as usize;
     let n = standing.len();
-    let mut path = [0u16; words::SPAN];
     let u = Bay(placement[own]);
-    let v = Bay(goals[own]);
-    let Path::First(k) = path_past(table, n, in_carousel, settled, u, v, &mut path) else {
-        return Staged::Stuck(r);
+    let Path::First(k) = path_past(table, n, to.in_carousel, settled, u, v, path) else {
+        return Gone::Nowhere;
     };
-    carry_along(
+    if k < 1 {
+        return Gone::Nowhere;
+    }
+    let gone = go::go(
         table,
-        goals,
-        owner,
-        r,
-        &path[..k],
+        &path[1..k],
+        turn,
         placement,
         standing,
         empty,
         settled,
         out,
-        at,
-    )
+    );
+    let Tried::Done(done) = gone else {
+        return Gone::Nowhere;
+    };
+    let m = Tally {
+        crossings: done.crossings,
+        parked: done.parked,
+    };
+    words::add(settled, placement[own] as usize);
+    Gone::There(k, m)
+}
+
+// Carrier r goes its path, then those that it displaced go home: at the bays of the path one after the other, the last of them first.
+fn carry(
+    table: &[u64],
+    owner: &[u16],
+    to: ToGoal,
+    placement: &mut [u16],
+    standing: &mut [u16],
+    empty: &mut [u64],
+    settled: &mut [u64],
+    out: &mut [u64],
+) -> Staged
+    requires { ⌜ Ready (now table) (now placement) (now standing) (now empty) ⌝ }
+    requires { ⌜ CarryAsks to (now table) (now placement) (now standing) (now settled) ⌝ }
+    requires { ⌜ OwnedAsks to (now owner) (now placement) (now standing) ⌝ }
+    ensures { λ z. ⌜
+        CarrySays to (now (owner .entry))
+        (now (table .entry)) (now (placement .entry)) (now (standing .entry)) (now (out .entry))
+        (now (placement .exit)) (now (standing .exit)) (now (empty .exit)) (now (settled .exit)) (now (out .exit)) z
+        ⌝ }
+{
+    let turn = to.turn;
+    let r = turn.carrier;
+    let mut path = [0u16; words::SPAN];
+    let gone = go_along(
+        table,
+        to,
+        placement,
+        standing,
+        empty,
+        settled,
+        out,
+        &mut path,
+    );
+    let Gone::There(k, done) = gone else {
+        return Staged::Stuck(r);
+    };
+    let m = Tally {
+        crossings: done.crossings,
+        parked: done.parked,
+    };
+    if k < 3 {
+        return Staged::Planned(m);
+    }
+    let finished = r.0 as usize + 1;
+    let mut count = m;
+    let mut i = k - 2;
+    while 0 < i {
+        let bay = Bay(path[i]);
+        let at = HomeBay {
+            finished,
+            bay,
+            at: count,
+        };
+        let homed = home::home_at(table, owner, at, placement, standing, empty, settled, out);
+        let Staged::Planned(done) = homed else {
+            return homed;
+        };
+        let m = Tally {
+            crossings: done.crossings,
+            parked: done.parked,
+        };
+        count = m;
+        i -= 1;
+    }
+    Staged::Planned(count)
 }
 
 // All carriers by rising number. What the yard is, is asked once, since in a carousel every bay must tell.
@@ -211,19 +215,14 @@ pub fn carry_all(
     while r < goals.len() {
         let number = r as u32;
         let carrier = Carrier(number);
-        let carried = carry(
-            table,
-            goals,
-            owner,
+        let goal = Bay(goals[r]);
+        let turn = Turn { carrier, at: count };
+        let to = ToGoal {
+            turn,
+            goal,
             in_carousel,
-            carrier,
-            placement,
-            standing,
-            empty,
-            settled,
-            out,
-            count,
-        );
+        };
+        let carried = carry(table, owner, to, placement, standing, empty, settled, out);
         let Staged::Planned(done) = carried else {
             return carried;
         };

@@ -1,5 +1,5 @@
 -- The links are made from where each key was seen last: upwards from the end, downwards from the start.
-use mathlib.Core.Path.{_≡_, refl, sym, _∙_, ap}
+use mathlib.Core.Path.{_≡_, sym, _∙_, ap}
 use mathlib.Core.List.{List, []}
 use Prim.Native.Nat.{ℕ, zero, suc, _≤_, _<_, _+_, _*_, _-_}
 use native.Mathlib.Omega.{arith}
@@ -10,7 +10,7 @@ use borrow.Author.Tests.{eqb-true, eqb-false}
 use Rattle.paper.specs.Limits.{most-bays, most-crossings}
 use Rattle.paper.specs.Yard.{crossings, named}
 use Rattle.paper.proofs.Tests.{by-cases}
-use Rattle.chains.specs.Links.{keyOf, Passed, links-each, own, sought, goal, Met, MetBelow, Leads, LeadsDown, Linked, Sees, Seen, SeesBelow, SeenBelow, Ahead, Behind}
+use Rattle.chains.specs.Links.{keyOf, Passed, links-each, own, sought, goal, Met, Leads, LeadsDown, Linked, Sees, Seen, SeesBelow, SeenBelow, Ahead, Behind}
 use Rattle.chains.proofs.Linking.{passed-none, passed-both}
 
 module _ (plan : List ℕ) where

@@ -93,7 +93,7 @@ pub fn check(bays: u64, rails: &[u16], start: &[u16], goal: &[u16], plan: &[u64]
     ensures { λ r. ⌜ checkedOf r ≡ checkOf (order bays (now (rails .entry)) (now (start .entry)) (now (goal .entry))) (now (plan .entry)) ⌝ }
 {
     let mut table = [0u64; Yard::TABLE];
-    let opened = Yard::open(bays, rails, start, goal, plan.len() as u64, &mut table);
+    let opened = Yard::open_in(bays, rails, start, goal, plan.len() as u64, &mut table);
     match opened {
         Opened::Refused(r) => Checked::Refused(r),
         Opened::Open(_) => check_from(&table, start, goal, plan),

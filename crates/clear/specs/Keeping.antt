@@ -14,6 +14,8 @@ use Rattle.rings.specs.Search.{Shown}
 use Rattle.moving.specs.Bounds.{vacate-most, clear-once-most}
 use Rattle.acting.specs.Acting.{Tabled, Tallied}
 use Rattle.acting.specs.declared.Tally.{Tally}
+use Rattle.clear.specs.declared.Round.{Round}
+use Rattle.clear.specs.declared.First.{First}
 use Rattle.clear.specs.declared.Kept.{Kept}
 use Rattle.clear.specs.declared.Kept.the-variants.{One, Nothing}
 use Rattle.clear.specs.declared.Two.{Two}
@@ -86,21 +88,20 @@ pub record HoldsTwo (held : List ℕ) : Type 0 where
 
 -- ## What is said
 
--- the first of the others from a on that can be vacated is kept
-abbrev pub KeepSays : (table others : List ℕ) (a : ℕ) (held p standing out : List ℕ) → Tally → (p′ standing′ empty′ out′ : List ℕ) → Kept → Type 0
-KeepSays table others a held p standing out at p′ standing′ empty′ out′ r =
-    KeptBy at r
+-- the first of the others in the round that can be vacated is kept
+abbrev pub KeepSays : (table others held : List ℕ) → Round → (p standing out p′ standing′ empty′ out′ : List ℕ) → Kept → Type 0
+KeepSays table others held round p standing out p′ standing′ empty′ out′ r =
+    KeptBy (round .at) r
     × ((s : Shown (length standing) table held)
-    → Keeps (s .yard) (s .bays) others a (length standing) p out at p′ standing′ empty′ out′ r)
+    → Keeps (s .yard) (s .bays) others (round .from) (length standing) p out (round .at) p′ standing′ empty′ out′ r)
 
--- the paper's clearing goes on through the others from a on, with x kept and two bays held
-abbrev pub KeepSecondSays : (table others : List ℕ) (a : ℕ) (held : List ℕ) → Bay → (p standing out : List ℕ) → Tally
-    → (p′ standing′ empty′ out′ : List ℕ) → Two → Type 0
-KeepSecondSays table others a held x p standing out at p′ standing′ empty′ out′ r =
-    TwoBy at vacate-most r
+-- the paper's clearing goes on through the others in the round, with one bay kept and two held
+abbrev pub KeepSecondSays : (table others held : List ℕ) → First → (p standing out p′ standing′ empty′ out′ : List ℕ) → Two → Type 0
+KeepSecondSays table others held first p standing out p′ standing′ empty′ out′ r =
+    TwoBy (first .round .at) vacate-most r
     × ((t : Tabled (length standing) table) (h : HoldsTwo held)
-    → Clears (clearing (t .yard) (h .one) (h .two) (x ∷ []) (from (mem others) a (length standing)) p)
-    (length standing) p out at p′ standing′ empty′ out′ r)
+    → Clears (clearing (t .yard) (h .one) (h .two) (first .kept .0 ∷ []) (from (mem others) (first .round .from) (length standing)) p)
+    (length standing) p out (first .round .at) p′ standing′ empty′ out′ r)
 
 -- the paper's clearing at v, once through its neighbours other than b
 abbrev pub ClearSays : Bay → Bay → (table p standing out : List ℕ) → Tally → (p′ standing′ empty′ out′ : List ℕ) → Two → Type 0

@@ -26,37 +26,57 @@ pub enum Two {
     Short,
 }
 
-// The first of the others, from a on, that can be vacated is vacated.
+// A round through the others: from which bay on, and the tally before it.
+struct Round {
+    from: usize,
+    at: Tally,
+}
+
+// The bay that is kept first, and the round in which a second is looked for.
+struct First {
+    kept: Bay,
+    round: Round,
+}
+
+// The first of the others in the round that can be vacated is vacated.
 fn keep_one(
     table: &[u64],
     others: &[u64],
-    a: usize,
     held: &[u64],
+    round: Round,
     placement: &mut [u16],
     standing: &mut [u16],
     empty: &mut [u64],
     out: &mut [u64],
-    at: Tally,
 ) -> Kept
     requires { ⌜ Ready (now table) (now placement) (now standing) (now empty) ⌝ }
     requires { ⌜
         (length (now others) ≡ words)
         × (length (now held) ≡ words)
-        × (a ≤ span)
+        × (round .from ≤ span)
         × Among (length (now standing)) (now others)
-        × (at .crossings < room-vacate)
+        × (round .at .crossings < room-vacate)
         × Shown (length (now standing)) (now table) (now held)
         ⌝ }
     ensures { λ r. ⌜
-        KeepSays (now (table .entry)) (now (others .entry)) a (now (held .entry))
-        (now (placement .entry)) (now (standing .entry)) (now (out .entry)) at
+        KeepSays (now (table .entry)) (now (others .entry)) (now (held .entry)) round
+        (now (placement .entry)) (now (standing .entry)) (now (out .entry))
         (now (placement .exit)) (now (standing .exit)) (now (empty .exit)) (now (out .exit)) r
         ⌝ }
 {
-    let mut x = words::next_from(others, a);
+    let mut x = words::next_from(others, round.from);
     while x < words::SPAN {
         let bay = Bay(x as u16);
-        let vacated = acting::make_room(table, held, bay, placement, standing, empty, out, at);
+        let vacated = acting::make_room(
+            table,
+            held,
+            bay,
+            placement,
+            standing,
+            empty,
+            out,
+            round.at,
+        );
         if let Tried::Done(done) = vacated {
             let m = Tally {
                 crossings: done.crossings,
@@ -69,39 +89,48 @@ fn keep_one(
     Kept::Nothing
 }
 
-// With the bay x kept, one of the others, from a on, is kept too, if one can be vacated.
+// With one bay kept, one of the others is kept too, if one can be vacated.
 fn keep_second(
     table: &[u64],
     others: &[u64],
-    a: usize,
     held: &mut [u64],
-    x: Bay,
+    first: First,
     placement: &mut [u16],
     standing: &mut [u16],
     empty: &mut [u64],
     out: &mut [u64],
-    at: Tally,
 ) -> Two
     requires { ⌜ Ready (now table) (now placement) (now standing) (now empty) ⌝ }
     requires { ⌜
         (length (now others) ≡ words)
         × (length (now held) ≡ words)
-        × (a ≤ length (now standing))
-        × (x .0 < length (now standing))
+        × (first .round .from ≤ length (now standing))
+        × (first .kept .0 < length (now standing))
         × Among (length (now standing)) (now others)
-        × (at .crossings < room-vacate)
+        × (first .round .at .crossings < room-vacate)
         × HoldsTwo (now held)
-        × Out (x .0) (now placement)
+        × Out (first .kept .0) (now placement)
         ⌝ }
     ensures { λ r. ⌜
-        KeepSecondSays (now (table .entry)) (now (others .entry)) a (now (held .entry)) (x .0)
-        (now (placement .entry)) (now (standing .entry)) (now (out .entry)) at
+        KeepSecondSays (now (table .entry)) (now (others .entry)) (now (held .entry)) first
+        (now (placement .entry)) (now (standing .entry)) (now (out .entry))
         (now (placement .exit)) (now (standing .exit)) (now (empty .exit)) (now (out .exit)) r
         ⌝ }
 {
+    let x = first.kept;
     words::join(held, x.0 as usize);
-    let second = keep_one(table, others, a, held, placement, standing, empty, out, at);
+    let second = keep_one(
+        table,
+        others,
+        held,
+        first.round,
+        placement,
+        standing,
+        empty,
+        out,
+    );
     let Kept::One(y, m) = second else {
+        let at = first.round.at;
         return Two::Single(x, at);
     };
     Two::Both(x, y, m)
@@ -139,43 +168,36 @@ pub fn clear(
         if y < words::SPAN {
             return Two::Both(Bay(x as u16), Bay(y as u16), at);
         }
+        let kept = Bay(x as u16);
+        let round = Round { from: 0, at };
         return keep_second(
             table,
             &others,
-            0,
             &mut held,
-            Bay(x as u16),
+            First { kept, round },
             placement,
             standing,
             empty,
             out,
-            at,
         );
     }
-    let first = keep_one(
-        table,
-        &others,
-        0,
-        &held,
-        placement,
-        standing,
-        empty,
-        out,
-        at,
-    );
-    let Kept::One(z, m) = first else {
+    let all = Round { from: 0, at };
+    let first = keep_one(table, &others, &held, all, placement, standing, empty, out);
+    let Kept::One(kept, m) = first else {
         return Two::Short;
+    };
+    let round = Round {
+        from: kept.0 as usize + 1,
+        at: m,
     };
     keep_second(
         table,
         &others,
-        z.0 as usize + 1,
         &mut held,
-        z,
+        First { kept, round },
         placement,
         standing,
         empty,
         out,
-        m,
     )
 }

@@ -1,89 +1,130 @@
--- What going on asks and says: the paper's in the yard that the table shows, with the leader at v and the follower at b.
+-- What going on asks and says: the paper's in the yard that the table shows, with the leader at the junction and the follower behind it.
 -- Assumes nothing.
 use mathlib.Core.Path.{_≡_}
-use mathlib.Core.Bool.{Bool}
+use mathlib.Core.Bool.{Bool, true}
 use mathlib.Core.List.{List}
+use mathlib.Core.Option.{Option}
 use Prim.Native.Nat.{ℕ, _<_}
 use lib.ListN.{length}
 use Rattle.paper.specs.Basics.{Out}
-use Rattle.paper.specs.Procedure.{aside, around, firstKept, goOn}
-use Rattle.paper.specs.Yard.{Bay, Carrier}
+use Rattle.paper.specs.Procedure.{Action, Cleared, aside, firstKept, goOn}
+use Rattle.paper.specs.Yard.{Bay, Yard, Placement}
 use Rattle.paper.proofs.Playing.{Sound}
 use Rattle.words.specs.Sets.{mem, words}
-use Rattle.moving.specs.Bounds.{clear-once-most, attempt-most, clear-most}
+use Rattle.moving.specs.Bounds.{clear-once-most, attempt-most, clear-most, room-vacate, room-clear, room-step}
 use Rattle.acting.specs.Acting.{Tabled, nothing, Within, Tries, TriesAs}
 use Rattle.acting.specs.declared.Tally.{Tally}
 use Rattle.acting.specs.declared.Tried.{Tried}
 use Rattle.clear.specs.Keeping.{Among, from}
 use Rattle.clear.specs.declared.Kept.{Kept}
 use Rattle.clear_on.specs.Going.{AtJunction, wayOf, Attempts, KeptWithin, FirstKept, Others, PairBy, GoesOn, ClearsTwo}
+use Rattle.clear_on.specs.declared.Aside.{Aside}
+use Rattle.clear_on.specs.declared.Lead.{Lead}
+use Rattle.clear_on.specs.declared.OneKept.{OneKept}
 use Rattle.clear_on.specs.declared.Pair.{Pair}
 
--- the first way with x, on a placement that is used up
-abbrev pub AsideSays : (v b e x : Bay) (table p standing out : List ℕ) → Tally → (p′ standing′ empty′ out′ : List ℕ) → Tried → Type 0
-AsideSays v b e x table p standing out at p′ standing′ empty′ out′ r =
-    Within at clear-once-most r
-    × TriesAs (λ Y. aside Y v b e x) table p standing out at p′ standing′ empty′ out′ r
+-- ## In the code's words
 
--- the second way
-abbrev pub AroundSays : (L M : Carrier) (v b e x : Bay) (table p standing out : List ℕ) → Tally → (p′ standing′ empty′ out′ : List ℕ) → Tried → Type 0
-AroundSays L M v b e x table p standing out at p′ standing′ empty′ out′ r =
+-- the leader stands at the junction and the follower at b
+abbrev pub Arrived : Lead → Bay → Placement → Type 0
+Arrived lead b p = AtJunction (lead .couple .leader .0) (lead .couple .follower .0) (lead .junction .0) b p
+
+-- an attempt with x, the second way or the first
+abbrev pub wayWith : Bool → Yard → OneKept → Bay → Action
+wayWith second Y one x p =
+    wayOf second Y (one .lead .couple .leader .0) (one .lead .couple .follower .0) (one .lead .junction .0) (one .behind .0) (one .kept .0) x p
+
+-- the paper's going on
+abbrev pub goOnWith : Yard → OneKept → Placement → Option Cleared
+goOnWith Y one p = goOn Y (one .lead .couple .leader .0) (one .lead .couple .follower .0) (one .lead .junction .0) (one .behind .0) (one .kept .0) p
+
+-- ## What is asked, what is said
+
+-- the first way with x, on a placement that is used up
+abbrev pub AsideSays : Aside → (x : Bay) (table p standing out : List ℕ) → Tally → (p′ standing′ empty′ out′ : List ℕ) → Tried → Type 0
+AsideSays a x table p standing out at p′ standing′ empty′ out′ r =
+    Within at clear-once-most r
+    × TriesAs (λ Y. aside Y (a .junction .0) (a .held .0) (a .emptied .0) x) table p standing out at p′ standing′ empty′ out′ r
+
+-- leader and follower are two, the bays are in the yard, and the kept one is empty
+abbrev pub KeptAsks : OneKept → (p standing : List ℕ) → Type 0
+KeptAsks one p standing =
+    (one .lead .couple .leader .0 < length p)
+    × (one .lead .couple .follower .0 < length p)
+    × (one .lead .couple .follower .0 ≡ one .lead .couple .leader .0 → ⊥)
+    × (one .lead .junction .0 < length standing)
+    × (one .behind .0 < length standing)
+    × (one .kept .0 < length standing)
+    × Out (one .kept .0) p
+
+-- the second way with x, on a placement that is used up
+abbrev pub AroundAsks : OneKept → (x : Bay) (p standing : List ℕ) → Tally → Type 0
+AroundAsks one x p standing at = KeptAsks one p standing × (x < length standing) × (at .crossings < room-step)
+
+abbrev pub AroundSays : OneKept → (x : Bay) (table p standing out : List ℕ) → Tally → (p′ standing′ empty′ out′ : List ℕ) → Tried → Type 0
+AroundSays one x table p standing out at p′ standing′ empty′ out′ r =
     Within at attempt-most r
     × ((t : Tabled (length standing) table)
-    → AtJunction L M v b p
-    → Tries (around (t .yard) L M v b e x p) (length standing) p out at p′ standing′ empty′ out′ r)
+    → Arrived (one .lead) (one .behind .0) p
+    → Tries (wayWith true (t .yard) one x p) (length standing) p out at p′ standing′ empty′ out′ r)
 
 -- an attempt, logged from the log's start
-abbrev pub AttemptSays : Bool → (L M : Carrier) (v b e x : Bay) (table p standing log′ : List ℕ) → Tried → Type 0
-AttemptSays second L M v b e x table p standing log′ r =
+abbrev pub AttemptAsks : OneKept → (x : Bay) (p standing : List ℕ) → Type 0
+AttemptAsks one x p standing = KeptAsks one p standing × (x < length standing)
+
+abbrev pub AttemptSays : Bool → OneKept → (x : Bay) (table p standing log′ : List ℕ) → Tried → Type 0
+AttemptSays second one x table p standing log′ r =
     Within nothing attempt-most r
     × ((t : Tabled (length standing) table)
-    → AtJunction L M v b p
-    → Attempts (wayOf second (t .yard) L M v b e x p) log′ r)
+    → Arrived (one .lead) (one .behind .0) p
+    → Attempts (wayWith second (t .yard) one x p) log′ r)
 
--- attempts with each of the others: one bay e is kept, and it is empty
-abbrev pub OthersAsk : (others : List ℕ) (L M : Carrier) (v b e : Bay) (p standing : List ℕ) → Type 0
-OthersAsk others L M v b e p standing =
-    (L < length p)
-    × (M < length p)
-    × (M ≡ L → ⊥)
-    × (v < length standing)
-    × (b < length standing)
-    × (e < length standing)
-    × (length others ≡ words)
-    × Among (length standing) others
-    × Out e p
+-- attempts with each of the others
+abbrev pub OthersAsk : (others : List ℕ) → OneKept → (p standing : List ℕ) → Type 0
+OthersAsk others one p standing = KeptAsks one p standing × (length others ≡ words) × Among (length standing) others
 
 -- the first of the others whose attempt succeeds
-abbrev pub FirstKeptSays : Bool → (others : List ℕ) (L M : Carrier) (v b e : Bay) (table p standing log′ : List ℕ) → Kept → Type 0
-FirstKeptSays second others L M v b e table p standing log′ r =
+abbrev pub FirstKeptSays : Bool → (others : List ℕ) → OneKept → (table p standing log′ : List ℕ) → Kept → Type 0
+FirstKeptSays second others one table p standing log′ r =
     KeptWithin attempt-most r
     × ((t : Tabled (length standing) table)
-    → AtJunction L M v b p
-    → FirstKept (firstKept (t .yard) (wayOf second (t .yard) L M v b e) e (from (mem others) 0 (length standing)) p) e log′ r)
+    → Arrived (one .lead) (one .behind .0) p
+    → FirstKept (firstKept (t .yard) (wayWith second (t .yard) one) (one .kept .0) (from (mem others) 0 (length standing)) p) (one .kept .0) log′ r)
 
--- where the others are the neighbours of v except b and e, one way or the other
-abbrev pub EitherSays : (others : List ℕ) (L M : Carrier) (v b e : Bay) (table p standing log′ : List ℕ) → Kept → Type 0
-EitherSays others L M v b e table p standing log′ r =
+-- where the others are the junction's neighbours except the bay behind and the kept one: one way or the other
+abbrev pub EitherSays : (others : List ℕ) → OneKept → (table p standing log′ : List ℕ) → Kept → Type 0
+EitherSays others one table p standing log′ r =
     KeptWithin attempt-most r
     × ((t : Tabled (length standing) table)
-    → AtJunction L M v b p
-    → Others (t .yard) v b e (length standing) others
-    → FirstKept (goOn (t .yard) L M v b e p) e log′ r)
+    → Arrived (one .lead) (one .behind .0) p
+    → Others (t .yard) (one .lead .junction .0) (one .behind .0) (one .kept .0) (length standing) others
+    → FirstKept (goOnWith (t .yard) one p) (one .kept .0) log′ r)
 
 -- the paper's going on, stored in the list from `at` on
-abbrev pub GoOnSays : (L M : Carrier) (v b e : Bay) (table p standing out : List ℕ) → Tally → (out′ : List ℕ) → Pair → Type 0
-GoOnSays L M v b e table p standing out at out′ r =
+abbrev pub GoOnAsks : OneKept → (p standing : List ℕ) → Tally → Type 0
+GoOnAsks one p standing at = KeptAsks one p standing × (at .crossings < room-vacate)
+
+abbrev pub GoOnSays : OneKept → (table p standing out : List ℕ) → Tally → (out′ : List ℕ) → Pair → Type 0
+GoOnSays one table p standing out at out′ r =
     PairBy at attempt-most r
     × ((t : Tabled (length standing) table)
-    → AtJunction L M v b p
-    → GoesOn (goOn (t .yard) L M v b e p) out at out′ r)
+    → Arrived (one .lead) (one .behind .0) p
+    → GoesOn (goOnWith (t .yard) one p) out at out′ r)
 
--- the whole of clearing
-abbrev pub ClearTwoSays : (L M : Carrier) (v b : Bay) (table p standing out : List ℕ) → Tally → (p′ out′ : List ℕ) → Pair → Type 0
-ClearTwoSays L M v b table p standing out at p′ out′ r =
+-- the whole of clearing, with the follower at b
+abbrev pub ClearTwoAsks : Lead → (b : Bay) (p standing : List ℕ) → Tally → Type 0
+ClearTwoAsks lead b p standing at =
+    (lead .couple .leader .0 < length p)
+    × (lead .couple .follower .0 < length p)
+    × (lead .couple .follower .0 ≡ lead .couple .leader .0 → ⊥)
+    × (lead .junction .0 < length standing)
+    × (b < length standing)
+    × (at .crossings < room-clear)
+
+abbrev pub ClearTwoSays : Lead → (b : Bay) (table p standing out : List ℕ) → Tally → (p′ out′ : List ℕ) → Pair → Type 0
+ClearTwoSays lead b table p standing out at p′ out′ r =
     PairBy at clear-most r
     × ((t : Tabled (length standing) table)
     → Sound (t .yard)
-    → AtJunction L M v b p
-    → ClearsTwo (t .yard) L M v b p out at p′ out′ r)
+    → Arrived lead b p
+    → ClearsTwo (t .yard) (lead .couple .leader .0) (lead .couple .follower .0) (lead .junction .0) b p out at p′ out′ r)

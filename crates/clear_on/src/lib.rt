@@ -2,17 +2,16 @@
 // attempt is played on copies and logged from the log's start, so that one that fails is forgotten.
 use acting::Tally;
 use acting::Tried;
+use bring::Couple;
 use clear::Kept;
 use clear::Two;
 use docket::Bay;
-use docket::Carrier;
 ghost use mathlib.Core.Path.{_≡_};
 ghost use Prim.Native.Nat.{min, _≤_, _<_};
 ghost use lib.ListN.{length, take};
-ghost use Rattle.paper.specs.Basics.{Out};
-ghost use Rattle.moving.specs.Bounds.{room-vacate, room-clear, room-step};
+ghost use Rattle.moving.specs.Bounds.{room-clear};
 ghost use Rattle.acting.specs.Acting.{Ready};
-ghost use Rattle.clear_on.specs.Asking.{OthersAsk, AsideSays, AroundSays, AttemptSays, FirstKeptSays, EitherSays, GoOnSays, ClearTwoSays};
+ghost use Rattle.clear_on.specs.Asking.{AsideSays, AroundAsks, AroundSays, AttemptAsks, AttemptSays, OthersAsk, FirstKeptSays, EitherSays, GoOnAsks, GoOnSays, ClearTwoAsks, ClearTwoSays};
 
 // The two bays that are kept, with the tally afterwards, or that there are not two.
 pub enum Pair {
@@ -20,12 +19,30 @@ pub enum Pair {
     Missing,
 }
 
-// The first way, on a placement that is used up: x is vacated, holding v and b; then e, holding x as well.
+// A leader with its follower, and the junction to which it leads.
+pub struct Lead {
+    pub couple: Couple,
+    pub junction: Bay,
+}
+
+// Where clearing goes on: the leader is at the junction and the follower at the bay behind it; of the other neighbours one is kept.
+pub struct OneKept {
+    pub lead: Lead,
+    pub behind: Bay,
+    pub kept: Bay,
+}
+
+// What an attempt goes by besides x: the junction, the neighbour that is held with it, and the neighbour that is emptied after x.
+struct Aside {
+    junction: Bay,
+    held: Bay,
+    emptied: Bay,
+}
+
+// The first way, on a placement that is used up: x is vacated, holding the junction and a neighbour; then the other one, holding x as well.
 fn vacate_both(
     table: &[u64],
-    v: Bay,
-    b: Bay,
-    e: Bay,
+    aside: Aside,
     x: Bay,
     placement: &mut [u16],
     standing: &mut [u16],
@@ -35,21 +52,21 @@ fn vacate_both(
 ) -> Tried
     requires { ⌜ Ready (now table) (now placement) (now standing) (now empty) ⌝ }
     requires { ⌜
-        (v .0 < length (now standing))
-        × (b .0 < length (now standing))
-        × (e .0 < length (now standing))
+        (aside .junction .0 < length (now standing))
+        × (aside .held .0 < length (now standing))
+        × (aside .emptied .0 < length (now standing))
         × (x .0 < length (now standing))
         × (at .crossings < room-clear)
         ⌝ }
     ensures { λ r. ⌜
-        AsideSays (v .0) (b .0) (e .0) (x .0)
+        AsideSays aside (x .0)
         (now (table .entry)) (now (placement .entry)) (now (standing .entry)) (now (out .entry)) at
         (now (placement .exit)) (now (standing .exit)) (now (empty .exit)) (now (out .exit)) r
         ⌝ }
 {
     let mut held = [0u64; words::WORDS];
-    words::alone(&mut held, v.0 as usize);
-    words::join(&mut held, b.0 as usize);
+    words::alone(&mut held, aside.junction.0 as usize);
+    words::join(&mut held, aside.held.0 as usize);
     let vacated = acting::make_room(table, &held, x, placement, standing, empty, out, at);
     let Tried::Done(done) = vacated else {
         return Tried::Failed;
@@ -59,18 +76,23 @@ fn vacate_both(
         parked: done.parked,
     };
     words::join(&mut held, x.0 as usize);
-    acting::make_room(table, &held, e, placement, standing, empty, out, m)
+    acting::make_room(
+        table,
+        &held,
+        aside.emptied,
+        placement,
+        standing,
+        empty,
+        out,
+        m,
+    )
 }
 
-// The second way, on a placement that is used up: leader and follower go forth to e and v, what is vacated is as in the first way with b and e
-// in each other's place, and the two go back.
+// The second way, on a placement that is used up: leader and follower go forth to the kept bay and the junction, what is vacated is as in the
+// first way with the bay behind and the kept bay in each other's place, and the two go back.
 fn go_round(
     table: &[u64],
-    l: Carrier,
-    m: Carrier,
-    v: Bay,
-    b: Bay,
-    e: Bay,
+    one: OneKept,
     x: Bay,
     placement: &mut [u16],
     standing: &mut [u16],
@@ -79,25 +101,31 @@ fn go_round(
     at: Tally,
 ) -> Tried
     requires { ⌜ Ready (now table) (now placement) (now standing) (now empty) ⌝ }
-    requires { ⌜
-        (l .0 < length (now placement))
-        × (m .0 < length (now placement))
-        × (m .0 ≡ l .0 → ⊥)
-        × (v .0 < length (now standing))
-        × (b .0 < length (now standing))
-        × (e .0 < length (now standing))
-        × (x .0 < length (now standing))
-        × (at .crossings < room-step)
-        × Out (e .0) (now placement)
-        ⌝ }
+    requires { ⌜ AroundAsks one (x .0) (now placement) (now standing) at ⌝ }
     ensures { λ r. ⌜
-        AroundSays (l .0) (m .0) (v .0) (b .0) (e .0) (x .0)
+        AroundSays one (x .0)
         (now (table .entry)) (now (placement .entry)) (now (standing .entry)) (now (out .entry)) at
         (now (placement .exit)) (now (standing .exit)) (now (empty .exit)) (now (out .exit)) r
         ⌝ }
 {
-    let forth = bring::enter(l, m, e, placement, standing, empty, out, at);
-    let vacated = vacate_both(table, v, e, b, x, placement, standing, empty, out, forth);
+    let forth = bring::enter(
+        one.lead.couple,
+        one.kept,
+        placement,
+        standing,
+        empty,
+        out,
+        at,
+    );
+    let junction = one.lead.junction;
+    let held = one.kept;
+    let emptied = one.behind;
+    let aside = Aside {
+        junction,
+        held,
+        emptied,
+    };
+    let vacated = vacate_both(table, aside, x, placement, standing, empty, out, forth);
     let Tried::Done(done) = vacated else {
         return Tried::Failed;
     };
@@ -105,7 +133,10 @@ fn go_round(
         crossings: done.crossings,
         parked: done.parked,
     };
-    Tried::Done(bring::enter(m, l, b, placement, standing, empty, out, c))
+    let leader = one.lead.couple.follower;
+    let follower = one.lead.couple.leader;
+    let back = Couple { leader, follower };
+    Tried::Done(bring::enter(back, emptied, placement, standing, empty, out, c))
 }
 
 // The list begins with the other one.
@@ -124,11 +155,7 @@ pub fn copy(to: &mut [u16], from: &[u16])
 fn attempt(
     table: &[u64],
     second: bool,
-    l: Carrier,
-    m: Carrier,
-    v: Bay,
-    b: Bay,
-    e: Bay,
+    one: OneKept,
     x: Bay,
     placement: &[u16],
     standing: &[u16],
@@ -136,18 +163,9 @@ fn attempt(
     log: &mut [u64],
 ) -> Tried
     requires { ⌜ Ready (now table) (now placement) (now standing) (now empty) ⌝ }
-    requires { ⌜
-        (l .0 < length (now placement))
-        × (m .0 < length (now placement))
-        × (m .0 ≡ l .0 → ⊥)
-        × (v .0 < length (now standing))
-        × (b .0 < length (now standing))
-        × (e .0 < length (now standing))
-        × (x .0 < length (now standing))
-        × Out (e .0) (now placement)
-        ⌝ }
+    requires { ⌜ AttemptAsks one (x .0) (now placement) (now standing) ⌝ }
     ensures { λ r. ⌜
-        AttemptSays second (l .0) (m .0) (v .0) (b .0) (e .0) (x .0)
+        AttemptSays second one (x .0)
         (now (table .entry)) (now (placement .entry)) (now (standing .entry)) (now (log .exit)) r
         ⌝ }
 {
@@ -166,11 +184,7 @@ fn attempt(
     if second {
         return go_round(
             table,
-            l,
-            m,
-            v,
-            b,
-            e,
+            one,
             x,
             &mut bays[..k],
             &mut carriers[..n],
@@ -179,11 +193,16 @@ fn attempt(
             from,
         );
     }
+    let junction = one.lead.junction;
+    let held = one.behind;
+    let emptied = one.kept;
     vacate_both(
         table,
-        v,
-        b,
-        e,
+        Aside {
+            junction,
+            held,
+            emptied,
+        },
         x,
         &mut bays[..k],
         &mut carriers[..n],
@@ -198,40 +217,23 @@ fn first_kept(
     table: &[u64],
     second: bool,
     others: &[u64],
-    l: Carrier,
-    m: Carrier,
-    v: Bay,
-    b: Bay,
-    e: Bay,
+    one: OneKept,
     placement: &[u16],
     standing: &[u16],
     empty: &[u64],
     log: &mut [u64],
 ) -> Kept
     requires { ⌜ Ready (now table) (now placement) (now standing) (now empty) ⌝ }
-    requires { ⌜ OthersAsk (now others) (l .0) (m .0) (v .0) (b .0) (e .0) (now placement) (now standing) ⌝ }
+    requires { ⌜ OthersAsk (now others) one (now placement) (now standing) ⌝ }
     ensures { λ r. ⌜
-        FirstKeptSays second (now (others .entry)) (l .0) (m .0) (v .0) (b .0) (e .0)
+        FirstKeptSays second (now (others .entry)) one
         (now (table .entry)) (now (placement .entry)) (now (standing .entry)) (now (log .exit)) r
         ⌝ }
 {
     let mut x = words::next_from(others, 0);
     while x < words::SPAN {
         let bay = Bay(x as u16);
-        let tried = attempt(
-            table,
-            second,
-            l,
-            m,
-            v,
-            b,
-            e,
-            bay,
-            placement,
-            standing,
-            empty,
-            log,
-        );
+        let tried = attempt(table, second, one, bay, placement, standing, empty, log);
         if let Tried::Done(done) = tried {
             let c = Tally {
                 crossings: done.crossings,
@@ -248,54 +250,24 @@ fn first_kept(
 fn either_way(
     table: &[u64],
     others: &[u64],
-    l: Carrier,
-    m: Carrier,
-    v: Bay,
-    b: Bay,
-    e: Bay,
+    one: OneKept,
     placement: &[u16],
     standing: &[u16],
     empty: &[u64],
     log: &mut [u64],
 ) -> Kept
     requires { ⌜ Ready (now table) (now placement) (now standing) (now empty) ⌝ }
-    requires { ⌜ OthersAsk (now others) (l .0) (m .0) (v .0) (b .0) (e .0) (now placement) (now standing) ⌝ }
+    requires { ⌜ OthersAsk (now others) one (now placement) (now standing) ⌝ }
     ensures { λ r. ⌜
-        EitherSays (now (others .entry)) (l .0) (m .0) (v .0) (b .0) (e .0)
+        EitherSays (now (others .entry)) one
         (now (table .entry)) (now (placement .entry)) (now (standing .entry)) (now (log .exit)) r
         ⌝ }
 {
-    let first = first_kept(
-        table,
-        false,
-        others,
-        l,
-        m,
-        v,
-        b,
-        e,
-        placement,
-        standing,
-        empty,
-        log,
-    );
+    let first = first_kept(table, false, others, one, placement, standing, empty, log);
     if let Kept::One(x, c) = first {
         return Kept::One(x, c);
     }
-    first_kept(
-        table,
-        true,
-        others,
-        l,
-        m,
-        v,
-        b,
-        e,
-        placement,
-        standing,
-        empty,
-        log,
-    )
+    first_kept(table, true, others, one, placement, standing, empty, log)
 }
 
 // The place where the list goes on, or its end.
@@ -308,14 +280,10 @@ pub fn place_in(out: &[u64], at: usize) -> usize
     out.len()
 }
 
-// Clearing around v, with leader l there and follower m at b, goes on with the one kept bay e.
+// Clearing goes on around the junction with the one kept bay.
 pub fn go_on(
     table: &[u64],
-    l: Carrier,
-    m: Carrier,
-    v: Bay,
-    b: Bay,
-    e: Bay,
+    one: OneKept,
     placement: &[u16],
     standing: &[u16],
     empty: &[u64],
@@ -323,34 +291,22 @@ pub fn go_on(
     at: Tally,
 ) -> Pair
     requires { ⌜ Ready (now table) (now placement) (now standing) (now empty) ⌝ }
-    requires { ⌜
-        (l .0 < length (now placement))
-        × (m .0 < length (now placement))
-        × (m .0 ≡ l .0 → ⊥)
-        × (v .0 < length (now standing))
-        × (b .0 < length (now standing))
-        × (e .0 < length (now standing))
-        × (at .crossings < room-vacate)
-        × Out (e .0) (now placement)
-        ⌝ }
+    requires { ⌜ GoOnAsks one (now placement) (now standing) at ⌝ }
     ensures { λ r. ⌜
-        GoOnSays (l .0) (m .0) (v .0) (b .0) (e .0)
+        GoOnSays one
         (now (table .entry)) (now (placement .entry)) (now (standing .entry)) (now (out .entry)) at (now (out .exit)) r
         ⌝ }
 {
+    let e = one.kept;
     let mut others = [0u64; words::WORDS];
-    words::join_row(&mut others, table, v.0 as usize);
-    words::remove(&mut others, b.0 as usize);
+    words::join_row(&mut others, table, one.lead.junction.0 as usize);
+    words::remove(&mut others, one.behind.0 as usize);
     words::remove(&mut others, e.0 as usize);
     let from = place_in(out, at.crossings);
     let found = either_way(
         table,
         &others,
-        l,
-        m,
-        v,
-        b,
-        e,
+        one,
         placement,
         standing,
         empty,
@@ -362,13 +318,11 @@ pub fn go_on(
     Pair::Both(x, e, acting::add(at, c))
 }
 
-// Clear, with leader l at the junction v and follower m at b: once through the neighbours, and on from there with one kept bay. The placement
+// Clear, with the leader at the junction and the follower at b: once through the neighbours, and on from there with one kept bay. The placement
 // is left as the first part leaves it.
 pub fn clear_two(
     table: &[u64],
-    l: Carrier,
-    m: Carrier,
-    v: Bay,
+    lead: Lead,
     b: Bay,
     placement: &mut [u16],
     standing: &mut [u16],
@@ -377,24 +331,24 @@ pub fn clear_two(
     at: Tally,
 ) -> Pair
     requires { ⌜ Ready (now table) (now placement) (now standing) (now empty) ⌝ }
-    requires { ⌜
-        (l .0 < length (now placement))
-        × (m .0 < length (now placement))
-        × (m .0 ≡ l .0 → ⊥)
-        × (v .0 < length (now standing))
-        × (b .0 < length (now standing))
-        × (at .crossings < room-clear)
-        ⌝ }
+    requires { ⌜ ClearTwoAsks lead (b .0) (now placement) (now standing) at ⌝ }
     ensures { λ r. ⌜
-        ClearTwoSays (l .0) (m .0) (v .0) (b .0)
+        ClearTwoSays lead (b .0)
         (now (table .entry)) (now (placement .entry)) (now (standing .entry)) (now (out .entry)) at
         (now (placement .exit)) (now (out .exit)) r
         ⌝ }
 {
-    let cleared = clear::clear(table, v, b, placement, standing, empty, out, at);
+    let cleared = clear::clear(table, lead.junction, b, placement, standing, empty, out, at);
     match cleared {
         Two::Both(x, y, c) => Pair::Both(x, y, c),
-        Two::Single(e, c) => { go_on(table, l, m, v, b, e, placement, standing, empty, out, c) }
+        Two::Single(e, c) => {
+            let one = OneKept {
+                lead,
+                behind: b,
+                kept: e,
+            };
+            go_on(table, one, placement, standing, empty, out, c)
+        }
         Two::Short => Pair::Missing,
     }
 }

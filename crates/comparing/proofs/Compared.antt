@@ -1,10 +1,10 @@
 -- What a comparison that is granted says of the two lists, and that any two answers that the contract allows are equal.
-use mathlib.Core.Path.{_≡_, refl, sym, _∙_, ap}
+use mathlib.Core.Path.{_≡_, sym, _∙_}
 use mathlib.Core.List.{List}
 use Prim.Native.Nat.{ℕ}
 use lib.IntN.{ℤ, pos, _-ℤ_}
 use lib.ListN.{length}
-use Rattle.comparing.specs.Comparing.{comparison, equalLeading, longerBy, partBy, differences}
+use Rattle.comparing.specs.Comparing.{comparison, longerBy, partBy, differences}
 use Rattle.paper.specs.Docket.{granted}
 use Rattle.comparing.specs.Statements.{CompareSays}
 use Rattle.comparing.proofs.Leading.{EqualExactly, equal-exactly, RestOf, rest-of}

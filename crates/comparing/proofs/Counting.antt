@@ -3,13 +3,14 @@ use mathlib.Core.Path.{_≡_, refl, sym, _∙_, ap}
 use mathlib.Core.Bool.{true, false}
 use mathlib.Core.List.{List, [], _∷_}
 use mathlib.Core.Option.{none, some}
-use Prim.Native.Nat.{ℕ, zero, suc, _≤_, _<_, _+_}
+use Prim.Native.Nat.{ℕ, suc, _≤_, _<_, _+_}
 use native.Mathlib.Omega.{arith}
 use native.Mathlib.Numerals.{add-one}
 use borrow.Author.Tests.{eq-eqb, ne-eqb, eqb-true, eqb-false, le-leb, lt-leb}
 use lib.Dec.{eqb, leb}
 use lib.ListN.{length, getD, drop, set, replicate, length-set, length-replicate, getD-replicate, drop-of-length-le}
 use lib.Seq.{drop-cons, getD-set-same, getD-set-other}
+use Rattle.lists.proofs.Lists.{low-zeros, low-set}
 use Rattle.paper.specs.Basics.{find, if_then_else_}
 use Rattle.paper.specs.Limits.{most-carriers}
 use Rattle.paper.specs.Yard.{Carrier, crossings}
@@ -25,16 +26,11 @@ pub record Counting (list counts : List ℕ) (i : ℕ) : Type 0 where
   pub whole : (c : Carrier) → c < most-carriers → getD counts c 0 + countOf c (crossings (drop i list)) ≡ countOf c (crossings list)
   pub above : firstAbove list ≡ firstAbove (drop i list)
 
-zeros-low : (k c : ℕ) → getD (replicate k 0) c 0 ≤ 0
-zeros-low zero c = omega arith
-zeros-low (suc k) zero = omega arith
-zeros-low (suc k) (suc c) = zeros-low k c
-
 pub counting-start : (list : List ℕ) → Counting list (replicate most-carriers 0) 0
 counting-start list = record {
   within = omega arith;
   long = length-replicate {A = ℕ} most-carriers 0;
-  low = zeros-low most-carriers;
+  low = low-zeros most-carriers;
   whole = λ c h. let z = getD-replicate {A = ℕ} most-carriers c 0 0 h in omega arith;
   above = refl;
 }
@@ -63,9 +59,7 @@ module _ (list counts : List ℕ) (i : ℕ) (k : Counting list counts i) where
         record {
           within = omega arith;
           long = length-set counts c put ∙ k .long;
-          low = λ d. by-cases (eqb d c)
-              (λ z. rw (eqb-true d c z, getD-set-same counts c put 0 inside) (let l = k .low c in omega arith))
-              (λ z. rw (getD-set-other counts c d put 0 (eqb-false d c z)) (let l = k .low d in omega arith));
+          low = let l = k .low c in low-set counts c put i (i + 1) (k .low) (omega arith) (omega arith);
           whole = λ d b.
               let w = k .whole d b in
               let r = ap (λ l. countOf d (crossings l)) rest ∙ count-cons d (getD list i 0) (drop (i + 1) list) in

@@ -9,12 +9,12 @@ use borrow.Author.Tests.{eqb-true, eqb-false, ne-eqb, leb-false}
 use lib.Dec.{eqb, leb}
 use lib.IntN.{ℤ, pos, negℤ, _+ℤ_, _-ℤ_, +ℤ-assoc, +ℤ-comm, negℤ-+ℤ}
 use lib.ListN.{length}
-use Rattle.paper.specs.Basics.{countFrom, upTo, find, if_then_else_}
+use Rattle.paper.specs.Basics.{countFrom, upTo, find}
 use Rattle.paper.specs.Limits.{most-carriers}
-use Rattle.paper.specs.Yard.{Carrier, Crossing, crossings, unpack}
+use Rattle.paper.specs.Yard.{Crossing, crossings, unpack}
 use Rattle.paper.specs.Dependence.{countOf}
 use Rattle.paper.proofs.Tests.{by-cases, never-some}
-use Rattle.comparing.specs.Comparing.{carrierOf, firstAbove, difference, differences}
+use Rattle.comparing.specs.Comparing.{carrierOf, firstAbove, differences}
 
 -- all of them together
 unfoldable pub sumOf : List ℤ → ℤ

@@ -1,26 +1,21 @@
 -- The part handed back: a part that goes to a list's end is what is left of the list from its start on.
-use mathlib.Core.Path.{_≡_, sym, _∙_, ap}
-use mathlib.Core.Bool.{true, false}
-use mathlib.Core.List.{List, []}
+use mathlib.Core.Path.{_≡_, sym, _∙_}
+use mathlib.Core.List.{List}
 use Prim.Native.Nat.{ℕ, _≤_, _<_, _-_}
-use native.Mathlib.Omega.{arith}
 use borrow.Author.Tests.{lt-ltb, le-ltb}
-use lib.Dec.{eqb, ltb}
-use lib.ListN.{length, take, drop, length-drop}
-use lib.Seq.{take-all, drop-length}
-use Rattle.paper.specs.Basics.{if_then_else_}
+use lib.Dec.{ltb}
+use lib.ListN.{length, take, drop}
+use lib.Seq.{drop-length}
+use Rattle.lists.proofs.Lists.{to-the-end}
 use Rattle.paper.proofs.Tests.{by-option}
 use Rattle.docket.specs.Reading.{verdictOf}
 use Rattle.docket.specs.declared.Refusal.{Refusal}
-use Rattle.comparing.specs.Comparing.{partBy, longerBy, refusal, comparison, equalLeading}
-use Rattle.paper.specs.Docket.{Verdict, granted, denied}
+use Rattle.comparing.specs.Comparing.{partBy, longerBy, refusal, comparison}
+use Rattle.paper.specs.Docket.{Verdict}
 use Rattle.comparing.specs.Statements.{Within}
 use Rattle.docket.specs.declared.Verdict.{Verdict as Held}
 use Rattle.docket.specs.declared.Verdict.the-variants.{Granted, Denied}
 use Rattle.comparing.proofs.Leading.{leading-first, leading-second}
-
-to-the-end : (list : List ℕ) (from : ℕ) → take (length list - from) (drop from list) ≡ drop from list
-to-the-end list from = take-all (length list - from) (drop from list) (rw length-drop (omega arith))
 
 module _ (first second : List ℕ) (answer : Held) where
   module _ (e : ℕ) (is : answer ≡ Granted e) where

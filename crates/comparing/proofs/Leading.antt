@@ -3,13 +3,12 @@
 use mathlib.Core.Path.{_≡_, refl, sym, _∙_, ap, ap₂}
 use mathlib.Core.Bool.{true, false}
 use mathlib.Core.List.{List, [], _∷_, _++_}
-use Prim.Native.Nat.{ℕ, zero, suc, _+_, _<_, _≤_}
+use Prim.Native.Nat.{ℕ, suc, _+_, _<_, _≤_}
 use native.Mathlib.Omega.{arith}
-use borrow.Author.Tests.{eq-eqb, eqb-true, eqb-false, ne-eqb, ltb-true, ltb-false, le-ltb}
+use borrow.Author.Tests.{eq-eqb, eqb-true, eqb-false, ne-eqb, ltb-true, ltb-false}
 use lib.Dec.{eqb, ltb}
 use lib.ListN.{length, getD, take, drop, take-append-drop}
 use lib.Seq.{take-length}
-use Rattle.paper.specs.Basics.{if_then_else_}
 use Rattle.paper.proofs.Tests.{by-cases}
 use Rattle.comparing.specs.Comparing.{equalLeading, longerOf, listOf}
 

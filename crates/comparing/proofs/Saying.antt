@@ -1,8 +1,8 @@
 -- What comparing says, way out by way out: each refusal comes after the tests before it have passed, and past the last the differences are those counted.
-use mathlib.Core.Path.{_≡_, refl, sym, _∙_, ap, ap₂}
-use mathlib.Core.Bool.{Bool, true, false, not}
+use mathlib.Core.Path.{_≡_, sym, _∙_, ap, ap₂}
+use mathlib.Core.Bool.{false}
 use mathlib.Core.List.{List, map}
-use mathlib.Core.Option.{Option, none, some}
+use mathlib.Core.Option.{none, some}
 use Prim.Native.Nat.{ℕ, zero, suc, _+_, _≤_, _<_}
 use native.Mathlib.Omega.{arith}
 use borrow.Author.Tests.{lt-ltb, le-ltb, ne-eqb}
@@ -10,29 +10,23 @@ use lib.Dec.{eqb, ltb}
 use lib.IntN.{ℤ, pos, _-ℤ_}
 use lib.ListN.{length, getD, length-map}
 use lib.Seq.{ext-getD}
-use Rattle.paper.specs.Basics.{_or_, orElse, _>>=_, when, upTo, countFrom}
+use Rattle.paper.specs.Basics.{_or_, orElse, upTo, countFrom}
 use Rattle.paper.specs.Limits.{most-carriers}
-use Rattle.paper.specs.Yard.{Carrier, crossings, most-crossings}
-use Rattle.paper.specs.Dependence.{countOf}
+use Rattle.paper.specs.Yard.{crossings, most-crossings}
 use Rattle.paper.proofs.Tests.{or-left, or-right, or-neither, none-both}
-use Rattle.docket.specs.Reading.{refusalOf, verdictOf}
+use Rattle.docket.specs.Reading.{refusalOf}
 use Rattle.docket.specs.declared.Carrier.{Carrier as Carried}
 use Rattle.docket.specs.declared.Refusal.{Refusal}
 use Rattle.docket.specs.declared.Refusal.the-variants.{Size, Start, Room}
-use Rattle.comparing.specs.Comparing.{firstAbove, no-1, no-5, no-8, refusal, comparison, equalLeading, difference, differences, differencesBy}
-use Rattle.paper.specs.Docket.{Verdict, granted, denied}
+use Rattle.comparing.specs.Comparing.{firstAbove, refusal, comparison, equalLeading, difference, differences, differencesBy}
+use Rattle.paper.specs.Docket.{granted}
+use Rattle.paper.proofs.Reach.{count-length}
 use Rattle.comparing.specs.Statements.{Counts, CountSays, FillSays, DifferSays}
 use Rattle.comparing.specs.declared.Counted.{Counted}
-use Rattle.docket.specs.declared.Verdict.{Verdict as Held}
 use Rattle.docket.specs.declared.Verdict.the-variants.{Granted, Denied}
 use Rattle.comparing.proofs.Exchanged.{Passed, passed-granted}
 
 -- what is counted for each carrier gives the differences
-up-long : (a k : ℕ) → length (countFrom a k) ≡ k
-unfolding countFrom
-up-long a zero = refl
-up-long a (suc k) = ap suc (up-long (suc a) k)
-
 up-at : (f : ℕ → ℤ) (a k i : ℕ) → i < k → getD (map f (countFrom a k)) i (pos 0) ≡ f (a + i)
 unfolding countFrom
 up-at f a zero i h = absurd (omega arith)
@@ -43,7 +37,7 @@ filled-differences : (first second firsts seconds : List ℕ) (filled : List ℤ
     → filled ≡ differences first second
 filled-differences first second firsts seconds filled f s says =
     ext-getD (pos 0) filled (differences first second)
-    (says .long ∙ sym (length-map (upTo most-carriers) (difference first second) ∙ up-long 0 most-carriers))
+    (says .long ∙ sym (length-map (upTo most-carriers) (difference first second) ∙ count-length 0 most-carriers))
     (λ c h.
     let low : c < most-carriers = rw (← says .long) h in
     says .less c low

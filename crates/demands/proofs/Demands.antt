@@ -1,26 +1,23 @@
 -- The user's demands, which specs/Demands states, as theorems about the definitions. Their proofs cite the laws; here they are in one place and in order.
 use mathlib.Core.Path.{_≡_, _∙_, ap}
-use mathlib.Core.Bool.{true, false}
-use mathlib.Core.Logic.{_↔_}
-use mathlib.Core.List.{List, _++_, map}
+use mathlib.Core.List.{List, map}
 use mathlib.Core.Option.{none, some}
-use Prim.Native.Nat.{ℕ, suc, _<_, _≤_}
+use Prim.Native.Nat.{ℕ, suc}
 use native.Mathlib.Omega.{arith}
-use lib.ListN.{length, length-map, drop, getD}
-use Rattle.paper.specs.Basics.{In, NoDup}
-use Rattle.paper.specs.Yard.{Carrier, Crossing, after, legalPlan, unpack, crossings, pack, most-crossings}
+use lib.ListN.{length, length-map}
+use Rattle.paper.specs.Yard.{Crossing, after, unpack, crossings, pack}
 use Rattle.paper.specs.Order.{Order}
-use Rattle.paper.specs.Procedure.{stuck, procedure}
-use Rattle.paper.specs.Dependence.{isDone, countOf, slots, placementBy}
-use Rattle.paper.specs.Docket.{yardOf, badMarks, stopped, room, Refusal}
-use Rattle.paper.specs.Answers.{check, accept, already, report, accepted, refused, plan, planEnd, written, firstSix, slotsRefusal, slotsEnd, marksEnd}
-use Rattle.paper.specs.Log.{Request, answerTo, marksBy, marksOf, namesOf, acceptedOf}
+use Rattle.paper.specs.Procedure.{procedure}
+use Rattle.paper.specs.Dependence.{countOf, slots}
+use Rattle.paper.specs.Docket.{yardOf, stopped, room}
+use Rattle.paper.specs.Answers.{check, accept, already, report, accepted, refused, plan, written, slotsEnd}
+use Rattle.paper.specs.Log.{Request, answerTo, marksOf, namesOf}
 pub use Rattle.demands.specs.Demands.{Demand1, Demand2, Demand3}
 use Rattle.paper.proofs.Tests.{not-both}
 use Rattle.paper.proofs.Planning.{accepted-exactly, stopped-exactly, room-exactly, accepted-right, plan-written}
-use Rattle.paper.proofs.Slotting.{Numbering, slots-rise, slots-lowest}
+use Rattle.paper.proofs.Slotting.{slots-rise, slots-lowest}
 use Rattle.paper.proofs.Checking.{check-passed}
-use Rattle.paper.proofs.Reporting.{Ready, accept-facts, facts-accept, done-already, report-accepts}
+use Rattle.paper.proofs.Reporting.{accept-facts, facts-accept, done-already, report-accepts}
 use Rattle.paper.proofs.Logging.{fine, some-ready, all-done, unaccepted, plan-lawful, kept-from-fresh}
 use Rattle.paper.proofs.Handing.{handed-passes}
 

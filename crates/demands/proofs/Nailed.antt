@@ -1,24 +1,22 @@
 -- What the demands nail, derived from their records alone: each law takes a demand as given and cites its fields, so a record that said less would not do.
-use mathlib.Core.Path.{_≡_, refl, sym, _∙_, ap}
+use mathlib.Core.Path.{_≡_, refl, sym}
 use mathlib.Core.Bool.{true, false}
-use mathlib.Core.Logic.{_↔_, _⊎_, inl, inr}
+use mathlib.Core.Logic.{_⊎_, inl, inr}
 use mathlib.Core.List.{List, _++_, map}
-use mathlib.Core.Option.{none, some}
+use mathlib.Core.Option.{none}
 use Prim.Native.Nat.{ℕ, _<_, _≤_}
 use native.Mathlib.Omega.{arith}
-use lib.Dec.{ltb}
 use lib.ListN.{length, drop, getD}
-use borrow.Author.Tests.{ltb-true, ltb-false}
 use Rattle.paper.specs.Basics.{In, NoDup}
 use Rattle.paper.specs.Yard.{Carrier, Crossing, after, legalPlan, crossings, pack, most-crossings}
 use Rattle.paper.specs.Order.{Order}
-use Rattle.paper.specs.Procedure.{Outcome, planned, stuck, procedure}
+use Rattle.paper.specs.Procedure.{stuck, procedure}
 use Rattle.paper.specs.Dependence.{isDone, countOf, slots, Numbering, Ready, placementBy}
 use Rattle.paper.specs.Docket.{yardOf, badMarks, stopped, room, Refusal}
 use Rattle.paper.specs.Answers.{Answer, check, Report, accept, already, refuse, report, accepted, refused, plan, planEnd, firstSix, Gives, TooLong, slotsRefusal, slotsEnd, marksEnd}
 use Rattle.paper.specs.Log.{Request, answerTo, marksBy, marksOf, namesOf, acceptedOf}
 use Rattle.demands.specs.Demands.{Demand1, Demand2, Demand3}
-use Rattle.paper.proofs.Tests.{by-cases, by-option, not-both, never}
+use Rattle.paper.proofs.Tests.{by-option, never}
 
 by-answer : {P : Type 0} (a : Answer) → ((xs : List Crossing) → a ≡ accepted xs → P) → ((r : Refusal) → a ≡ refused r → P) → P
 by-answer (accepted xs) f g = f xs refl

@@ -1,30 +1,26 @@
 -- A line that ends gives the state that its worth asks for: the `p` line, a rail more, a comment, or a broken layout in this line.
-use mathlib.Core.Path.{_≡_, refl, sym, _∙_, ap}
+use mathlib.Core.Path.{_≡_, _∙_, ap}
 use mathlib.Core.Bool.{true, false}
-use mathlib.Core.List.{List, [], _∷_, _++_}
+use mathlib.Core.List.{List, [], _∷_}
 use mathlib.Core.Option.{Option, none, some}
-use Prim.Native.Nat.{ℕ, suc, _+_, _-_, _*_, _≤_, _<_}
+use Prim.Native.Nat.{ℕ, _+_, _-_, _*_, _≤_, _<_}
 use native.Mathlib.Omega.{arith}
 use lib.Dec.{ltb, leb}
 use lib.ListN.{length, length-append}
 use borrow.Author.Tests.{lt-ltb, le-ltb, le-leb, lt-leb}
+use Rattle.lists.proofs.Lists.{no-length}
 use Rattle.paper.specs.Basics.{_and_}
 use Rattle.paper.specs.Yard.{Bay}
 use Rattle.paper.specs.Text.{Text}
 use Rattle.paper.specs.Bytes.{lineClosed}
 use Rattle.paper.proofs.Fields.{and-false}
-use Rattle.survey.specs.Survey.{Surveyed, headDue, railsDue, taken}
+use Rattle.survey.specs.Survey.{Surveyed, taken}
 use Rattle.survey.specs.Bytes.{beginLine, closeLine, lineWorth}
-use Rattle.edges.specs.Held.{partOf, wordBy, countOf, dueOf, endsAfter, last-line, Opened, Broken, Ended, Takes, Closes}
-use Rattle.edges.specs.declared.Due.{Due}
+use Rattle.edges.specs.Held.{partOf, wordBy, countOf, dueOf, endsAfter, Opened, Broken, Ended, Takes, Closes}
 use Rattle.edges.specs.declared.Due.the-variants.{Head, Rails}
 use Rattle.edges.specs.declared.Part.{Part}
 use Rattle.edges.specs.declared.Part.the-variants.{Comment, Second}
 use Rattle.edges.specs.declared.Reading.{Reading}
-
-no-length : {A : Type 0} (l : List A) → length l ≡ 0 → l ≡ []
-no-length [] h = refl
-no-length (x ∷ l) h = absurd (omega arith)
 
 -- no rail more, no end more
 pub same-ends : (s r : Reading) (ends : List Bay) → r .due ≡ s .due → endsAfter s r ends ≡ ends

@@ -1,7 +1,6 @@
 -- A byte of a line makes of what is held of it what the definition's byte makes.
-use mathlib.Core.Path.{_≡_, refl, sym, _∙_, ap}
-use mathlib.Core.Bool.{Bool, true, false}
-use mathlib.Core.List.{List, [], _∷_}
+use mathlib.Core.Path.{_≡_}
+use mathlib.Core.Bool.{true, false}
 use Prim.Native.Nat.{ℕ, suc, _+_, _-_, _*_, _≤_, _<_}
 use native.Mathlib.Omega.{arith}
 use native.Mathlib.Numerals.{add-one}
@@ -13,7 +12,7 @@ use Rattle.paper.specs.Basics.{_and_}
 use Rattle.paper.specs.Text.{Text, isDigit}
 use Rattle.paper.specs.Bytes.{tally}
 use Rattle.paper.proofs.Fields.{and-false}
-use Rattle.survey.specs.Bytes.{Line, broken, inWord, inFirst, inSecond, await, wordByte, digitByte, lineByte}
+use Rattle.survey.specs.Bytes.{broken, inWord, inFirst, inSecond, await, wordByte, digitByte, lineByte}
 
 -- ## A digit
 module _ (n b : ℕ) where

@@ -3,19 +3,18 @@ use mathlib.Core.Path.{_≡_, refl, sym, _∙_, ap}
 use mathlib.Core.Bool.{Bool, true, false}
 use mathlib.Core.List.{List}
 use mathlib.Core.Option.{Option, none, some}
-use Prim.Native.Nat.{ℕ, suc, _+_, _*_, _≤_, _<_}
+use Prim.Native.Nat.{ℕ, suc, _*_}
 use native.Mathlib.Omega.{arith}
-use lib.Dec.{eqb, ltb}
+use lib.Dec.{eqb}
 use lib.ListN.{length}
-use borrow.Author.Tests.{eq-eqb, ne-eqb}
+use borrow.Author.Tests.{ne-eqb}
 use Rattle.paper.specs.Basics.{if_then_else_}
 use Rattle.paper.specs.Yard.{Bay}
-use Rattle.paper.specs.Text.{Read, badLine}
 use Rattle.paper.specs.Bytes.{State, failed, going, release, feed, lineClosed, ending, endAfter, finishFile}
 use Rattle.paper.proofs.Tests.{by-cases, never}
 use Rattle.survey.specs.Survey.{Surveyed, surveyEnd}
 use Rattle.survey.specs.Bytes.{Line, fresh, lineByte, Under, beginLine, inLine, closeLine, endLine, surveyStep, surveyFinish}
-use Rattle.edges.specs.Held.{partBy, wordBy, countOf, dueOf, underOf, stateOf, endsAfter, last-line, Marked, Closes, Steps, dueRead, readOf, Finishes}
+use Rattle.edges.specs.Held.{partBy, wordBy, countOf, dueOf, underOf, stateOf, endsAfter, Marked, Closes, Steps, dueRead, readOf, Finishes}
 use Rattle.edges.specs.declared.Due.{Due}
 use Rattle.edges.specs.declared.Due.the-variants.{Head, Rails}
 use Rattle.edges.specs.declared.Part.{Part}

@@ -1,25 +1,24 @@
 -- After each byte the ends read so far are stored behind one another, and the state is the definition's: so at the end of the file the
 -- answer is the layout's.
 use mathlib.Core.Path.{_≡_, refl, sym, _∙_, ap}
-use mathlib.Core.Bool.{true, false}
-use mathlib.Core.List.{List, [], _∷_, _++_, map, map-append, foldl, foldl-append, append-assoc, append-nil}
+use mathlib.Core.List.{List, [], _∷_, _++_, map, map-append, foldl, foldl-append, append-assoc}
 use Prim.Native.Nat.{ℕ, suc, _+_, _*_, _≤_, _<_}
 use native.Mathlib.Omega.{arith}
 use native.Mathlib.Numerals.{add-one}
 use lib.Dec.{eqb, ltb}
-use lib.ListN.{length, getD, take, set, length-append, length-map, length-set, length-take}
-use lib.Seq.{sets, take-suc, take-all}
+use lib.ListN.{length, getD, take, set, length-append, length-set, length-take}
+use lib.Seq.{sets, take-suc}
 use borrow.Author.Tests.{lt-ltb, le-ltb}
 use Rattle.paper.specs.Yard.{Bay}
 use Rattle.paper.specs.Text.{Text, Read, good, badLine}
-use Rattle.paper.proofs.Tests.{by-cases, never}
+use Rattle.paper.proofs.Tests.{by-cases, never, good-same}
 use Rattle.stores.specs.Writing.{Wrote}
-use Rattle.stores.proofs.Stores.{wrote-none, wrote-then}
+use Rattle.stores.proofs.Stores.{wrote-then}
 use Rattle.survey.specs.Survey.{readSurvey}
 use Rattle.survey.specs.Bytes.{unread, surveyStep, surveyFinish}
 use Rattle.survey.specs.Narrow.{narrow}
 use Rattle.survey.proofs.Stepping.{stepped}
-use Rattle.edges.specs.Held.{countOf, stateOf, endsAfter, last-line, Steps, Finishes, readOf, dueRead, answerOf, answerBy, dueAnswer, countRead, stored, Came, Reads}
+use Rattle.edges.specs.Held.{countOf, endsAfter, last-line, Steps, Finishes, readOf, dueRead, answerOf, answerBy, dueAnswer, countRead, stored, Came, Reads}
 use Rattle.edges.specs.declared.Due.{Due}
 use Rattle.edges.specs.declared.Due.the-variants.{Head, Rails}
 use Rattle.edges.specs.declared.Reading.{Reading}
@@ -89,9 +88,6 @@ answer-count r ends l = by-cases (r .failed) (λ f. rw f) (λ f. rw f (due (r .l
     due : (n : ℕ) (d : Due) → length ends ≡ countOf d → dueAnswer n d ≡ countRead (dueRead n d ends)
     due n Head l = refl
     due n (Rails a m k) l = by-cases (eqb k (2 * m)) (λ e. rw (e, l)) (λ e. rw e)
-
-good-same : {a b : ℕ × List Bay} → good a ≡ good b → a ≡ b
-good-same h = cc
 
 read-ends : (r : Reading) (ends : List Bay) (n : ℕ) (es : List Bay) → readOf r ends ≡ good (n, es) → ends ≡ es
 read-ends r ends n es h =

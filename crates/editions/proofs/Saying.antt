@@ -8,7 +8,7 @@ use Prim.Native.Nat.{ℕ, _<_, _≤_}
 use borrow.Author.Tests.{lt-ltb, le-ltb, eq-eqb, ne-eqb}
 use lib.Dec.{ltb, eqb}
 use lib.ListN.{length, drop}
-use Rattle.paper.specs.Basics.{_or_, if_then_else_}
+use Rattle.paper.specs.Basics.{_or_}
 use Rattle.paper.specs.Limits.{most-bays}
 use Rattle.paper.specs.Yard.{Crossing, crossings, most-crossings}
 use Rattle.paper.specs.Order.{Order}

@@ -1,28 +1,21 @@
 -- The check, slots and reports answer by their rows in their order, and each refusal exactly by its row.
-use mathlib.Core.Path.{_≡_, refl, sym, _∙_, ap}
-use mathlib.Core.Bool.{true, false}
-use mathlib.Core.List.{List, [], _∷_}
+use mathlib.Core.Path.{_≡_, refl}
+use mathlib.Core.List.{List}
 use mathlib.Core.Logic.{_↔_}
-use mathlib.Core.Option.{Option, none, some}
+use mathlib.Core.Option.{none, some}
 use Prim.Native.Nat.{ℕ}
-use lib.Dec.{eqb, leb}
-use lib.ListN.{length, getD}
-use borrow.Author.Tests.{eqb-true, eq-eqb}
-use Rattle.paper.specs.Basics.{if-some_then_else_, _>>=_, orElse, when, elem, _and_}
-use Rattle.paper.specs.Yard.{Crossing, crossings, after}
+use lib.ListN.{length}
+use Rattle.paper.specs.Basics.{orElse, elem, _and_}
+use Rattle.paper.specs.Yard.{crossings, after}
 use Rattle.paper.specs.Order.{Order}
-use Rattle.paper.specs.Dependence.{isDone, undoneBefore}
-use Rattle.paper.specs.Docket.{Refusal, number, carried, yardOf, badMarks, no-9, no-10, no-11, no-12, no-13}
-use Rattle.paper.specs.Answers.{firstSix, check, slotsRefusal, Report, accept, already, refuse, tell, report}
-use Rattle.paper.proofs.Tests.{by-option, by-cases, never, not-both}
-use Rattle.paper.proofs.Determined.{docket-tells}
-use Rattle.exactly.specs.First.{Row, plain, carrying, NoneOf, Given, numbersOf, distinct}
-use Rattle.exactly.specs.Words.{mark, BadMarks, NotInPlan, LowestUndone}
-use Rattle.exactly.specs.Rows.{already-number, reportNumber, reportValue, checkRows, slotsRows, markRows, reportRows}
-use Rattle.exactly.proofs.First.{Reads, after-it, exactly, nothing-exactly, plain-test, retold, otherwise, otherwise-exactly, other-exactly}
+use Rattle.paper.specs.Docket.{Refusal, number, carried, yardOf, no-11}
+use Rattle.paper.specs.Answers.{check, slotsRefusal, accept, refuse}
+use Rattle.exactly.specs.First.{NoneOf, Given, distinct}
+use Rattle.exactly.specs.Rows.{checkRows, slotsRows, markRows}
+use Rattle.exactly.proofs.First.{after-it, exactly, nothing-exactly}
 use Rattle.exactly.proofs.Six.{Refuses, six-reads}
 use Rattle.exactly.proofs.Plans.{reads-8, reads-9, reads-10}
-use Rattle.exactly.proofs.Marks.{reads-11, reads-12, reads-13}
+use Rattle.exactly.proofs.Marks.{reads-11}
 
 module _ (o : Order) (crossed : List ℕ) where
   -- ## The check and slots

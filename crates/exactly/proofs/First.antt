@@ -10,7 +10,7 @@ use lib.Dec.{eqb}
 use borrow.Author.Tests.{eqb-true, eqb-false, eq-eqb, ne-eqb, not-true}
 use Rattle.paper.specs.Basics.{if-some_then_else_, _>>=_, orElse, when, elem}
 use Rattle.paper.proofs.Tests.{by-cases, by-option, not-both, never-some, some-same, and-left, and-right, none-both, none-from, none-when, either, some-when, some-from}
-use Rattle.exactly.specs.First.{Row, plain, carrying, numberIn, Applies, Passed, NoneOf, pick, Given, numbersOf, distinct}
+use Rattle.exactly.specs.First.{Row, plain, carrying, numberIn, Applies, Passed, NoneOf, Given, numbersOf, distinct}
 
 -- the same without looking at the numbers: some row applies, and none before it does
 abbrev pub First : List Row → ℕ → Option ℕ → Type 0

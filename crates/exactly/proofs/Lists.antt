@@ -1,6 +1,6 @@
 -- Tests over lists, in words: some member passes, the first member that passes, by its place.
 use mathlib.Core.Path.{_≡_, refl}
-use mathlib.Core.Bool.{Bool, true, false}
+use mathlib.Core.Bool.{Bool, true}
 use mathlib.Core.List.{List, [], _∷_}
 use mathlib.Core.Logic.{_↔_}
 use mathlib.Core.Option.{some}
@@ -10,7 +10,7 @@ use lib.ListN.{length, getD, take}
 use Rattle.paper.specs.Basics.{any, find, firstBad, upTo}
 use Rattle.paper.proofs.Tests.{by-cases, not-both}
 use Rattle.paper.proofs.Members.{find-exactly}
-use Rattle.paper.proofs.Firsts.{FirstBad, first-bad-exactly}
+use Rattle.paper.proofs.Firsts.{first-bad-exactly}
 use Rattle.exactly.specs.First.{FirstOf}
 
 module _ {A : Type 0} (q : A → Bool) (pad : A) where

@@ -11,13 +11,13 @@ use Rattle.paper.specs.Yard.{Crossing}
 use Rattle.paper.specs.Order.{Order}
 use Rattle.paper.specs.Procedure.{Made, Outcome, planned, stuck, procedure}
 use Rattle.paper.specs.Docket.{Refusal, number, carried, yardOf, no-7, no-8}
-use Rattle.paper.specs.Answers.{Answer, accepted, refused, crossingsOf, within, unless, plan, firstSix}
-use Rattle.paper.proofs.Tests.{by-option, never, never-some}
+use Rattle.paper.specs.Answers.{accepted, refused, crossingsOf, within, unless, plan, firstSix}
+use Rattle.paper.proofs.Tests.{by-option, never}
 use Rattle.paper.proofs.Planning.{Gives, accepted-exactly}
-use Rattle.exactly.specs.First.{Row, carrying, NoneOf, Given, distinct}
+use Rattle.exactly.specs.First.{carrying, NoneOf, Given, distinct}
 use Rattle.exactly.specs.Words.{TooLong}
 use Rattle.exactly.specs.Rows.{planRows}
-use Rattle.exactly.proofs.First.{Reads, after-it, exactly, nothing-exactly}
+use Rattle.exactly.proofs.First.{after-it, exactly, nothing-exactly}
 use Rattle.exactly.proofs.Six.{Refuses, six-reads}
 use Rattle.exactly.proofs.Plans.{reads-7, reads-8-by}
 

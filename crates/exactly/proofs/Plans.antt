@@ -1,6 +1,6 @@
 -- 7 to 10 in words: what the procedure gives, the first illegal crossing, the lowest carrier away from home.
-use mathlib.Core.Path.{_≡_, refl, sym, _∙_, ap}
-use mathlib.Core.Bool.{Bool, true, false, not}
+use mathlib.Core.Path.{_≡_, refl, ap}
+use mathlib.Core.Bool.{true, not}
 use mathlib.Core.List.{List, [], _∷_}
 use mathlib.Core.Logic.{_↔_, _⊎_, inl, inr, ⊎-elim}
 use mathlib.Core.Option.{Option, none, some}
@@ -12,15 +12,15 @@ use borrow.Author.Tests.{not-true, ltb-true, lt-ltb, eqb-true, eq-eqb}
 use Rattle.paper.specs.Basics.{_and_, _or_, _>>=_, elem}
 use Rattle.paper.specs.Yard.{Bay, Carrier, Yard, Placement, Crossing, most-crossings, bayOf, move, after, joined, legal, legalPlan, named}
 use Rattle.paper.specs.Procedure.{Outcome, planned, stuck}
-use Rattle.paper.specs.Docket.{Refusal, number, carried, stopped, room, illegal, missed, firstIllegal, notHome, no-7, no-8, no-9, no-10}
+use Rattle.paper.specs.Docket.{number, carried, stopped, room, illegal, missed, firstIllegal, notHome, no-7, no-8, no-9, no-10}
 use Rattle.paper.proofs.Tests.{by-cases, and-left, and-right, and-both, or-left, or-right, or-cases, not-both, never}
 use Rattle.paper.proofs.Determined.{docket-tells}
 use Rattle.paper.proofs.Checking.{illegal-exactly, missed-exactly}
 use Rattle.paper.proofs.Playing.{plan-head, plan-tail}
 use Rattle.exactly.specs.First.{carrying}
-use Rattle.exactly.specs.Words.{TooLong, Legal, LegalAt, FirstIllegal, LowestAway}
+use Rattle.exactly.specs.Words.{TooLong, Legal, FirstIllegal, LowestAway}
 use Rattle.exactly.specs.Rows.{no-room}
-use Rattle.exactly.proofs.First.{Reads, carrying-test, known-test}
+use Rattle.exactly.proofs.First.{carrying-test, known-test}
 use Rattle.exactly.proofs.Six.{Refuses, joined-words, elem-words}
 
 -- ## 7 and 8

@@ -1,5 +1,5 @@
 -- A report answers by its rows in their order: 1 to 6, 9, 10, 11, 12, "already", 13, and is accepted exactly if none of them applies.
-use mathlib.Core.Path.{_≡_, refl, sym, _∙_, ap}
+use mathlib.Core.Path.{_≡_, refl, sym, _∙_}
 use mathlib.Core.Bool.{true, false}
 use mathlib.Core.List.{List, [], _∷_}
 use mathlib.Core.Logic.{_↔_}
@@ -7,9 +7,9 @@ use mathlib.Core.Option.{Option, none, some}
 use Prim.Native.Nat.{ℕ}
 use native.Mathlib.Omega.{arith}
 use lib.Dec.{eqb, leb}
-use lib.ListN.{length, getD}
+use lib.ListN.{length}
 use borrow.Author.Tests.{eqb-true, eq-eqb}
-use Rattle.paper.specs.Basics.{if_then_else_, if-some_then_else_, _>>=_, orElse, when, elem, _and_}
+use Rattle.paper.specs.Basics.{_>>=_, orElse, when, elem, _and_}
 use Rattle.paper.specs.Yard.{Crossing, crossings}
 use Rattle.paper.specs.Order.{Order}
 use Rattle.paper.specs.Dependence.{isDone, undoneBefore}
@@ -18,7 +18,7 @@ use Rattle.paper.specs.Answers.{check, Report, accept, already, refuse, tell, r
 use Rattle.paper.proofs.Tests.{by-option, by-cases, never, not-both}
 use Rattle.exactly.specs.First.{Row, plain, carrying, NoneOf, Given, numbersOf, distinct}
 use Rattle.exactly.specs.Words.{mark, NotInPlan, LowestUndone}
-use Rattle.exactly.specs.Rows.{already-number, reportNumber, reportValue, markRows, reportRows}
+use Rattle.exactly.specs.Rows.{already-number, reportNumber, reportValue, reportRows}
 use Rattle.exactly.proofs.First.{Reads, Told, after-it, exactly, nothing-exactly, never-given, plain-test, retold, otherwise, otherwise-exactly, other-exactly}
 use Rattle.paper.proofs.Determined.{not-in-table}
 use Rattle.exactly.proofs.Six.{Refuses}

@@ -1,21 +1,21 @@
 -- 1 to 6 in words, and in their order.
 use mathlib.Core.Path.{_≡_, refl, sym, _∙_, ap}
-use mathlib.Core.Bool.{Bool, true, false, not}
+use mathlib.Core.Bool.{true, false, not}
 use mathlib.Core.List.{List, [], _∷_}
 use mathlib.Core.Logic.{_↔_, inl, inr, ⊎-elim}
 use mathlib.Core.Option.{Option, none, some}
-use Prim.Native.Nat.{ℕ, zero, suc, _<_, _≤_, _+_, _/_, _%_}
+use Prim.Native.Nat.{ℕ, zero, suc, _<_, _+_}
 use native.Mathlib.Omega.{arith}
 use lib.Dec.{eqb, ltb, leb}
 use lib.ListN.{length, getD, take}
 use lib.Seq.{length-take-le, getD-take}
 use borrow.Author.Tests.{not-true, ltb-true, lt-ltb, leb-true, le-leb, eqb-true, eqb-false, eq-eqb, ne-eqb}
-use Rattle.paper.specs.Basics.{_and_, _or_, _>>=_, orElse, when, any, elem, firstBad}
-use Rattle.paper.specs.Yard.{Bay, Carrier, Rail, Yard, Placement, fewest-bays, most-bays, most-rails, most-crossings, kept-empty, bayOf, joined}
+use Rattle.paper.specs.Basics.{_and_, _or_, when, any, elem, firstBad}
+use Rattle.paper.specs.Yard.{Bay, Carrier, Rail, Yard, Placement, kept-empty, joined}
 use Rattle.paper.specs.Order.{Order}
 use Rattle.paper.specs.Docket.{Refusal, size, rail, apart, crowd, start, goal, number, carried, railsOf, yardOf, badSize, badRail, badPlace, apartBay, no-1, no-2, no-3, no-4, no-5, no-6}
 use Rattle.paper.specs.Answers.{firstSix}
-use Rattle.paper.proofs.Tests.{by-cases, and-left, and-right, and-both, or-left, or-right, or-cases, none-when, none-from}
+use Rattle.paper.proofs.Tests.{and-left, and-right, and-both, or-left, or-right, or-cases, none-when, none-from}
 use Rattle.paper.proofs.Members.{In-head, In-tail, In-cases, In-nil}
 use Rattle.paper.proofs.Determined.{docket-tells}
 use Rattle.paper.proofs.Admitted.{sizes-of, sound-of, apart-exactly}

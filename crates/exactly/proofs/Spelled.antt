@@ -1,19 +1,18 @@
 -- The table spelled out, one law a number: the refusal is given exactly if its row's words hold and none of the rows tested before it applies.
 -- `take d rows` are the first d rows of the list.
 use mathlib.Core.Path.{_≡_, refl}
-use mathlib.Core.Bool.{true, false}
-use mathlib.Core.List.{List, [], _∷_, _++_}
+use mathlib.Core.List.{List}
 use mathlib.Core.Logic.{_↔_, Iff·trans}
-use mathlib.Core.Option.{Option, none, some}
+use mathlib.Core.Option.{none, some}
 use Prim.Native.Nat.{ℕ}
 use lib.ListN.{length, take, drop}
 use Rattle.paper.specs.Basics.{elem}
-use Rattle.paper.specs.Yard.{Crossing, crossings, after}
+use Rattle.paper.specs.Yard.{crossings, after}
 use Rattle.paper.specs.Order.{Order}
 use Rattle.paper.specs.Procedure.{stuck, procedure}
-use Rattle.paper.specs.Docket.{Refusal, size, rail, apart, crowd, start, goal, stopped, room, illegal, missed, mismarked, unknown, early, yardOf, number, carried}
+use Rattle.paper.specs.Docket.{size, rail, apart, crowd, start, goal, stopped, room, illegal, missed, mismarked, unknown, early, yardOf}
 use Rattle.paper.specs.Answers.{refused, plan, check, slotsRefusal, already, refuse, report}
-use Rattle.exactly.specs.First.{Row, plain, carrying, NoneOf, Given}
+use Rattle.exactly.specs.First.{NoneOf}
 use Rattle.exactly.specs.Words.{WrongSize, FirstBadRail, LowestApart, Crowded, FirstBadPlace, TooLong, FirstIllegal, LowestAway, mark, BadMarks, NotInPlan, LowestUndone}
 use Rattle.exactly.specs.Rows.{six, NoRoom, planRows, checkRows, slotsRows, markRows, reportRows}
 use Rattle.exactly.proofs.First.{given-past}

@@ -2,13 +2,13 @@
 -- answers exactly by its list.
 -- Assumes nothing.
 use mathlib.Core.List.{List, [], _∷_, _++_}
-use mathlib.Core.Option.{Option, none, some}
+use mathlib.Core.Option.{Option, none}
 use mathlib.Core.Path.{_≡_}
 use Prim.Native.Nat.{ℕ}
 use lib.ListN.{length}
 use Rattle.paper.specs.Yard.{crossings, after}
 use Rattle.paper.specs.Order.{Order}
-use Rattle.paper.specs.Procedure.{Made, Outcome, planned, stuck, procedure}
+use Rattle.paper.specs.Procedure.{Made, planned, stuck, procedure}
 use Rattle.paper.specs.Docket.{number, carried, yardOf}
 use Rattle.paper.specs.Answers.{Report, accept, already, refuse}
 use Rattle.exactly.specs.First.{Row, plain, carrying}

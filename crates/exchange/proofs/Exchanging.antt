@@ -5,9 +5,9 @@ use mathlib.Core.List.{List, [], _∷_, _++_, map-append}
 use Prim.Native.Nat.{ℕ}
 use native.Mathlib.Omega.{arith}
 use lib.ListN.{length, length-map, length-append}
+use Rattle.lists.proofs.Lists.{sets-append}
 use Rattle.paper.specs.Procedure.{exchange}
 use Rattle.paper.specs.Yard.{Crossing, crossing}
-use Rattle.moving.proofs.Playing.{sets-append}
 use Rattle.exchange.specs.Exchanging.{Noted}
 
 pub noted-then : {xs ys : List Crossing} {out out₁ out′ : List ℕ} {at m r : ℕ} → Noted xs out at out₁ m → Noted ys out₁ m out′ r → Noted (xs ++ ys) out at out′ r

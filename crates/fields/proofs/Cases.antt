@@ -4,14 +4,12 @@ use mathlib.Core.Bool.{Bool, true, false}
 use Prim.Native.Nat.{ℕ, suc, _+_, _-_, _*_, _≤_, _<_}
 use native.Mathlib.Omega.{arith}
 use lib.Dec.{eqb, ltb, leb}
-use lib.ListN.{getD}
-use borrow.Author.Tests.{leb-true, ltb-true}
+use lib.ListN.{getD, List·getD-eq-default}
+use borrow.Author.Tests.{leb-true, ltb-true, ne-eqb, lt-ltb, le-ltb, le-leb}
 use Rattle.paper.specs.Basics.{if_then_else_, _and_, _or_}
 use Rattle.paper.proofs.Tests.{and-left, and-right}
 use Rattle.paper.specs.Text.{isDigit, text}
 use native.Mathlib.Numerals.{add-one}
-use lib.ListN.{List·getD-eq-default}
-use borrow.Author.Tests.{ne-eqb, lt-ltb, le-ltb, le-leb}
 use Rattle.paper.specs.Bytes.{tally, Match, matchByte, Field, sizedField, numberField, lengthField, wellField}
 
 module _ (r d : Bool) (n b : ℕ) (is : r ≡ d and ltb n 10000) (digit : d ≡ isDigit b) where

@@ -1,25 +1,26 @@
 -- Every order fits in 16,384 ends of rails and 254 carriers: a cell is the lower bay of two rails at most, and a 255th carrier's line is bad.
-use mathlib.Core.Path.{_≡_, refl, ap}
+use mathlib.Core.Path.{_≡_, refl}
 use mathlib.Core.Bool.{Bool, true, false}
 use mathlib.Core.List.{List, [], _∷_, _++_, map}
 use mathlib.Core.Option.{Option, none, some}
-use Prim.Native.Nat.{ℕ, zero, suc, _+_, _*_, _%_, _≤_, _<_}
+use Prim.Native.Nat.{ℕ, suc, _+_, _*_, _%_, _≤_, _<_}
 use native.Mathlib.Omega.{arith}
 use native.Mathlib.Nat.{mul-le-mul}
 use lib.Dec.{ltb}
 use lib.ListN.{length, length-append}
 use borrow.Author.Tests.{ltb-true}
-use Rattle.paper.specs.Basics.{if_then_else_, if-some_then_else_, _and_, _or_, concat, countFrom, upTo}
+use Rattle.paper.specs.Basics.{if_then_else_, _and_, _or_, concat, upTo}
 use Rattle.paper.specs.Limits.{most-carriers}
 use Rattle.paper.specs.Yard.{Bay}
 use Rattle.paper.specs.Text.{Text, text, TAB, lines, split, same, Read, good, badLine, readLines}
 use Rattle.paper.specs.Map.{Grid, readMap, cells, bayAt, numberAt, bayIn, railsAt, railEnds}
 use Rattle.paper.specs.Scenario.{Listed, versionDue, carriers, carrierLine, scenarioLine, scenarioEnd, readScenario}
 use Rattle.paper.specs.Program.{readFile}
-use Rattle.paper.proofs.Tests.{by-cases, by-option, never, some-when, some-from}
+use Rattle.paper.proofs.Tests.{by-cases, by-option, never, some-when, some-from, by-read}
+use Rattle.paper.proofs.Reach.{count-length}
 use Rattle.gridmap.proofs.Good.{Sized}
 use Rattle.filing.specs.Filing.{order, carriersFiled, mapFiled, filed}
-use Rattle.filing.proofs.Joining.{by-read, map-is-sized}
+use Rattle.filing.proofs.Joining.{map-is-sized}
 
 -- ## Rails
 pair-few : (q : Bool) (a b : ℕ) → length (if q then a ∷ b ∷ [] else []) ≤ 2
@@ -37,11 +38,6 @@ concat-few : (f : ℕ → List ℕ) → ((i : ℕ) → length (f i) ≤ 4) → (
 unfolding concat
 concat-few f h [] = omega arith
 concat-few f h (i ∷ l) = simp length-append (omega (arith, h i, concat-few f h l))
-
-count-length : (a n : ℕ) → length (countFrom a n) ≡ n
-unfolding countFrom
-count-length a zero = refl
-count-length a (suc n) = ap suc (count-length (suc a) n)
 
 rails-few : (G : Grid) → Sized G → length (railEnds G) ≤ 16384
 unfolding railEnds

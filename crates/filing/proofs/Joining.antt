@@ -14,7 +14,7 @@ use Rattle.paper.specs.Map.{Grid, readMap, cells, bayCount, bayIn, railEnds}
 use Rattle.paper.specs.Scenario.{readScenario}
 use Rattle.paper.specs.Program.{readFile, planRead, scenarioRead, programAnswer}
 use Rattle.stores.specs.Writing.{Wrote}
-use Rattle.paper.proofs.Tests.{never}
+use Rattle.paper.proofs.Tests.{never, by-read}
 use Rattle.docket.specs.declared.Refusal.{Refusal}
 use Rattle.docket.specs.declared.Refusal.the-variants as docket
 use Rattle.docket.specs.Reading.{refusalOf}
@@ -66,10 +66,6 @@ unfolding programAnswer filed
 program-answers mapFile scenarioFile = answered-map (readFile readMap mapFile) scenarioFile
 
 -- ## A map that was read
-pub by-read : {A P : Type 0} (r : Read A) → ((a : A) → r ≡ good a → P) → ((n : ℕ) → r ≡ badLine n → P) → P
-by-read (good a) f g = f a refl
-by-read (badLine n) f g = g n refl
-
 pub map-is-sized : (file : Option Text) (G : Grid) → readFile readMap file ≡ good G → Sized G
 unfolding readFile
 map-is-sized none G e = never (cc)

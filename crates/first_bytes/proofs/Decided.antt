@@ -1,21 +1,20 @@
 -- The first bytes of the two files decide all that the program prints: the plan as it is, shortened, or with its times by either edition.
 use mathlib.Core.Path.{_≡_, refl, _∙_, ap}
 use mathlib.Core.Bool.{Bool}
-use mathlib.Core.List.{List}
 use mathlib.Core.Option.{Option, none, some}
 use Prim.Native.Nat.{ℕ}
 use Rattle.paper.specs.Basics.{if_then_else_}
 use Rattle.paper.specs.Docket.{edition}
-use Rattle.paper.specs.Answers.{Answer, refused}
+use Rattle.paper.specs.Answers.{refused}
 use Rattle.paper.specs.Text.{Text, Read, good, badLine}
 use Rattle.paper.specs.Map.{Grid, readMap, bayIn}
 use Rattle.paper.specs.Print.{printed}
 use Rattle.paper.specs.Program.{readFile, scenarioRead, programAnswer}
 use Rattle.filing.specs.Filing.{map-bytes, scenario-bytes}
 use Rattle.filing.proofs.Prefix.{shortened, map-decided, scenario-decided}
-use Rattle.program.specs.Short.{shortAnswer, programShort}
+use Rattle.program.specs.Short.{shortAnswer, shortOr, programShort}
 use Rattle.editions.specs.Editions.{isKnown}
-use Rattle.timed.specs.Timed.{printedTimed, shortOr, programTimed}
+use Rattle.timed.specs.Timed.{printedTimed, programTimed}
 
 map-read : (file : Option Text) → readFile readMap (shortened map-bytes file) ≡ readFile readMap file
 unfolding readFile

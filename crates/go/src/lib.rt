@@ -3,19 +3,21 @@ use acting::Tally;
 use acting::Tried;
 use docket::Bay;
 use docket::Carrier;
-ghost use Prim.Native.Nat.{_+_, _*_, _<_};
-ghost use lib.ListN.{length, getD};
-ghost use Rattle.moving.specs.Bounds.{swap-most, room-step};
+use step::NextStep;
 ghost use Rattle.acting.specs.Acting.{Ready};
-ghost use Rattle.step.specs.Asking.{Loopless, BaysBelow, StepAsks, StepSettles};
-ghost use Rattle.go.specs.Going.{Linked, GoSays};
+ghost use Rattle.step.specs.Asking.{StepAsks, StepSettles};
+ghost use Rattle.go.specs.Going.{GoAsks, GoSays};
+
+// It is this carrier's turn: those below it are finished, and so much was counted before.
+pub struct Turn {
+    pub carrier: Carrier,
+    pub at: Tally,
+}
 
 // One step of r to w: r crosses at once where w is empty.
 fn advance(
     table: &[u64],
-    finished: usize,
-    r: Carrier,
-    w: Bay,
+    next: NextStep,
     placement: &mut [u16],
     standing: &mut [u16],
     empty: &mut [u64],
@@ -24,74 +26,53 @@ fn advance(
     at: Tally,
 ) -> Tried
     requires { ⌜ Ready (now table) (now placement) (now standing) (now empty) ⌝ }
-    requires { ⌜ StepAsks finished (r .0) (w .0) (now table) (now placement) (now standing) (now settled) at ⌝ }
+    requires { ⌜ StepAsks next (now table) (now placement) (now standing) (now settled) at ⌝ }
     ensures { λ z. ⌜
-        StepSettles finished (r .0) (w .0)
+        StepSettles next
         (now (table .entry)) (now (placement .entry)) (now (standing .entry)) (now (out .entry)) at
         (now (placement .exit)) (now (standing .exit)) (now (empty .exit)) (now (settled .exit)) (now (out .exit)) z
         ⌝ }
 {
+    let r = next.carrier;
+    let w = next.to;
     let bay = w.0 as usize;
     if words::is_in(empty, bay) {
         return Tried::Done(step::step_in(r, w, placement, standing, empty, settled, out, at));
     }
-    step::step(
-        table,
-        finished,
-        r,
-        w,
-        placement,
-        standing,
-        empty,
-        settled,
-        out,
-        at,
-    )
+    step::step(table, next, placement, standing, empty, settled, out, at)
 }
 
 // Carrier r steps through the bays ahead; the carriers below r are finished, and their bays are the settled ones.
 pub fn go(
     table: &[u64],
     ahead: &[u16],
-    r: Carrier,
+    turn: Turn,
     placement: &mut [u16],
     standing: &mut [u16],
     empty: &mut [u64],
     settled: &mut [u64],
     out: &mut [u64],
-    at: Tally,
 ) -> Tried
     requires { ⌜ Ready (now table) (now placement) (now standing) (now empty) ⌝ }
-    requires { ⌜
-        (r .0 < length (now placement))
-        × Linked (length (now standing)) (now table) (getD (now placement) (r .0) 0) (now ahead)
-        × Loopless (length (now standing)) (now table)
-        × (at .crossings + swap-most * length (now ahead) < room-step)
-        × BaysBelow (r .0) (now placement) (now settled)
-        ⌝ }
+    requires { ⌜ GoAsks turn (now ahead) (now table) (now placement) (now standing) (now settled) ⌝ }
     ensures { λ z. ⌜
-        GoSays (r .0) (now (ahead .entry))
-        (now (table .entry)) (now (placement .entry)) (now (standing .entry)) (now (out .entry)) at
+        GoSays turn (now (ahead .entry))
+        (now (table .entry)) (now (placement .entry)) (now (standing .entry)) (now (out .entry))
         (now (placement .exit)) (now (standing .exit)) (now (empty .exit)) (now (settled .exit)) (now (out .exit)) z
         ⌝ }
 {
+    let r = turn.carrier;
     let finished = r.0 as usize;
-    let mut count = at;
+    let mut count = turn.at;
     let mut i = 0;
     while i < ahead.len() {
         let w = Bay(ahead[i]);
-        let one = advance(
-            table,
+        let next = NextStep {
             finished,
-            r,
-            w,
-            placement,
-            standing,
-            empty,
-            settled,
-            out,
-            count,
-        );
+            carrier: r,
+            to: w,
+        };
+        let one = advance(table, next, placement, standing, empty, settled, out, count);
         let Tried::Done(done) = one else {
             return Tried::Failed;
         };

@@ -10,10 +10,10 @@ use lib.Dec.{eqb, ltb, leb}
 use lib.ListN.{length, take, drop, length-append, take-append-drop}
 use lib.Seq.{sets}
 use borrow.Author.Tests.{eqb-true, leb-true, ne-eqb}
-use Rattle.paper.specs.Basics.{if_then_else_, if-some_then_else_, _and_, _or_, filter, concat}
+use Rattle.paper.specs.Basics.{_and_, _or_, filter, concat}
 use Rattle.paper.specs.Text.{Text, text, LF, CR, join, beginsWithLF, lines, same, all, count, isDigit, value, isNumber, Read, good, badLine, readLines}
 use Rattle.paper.specs.Map.{Grid, Due, typeDue, heightDue, widthDue, mapDue, rowDue, bayLetter, wallLetter, sideAfter, isRow, mapLine, mapEnd, readMap, cells, bayCount}
-use Rattle.paper.proofs.Tests.{by-cases, by-option, and-left, and-right, not-both, never, some-when, some-from, some-same, or-neither}
+use Rattle.paper.proofs.Tests.{by-cases, by-option, and-left, and-right, not-both, never, some-when, some-from, some-same, or-neither, by-read}
 use Rattle.sides.specs.Letters.{letter}
 use Rattle.sides.specs.Layout.{sidesRead}
 use Rattle.stores.specs.Writing.{Wrote}
@@ -254,10 +254,6 @@ map-sized file G e = of-file file G e .sized
 
 pub map-cells : (file : Text) (G : Grid) → readMap file ≡ good G → cells G ≡ letters file
 map-cells file G e = of-file file G e .made
-
-by-read : {P : Type 0} (r : Read Grid) → ((G : Grid) → r ≡ good G → P) → ((n : ℕ) → r ≡ badLine n → P) → P
-by-read (good G) f g = f G refl
-by-read (badLine n) f g = g n refl
 
 pub letters-fit : (file : Text) (s : ℕ × ℕ) → good s ≡ sidesRead (readMap file) → length (letters file) ≤ 4096
 letters-fit file s e =

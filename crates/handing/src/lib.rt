@@ -2,25 +2,10 @@
 use docket::Refusal;
 use docket::Verdict;
 ghost use mathlib.Core.Path.{_≡_};
-ghost use mathlib.Core.List.{_++_};
-ghost use Prim.Native.Nat.{_≤_};
-ghost use lib.ListN.{length, drop};
 ghost use Rattle.paper.specs.Print.{printed};
 ghost use Rattle.docket.specs.Reading.{verdictOf};
 ghost use Rattle.printing.specs.Parts.{handed as lent};
 ghost use Rattle.handing.specs.Handing.{Hands, handed};
-
-// Bytes copied to the front of a list.
-fn copy(to: &mut [u8], from: &[u8])
-    requires { ⌜ length (now from) ≤ length (now to) ⌝ }
-    ensures { λ _. ⌜ now (to .exit) ≡ now (from .entry) ++ drop (length (now (from .entry))) (now (to .entry)) ⌝ }
-{
-    let mut i = 0;
-    while i < from.len() {
-        to[i] = from[i];
-        i += 1;
-    }
-}
 
 // A text that is there already.
 pub fn text(from: &[u8], out: &mut [u8]) -> usize
@@ -28,7 +13,7 @@ pub fn text(from: &[u8], out: &mut [u8]) -> usize
 {
     let n = from.len();
     if n <= out.len() {
-        copy(out, from);
+        copies::bytes(out, from);
     }
     n
 }

@@ -10,7 +10,7 @@ use lib.Seq.{drop-cons}
 use lib.Dec.{eqb}
 use borrow.Author.Tests.{eq-eqb, ne-eqb, lt-ltb, le-ltb}
 use Rattle.paper.specs.Basics.{_and_, placeOf}
-use Rattle.home.specs.Homing.{Due, Settled, AtMost, Stages, Homeward}
+use Rattle.home.specs.Homing.{Owners, Due, AtMost, Stages}
 use Rattle.paper.specs.Procedure.{Made, only, together, step, Outcome, planned, stuck, orStuck, onward, _next_, homeAt, wayHome}
 use Rattle.paper.specs.Yard.{Bay, Carrier, Yard, Placement, bayOf, carrierAt, after}
 use Rattle.paper.proofs.Playing.{Apart}
@@ -22,7 +22,7 @@ use Rattle.acting.specs.declared.Tally.{Tally}
 use Rattle.acting.proofs.Acting.{tallied-none, tallied-then, tried-done, tried-failed}
 use Rattle.step.specs.Asking.{Loopless}
 use Rattle.go.specs.Going.{Linked}
-use Rattle.home.proofs.Settling.{due, homed}
+use Rattle.home.proofs.Settling.{Settled, Homeward, due, homed}
 use Rattle.acting.specs.declared.Tried.the-variants.{Done}
 use Rattle.acting.specs.declared.Tried.the-variants.{Failed}
 use Rattle.home.specs.declared.Staged.the-variants.{Planned}
@@ -32,13 +32,13 @@ use Rattle.docket.specs.declared.Carrier.{Carrier as Named}
 -- ## Whose goal a bay is
 
 -- the first of the finished carriers whose goal is v is the first of all, if that one is finished
-pub place-low : (f : ℕ) (l : List ℕ) (v : Bay) → carrierAt l v < f → carrierAt (take f l) v ≡ carrierAt l v
+place-low : (f : ℕ) (l : List ℕ) (v : Bay) → carrierAt l v < f → carrierAt (take f l) v ≡ carrierAt l v
 unfolding placeOf
 place-low zero l v h = absurd (omega arith)
 place-low (suc f) [] v h = refl
 place-low (suc f) (x ∷ l) v h = by-cases (eqb v x) (λ e. rw e) (λ e. rw e (ap suc (place-low f l v (let k = rw e at h in omega arith))))
 
-pub place-high : (f : ℕ) (l : List ℕ) (v : Bay) → f ≤ length l → f ≤ carrierAt l v → carrierAt (take f l) v ≡ f
+place-high : (f : ℕ) (l : List ℕ) (v : Bay) → f ≤ length l → f ≤ carrierAt l v → carrierAt (take f l) v ≡ f
 unfolding placeOf
 place-high zero l v m h = refl
 place-high (suc f) [] v m h = absurd (omega arith)
@@ -46,6 +46,21 @@ place-high (suc f) (x ∷ l) v m h =
     by-cases (eqb v x)
     (λ e. let k = rw e at h in absurd (omega arith))
     (λ e. rw e (ap suc (place-high f l v (omega arith) (let k = rw e at h in omega arith))))
+
+-- the same by the table of whose goal each bay is
+module _ {n : ℕ} {goals owner : List ℕ} (o : Owners n goals owner) (finished : ℕ) (v : Bay) (hv : v < n) where
+  pub whose-low : getD owner v 0 < finished → getD owner v 0 ≡ carrierAt (take finished goals) v
+  whose-low low = let e = o .whose v hv in e ∙ sym (place-low finished goals v (omega (arith, e, low)))
+
+  pub whose-high : finished ≤ length goals → finished ≤ getD owner v 0 → finished ≡ carrierAt (take finished goals) v
+  whose-high many high = sym (place-high finished goals v many (omega (arith, o .whose v hv, high)))
+
+  whose-due : {table : List ℕ} {p : Placement} → Due table (carrierAt (take finished goals) v) finished v p → Due table (getD owner v 0) finished v p
+  whose-due d = record {
+    beside = λ low away.
+        let same = whose-low low in
+        rw same (d .beside (rw same at low) (rw same at away));
+  }
 
 -- ## One bay
 
@@ -100,11 +115,11 @@ pub record Homed (Y : Yard) (goals : Placement) (finished : ℕ) (bays : List Ba
   pub answer : wayHome Y goals finished (drop i bays) p ≡ planned xs
   pub played : Tallied xs n p p′ standing′ empty′ out at out′ m
 
-pub homed-none : (Y : Yard) (goals : Placement) (finished : ℕ) (bays : List Bay) (n : ℕ) (p standing empty out : List ℕ) (at : Tally) → Placed n p standing empty
-    → Homed Y goals finished bays n p out at (length bays) p standing empty out at
-homed-none Y goals finished bays n p standing empty out at k = record {
+pub homed-none : (Y : Yard) (goals : Placement) (finished : ℕ) (bays : List Bay) (n : ℕ) (p standing empty out : List ℕ) (at : Tally) (i : ℕ) → length bays ≤ i → Placed n p standing empty
+    → Homed Y goals finished bays n p out at i p standing empty out at
+homed-none Y goals finished bays n p standing empty out at i h k = record {
   xs = only [];
-  answer = rw (drop-of-length-le bays {i = length bays} (omega arith)) (unfold wayHome in refl);
+  answer = rw (drop-of-length-le bays h) (unfold wayHome in refl);
   played = tallied-none n p standing empty out at k;
 }
 
@@ -172,13 +187,14 @@ module _ {n : ℕ} {table goals : List ℕ} {finished : ℕ} {bays p₀ : List �
   behind : Settled goals finished (h .first) (bays ++ (h .last ∷ [])) (drop (suc i) bays ++ (h .last ∷ [])) p
   behind = rw add-one at settled
 
-  pub turn-due : Due table goals finished (getD bays i 0) p
-  turn-due =
-      due goals goals-apart finished hf (h .first) (bays ++ (h .last ∷ [])) (h .once) (take i bays) (getD bays i 0) (drop (suc i) bays ++ (h .last ∷ []))
-      (split-at bays (h .last ∷ []) i here) p len behind n table (h .linked)
-
   pub turn-low : getD bays i 0 < n
   turn-low = linked-all n table (h .first) bays (h .last ∷ []) i here (h .linked)
+
+  pub turn-due : {owner : List ℕ} → Owners n goals owner → Due table (getD owner (getD bays i 0) 0) finished (getD bays i 0) p
+  turn-due o =
+      whose-due o finished (getD bays i 0) turn-low
+      (due goals goals-apart finished hf (h .first) (bays ++ (h .last ∷ [])) (h .once) (take i bays) (getD bays i 0) (drop (suc i) bays ++ (h .last ∷ []))
+      (split-at bays (h .last ∷ []) i here) p len behind n table (h .linked))
 
   pub turn-homed : (t : Tabled n table) → n ≤ span → Loopless n table → {standing empty out : List ℕ} {at b : Tally} {q standing′ empty′ out′ : List ℕ} → Placed n p standing empty
       → Stages (homeAt (t .yard) goals finished (getD bays i 0) p) n p out at q standing′ empty′ out′ (Planned b)

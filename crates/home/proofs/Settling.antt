@@ -9,10 +9,10 @@ use native.Mathlib.Omega.{arith}
 use lib.ListN.{length, take, length-take}
 use lib.Dec.{eqb, ltb}
 use borrow.Author.Tests.{eqb-false, eqb-true, not-true, ltb-true, lt-ltb}
-use mathlib.Core.Logic.{inl, inr, ⊎-elim}
+use mathlib.Core.Logic.{_⊎_, inl, inr, ⊎-elim}
 use lib.Seq.{getD-take}
-use Rattle.paper.specs.Basics.{_and_, In, NoDup}
-use Rattle.home.specs.Homing.{Due, Settled}
+use Rattle.paper.specs.Basics.{_and_, In, Out, NoDup}
+use Rattle.home.specs.Homing.{Due}
 use Rattle.paper.specs.Procedure.{Made, only, step, planned, homeAt}
 use Rattle.paper.specs.Text.{same}
 use Rattle.paper.specs.Yard.{Bay, Carrier, Placement, bayOf, carrierAt, Crossing, after}
@@ -26,6 +26,19 @@ use Rattle.acting.specs.Acting.{Tabled}
 use Rattle.step.specs.Asking.{Loopless}
 use Rattle.go.specs.Going.{Linked}
 use Rattle.step.proofs.Settling.{stepped-of}
+
+-- each finished carrier is home, or one bay back on the path, and its goal is none of these bays
+abbrev pub Settled : Placement → ℕ → Bay → List Bay → List Bay → Placement → Type 0
+Settled goals finished u path vs p =
+    (c : Carrier) → c < finished → (bayOf p c ≡ bayOf goals c) ⊎ (Pair u path (bayOf p c) (bayOf goals c) × Out (bayOf goals c) vs)
+
+-- the bays lie on a path between its first and its last bay, and only carriers on it are displaced, by one bay
+pub record Homeward (n : ℕ) (table goals : List ℕ) (finished : ℕ) (bays : List Bay) (p : Placement) : Type 0 where
+  pub first : Bay
+  pub last : Bay
+  pub linked : Linked n table first (bays ++ (last ∷ []))
+  pub once : NoDup (first ∷ (bays ++ (last ∷ [])))
+  pub settled : Settled goals finished first (bays ++ (last ∷ [])) (last ∷ []) p
 
 pub pair-linked : (n : ℕ) (table : List ℕ) (u : Bay) (l : List Bay) (a b : Bay) → Linked n table u l → Pair u l a b → memRow table a b ≡ true
 pair-linked n table u [] a b ch h = absurd h
@@ -73,7 +86,7 @@ module _ (goals : Placement) (goals-apart : Apart goals) (finished : ℕ) (hf : 
       ))
       (settled c h))
 
-  pub due : (n : ℕ) (table : List ℕ) → Linked n table u₀ path₀ → Due table goals finished v p
+  pub due : (n : ℕ) (table : List ℕ) → Linked n table u₀ path₀ → Due table whose finished v p
   due n table linked = record {
     beside = λ h away. ⊎-elim
         (λ k. absurd (away (k ∙ whose-goal h)))

@@ -1,21 +1,18 @@
--- What the way home asks, and how the answer of a stage reads as the paper's outcome.
+-- What the way home asks at one bay, and how the answer of a stage reads as the paper's outcome.
 -- Assumes nothing.
 use mathlib.Core.Path.{_≡_}
 use mathlib.Core.Bool.{true}
-use mathlib.Core.List.{List, [], _∷_, _++_}
-use Prim.Native.Nat.{ℕ, _≤_, _<_, _+_, _*_}
-use lib.ListN.{length, getD, take}
-use mathlib.Core.Logic.{_⊎_}
-use Rattle.paper.specs.Basics.{Out, NoDup}
-use Rattle.paper.specs.Procedure.{Made, Outcome, planned, stuck, homeAt, wayHome}
-use Rattle.paper.specs.Yard.{Bay, Carrier, Yard, Placement, bayOf, carrierAt}
-use Rattle.paper.proofs.Carrying.{Pair}
+use mathlib.Core.List.{List}
+use Prim.Native.Nat.{ℕ, _≤_, _<_, _+_}
+use lib.ListN.{length, getD}
+use Rattle.paper.specs.Procedure.{Made, Outcome, planned, stuck, homeAt}
+use Rattle.paper.specs.Yard.{Bay, Yard, Placement, bayOf, carrierAt}
 use Rattle.words.specs.Sets.{memRow}
-use Rattle.moving.specs.Bounds.{swap-most}
+use Rattle.moving.specs.Bounds.{swap-most, room-step}
 use Rattle.acting.specs.Acting.{Tabled, Tallied}
 use Rattle.acting.specs.declared.Tally.{Tally}
-use Rattle.step.specs.Asking.{BaysBelow}
-use Rattle.go.specs.Going.{Linked}
+use Rattle.step.specs.Asking.{Loopless, BaysBelow}
+use Rattle.home.specs.declared.HomeBay.{HomeBay}
 use Rattle.home.specs.declared.Staged.{Staged}
 use Rattle.home.specs.declared.Staged.the-variants.{Planned, Stuck}
 use Rattle.docket.specs.declared.Carrier.{Carrier as Named}
@@ -39,38 +36,29 @@ abbrev pub StagesAs : (Yard → Placement → Outcome) → (table p standing out
 StagesAs stage table p standing out at p′ standing′ empty′ out′ z =
     (t : Tabled (length standing) table) → Stages (stage (t .yard) p) (length standing) p out at p′ standing′ empty′ out′ z
 
--- the finished carrier whose goal is v is there, or beside it
-pub record Due (table goals : List ℕ) (finished : ℕ) (v : Bay) (p : Placement) : Type 0 where
-  pub beside : carrierAt (take finished goals) v < finished → (bayOf p (carrierAt (take finished goals) v) ≡ v → ⊥)
-      → memRow table (bayOf p (carrierAt (take finished goals) v)) v ≡ true
+-- carrier c, if it is finished, is at v or beside it
+pub record Due (table : List ℕ) (c finished : ℕ) (v : Bay) (p : Placement) : Type 0 where
+  pub beside : c < finished → (bayOf p c ≡ v → ⊥) → memRow table (bayOf p c) v ≡ true
 
--- each finished carrier is home, or one bay back on the path, and its goal is none of these bays
-abbrev pub Settled : Placement → ℕ → Bay → List Bay → List Bay → Placement → Type 0
-Settled goals finished u path vs p =
-    (c : Carrier) → c < finished → (bayOf p c ≡ bayOf goals c) ⊎ (Pair u path (bayOf p c) (bayOf goals c) × Out (bayOf goals c) vs)
+-- ## What is asked, what is said
 
--- the bays lie on a path between its first and its last bay, and only carriers on it are displaced, by one bay
-pub record Homeward (n : ℕ) (table goals : List ℕ) (finished : ℕ) (bays : List Bay) (p : Placement) : Type 0 where
-  pub first : Bay
-  pub last : Bay
-  pub linked : Linked n table first (bays ++ (last ∷ []))
-  pub once : NoDup (first ∷ (bays ++ (last ∷ [])))
-  pub settled : Settled goals finished first (bays ++ (last ∷ [])) (last ∷ []) p
+-- a finished carrier whose goal is the bay is due, and the set has the finished carriers' bays
+abbrev pub HomeAsks : HomeBay → (owner table p standing settled : List ℕ) → Type 0
+HomeAsks home owner table p standing settled =
+    (home .finished ≤ length p)
+    × (home .bay .0 < length standing)
+    × (length standing ≤ length owner)
+    × Loopless (length standing) table
+    × (home .at .crossings < room-step)
+    × Due table (getD owner (home .bay .0) 0) (home .finished) (home .bay .0) p
+    × BaysBelow (home .finished) p settled
 
--- ## What is said
-
--- the finished carrier whose goal is v steps to it, and the set has the finished carriers' bays after it
-abbrev pub HomeSays : Placement → (finished : ℕ) → Bay → (table p standing out : List ℕ) → Tally
-    → (p′ standing′ empty′ settled′ out′ : List ℕ) → Staged → Type 0
-HomeSays goals finished v table p standing out at p′ standing′ empty′ settled′ out′ z =
-    AtMost at swap-most z
-    × StagesAs (λ Y. homeAt Y goals finished v) table p standing out at p′ standing′ empty′ out′ z
-    × BaysBelow finished p′ settled′
-
--- the same for all of these bays
-abbrev pub WayHomeSays : Placement → (finished : ℕ) → List Bay → (table p standing out : List ℕ) → Tally
-    → (p′ standing′ empty′ settled′ out′ : List ℕ) → Staged → Type 0
-WayHomeSays goals finished bays table p standing out at p′ standing′ empty′ settled′ out′ z =
-    AtMost at (swap-most * length bays) z
-    × StagesAs (λ Y. wayHome Y goals finished bays) table p standing out at p′ standing′ empty′ out′ z
-    × BaysBelow finished p′ settled′
+-- the paper's stage at the bay, for all goals whose owners these are, and the set has the finished carriers' bays after it
+abbrev pub HomeSays : HomeBay → (owner table p standing out p′ standing′ empty′ settled′ out′ : List ℕ) → Staged → Type 0
+HomeSays home owner table p standing out p′ standing′ empty′ settled′ out′ z =
+    AtMost (home .at) swap-most z
+    × ((t : Tabled (length standing) table) (goals : Placement)
+    → home .finished ≤ length goals
+    → Owners (length standing) goals owner
+    → Stages (homeAt (t .yard) goals (home .finished) (home .bay .0) p) (length standing) p out (home .at) p′ standing′ empty′ out′ z)
+    × BaysBelow (home .finished) p′ settled′

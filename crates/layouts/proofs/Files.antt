@@ -4,21 +4,11 @@ use mathlib.Core.Path.{_≡_, refl, sym, _∙_, ap}
 use mathlib.Core.List.{List, [], _∷_}
 use mathlib.Core.Logic.{_↔_}
 use mathlib.Core.Option.{Option, none, some}
-use Prim.Native.Nat.{ℕ, zero, suc, _+_, _≤_, _<_}
+use Prim.Native.Nat.{ℕ, zero, suc, _+_, _≤_}
 use native.Mathlib.Omega.{arith}
-use lib.ListN.{length, getD, take}
-use Rattle.paper.specs.Text.{Text, Read, good, badLine, readLines}
-use Rattle.paper.proofs.Tests.{by-option, never-some, never, some-same}
+use Rattle.paper.specs.Text.{Text, good, badLine, readLines}
+use Rattle.paper.proofs.Tests.{by-option, never-some, never, good-same, bad-same, not-good}
 use Rattle.layouts.specs.Files.{Kept, Whole, FirstBadLine}
-
-bad-same : {R : Type 0} {m n : ℕ} → _≡_ {A = Read R} (badLine m) (badLine n) → m ≡ n
-bad-same h = cc
-
-good-same : {R : Type 0} {r q : R} → good r ≡ good q → r ≡ q
-good-same h = cc
-
-not-good : {R P : Type 0} {r : R} {n : ℕ} → good r ≡ badLine n → P
-not-good h = never (cc)
 
 module _ {A R : Type 0} (line : A → Text → Option A) (end : A → Option R)
     (Keeps : A → Text → A → Type 0) (Ends : A → R → Type 0)

@@ -1,11 +1,10 @@
 -- The map file in words: which lines keep its layout, what is read of it, and which line is the first bad one.
-use mathlib.Core.Path.{_≡_, refl, sym, _∙_, ap}
-use mathlib.Core.Bool.{Bool, true, false}
-use mathlib.Core.List.{List, [], _∷_, _++_}
+use mathlib.Core.Path.{_≡_, sym, _∙_, ap}
+use mathlib.Core.Bool.{Bool, true}
+use mathlib.Core.List.{[], _∷_, _++_}
 use mathlib.Core.Logic.{_↔_, _⊎_, inl, inr, ⊎-elim}
-use mathlib.Core.Option.{Option, none, some}
+use mathlib.Core.Option.{Option, some}
 use Prim.Native.Nat.{ℕ, suc, _<_, _≤_, _+_, _*_}
-use native.Mathlib.Omega.{arith}
 use lib.Dec.{eqb, ltb, leb}
 use lib.ListN.{length, getD, take, drop, take-append-drop}
 use lib.Seq.{take-append-seam, drop-append-seam}
@@ -14,7 +13,7 @@ use Rattle.paper.specs.Basics.{_and_, _or_, _>>=_, when}
 use Rattle.paper.specs.Yard.{Bay}
 use Rattle.paper.specs.Text.{Text, text, lines, same, all, value, isNumber, good, badLine}
 use Rattle.paper.specs.Map.{most-side, sideAfter, bayLetter, wallLetter, isRow, Grid, Due, typeDue, heightDue, widthDue, mapDue, rowDue, mapLine, mapEnd, readMap, cells, bayAt, numberAt, bayIn}
-use Rattle.paper.proofs.Tests.{and-left, and-right, and-both, or-left, or-right, or-cases, some-when, some-from, never-some, some-same}
+use Rattle.paper.proofs.Tests.{and-left, and-right, and-both, or-left, or-right, or-cases, some-when, some-from, never-some}
 use Rattle.layouts.specs.Files.{Whole, FirstBadLine}
 use Rattle.layouts.specs.Words.{Side, BayLetter, WallLetter, at, O, T, W, RowOf, KeepsMap, EndsMap, BayAt}
 use Rattle.layouts.proofs.Files.{good-exactly, bad-exactly, bad-from-one}

@@ -1,31 +1,27 @@
 -- The file program tests 14, then 15, then plans, and each of its refusals is given exactly if the words of its row hold.
 use mathlib.Core.Path.{_≡_, refl, sym, _∙_, ap}
-use mathlib.Core.Bool.{true, false}
+use mathlib.Core.Bool.{true}
 use mathlib.Core.List.{List, [], _∷_, map}
 use mathlib.Core.Logic.{_↔_}
 use mathlib.Core.Option.{Option, none, some}
 use Prim.Native.Nat.{ℕ, zero, suc, _≤_}
 use native.Mathlib.Omega.{arith}
-use Rattle.paper.specs.Basics.{if-some_then_else_, elem}
+use Rattle.paper.specs.Basics.{elem}
 use Rattle.paper.specs.Yard.{Bay}
 use Rattle.paper.specs.Order.{order}
 use Rattle.paper.specs.Docket.{Refusal, badMap, badScenario, number, carried}
-use Rattle.paper.specs.Answers.{Answer, refused, plan}
+use Rattle.paper.specs.Answers.{refused, plan}
 use Rattle.paper.specs.Text.{Text, Read, good, badLine}
 use Rattle.paper.specs.Map.{Grid, readMap, bayCount, bayIn, railEnds}
 use Rattle.paper.specs.Scenario.{readScenario}
 use Rattle.paper.specs.Program.{program-room, readFile, planRead, scenarioRead, programAnswer}
-use Rattle.paper.proofs.Tests.{never, not-both}
+use Rattle.paper.proofs.Tests.{never, not-both, by-read}
 use Rattle.exactly.specs.First.{Given, numbersOf}
 use Rattle.exactly.proofs.First.{given-number}
 use Rattle.exactly.proofs.Planning.{plan-refuses}
 use Rattle.layouts.specs.Orders.{BadFile, GoodFile, BadMap, GoodMap, BadScenario, GoodScenario, orderRows}
 use Rattle.layouts.proofs.Map.{map-good, map-bad, map-from-one}
 use Rattle.layouts.proofs.Scenario.{scenario-good, scenario-bad, scenario-from-one}
-
-by-read : {A P : Type 0} (r : Read A) → ((a : A) → r ≡ good a → P) → ((n : ℕ) → r ≡ badLine n → P) → P
-by-read (good a) f g = f a refl
-by-read (badLine n) f g = g n refl
 
 -- ## A file that may not be readable
 

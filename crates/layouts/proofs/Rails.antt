@@ -1,7 +1,7 @@
 -- A pair of bays is a rail of the map exactly if their cells are side by side or one above the other, lower bay first.
-use mathlib.Core.Path.{_≡_, refl, sym, _∙_, ap, ap₂}
+use mathlib.Core.Path.{_≡_, sym, _∙_, ap, ap₂}
 use mathlib.Core.Bool.{true, false}
-use mathlib.Core.List.{List, [], _∷_, _++_, map}
+use mathlib.Core.List.{List, _++_, map}
 use mathlib.Core.Logic.{_↔_, _⊎_, inl, inr, ⊎-elim}
 use mathlib.Core.Option.{some}
 use Prim.Native.Nat.{ℕ, zero, suc, _<_, _≤_, _+_, _*_, _/_, _%_}
@@ -10,7 +10,7 @@ use native.Mathlib.Nat.{add-mul, mod-lt, mod-add-div', div-lt-iff-lt-mul, add-di
 use lib.Dec.{ltb}
 use lib.ListN.{length}
 use borrow.Author.Tests.{ltb-true, ltb-false, lt-ltb}
-use Rattle.paper.specs.Basics.{if_then_else_, _and_, concat, countFrom, upTo}
+use Rattle.paper.specs.Basics.{_and_, concat, countFrom}
 use Rattle.paper.specs.Yard.{Bay, Rail}
 use Rattle.paper.specs.Text.{Text, good}
 use Rattle.paper.specs.Map.{Grid, readMap, cells, bayAt, numberAt, bayIn, railsAt, railEnds}

@@ -1,18 +1,17 @@
 -- The scenario file in words: which lines keep its layout, what is read of it, and which line is the first bad one.
-use mathlib.Core.Path.{_≡_, refl, sym, _∙_, ap, ap₂}
-use mathlib.Core.Bool.{Bool, true, false}
+use mathlib.Core.Path.{_≡_, sym, _∙_, ap}
+use mathlib.Core.Bool.{true}
 use mathlib.Core.List.{List, [], _∷_, _++_}
 use mathlib.Core.Logic.{_↔_, _⊎_, inl, inr, ⊎-elim}
-use mathlib.Core.Option.{Option, none, some}
-use Prim.Native.Nat.{ℕ, suc, _<_, _≤_}
-use native.Mathlib.Omega.{arith}
+use mathlib.Core.Option.{Option, some}
+use Prim.Native.Nat.{ℕ, suc, _≤_}
 use lib.Dec.{eqb, ltb, leb}
 use lib.ListN.{length, getD}
 use borrow.Author.Tests.{ltb-true, lt-ltb, leb-true, le-leb, eqb-true, eq-eqb}
-use Rattle.paper.specs.Basics.{if_then_else_, _and_, _or_, _>>=_, when, any}
+use Rattle.paper.specs.Basics.{_and_, _or_, when, any}
 use Rattle.paper.specs.Limits.{most-carriers}
 use Rattle.paper.specs.Yard.{Bay}
-use Rattle.paper.specs.Text.{Text, text, TAB, lines, split, same, all, count, isDigit, isPoint, value, sized, isNumber, good, badLine}
+use Rattle.paper.specs.Text.{Text, text, TAB, lines, split, same, all, isDigit, isPoint, value, sized, good, badLine}
 use Rattle.paper.specs.Scenario.{isLength, Listed, versionDue, carriers, nineFields, startAndGoal, carrierLine, scenarioLine, scenarioEnd, readScenario}
 use Rattle.paper.proofs.Tests.{by-cases, by-option, and-left, and-right, and-both, or-left, or-right, or-cases, some-when, some-from, never-some, some-same, never}
 use Rattle.exactly.proofs.Lists.{any-exactly}

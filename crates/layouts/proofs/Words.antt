@@ -1,14 +1,13 @@
 -- Tests of bytes and fields in words.
-use mathlib.Core.Path.{_≡_, refl, sym, _∙_, ap}
-use mathlib.Core.Bool.{Bool, true, false}
-use mathlib.Core.List.{List, [], _∷_}
+use mathlib.Core.Path.{_≡_, refl}
+use mathlib.Core.Bool.{Bool, true}
+use mathlib.Core.List.{[], _∷_}
 use mathlib.Core.Logic.{_↔_, _⊎_, inl, inr, ⊎-elim}
-use Prim.Native.Nat.{ℕ, zero, suc, _<_, _≤_}
+use Prim.Native.Nat.{ℕ, zero, suc}
 use native.Mathlib.Omega.{arith}
 use lib.Dec.{eqb, leb}
-use lib.ListN.{length, getD}
 use borrow.Author.Tests.{leb-true, le-leb, eqb-true, eq-eqb}
-use Rattle.paper.specs.Basics.{_and_, _or_, any}
+use Rattle.paper.specs.Basics.{_and_, _or_}
 use Rattle.paper.specs.Text.{Text, same, all, isDigit, isPoint, sized, isNumber}
 use Rattle.paper.proofs.Tests.{and-left, and-right, and-both, or-left, or-right, or-cases, not-both}
 use Rattle.layouts.specs.Words.{Digit, Point, Each, Sized, Number}

@@ -487,16 +487,6 @@ fn wrong(plan: &[u64], bills: &[u64]) -> u64 {
     n
 }
 
-fn copy(from: &[u16], to: &mut [u16]) {
-    let mut i = 0;
-    while i < from.len() {
-        if i < to.len() {
-            to[i] = from[i];
-        }
-        i += 1;
-    }
-}
-
 fn show(line: Line, plan: &[u64], illegal: u64, away: u64, wrong: u64) {
     put(b"accepted ", line.accepted as u64);
     say(b" of ", plan.len() as u64);
@@ -511,6 +501,13 @@ fn show(line: Line, plan: &[u64], illegal: u64, away: u64, wrong: u64) {
     }
 }
 
+// The carriers at their starts, if there is room for all of them.
+fn place(start: &[u16], at: &mut [u16]) {
+    if start.len() <= at.len() {
+        copies::shorts(at, start);
+    }
+}
+
 // Where a carrier stands that is none: no bay has this number.
 const NOWHERE: u16 = 65535;
 
@@ -518,7 +515,7 @@ const NOWHERE: u16 = 65535;
 fn settle(line: Line, rails: &[u16], start: &[u16], goal: &[u16], plan: &[u64], got: &[u64]) {
     let mut at = [NOWHERE; 256];
     let mut bills = [0u64; 256];
-    copy(start, &mut at);
+    place(start, &mut at);
     let illegal = play_all(rails, plan, got, &mut at, &mut bills);
     show(line, plan, illegal, away(&at, goal), wrong(plan, &bills));
 }

@@ -15,7 +15,7 @@ use Rattle.paper.specs.Yard.{Crossing, named}
 use Rattle.paper.specs.Dependence.{depend, isDone, undoneBefore}
 use Rattle.paper.specs.Docket.{unknown, early, mismarked, badMarks}
 use Rattle.paper.specs.Answers.{accept, already, refuse, tell}
-use Rattle.paper.proofs.Tests.{by-cases, or-left, or-right, or-neither}
+use Rattle.paper.proofs.Tests.{by-cases, or-left, or-right, or-neither, and-true}
 use Rattle.paper.proofs.Fields.{and-false}
 use Rattle.marks.specs.Reading.{toldInOrder}
 
@@ -53,11 +53,6 @@ pub odd-end : (marks : List ℕ) (seen : Bool) (i : ℕ) → OddFrom marks seen 
 unfolding any _or_
 odd-end marks true i v h = sym v
 odd-end marks false i v h = sym (v ∙ rw (drop-of-length-le marks h))
-
-and-true : (p : Bool) → p and true ≡ p
-unfolding _and_
-and-true true = refl
-and-true false = refl
 
 -- the earlier crossing e keeps the crossing x waiting
 abbrev pub waitsFor : List Crossing → List ℕ → Crossing → ℕ → Bool

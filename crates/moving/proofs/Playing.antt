@@ -11,6 +11,7 @@ use lib.Dec.{eqb}
 use lib.ListN.{length, getD, set, take, length-set, length-append, length-map}
 use lib.Seq.{getD-set-same, getD-set-other, sets, length-sets, sets-eq, take-at, length-take-le}
 use borrow.Author.Tests.{eq-eqb, ne-eqb}
+use Rattle.lists.proofs.Lists.{sets-append}
 use Rattle.paper.specs.Basics.{_and_, _or_, any, elem, placeOf, In, Out}
 use Rattle.paper.specs.Yard.{Bay, Carrier, Yard, Placement, Crossing, crossing, bayOf, carrierAt, isEmpty, move, after, joined, pack}
 use Rattle.paper.proofs.Tests.{by-cases, not-both}
@@ -18,12 +19,6 @@ use Rattle.paper.proofs.Members.{Out-head, Out-tail}
 use Rattle.paper.proofs.Playing.{Apart, Legal, after-append, placeOf-bay, placeOf-there, bay-in, move-self, move-other, move-apart, move-empties, move-out}
 use Rattle.words.specs.Sets.{mem}
 use Rattle.moving.specs.Placed.{Placed, Stored, Played, MovedOn, Unchanged}
-
-pub sets-append : (l : List ℕ) (i : ℕ) (xs ys : List ℕ) → sets l i (xs ++ ys) ≡ sets (sets l i xs) (i + length xs) ys
-sets-append l i [] ys = let e : i ≡ i + 0 = omega arith in ap (λ (k : ℕ). sets l k ys) e
-sets-append l i (x ∷ xs) ys =
-    let e : suc i + length xs ≡ i + suc (length xs) = omega arith in
-    sets-append (set l i x) (suc i) xs ys ∙ ap (λ (k : ℕ). sets (sets (set l i x) (suc i) xs) k ys) e
 
 -- ## Stored numbers
 

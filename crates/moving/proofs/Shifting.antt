@@ -20,8 +20,7 @@ use Rattle.paper.proofs.Tests.{not-both}
 use Rattle.paper.proofs.Vacating.{Shiftable, plan-apart, shift-shifts, shift-cons, shift-one}
 use Rattle.words.specs.Sets.{mem}
 use Rattle.moving.specs.Placed.{Placed, Played, MovedOn, CanShift}
-use Rattle.moving.proofs.Playing.{Told, told-then, Stood, stood, placed-of, played-none, stored-exact}
-use Rattle.moving.proofs.Playing.{neither, carrier-is, carrier-none, crossed-empty, crossed-stood}
+use Rattle.moving.proofs.Playing.{Told, told-then, Stood, stood, placed-of, played-none, stored-exact, neither, carrier-is, carrier-none, crossed-empty, crossed-stood}
 
 pub shift-none : (n : ℕ) (p standing empty out path : List ℕ) (at : ℕ) → length path < 2 → Placed n p standing empty
     → Played (shift p path) n p p standing empty out at out at

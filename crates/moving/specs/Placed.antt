@@ -7,7 +7,7 @@ use mathlib.Core.Option.{Option, none, some}
 use Prim.Native.Nat.{ℕ, _+_, _≤_, _<_}
 use lib.ListN.{length, getD, set, take}
 use Rattle.paper.specs.Basics.{In, Out}
-use Rattle.paper.specs.Yard.{Bay, Yard, Placement, Crossing, crossing, carrierAt, bayOf, isEmpty, after, pack}
+use Rattle.paper.specs.Yard.{Bay, Yard, Crossing, crossing, carrierAt, bayOf, isEmpty, after, pack}
 use Rattle.paper.specs.Procedure.{shift}
 use Rattle.paper.proofs.Playing.{Apart}
 use Rattle.paper.proofs.Vacating.{Shiftable}

@@ -6,20 +6,18 @@ use mathlib.Core.Option.{Option, none, some}
 use Prim.Native.Nat.{ℕ}
 use native.Mathlib.Omega.{arith}
 use Rattle.paper.specs.Basics.{elem}
-use Rattle.paper.specs.Docket.{Refusal, number, Verdict, granted, denied as verdictDenied}
+use Rattle.paper.specs.Docket.{Refusal, number, Verdict, granted, denied}
 use Rattle.paper.specs.Answers.{Report, accept, already, refuse}
-use Rattle.paper.proofs.Determined.{telling-by, refusals-told-apart, not-in-table}
-use Rattle.bills.specs.Answering.{Agreement, agrees, differs, refused as unagreed}
-use Rattle.planner.specs.Statement.{Told, long, denied}
+use Rattle.paper.proofs.Determined.{refusals-told-apart, not-in-table}
 use Rattle.numbers.specs.Tells.{Tells}
-use Rattle.numbers.specs.Numbers.{numberOf, valueOf, verdictNumber, verdictValue, verdictFor, planNumber, planValue, already-number, reportNumber, reportValue, agreementNumber, agreementValue}
+use Rattle.numbers.specs.Numbers.{numberOf, valueOf, verdictNumber, verdictValue, already-number, reportNumber, reportValue}
 
 -- an answer that equals another is told as that one
 pub told-as : {A : Type 0} (number value : A → ℕ) {a b : A} {r v : ℕ} → a ≡ b → Tells (number b) (value b) r v → Tells (number a) (value a) r v
 told-as number value e t = record { numbered = t .numbered ∙ sym (ap number e); valued = t .valued ∙ sym (ap value e) }
 
 -- a refusal is not told as acceptance is,
-not-accepted : {P : Type 0} (r : Refusal) → 0 ≡ number r → P
+pub not-accepted : {P : Type 0} (r : Refusal) → 0 ≡ number r → P
 unfolding elem
 not-accepted r e = absurd (not-in-table 0 refl r (sym e))
 
@@ -38,21 +36,9 @@ answers-told-apart w (some r) (some q) e f = ap some (refusals-told-apart r q e 
 -- A function that hands back a number.
 pub verdicts-told-apart : (a b : Verdict) → verdictNumber a ≡ verdictNumber b → verdictValue a ≡ verdictValue b → a ≡ b
 verdicts-told-apart (granted m) (granted k) e f = ap granted f
-verdicts-told-apart (granted m) (verdictDenied q) e f = not-accepted q e
-verdicts-told-apart (verdictDenied r) (granted k) e f = not-accepted r (sym e)
-verdicts-told-apart (verdictDenied r) (verdictDenied q) e f = ap verdictDenied (refusals-told-apart r q e f)
-
--- Planning.
-pub plans-told-apart : (a b : Told) → planNumber a ≡ planNumber b → planValue a ≡ planValue b → a ≡ b
-plans-told-apart a b e f = telling-by verdictFor back had-back a b (verdicts-told-apart (verdictFor a) (verdictFor b) e f)
-  where
-    back : Verdict → Told
-    back (granted n) = long n
-    back (verdictDenied r) = denied r
-
-    had-back : (a : Told) → back (verdictFor a) ≡ a
-    had-back (long n) = refl
-    had-back (denied r) = refl
+verdicts-told-apart (granted m) (denied q) e f = not-accepted q e
+verdicts-told-apart (denied r) (granted k) e f = not-accepted r (sym e)
+verdicts-told-apart (denied r) (denied q) e f = ap denied (refusals-told-apart r q e f)
 
 -- Report.
 pub reports-told-apart : (a b : Report) → reportNumber a ≡ reportNumber b → reportValue a ≡ reportValue b → a ≡ b
@@ -65,15 +51,3 @@ reports-told-apart already (refuse q) e f = not-done q e
 reports-told-apart (refuse r) accept e f = not-accepted r (sym e)
 reports-told-apart (refuse r) already e f = not-done r (sym e)
 reports-told-apart (refuse r) (refuse q) e f = ap refuse (refusals-told-apart r q e f)
-
--- The agreement test: yes and no have values of their own.
-pub agreements-told-apart : (a b : Agreement) → agreementNumber a ≡ agreementNumber b → agreementValue a ≡ agreementValue b → a ≡ b
-agreements-told-apart agrees agrees e f = refl
-agreements-told-apart agrees differs e f = absurd (omega arith)
-agreements-told-apart agrees (unagreed q) e f = not-accepted q e
-agreements-told-apart differs agrees e f = absurd (omega arith)
-agreements-told-apart differs differs e f = refl
-agreements-told-apart differs (unagreed q) e f = not-accepted q e
-agreements-told-apart (unagreed r) agrees e f = not-accepted r (sym e)
-agreements-told-apart (unagreed r) differs e f = not-accepted r (sym e)
-agreements-told-apart (unagreed r) (unagreed q) e f = ap unagreed (refusals-told-apart r q e f)

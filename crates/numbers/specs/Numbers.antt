@@ -2,10 +2,8 @@
 -- Assumes nothing.
 use mathlib.Core.Option.{Option, none, some, Option·getD}
 use Prim.Native.Nat.{ℕ}
-use Rattle.paper.specs.Docket.{Refusal, number, carried, Verdict, granted, denied as verdictDenied}
+use Rattle.paper.specs.Docket.{Refusal, number, carried, Verdict, granted, denied}
 use Rattle.paper.specs.Answers.{Report, accept, already, refuse}
-use Rattle.bills.specs.Answering.{Agreement, agrees, differs, refused}
-use Rattle.planner.specs.Statement.{Told, long, denied}
 
 -- the refusal's number in the table, 0 where there is none
 abbrev pub numberOf : Option Refusal → ℕ
@@ -20,22 +18,11 @@ valueOf written (some r) = Option·getD (carried r) 0
 -- of a function that hands back a number
 abbrev pub verdictNumber : Verdict → ℕ
 verdictNumber (granted n) = numberOf none
-verdictNumber (verdictDenied r) = numberOf (some r)
+verdictNumber (denied r) = numberOf (some r)
 
 abbrev pub verdictValue : Verdict → ℕ
 verdictValue (granted n) = valueOf n none
-verdictValue (verdictDenied r) = valueOf 0 (some r)
-
--- of planning, whose acceptance is known by the plan's length
-abbrev pub verdictFor : Told → Verdict
-verdictFor (long written) = granted written
-verdictFor (denied r) = verdictDenied r
-
-abbrev pub planNumber : Told → ℕ
-planNumber t = verdictNumber (verdictFor t)
-
-abbrev pub planValue : Told → ℕ
-planValue t = verdictValue (verdictFor t)
+verdictValue (denied r) = valueOf 0 (some r)
 
 -- "already" is no refusal and has no number in the table
 abbrev pub already-number : ℕ
@@ -51,14 +38,3 @@ abbrev pub reportValue : Report → ℕ
 reportValue accept = valueOf 0 none
 reportValue already = valueOf 0 none
 reportValue (refuse r) = valueOf 0 (some r)
-
--- the agreement test's yes is told by the value 1, its no by 0
-abbrev pub agreementNumber : Agreement → ℕ
-agreementNumber agrees = numberOf none
-agreementNumber differs = numberOf none
-agreementNumber (refused r) = numberOf (some r)
-
-abbrev pub agreementValue : Agreement → ℕ
-agreementValue agrees = valueOf 1 none
-agreementValue differs = valueOf 0 none
-agreementValue (refused r) = valueOf 0 (some r)

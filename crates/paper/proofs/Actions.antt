@@ -1,14 +1,14 @@
 -- Runs of actions: what succeeds did so in both its parts. Two carriers go one behind the other: each crossing is into an empty bay, so both are legal.
 use mathlib.Core.Path.{_≡_, sym, ap, _∙_}
 use mathlib.Core.Bool.{true, false}
-use mathlib.Core.List.{List, [], _∷_, _++_}
+use mathlib.Core.List.{[], _∷_}
 use mathlib.Core.Option.{some}
 use Prim.Native.Nat.{ℕ, _<_}
 use lib.Dec.{eqb}
 use lib.ListN.{length, length-set}
 use borrow.Author.Tests.{eqb-false, ne-eqb}
 use Rattle.paper.specs.Basics.{Out}
-use Rattle.paper.specs.Yard.{Bay, Carrier, Yard, Placement, Crossing, crossing, bayOf, move, after, joined, legalPlan}
+use Rattle.paper.specs.Yard.{Bay, Carrier, Yard, Placement, crossing, bayOf, move, after, joined, legalPlan}
 use Rattle.paper.specs.Procedure.{Made, only, together, Action, _then_, cross}
 use Rattle.paper.proofs.Tests.{by-option, not-both, never-some}
 use Rattle.paper.proofs.Playing.{Apart, Legal, legal-of, bay-in, move-self, move-other, move-apart, move-empties, move-out}

@@ -99,7 +99,7 @@ module _ (Y : Yard) (sound : Sound Y) where
         (λ e. by-swapping m (occupied e) (rw e at h))
         (λ ys e. let q = rw e at h in by-vacating m (e ∙ q))
 
-by-outcome : {P : Type 0} (o : Outcome) → ((a : Made) → o ≡ planned a → P) → ((c : Carrier) → o ≡ stuck c → P) → P
+pub by-outcome : {P : Type 0} (o : Outcome) → ((a : Made) → o ≡ planned a → P) → ((c : Carrier) → o ≡ stuck c → P) → P
 by-outcome (planned a) f g = f a refl
 by-outcome (stuck c) f g = g c refl
 

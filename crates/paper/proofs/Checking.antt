@@ -1,11 +1,10 @@
 -- The check passes exactly if 1 to 6 do, the plan is legal and ends at the goals; else 9 and 10 carry the first and the lowest.
-use Prim.Native.Nat.{zero}
+use Prim.Native.Nat.{zero, ℕ, suc, _<_, _≤_, _+_}
 use mathlib.Core.Logic.{_↔_}
 use mathlib.Core.Path.{_≡_, refl, sym, _∙_, ap}
 use mathlib.Core.Bool.{true, false, not, Bool}
 use mathlib.Core.List.{List, [], _∷_}
 use mathlib.Core.Option.{none, some}
-use Prim.Native.Nat.{ℕ, suc, _<_, _≤_, _+_}
 use native.Mathlib.Omega.{arith}
 use lib.Dec.{eqb, ltb}
 use lib.ListN.{length, take}

@@ -13,7 +13,7 @@ use Rattle.paper.specs.Basics.{if_then_else_, _and_, _or_, any}
 use Rattle.paper.specs.Text.{Text, same, all, count, isDigit, isPoint, value, valueFrom, sized, isNumber}
 use Rattle.paper.specs.Scenario.{isLength}
 use Rattle.paper.specs.Bytes.{Match, unmatched, matchByte, matched, Field, blank, grow, tally, see, fieldOf, sizedField, numberField, lengthField}
-use Rattle.paper.proofs.Tests.{by-cases, and-left, and-right, not-both}
+use Rattle.paper.proofs.Tests.{by-cases, and-left, and-right, not-both, and-true, or-false}
 
 pub and-assoc : (a b c : Bool) → a and b and c ≡ a and (b and c)
 unfolding _and_
@@ -24,16 +24,6 @@ pub and-false : (a : Bool) → a and false ≡ false
 unfolding _and_
 and-false true = refl
 and-false false = refl
-
-and-true : (a : Bool) → a and true ≡ a
-unfolding _and_
-and-true true = refl
-and-true false = refl
-
-or-false : (a : Bool) → a or false ≡ a
-unfolding _or_
-or-false true = refl
-or-false false = refl
 
 -- ## A given text
 module _ (w : Text) (k : ℕ) (within : k ≤ length w) where
@@ -90,7 +80,7 @@ place-of m (b ∷ f) h =
     (λ e. let l : 129 ≤ m .place = ltb-false (m .place) 129 e in let q : grow (m .place) ≡ m .place = rw e in
     place-of (see m b) f (rw q h) ∙ (rw q (omega arith)))
 
-leb-same : (a b c d : ℕ) → (a ≤ b → c ≤ d) → (c ≤ d → a ≤ b) → leb a b ≡ leb c d
+pub leb-same : (a b c d : ℕ) → (a ≤ b → c ≤ d) → (c ≤ d → a ≤ b) → leb a b ≡ leb c d
 leb-same a b c d f g =
     by-cases (leb a b)
     (λ e. e ∙ sym (le-leb c d (f (leb-true a b e))))

@@ -3,19 +3,18 @@
 use mathlib.Core.Path.{_≡_, refl, sym, _∙_}
 use mathlib.Core.Bool.{true, false}
 use mathlib.Core.List.{List, [], _∷_, _++_}
-use mathlib.Core.Option.{Option, none, some}
+use mathlib.Core.Option.{Option, some}
 use Prim.Native.Nat.{ℕ, _<_}
-use native.Mathlib.Omega.{arith}
 use lib.Dec.{eqb, ltb}
 use lib.ListN.{length, getD, drop, length-set}
 use Rattle.paper.specs.Basics.{if_then_else_, _and_, _>>=_, filter, firstOf, upTo, In, Out}
 use Rattle.paper.specs.Yard.{Bay, Carrier, Yard, Placement, Crossing, crossing, bayOf, move, after, joined, legalPlan, junction}
 use Rattle.paper.specs.Path.{nearestFirst, shortestPath}
-use Rattle.paper.specs.Procedure.{Made, only, together, Action, _then_, cross, vacate, bring, clearOnce, aside, around, goneOn, clear, finish, trialLed, trial, swap}
-use Rattle.paper.proofs.Tests.{by-cases, by-option, not-both, never-some}
+use Rattle.paper.specs.Procedure.{Made, together, Action, _then_, cross, vacate, bring, clearOnce, aside, around, goneOn, clear, finish, trialLed, trial, swap}
+use Rattle.paper.proofs.Tests.{by-cases, by-option, never-some}
 use Rattle.paper.proofs.Members.{In-head, In-tail, In-cases, In-one}
 use Rattle.paper.proofs.Rings.{joined-sym}
-use Rattle.paper.proofs.Playing.{Apart, after-append, after-length, plan-append, bay-in, Sound}
+use Rattle.paper.proofs.Playing.{Apart, after-append, after-length, plan-append, Sound}
 use Rattle.paper.proofs.Vacating.{plan-apart, vacate-vacates}
 use Rattle.paper.proofs.Actions.{eqb-comm, same-moves, then-split, cross-some, cross-split, Pulled, pulled}
 

@@ -32,5 +32,7 @@ pub mod Fed
 pub mod Fields
 pub mod Stepping
 pub mod Buffering
+pub mod Digits
+pub mod Lines
 pub mod Printing
 pub mod Railing

@@ -1,6 +1,6 @@
 -- A crossing and its 64-bit number are had back from each other: bays are below 2^16, so the three parts do not overlap.
-use mathlib.Core.Path.{_≡_}
-use mathlib.Core.List.{List}
+use mathlib.Core.Path.{_≡_, refl}
+use mathlib.Core.List.{List, [], _∷_, map}
 use Prim.Native.Nat.{ℕ, _<_, _^_}
 use native.Mathlib.Omega.{arith}
 use lib.ListN.{getD, List·getD-map}
@@ -28,3 +28,8 @@ unpack-small w h = (omega arith, omega arith, omega arith)
 pub named-is : (plan : List ℕ) (i : ℕ) → named (crossings plan) i ≡ unpack (getD plan i 0)
 unfolding unpack
 named-is plan i = List·getD-map unpack plan i 0
+
+-- a plan is the numbers of its crossings
+pub packed-back : (plan : List ℕ) → map pack (crossings plan) ≡ plan
+packed-back [] = refl
+packed-back (w ∷ plan) = rw (pack-unpack w, packed-back plan)

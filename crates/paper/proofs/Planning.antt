@@ -5,7 +5,7 @@ use mathlib.Core.Bool.{true}
 use mathlib.Core.List.{List, _++_, map}
 use mathlib.Core.Logic.{_↔_, _⊎_, inl, inr, ⊎-elim}
 use mathlib.Core.Option.{none, some}
-use Prim.Native.Nat.{ℕ, _<_, _≤_}
+use Prim.Native.Nat.{ℕ, _≤_}
 use native.Mathlib.Omega.{arith}
 use lib.Dec.{ltb}
 use lib.ListN.{length, drop}
@@ -18,12 +18,8 @@ use Rattle.paper.specs.Docket.{Refusal, number, apart, stopped, room, ya
 use Rattle.paper.specs.Answers.{accepted, refused, crossingsOf, parkedOf, within, unless, plan, beside, planParked, written, planEnd, firstSix}
 pub use Rattle.paper.specs.Answers.{TooLong, Gives}
 use Rattle.paper.proofs.Tests.{by-cases, by-option, or-neither, or-left, or-right, never}
-use Rattle.paper.proofs.Carrying.{procedure-right}
+use Rattle.paper.proofs.Carrying.{procedure-right, by-outcome}
 use Rattle.paper.proofs.Admitted.{clean-of, sound-of, good-of, six-number}
-
-by-outcome : {P : Type 0} (o : Outcome) → ((m : Made) → o ≡ planned m → P) → ((c : Carrier) → o ≡ stuck c → P) → P
-by-outcome (planned m) f g = f m refl
-by-outcome (stuck c) f g = g c refl
 
 module _ (lent : ℕ) where
   pub within-stuck : (c : Carrier) → within lent (stuck c) ≡ refused (stopped c)

@@ -47,12 +47,12 @@ unfolding filter
 filter-all [] = refl
 filter-all (x ∷ xs) = ap suc (filter-all xs)
 
-filter-none : (xs : List ℕ) → filter (λ x. false) xs ≡ []
+pub filter-none : (xs : List ℕ) → filter (λ x. false) xs ≡ []
 unfolding filter
 filter-none [] = refl
 filter-none (x ∷ xs) = filter-none xs
 
-count-length : (a k : ℕ) → length (countFrom a k) ≡ k
+pub count-length : (a k : ℕ) → length (countFrom a k) ≡ k
 unfolding countFrom
 count-length a zero = refl
 count-length a (suc k) = ap suc (count-length (suc a) k)

@@ -4,12 +4,12 @@ use mathlib.Core.Path.{_≡_, refl, sym, _∙_, ap}
 use mathlib.Core.Bool.{true, false, not}
 use mathlib.Core.List.{List, [], _∷_, _++_, append-assoc}
 use mathlib.Core.Option.{some}
-use Prim.Native.Nat.{ℕ, _<_, min, max}
+use Prim.Native.Nat.{_<_, min, max}
 use native.Mathlib.Omega.{arith}
 use lib.Dec.{eqb, leb, ltb}
 use lib.ListN.{length, getD, take, drop, length-set}
 use lib.Seq.{ext-getD}
-use borrow.Author.Tests.{not-true, ltb-true, ltb-false, eqb-true, eqb-false, ne-eqb}
+use borrow.Author.Tests.{not-true, ltb-true, ltb-false, eqb-true, eqb-false}
 use Rattle.paper.specs.Basics.{_and_, filter, elem, without, upTo, In, Out, NoDup}
 use Rattle.paper.specs.Yard.{Bay, Carrier, Yard, Placement, Crossing, crossing, bayOf, isEmpty, move, after, joined, legal, legalPlan, neighbours, junction}
 use Rattle.paper.specs.Path.{nearestFirst, shortestPath, Free, Route, Way}
@@ -19,7 +19,7 @@ use Rattle.paper.proofs.Members.{first-of, nothing-in-nil, In-head, In-
 use Rattle.paper.proofs.Rings.{joined-sym, reached-sym, walk-free, reached-walk}
 use Rattle.paper.proofs.Shortest.{shortest-path}
 use Rattle.paper.proofs.Playing.{Apart, Legal, legal-of, after-append, after-length, plan-append, bay-in, move-self, move-other, move-apart, move-empties, move-out, Sound}
-use Rattle.paper.proofs.Vacating.{plan-apart, Vacated, vacate-vacates}
+use Rattle.paper.proofs.Vacating.{plan-apart, vacate-vacates}
 use Rattle.paper.proofs.Actions.{eqb-comm, same-moves, then-split, cross-split, Pulled, pulled}
 use Rattle.paper.proofs.GoingOn.{two-held, Attempted, aside-empties, around-empties}
 use Rattle.paper.proofs.Trading.{traded-length, traded-bay, trade-first, trade-second, trade-other, which, undo-undoes}
@@ -121,7 +121,7 @@ route-second : (Y : Yard) (held : List Bay) (u : Bay) (l : List Bay) (v : Bay) �
 route-second Y held u [] v r h = not-both h refl
 route-second Y held u (x ∷ xs) v r h = route-chain Y held x xs v (r .2)
 
-way-second : (Y : Yard) (held : List Bay) (u : Bay) (l : List Bay) (v : Bay) → Way Y held u l v → ltb 1 (length l) ≡ true → Chain Y (getD l 1 0) (drop 2 l) v
+pub way-second : (Y : Yard) (held : List Bay) (u : Bay) (l : List Bay) (v : Bay) → Way Y held u l v → ltb 1 (length l) ≡ true → Chain Y (getD l 1 0) (drop 2 l) v
 way-second Y held u l v w h = rw (w .starts) (route-second Y held u (w .rest) v (w .route) (rw (w .starts) at h))
 
 module _ (Y : Yard) (sound : Sound Y) (L M : Carrier) (differ : eqb L M ≡ false) where

@@ -4,7 +4,8 @@ use mathlib.Core.Bool.{Bool, true, false, true≢false}
 use mathlib.Core.Option.{Option, none, some}
 use Prim.Native.Nat.{ℕ}
 use native.Mathlib.Omega.{arith}
-use Rattle.paper.specs.Basics.{_and_, _or_, _>>=_, orElse, when}
+use Rattle.paper.specs.Basics.{if_then_else_, _and_, _or_, _>>=_, orElse, when}
+use Rattle.paper.specs.Text.{Read, good, badLine}
 
 pub by-cases : {P : Type 0} (b : Bool) → (b ≡ true → P) → (b ≡ false → P) → P
 by-cases true f g = f refl
@@ -36,6 +37,21 @@ and-right false b e = cc
 pub and-both : (a b : Bool) → a ≡ true → b ≡ true → a and b ≡ true
 unfolding _and_
 and-both a b e f = rw (e, f)
+
+pub and-true : (a : Bool) → a and true ≡ a
+unfolding _and_
+and-true true = refl
+and-true false = refl
+
+pub or-false : (a : Bool) → a or false ≡ a
+unfolding _or_
+or-false true = refl
+or-false false = refl
+
+-- a test answered by a test
+pub same-test : (t : Bool) → (if t then true else false) ≡ t
+same-test true = refl
+same-test false = refl
 
 pub or-left : (a b : Bool) → a ≡ true → a or b ≡ true
 unfolding _or_
@@ -89,3 +105,18 @@ some-from f (some a) h = (a, refl, cc)
 -- nothing follows from two constructors being equal, which `cc` turns into this
 pub never : {P : Type 0} → _≡_ {A = ℕ} 0 1 → P
 never z = absurd (omega arith)
+
+-- ## What was read
+
+pub by-read : {A P : Type 0} (r : Read A) → ((a : A) → r ≡ good a → P) → ((n : ℕ) → r ≡ badLine n → P) → P
+by-read (good a) f g = f a refl
+by-read (badLine n) f g = g n refl
+
+pub good-same : {R : Type 0} {r q : R} → good r ≡ good q → r ≡ q
+good-same h = cc
+
+pub bad-same : {R : Type 0} {m n : ℕ} → _≡_ {A = Read R} (badLine m) (badLine n) → m ≡ n
+bad-same h = cc
+
+pub not-good : {R P : Type 0} {r : R} {n : ℕ} → good r ≡ badLine n → P
+not-good h = never (cc)

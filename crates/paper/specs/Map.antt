@@ -6,7 +6,7 @@ use mathlib.Core.Option.{Option, none, some}
 use Prim.Native.Nat.{ℕ, suc, _+_, _*_, _%_}
 use lib.Dec.{eqb, ltb, leb}
 use lib.ListN.{length, getD, take, drop}
-use Rattle.paper.specs.Basics.{if_then_else_, if-some_then_else_, _and_, _or_, _>>=_, when, concat, upTo}
+use Rattle.paper.specs.Basics.{if_then_else_, _and_, _or_, _>>=_, when, concat, upTo}
 use Rattle.paper.specs.Yard.{Bay}
 use Rattle.paper.specs.Text.{Text, text, lines, same, all, count, value, isNumber, Read, readLines}
 

@@ -6,7 +6,7 @@ use mathlib.Core.Option.{Option, none, some}
 use Prim.Native.Nat.{ℕ}
 use lib.Dec.{eqb, ltb, leb}
 use lib.ListN.{length, getD}
-use Rattle.paper.specs.Basics.{if_then_else_, if-some_then_else_, _and_, _or_, _>>=_, when, any}
+use Rattle.paper.specs.Basics.{if_then_else_, _and_, _or_, _>>=_, when, any}
 use Rattle.paper.specs.Limits.{most-carriers}
 use Rattle.paper.specs.Yard.{Bay}
 use Rattle.paper.specs.Text.{Text, text, TAB, lines, split, same, all, count, isDigit, isPoint, value, sized, isNumber, Read, readLines}

@@ -1,13 +1,10 @@
 -- Crossings of the carriers that stand in the first places change nothing behind them.
 use mathlib.Core.Path.{_≡_, refl, _∙_, ap}
-use mathlib.Core.Bool.{true, false}
 use mathlib.Core.List.{List, [], _∷_, _++_}
 use Prim.Native.Nat.{ℕ, suc, _<_}
 use native.Mathlib.Omega.{arith}
-use lib.Dec.{eqb}
 use lib.ListN.{length, length-set}
 use lib.Seq.{set-append-left}
-use Rattle.paper.specs.Basics.{if_then_else_}
 use Rattle.paper.specs.Yard.{Bay, Placement, Crossing, named, move, after}
 use Rattle.paper.specs.Dependence.{done, doneOf}
 use Rattle.paper.proofs.Tests.{by-cases}

@@ -1,17 +1,16 @@
 -- The placement is where the accepted crossings leave the carriers, in whatever order they were accepted: demand 3 says so of the done crossings in plan order.
-use mathlib.Core.Path.{_≡_, refl, sym, _∙_, ap}
-use mathlib.Core.Bool.{true, false}
+use mathlib.Core.Path.{_≡_, sym, _∙_, ap}
+use mathlib.Core.Bool.{false}
 use mathlib.Core.List.{List, _++_}
-use mathlib.Core.Option.{none, some}
+use mathlib.Core.Option.{none}
 use Prim.Native.Nat.{ℕ, _≤_}
 use borrow.Author.Tests.{le-ltb}
 use lib.Dec.{ltb}
 use lib.ListN.{length, take, drop}
 use lib.Seq.{take-at, drop-at}
-use Rattle.paper.specs.Basics.{orElse, when}
 use Rattle.paper.specs.Yard.{Bay, Placement, crossings, after}
 use Rattle.paper.specs.Order.{Order}
-use Rattle.paper.specs.Docket.{yardOf, badMarks, no-11, room, granted, denied, unlessDenied}
+use Rattle.paper.specs.Docket.{yardOf, badMarks, granted}
 use Rattle.paper.specs.Dependence.{doneOf, placementBy}
 use Rattle.paper.specs.Answers.{check}
 use Rattle.paper.specs.Log.{Request, marksOf, namesOf, acceptedOf}

@@ -1,5 +1,5 @@
 -- What is said of the placement, way out by way out: the check's refusal, the marks', the room's; and once they have passed, the placement.
-use mathlib.Core.Path.{_≡_, refl, sym, _∙_, ap}
+use mathlib.Core.Path.{_≡_, sym, _∙_, ap}
 use mathlib.Core.Bool.{true, false}
 use mathlib.Core.List.{List, _++_}
 use mathlib.Core.Option.{none, some}
@@ -8,11 +8,10 @@ use native.Mathlib.Omega.{arith}
 use borrow.Author.Tests.{lt-ltb, le-ltb}
 use lib.Dec.{ltb}
 use lib.ListN.{length, getD, drop, length-map, length-append}
-use Rattle.paper.specs.Basics.{orElse, when}
 use Rattle.paper.specs.Limits.{most-bays}
 use Rattle.paper.specs.Yard.{Bay, crossings, named, after, unpack}
 use Rattle.paper.specs.Order.{Order}
-use Rattle.paper.specs.Docket.{badMarks, no-11, room, granted, denied, unlessDenied}
+use Rattle.paper.specs.Docket.{badMarks, room}
 use Rattle.paper.specs.Dependence.{doneOf, placementBy}
 use Rattle.paper.specs.OnePass.{Fits}
 use Rattle.paper.specs.Answers.{check}
@@ -21,12 +20,11 @@ use Rattle.paper.proofs.Handing.{check-fits}
 use Rattle.paper.proofs.Packing.{named-is}
 use Rattle.paper.proofs.Reporting.{marks-long}
 use Rattle.bills.proofs.Stepping.{carrier-there}
-use Rattle.docket.specs.Reading.{refusalOf, verdictOf}
+use Rattle.docket.specs.Reading.{refusalOf}
 use Rattle.docket.specs.declared.Refusal.{Refusal}
 use Rattle.docket.specs.declared.Refusal.the-variants.{Mismarked, Room}
-use Rattle.docket.specs.declared.Verdict.{Verdict as Held}
 use Rattle.docket.specs.declared.Verdict.the-variants.{Granted, Denied}
-use Rattle.placement.specs.Standing.{refusal, standing, standingEnd, PlacementSays}
+use Rattle.placement.specs.Standing.{refusal, standing, PlacementSays}
 use Rattle.placement.proofs.Behind.{after-behind}
 
 module _ (o : Order) (plan marks : List ℕ) (lent : List Bay) where

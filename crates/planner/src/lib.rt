@@ -220,7 +220,7 @@ pub fn plan_counted(
     ensures { λ r. ⌜ CountSays (order bays (now (rails .entry)) (now (start .entry)) (now (goal .entry))) (now (out .entry)) r (now (out .exit)) ⌝ }
 {
     let mut table = [0u64; Yard::TABLE];
-    let opened = Yard::open(bays, rails, start, goal, 0, &mut table);
+    let opened = Yard::open_in(bays, rails, start, goal, 0, &mut table);
     match opened {
         Opened::Refused(r) => Counted::Refused(r),
         Opened::Open(yard) => { hand_out(&table, yard.bays, rails.len(), start, goal, out) }
@@ -243,7 +243,7 @@ pub fn plan_lean(bays: u64, rails: &[u16], start: &[u16], goal: &[u16], out: &mu
     ensures { λ r. ⌜ CountSays (order bays (now (rails .entry)) (now (start .entry)) (now (goal .entry))) (now (out .entry)) r (now (out .exit)) ⌝ }
 {
     let mut table = [0u64; Yard::TABLE];
-    let opened = Yard::open(bays, rails, start, goal, 0, &mut table);
+    let opened = Yard::open_in(bays, rails, start, goal, 0, &mut table);
     match opened {
         Opened::Refused(r) => Counted::Refused(r),
         Opened::Open(yard) => lean::hand_out_lean(&table, yard.bays, start, goal, out),

@@ -1,6 +1,5 @@
 // A lent plan, read by name: the crossing at a place of it, and the lookup that finds the crossing of any name or says that there is none.
 ghost use mathlib.Core.Path.{_≡_};
-ghost use mathlib.Core.Option.{none};
 ghost use Prim.Native.Nat.{_<_};
 ghost use lib.ListN.{length};
 ghost use Rattle.paper.specs.Yard.{crossings, named};

@@ -10,7 +10,6 @@ ghost use lib.ListN.{length};
 ghost use Rattle.words.specs.Sets.{words, span};
 ghost use Rattle.levels.specs.Levels.{Levelled};
 ghost use Rattle.acting.specs.Acting.{Tabled};
-ghost use Rattle.step.specs.Asking.{BaysBelow};
 ghost use Rattle.carry.specs.Carrying.{procedures};
 ghost use Rattle.play.specs.Playing.{Admitted, Plays};
 
@@ -39,7 +38,7 @@ pub const DENSE: usize = 6;
 // and plans are long.
 pub const GRID: usize = 5;
 
-// In lent room: a place for each carrier, and one for each bay. Whose goal a bay is, is worked out as who stands there. Nobody is finished yet,
+// In lent room: a place for each carrier, and two for each bay. Whose goal a bay is, is worked out as who stands there. Nobody is finished yet,
 // so no bay is settled.
 fn play_on(
     table: &[u64],
@@ -47,19 +46,13 @@ fn play_on(
     goal: &[u16],
     placement: &mut [u16],
     standing: &mut [u16],
-    empty: &mut [u64],
-    settled: &mut [u64],
     owner: &mut [u16],
-    spare: &mut [u64],
     out: &mut [u64],
 ) -> Staged
     requires { ⌜
         Admitted (length (now standing)) (now table) (now start) (now goal)
-        × (length (now empty) ≡ words)
         × (length (now placement) ≡ length (now start))
         × (length (now owner) ≡ length (now standing))
-        × (length (now spare) ≡ words)
-        × BaysBelow 0 (now start) (now settled)
         × (length (now standing) * words ≤ length (now table))
         × Levelled (length (now standing)) (now table)
         ⌝ }
@@ -68,10 +61,22 @@ fn play_on(
         → Plays (procedures (t .yard) (now (goal .entry)) (now (start .entry))) (now (out .entry)) (now (out .exit)) z)
         ⌝ }
 {
+    let mut empty = [0u64; WORDS];
+    let mut spare = [0u64; WORDS];
+    let mut settled = [0u64; WORDS];
     copies::shorts(placement, start);
-    placing::place(start, standing, empty);
-    placing::place(goal, owner, spare);
-    carry::carry_all(table, goal, owner, placement, standing, empty, settled, out)
+    placing::place(start, standing, &mut empty);
+    placing::place(goal, owner, &mut spare);
+    carry::carry_all(
+        table,
+        goal,
+        owner,
+        placement,
+        standing,
+        &mut empty,
+        &mut settled,
+        out,
+    )
 }
 
 // On a table that may go on above its rails.
@@ -84,20 +89,14 @@ fn play_in(table: &[u64], n: usize, start: &[u16], goal: &[u16], out: &mut [u64]
     let carriers = start.len();
     let mut placement = [0u16; SPAN];
     let mut standing = [0u16; SPAN];
-    let mut empty = [0u64; WORDS];
-    let mut settled = [0u64; WORDS];
     let mut owner = [0u16; SPAN];
-    let mut spare = [0u64; WORDS];
     play_on(
         table,
         start,
         goal,
         &mut placement[..carriers],
         &mut standing[..n],
-        &mut empty,
-        &mut settled,
         &mut owner[..n],
-        &mut spare,
         out,
     )
 }

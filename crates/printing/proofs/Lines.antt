@@ -17,7 +17,7 @@ use Rattle.paper.proofs.Packing.{unpack-small}
 use Rattle.paper.specs.Print.{decimal, actionLine, costLine, refusedLine, ended, planLines, printPlan, printed}
 use Rattle.docket.specs.Reading.{isSome}
 use Rattle.printing.specs.Parts.{named, actionLines, handed}
-use Rattle.printing.proofs.Digits.{decimal-short}
+use Rattle.paper.proofs.Digits.{decimal-short}
 
 pub named-short : (t : Text) (n : ℕ) → n < 2 ^ 64 → length (named t n) ≤ length t + 20
 unfolding named
@@ -50,7 +50,7 @@ pub none-carried : (o : Option ℕ) → isSome o ≡ false → o ≡ none
 none-carried none e = refl
 none-carried (some a) e = let z : _≡_ {A = ℕ} 0 1 = cc in absurd (omega arith)
 
-ended-append : (ls ms : List Text) → ended (ls ++ ms) ≡ ended ls ++ ended ms
+pub ended-append : (ls ms : List Text) → ended (ls ++ ms) ≡ ended ls ++ ended ms
 unfolding ended
 ended-append [] ms = refl
 ended-append (l ∷ ls) ms = rw (ended-append ls ms) (sym (append-assoc l (LF ∷ ended ls) (ended ms)))

@@ -3,3 +3,4 @@ pub mod Ordering
 pub mod Room
 pub mod Determined
 pub mod Shortening
+pub mod Readying

@@ -5,7 +5,7 @@ use Prim.Native.Nat.{ℕ, zero, suc, _+_, _*_, _≤_, _<_}
 use native.Mathlib.Omega.{arith}
 use native.Mathlib.Numerals.{add-one}
 use lib.ListN.{length, take, getD, length-append, length-map}
-use lib.Seq.{take-length}
+use lib.Seq.{take-length, length-take-le}
 use Rattle.paper.specs.Limits.{most-bays}
 use Rattle.paper.specs.Yard.{Crossing, pack, unpack, crossings}
 use Rattle.paper.specs.Order.{Order}
@@ -17,17 +17,16 @@ use Rattle.paper.specs.Program.{program-room}
 use Rattle.paper.proofs.Tests.{never}
 use Rattle.paper.proofs.Planning.{accepted-exactly}
 use Rattle.paper.proofs.Handing.{handed-passes, check-fits}
-use Rattle.printing.specs.Parts.{named, actionLines, handed}
-use Rattle.printing.proofs.Digits.{tenTo, short}
+use Rattle.printing.specs.Parts.{named, actionLines}
+use Rattle.paper.proofs.Digits.{tenTo, short}
 use Rattle.printing.proofs.Lines.{action-parts, cost-parts, lines-none, lines-more, plan-parts}
 use Rattle.planner.specs.declared.Planned.{Planned}
-use Rattle.planner.specs.declared.Planned.the-variants.{Accepted}
-use Rattle.planner.specs.Statement.{told, plannedOf, PlanSays}
 use Rattle.trips.specs.Trips.{shorten}
 use Rattle.trips.proofs.Shortened.{shortened-passes}
-use Rattle.program.specs.Printout.{print-room, Handed, Prints}
-use Rattle.program.specs.Short.{shortAnswer, ShortIn}
-use Rattle.program.proofs.Telling.{by-answer, by-planned, handed-is, handed-in}
+use Rattle.program.specs.Printout.{print-room, Prints}
+use Rattle.program.specs.Short.{shortAnswer}
+use Rattle.program.specs.Ready.{Ready}
+use Rattle.program.proofs.Telling.{by-answer, by-planned, handed-is, plan-is}
 use Rattle.program.proofs.Shortening.{left-fewer}
 
 three : (n : ℕ) → n < most-bays → length (decimal n) ≤ 3
@@ -56,17 +55,22 @@ lines-fit list f (suc i) h =
     let ih = lines-fit list f i (omega arith) in
     rw (← add-one i, lines-more list i k) (simp length-append (omega arith))
 
+-- a list that fits the tables of slots is printed within that room
+listed-fits : (list : List ℕ) → Fits most-bays most-bays list → length list ≤ 8192 → length (printed (accepted (crossings list))) ≤ print-room
+listed-fits list fits few =
+    let c = rw (ap actionLines (take-length list)) at (lines-fit list fits (length list) (omega arith)) in
+    let whole : printed (accepted (crossings list)) ≡ actionLines list ++ ended (costLine (length list) ∷ []) =
+    ap printed (sym (handed-is list (omega arith))) ∙ sym (plan-parts list (omega arith)) in
+    rw whole (simp length-append (omega (arith, cost-fits (length list) few)))
+
 passing-fits : (o : Order) (xs : List Crossing) → check o (map pack xs) ≡ none → crossings (map pack xs) ≡ xs
     → length xs ≤ 8192 → length (printed (accepted xs)) ≤ print-room
 passing-fits o xs passes reads h =
-    let m = length-map xs pack in
-    let c = lines-fit (map pack xs) (check-fits o (map pack xs) passes) (length (map pack xs)) (omega arith) in
-    let t = ap actionLines (take-length (map pack xs)) in
-    let k = rw t at c in
-    let few : length (map pack xs) ≤ 8192 = omega arith in
-    let whole : printed (accepted xs) ≡ actionLines (map pack xs) ++ ended (costLine (length (map pack xs)) ∷ []) =
-    ap printed (sym (handed-is (map pack xs) (omega arith) ∙ ap accepted reads)) ∙ sym (plan-parts (map pack xs) (omega arith)) in
-    rw whole (simp length-append (omega (arith, cost-fits (length (map pack xs)) few)))
+    omega (
+      arith,
+      listed-fits (map pack xs) (check-fits o (map pack xs) passes) (omega (arith, length-map xs pack)),
+      ap (λ l. length (printed (accepted l))) reads,
+    )
 
 pub plan-fits : (o : Order) (xs : List Crossing) → plan o program-room ≡ accepted xs → length (printed (accepted xs)) ≤ print-room
 plan-fits o xs e =
@@ -88,24 +92,13 @@ short-fits o ys e =
     passing-fits o ys (rw is at (left .0)) (rw is at (left .1)) (omega (arith, a .2, length-map xs pack, ap length is)))
     (λ d q. let y : refused d ≡ accepted ys = rw q at e in never (cc))
 
--- an answer that fits is printed within that room
-room-for : {r : Planned} {list : List ℕ} {a : Answer} → Handed r list a → ((xs : List Crossing) → a ≡ accepted xs → length (printed (accepted xs)) ≤ print-room)
-    → {before after : List ℕ} {k : ℕ} → Prints r list before after k → k ≤ print-room
-room-for {r} {list} {a} h fit {before} {after} {k} p =
-    by-answer a
-    (λ xs q.
-    let w : k ≡ 0 + length (printed (accepted xs)) = p .prints a h .counted ∙ ap (λ b. 0 + length (printed b)) q in
-    omega (arith, fit xs q))
-    (λ d q.
+-- so an answer that is ready is printed within that room
+pub ready-room : {a : Answer} {r : Planned} {list : List ℕ} → Ready a r list → {before after : List ℕ} {k : ℕ} → Prints r list before after k → k ≤ print-room
+ready-room {a} {r} {list} h {before} {after} {k} p =
+    let w = h .slottable in
     by-planned r
-    (λ m f. let y : plannedOf (Accepted m) ≡ told (refused d) = rw (f, q) at (h .tells) in never (cc))
-    (λ c f. omega (arith, p .short c f)))
-
--- so what the planner answers is printed within that room
-pub order-room : {o : Order} {lent : List ℕ} {r : Planned} {lent′ : List ℕ} → PlanSays o lent r lent′ → program-room ≡ length lent
-    → {before after : List ℕ} {k : ℕ} → Prints r lent′ before after k → k ≤ print-room
-order-room {o} says e p = room-for (handed-in says e) (plan-fits o) p
-
-pub short-room : {o : Order} {r : Planned} {list : List ℕ} → ShortIn o r list
-    → {before after : List ℕ} {k : ℕ} → Prints r list before after k → k ≤ print-room
-short-room {o} h p = room-for (h .handed) (short-fits o) p
+    (λ m e.
+    let few : length (take m list) ≤ 8192 = omega (arith, length-take-le m list (w .within .inside m e), w .within .inside m e, w .sized) in
+    let is = ap (λ b. length (printed b)) (plan-is m e a (h .handed)) in
+    omega (arith, p .prints a (h .handed) .counted, is, listed-fits (take m list) (w .fits m e) few))
+    (λ f e. omega (arith, p .short f e))

@@ -35,22 +35,26 @@ by-planned (Accepted m) f g = f m refl
 by-planned (Refused d) f g = g d refl
 
 module _ {r : Planned} {list : List ℕ} where
-  plan-told : (m : ℕ) → r ≡ Accepted m → Within r list → (a : Answer) → Handed r list a → handed (take m list) ≡ a
-  plan-told m e w a h =
+  pub plan-is : (m : ℕ) → r ≡ Accepted m → (a : Answer) → Handed r list a → a ≡ accepted (crossings (take m list))
+  plan-is m e a h =
       by-answer a
       (λ xs q.
       let y : long m ≡ long (length xs) = rw (e, q) at (h .tells) in
       let n : m ≡ length xs = cc in
-      let k = length-take-le m list (w .inside m e) in
-      let i = w .few in
-      handed-is (take m list) (omega (arith, w .inside m e)) ∙ ap accepted (ap (λ j. crossings (take j list)) n ∙ h .stands xs q) ∙ sym q)
+      q ∙ ap accepted (sym (ap (λ j. crossings (take j list)) n ∙ h .stands xs q)))
       (λ f q. let y : long m ≡ told (refused f) = rw (e, q) at (h .tells) in never (cc))
 
-  refusal-told : (f : Refusal) → r ≡ Refused f → (a : Answer) → Handed r list a → refused (refusalOf f) ≡ a
-  refusal-told f e a h =
+  pub refusal-is : (f : Refusal) → r ≡ Refused f → (a : Answer) → Handed r list a → a ≡ refused (refusalOf f)
+  refusal-is f e a h =
       by-answer a
       (λ xs q. let y : plannedOf (Refused f) ≡ told (accepted xs) = rw (e, q) at (h .tells) in never (cc))
-      (λ g q. let y : plannedOf (Refused f) ≡ told (refused g) = rw (e, q) at (h .tells) in let z : refusalOf f ≡ g = cc in ap refused z ∙ sym q)
+      (λ g q. let y : plannedOf (Refused f) ≡ told (refused g) = rw (e, q) at (h .tells) in let z : refusalOf f ≡ g = cc in q ∙ ap refused (sym z))
+
+  plan-told : (m : ℕ) → r ≡ Accepted m → Within r list → (a : Answer) → Handed r list a → handed (take m list) ≡ a
+  plan-told m e w a h =
+      let k = length-take-le m list (w .inside m e) in
+      let i = w .few in
+      handed-is (take m list) (omega (arith, w .inside m e)) ∙ sym (plan-is m e a h)
 
   pub plan-prints : (m : ℕ) → r ≡ Accepted m → Within r list → {before after : List ℕ} {n : ℕ} → Wrote before 0 (printed (handed (take m list))) after n → Prints r list before after n
   plan-prints m e w {before} {after} {n} p = record {
@@ -59,7 +63,7 @@ module _ {r : Planned} {list : List ℕ} where
   }
 
   pub refusal-prints : (f : Refusal) → r ≡ Refused f → {before after : List ℕ} {n : ℕ} → Wrote before 0 (printed (refused (refusalOf f))) after n → n ≤ 64 → Prints r list before after n
-  refusal-prints f e p h = record { prints = λ a k. rw (ap printed (sym (refusal-told f e a k))) p; short = λ g q. h }
+  refusal-prints f e p h = record { prints = λ a k. rw (ap printed (refusal-is f e a k)) p; short = λ g q. h }
 
 -- ## The planner's promise
 module _ {o : Order} {lent : List ℕ} {r : Planned} {lent′ : List ℕ} (says : PlanSays o lent r lent′) where

@@ -1,2 +1,3 @@
 pub mod Printout
 pub mod Short
+pub mod Ready

@@ -1,6 +1,7 @@
 -- The program with `--shorten`: the plan that the two files ask for, without its there-and-back trips.
 -- Assumes nothing.
 use mathlib.Core.Path.{_≡_}
+use mathlib.Core.Bool.{Bool, true, false}
 use mathlib.Core.List.{List}
 use mathlib.Core.Option.{Option, none}
 use Prim.Native.Nat.{ℕ}
@@ -19,6 +20,11 @@ use Rattle.program.specs.Printout.{Within, Handed}
 abbrev pub shortAnswer : Answer → Answer
 shortAnswer (accepted xs) = accepted (shorten xs)
 shortAnswer (refused r) = refused r
+
+-- shortened where that is asked for
+abbrev pub shortOr : Bool → Answer → Answer
+shortOr true a = shortAnswer a
+shortOr false a = a
 
 -- all that the program prints
 unfoldable pub programShort : Option Text → Option Text → Text

@@ -10,11 +10,12 @@ ghost use lib.ListN.{length};
 ghost use Rattle.paper.specs.Order.{order as orderOf};
 ghost use Rattle.paper.specs.Answers.{plan as planned};
 ghost use Rattle.paper.specs.Print.{printed};
-ghost use Rattle.paper.specs.Program.{program as printedFor, program-room};
+ghost use Rattle.paper.specs.Program.{program as printedFor, programAnswer, program-room};
 ghost use Rattle.stores.specs.Writing.{Wrote};
 ghost use Rattle.filing.specs.Filing.{fileOf, orderIn};
 ghost use Rattle.program.specs.Printout.{print-room, Within, Prints};
-ghost use Rattle.program.specs.Short.{shortAnswer, programShort, PlannedIn, ShortIn};
+ghost use Rattle.program.specs.Short.{shortOr, programShort, PlannedIn, ShortIn};
+ghost use Rattle.program.specs.Ready.{Ready};
 
 // Room for every print, and for every order's rails and carriers.
 pub const PRINT_BYTES: usize = 22 * CROSSINGS + 26;
@@ -43,50 +44,8 @@ fn print_planned(answer: Planned, plan: &[u64], out: &mut [u8]) -> usize
     }
 }
 
-// The order's plan, or why it has none.
-fn print_order(order: Order, ends: &[u16], starts: &[u16], goals: &[u16], out: &mut [u8]) -> usize
-    requires { ⌜ (order .ends ≤ length (now ends)) × (order .carriers ≤ length (now starts)) × (order .carriers ≤ length (now goals)) ⌝ }
-    ensures { λ r. ⌜
-        Wrote (now (out .entry)) 0
-        (printed (planned (orderIn order (now (ends .entry)) (now (starts .entry)) (now (goals .entry))) program-room)) (now (out .exit)) r
-        × (r ≤ print-room)
-        ⌝ }
-{
-    let n = order.ends;
-    let k = order.carriers;
-    let mut plan = [0u64; CROSSINGS];
-    let answer = planner::plan(order.bays, &ends[..n], &starts[..k], &goals[..k], &mut plan);
-    print_planned(answer, &plan, out)
-}
-
-// All that is printed for two files, each with whether it could be read; answers how many bytes
-// that takes, which are never more than 180,250.
-pub fn program(map: &[u8], mapped: bool, scenario: &[u8], listed: bool, out: &mut [u8]) -> usize
-    ensures { λ r. ⌜
-        Wrote (now (out .entry)) 0 (printedFor (fileOf mapped (now (map .entry))) (fileOf listed (now (scenario .entry)))) (now (out .exit)) r
-        × (r ≤ print-room)
-        ⌝ }
-{
-    let mut ends = [0u16; ENDS];
-    let mut starts = [0u16; Yard::CARRIERS];
-    let mut goals = [0u16; Yard::CARRIERS];
-    let ordered = filing::read_order(
-        map,
-        mapped,
-        scenario,
-        listed,
-        &mut ends,
-        &mut starts,
-        &mut goals,
-    );
-    match ordered {
-        Ordered::Order(order) => print_order(order, &ends, &starts, &goals, out),
-        Ordered::Refused(r) => printing::refusal(r, out),
-    }
-}
-
 // The plan without its there-and-back trips, in the other list. None of it is done, and there is room for all of it, so that it is never refused.
-pub fn shorten_planned(
+fn shorten_planned(
     answer: Planned,
     bays: u64,
     ends: &[u16],
@@ -120,30 +79,103 @@ pub fn shorten_planned(
     }
 }
 
-// The order's plan, shortened, or why it has none.
-fn print_short(order: Order, ends: &[u16], starts: &[u16], goals: &[u16], out: &mut [u8]) -> usize
-    requires { ⌜ (order .ends ≤ length (now ends)) × (order .carriers ≤ length (now starts)) × (order .carriers ≤ length (now goals)) ⌝ }
+// The order's plan in the list, shortened where that is asked for, or why it has none.
+fn plan_order(
+    shorten: bool,
+    order: Order,
+    ends: &[u16],
+    starts: &[u16],
+    goals: &[u16],
+    plan: &mut [u64],
+) -> Planned
+    requires { ⌜
+        (order .ends ≤ length (now ends))
+        × (order .carriers ≤ length (now starts))
+        × (order .carriers ≤ length (now goals))
+        × (length (now plan) ≡ program-room)
+        ⌝ }
     ensures { λ r. ⌜
-        Wrote (now (out .entry)) 0
-        (printed (shortAnswer (planned (orderIn order (now (ends .entry)) (now (starts .entry)) (now (goals .entry))) program-room))) (now (out .exit)) r
-        × (r ≤ print-room)
+        Ready (shortOr shorten (planned (orderIn order (now (ends .entry)) (now (starts .entry)) (now (goals .entry))) program-room))
+        r (now (plan .exit))
         ⌝ }
 {
     let n = order.ends;
     let k = order.carriers;
-    let mut plan = [0u64; CROSSINGS];
-    let mut short = [0u64; CROSSINGS];
-    let found = planner::plan(order.bays, &ends[..n], &starts[..k], &goals[..k], &mut plan);
-    let shorter = shorten_planned(
-        found,
-        order.bays,
-        &ends[..n],
-        &starts[..k],
-        &goals[..k],
-        &plan,
-        &mut short,
+    if shorten {
+        let mut long = [0u64; CROSSINGS];
+        let found = planner::plan(order.bays, &ends[..n], &starts[..k], &goals[..k], &mut long);
+        return shorten_planned(
+            found,
+            order.bays,
+            &ends[..n],
+            &starts[..k],
+            &goals[..k],
+            &long,
+            plan,
+        );
+    }
+    planner::plan(order.bays, &ends[..n], &starts[..k], &goals[..k], plan)
+}
+
+// What the two files ask for, each with whether it could be read: the plan in the list, or why there is none.
+pub fn answer_for(
+    shorten: bool,
+    map: &[u8],
+    mapped: bool,
+    scenario: &[u8],
+    listed: bool,
+    plan: &mut [u64],
+) -> Planned
+    requires { ⌜ length (now plan) ≡ program-room ⌝ }
+    ensures { λ r. ⌜ Ready (shortOr shorten (programAnswer (fileOf mapped (now (map .entry))) (fileOf listed (now (scenario .entry))))) r (now (plan .exit)) ⌝ }
+{
+    let mut ends = [0u16; ENDS];
+    let mut starts = [0u16; Yard::CARRIERS];
+    let mut goals = [0u16; Yard::CARRIERS];
+    let ordered = filing::read_order(
+        map,
+        mapped,
+        scenario,
+        listed,
+        &mut ends,
+        &mut starts,
+        &mut goals,
     );
-    print_planned(shorter, &short, out)
+    match ordered {
+        Ordered::Order(order) => plan_order(shorten, order, &ends, &starts, &goals, plan),
+        Ordered::Refused(r) => Planned::Refused(r),
+    }
+}
+
+// Both prints: the answer's, shortened where that is asked for.
+fn print_for(
+    shorten: bool,
+    map: &[u8],
+    mapped: bool,
+    scenario: &[u8],
+    listed: bool,
+    out: &mut [u8],
+) -> usize
+    ensures { λ r. ⌜
+        Wrote (now (out .entry)) 0
+        (printed (shortOr shorten (programAnswer (fileOf mapped (now (map .entry))) (fileOf listed (now (scenario .entry)))))) (now (out .exit)) r
+        × (r ≤ print-room)
+        ⌝ }
+{
+    let mut plan = [0u64; CROSSINGS];
+    let answer = answer_for(shorten, map, mapped, scenario, listed, &mut plan);
+    print_planned(answer, &plan, out)
+}
+
+// All that is printed for two files, each with whether it could be read; answers how many bytes
+// that takes, which are never more than 180,250.
+pub fn program(map: &[u8], mapped: bool, scenario: &[u8], listed: bool, out: &mut [u8]) -> usize
+    ensures { λ r. ⌜
+        Wrote (now (out .entry)) 0 (printedFor (fileOf mapped (now (map .entry))) (fileOf listed (now (scenario .entry)))) (now (out .exit)) r
+        × (r ≤ print-room)
+        ⌝ }
+{
+    print_for(false, map, mapped, scenario, listed, out)
 }
 
 // The same as `program`, with the plan shortened.
@@ -159,20 +191,5 @@ pub fn program_short(
         × (r ≤ print-room)
         ⌝ }
 {
-    let mut ends = [0u16; ENDS];
-    let mut starts = [0u16; Yard::CARRIERS];
-    let mut goals = [0u16; Yard::CARRIERS];
-    let ordered = filing::read_order(
-        map,
-        mapped,
-        scenario,
-        listed,
-        &mut ends,
-        &mut starts,
-        &mut goals,
-    );
-    match ordered {
-        Ordered::Order(order) => print_short(order, &ends, &starts, &goals, out),
-        Ordered::Refused(r) => printing::refusal(r, out),
-    }
+    print_for(true, map, mapped, scenario, listed, out)
 }

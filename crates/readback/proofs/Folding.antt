@@ -1,19 +1,19 @@
 -- A file's lines one by one: what is left of the file reads, behind the numbers so far, as the whole does.
 use mathlib.Core.Path.{_≡_, refl, sym, _∙_, ap}
 use mathlib.Core.Bool.{Bool, true, false}
-use mathlib.Core.List.{List, [], _∷_, _++_, append-nil}
-use mathlib.Core.Option.{Option, none, some}
-use Prim.Native.Nat.{ℕ, suc, _+_, _≤_, _<_}
+use mathlib.Core.List.{List, [], _++_, append-nil}
+use mathlib.Core.Option.{none, some}
+use Prim.Native.Nat.{ℕ, suc, _+_, _≤_}
 use native.Mathlib.Omega.{arith}
 use native.Mathlib.Numerals.{add-one}
 use lib.ListN.{length, drop}
-use Rattle.paper.specs.Text.{Text, lines, Read, good, badLine, readLines}
+use Rattle.paper.specs.Text.{Text, lines, good, badLine, readLines}
 use Rattle.paper.proofs.Tests.{not-both}
 use Rattle.stores.specs.Writing.{Wrote}
 use Rattle.stores.proofs.Stores.{wrote-none, wrote-then, wrote-length}
 use Rattle.lines.specs.Lines.{part, TextAt}
 use Rattle.readback.specs.Entries.{entryIn, behind, entryLine, readEntries}
-use Rattle.readback.specs.Steps.{numbersOf, isBroken, foundOf, countIn, Folds}
+use Rattle.readback.specs.Steps.{numbersOf, isBroken, countIn, Folds}
 use Rattle.readback.specs.declared.Entry.{Entry}
 use Rattle.readback.specs.declared.Entry.the-variants.{Number, Comment, Broken}
 use Rattle.readback.specs.declared.Found.the-variants.{Numbers, Bad}

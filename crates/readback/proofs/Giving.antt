@@ -1,5 +1,5 @@
 -- What the first reading found decides the answer; only a good file that fits is read into the lent list.
-use mathlib.Core.Path.{_≡_, refl, sym, _∙_, ap}
+use mathlib.Core.Path.{_≡_, sym, _∙_, ap}
 use mathlib.Core.Bool.{Bool, true, false}
 use mathlib.Core.List.{List}
 use Prim.Native.Nat.{ℕ, _≤_, _<_}
@@ -7,23 +7,18 @@ use native.Mathlib.Omega.{arith}
 use lib.ListN.{length}
 use borrow.Author.Tests.{le-leb, lt-leb}
 use Rattle.paper.specs.Yard.{most-crossings}
-use Rattle.paper.specs.Docket.{granted, denied, room, size}
 use Rattle.paper.specs.Text.{Text, Read, good, badLine}
-use Rattle.docket.specs.Reading.{verdictOf}
+use Rattle.paper.proofs.Tests.{by-read}
 use Rattle.docket.specs.declared.Verdict.{Verdict}
 use Rattle.docket.specs.declared.Verdict.the-variants.{Granted, Denied}
 use Rattle.docket.specs.declared.Refusal.the-variants.{Room, Size, BadPlan, BadReports}
-use Rattle.handing.specs.Handing.{fitted, handed}
+use Rattle.handing.specs.Handing.{handed}
 use Rattle.handing.proofs.Fitting.{wrote-hands, short, handed-fits, handed-short}
 use Rattle.readback.specs.Entries.{readEntries}
 use Rattle.readback.specs.Steps.{countIn, foundOf, Folds}
-use Rattle.readback.specs.Files.{planVerdict, planEnd, reportsVerdict, reportsEnd, PlanRead, ReportsRead, Gives}
+use Rattle.readback.specs.Files.{PlanRead, ReportsRead, Gives}
 use Rattle.readback.specs.declared.Found.{Found}
 use Rattle.readback.specs.declared.Found.the-variants.{Numbers, Bad}
-
-by-read : {P : Type 0} (r : Read (List ℕ)) → ((ns : List ℕ) → r ≡ good ns → P) → ((n : ℕ) → r ≡ badLine n → P) → P
-by-read (good ns) f g = f ns refl
-by-read (badLine n) f g = g n refl
 
 never : {P : Type 0} {k n : ℕ} → _≡_ {A = Read ℕ} (good k) (badLine n) → P
 never e = let z : _≡_ {A = ℕ} 0 1 = cc in absurd (omega arith)

@@ -1,7 +1,7 @@
 -- Digits read one by one, up to the most: a number that passes it never comes back below, so reading may stop there.
 use mathlib.Core.Path.{_≡_, refl, sym, _∙_, ap}
 use mathlib.Core.Bool.{Bool, true, false}
-use mathlib.Core.List.{List, [], _∷_}
+use mathlib.Core.List.{[], _∷_}
 use mathlib.Core.Option.{Option, none, some}
 use Prim.Native.Nat.{ℕ, suc, _+_, _-_, _*_, _≤_, _<_}
 use native.Mathlib.Omega.{arith}
@@ -13,11 +13,11 @@ use borrow.Author.Tests.{eq-eqb, ne-eqb, leb-true, leb-false, le-leb, lt-leb}
 use Rattle.paper.specs.Basics.{if_then_else_, _and_}
 use Rattle.paper.specs.Text.{Text, all, isDigit, value, valueFrom}
 use Rattle.paper.specs.Print.{numberAfter}
-use Rattle.paper.proofs.Tests.{by-cases, not-both}
+use Rattle.paper.proofs.Tests.{by-cases}
 use Rattle.paper.proofs.Fields.{and-false}
 use Rattle.readback.specs.Entries.{numeral, reportEntry, most-carrier}
 use Rattle.readback.specs.Steps.{figure, digitOn, capped}
-use Rattle.readback.specs.declared.Entry.the-variants.{Number, Comment, Broken}
+use Rattle.readback.specs.declared.Entry.the-variants.{Number, Broken}
 use Rattle.readback.specs.declared.Figure.{Figure}
 use Rattle.readback.specs.declared.Figure.the-variants.{Spells, Nothing}
 

@@ -1,6 +1,6 @@
 -- An action's words are the pieces between spaces, and they are cut off one by one; what the words say is what the paper reads.
 use mathlib.Core.Path.{_≡_, refl, sym, _∙_, ap}
-use mathlib.Core.Bool.{Bool, true, false}
+use mathlib.Core.Bool.{true, false}
 use mathlib.Core.List.{List, [], _∷_, _++_, append-assoc, append-nil}
 use mathlib.Core.Option.{Option, none, some}
 use Prim.Native.Nat.{ℕ, suc, _+_, _-_, _≤_, _<_}
@@ -18,8 +18,7 @@ use Rattle.paper.proofs.Tests.{by-cases, by-option}
 use Rattle.paper.proofs.Fields.{and-false}
 use Rattle.paper.proofs.Stepping.{split-some}
 use Rattle.readback.specs.Entries.{most-carrier, most-bay, fits, entryOf, planEntry}
-use Rattle.readback.specs.Steps.{figure, capped, Cut, entered, toEntry, left, fromEntry, moved, carrierEntry, wordsEntry}
-use Rattle.readback.specs.declared.Entry.{Entry}
+use Rattle.readback.specs.Steps.{capped, Cut, toEntry, left, fromEntry, moved, carrierEntry, wordsEntry}
 use Rattle.readback.specs.declared.Entry.the-variants.{Number, Comment, Broken}
 use Rattle.readback.specs.declared.Figure.{Figure}
 use Rattle.readback.specs.declared.Figure.the-variants.{Spells, Nothing}

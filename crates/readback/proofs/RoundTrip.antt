@@ -1,22 +1,21 @@
 -- Reading undoes printing. What the paper reads of a plan's lines is read here too, if its numbers fit, and those of a lent plan do.
-use mathlib.Core.Path.{_≡_, refl, sym, _∙_, ap}
-use mathlib.Core.Bool.{Bool, true, false}
+use mathlib.Core.Path.{_≡_, sym, _∙_, ap}
+use mathlib.Core.Bool.{true, false}
 use mathlib.Core.List.{List, [], _∷_, _++_, map, append-assoc, append-nil}
-use mathlib.Core.Option.{Option, none, some}
+use mathlib.Core.Option.{none, some}
 use Prim.Native.Nat.{ℕ, suc, _<_, _^_}
 use native.Mathlib.Omega.{arith}
 use lib.Dec.{eqb}
-use lib.ListN.{length, getD}
+use lib.ListN.{getD}
 use borrow.Author.Tests.{le-leb}
 use Rattle.paper.specs.Basics.{_and_}
 use Rattle.paper.specs.Yard.{Crossing, pack, unpack, crossings}
 use Rattle.paper.specs.Text.{Text, lines, good, readLines}
 use Rattle.paper.specs.Print.{printPlan, readAction, readPlan}
 use Rattle.paper.proofs.Tests.{by-cases, by-option, never-some}
-use Rattle.paper.proofs.Packing.{pack-unpack, unpack-small}
+use Rattle.paper.proofs.Packing.{unpack-small, packed-back}
 use Rattle.paper.proofs.Printing.{print-back}
-use Rattle.readback.specs.Entries.{fits, entryOf, planEntry, behind, entryLine, readEntries}
-use Rattle.readback.specs.declared.Entry.the-variants.{Number, Comment, Broken}
+use Rattle.readback.specs.Entries.{fits, entryOf, planEntry, entryLine, readEntries}
 
 abbrev AllFit : List Crossing → Type 0
 AllFit [] = Unit {0}
@@ -62,10 +61,6 @@ all-fit [] h = tt
 all-fit (w ∷ ws) h =
     let s = unpack-small w (h .0) in
     (rw (le-leb (unpack w .carrier) 4294967295 (omega arith), le-leb (unpack w .from) 65535 (omega arith), le-leb (unpack w .to) 65535 (omega arith)), all-fit ws (h .1))
-
-packed-back : (plan : List ℕ) → map pack (crossings plan) ≡ plan
-packed-back [] = refl
-packed-back (w ∷ ws) = rw (pack-unpack w, packed-back ws)
 
 -- what any text reads as whose lines the paper reads as the plan
 pub reads-as : (plan : List ℕ) (file : Text) → Lent plan → readPlan (lines file) ≡ some (crossings plan) → readEntries false file ≡ good plan

@@ -9,7 +9,7 @@ use lib.Dec.{leb}
 use lib.ListN.{length, take, drop}
 use Rattle.paper.specs.Basics.{if_then_else_, _and_}
 use Rattle.paper.specs.Yard.{crossing, pack}
-use Rattle.paper.specs.Text.{Text, text, SPACE, Read, good, badLine, split, same, isDigit}
+use Rattle.paper.specs.Text.{Text, text, Read, good, badLine, split, same, isDigit}
 use Rattle.paper.specs.Print.{numberAfter}
 use Rattle.stores.specs.Writing.{Wrote}
 use Rattle.readback.specs.Entries.{most-carrier, most-bay, readEntries}

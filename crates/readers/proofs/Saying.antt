@@ -13,7 +13,7 @@ use Rattle.paper.specs.Yard.{Bay}
 use Rattle.paper.specs.Docket.{room, badMap, badScenario, Verdict, granted, denied}
 use Rattle.paper.specs.Text.{Text, Read, good, badLine}
 use Rattle.paper.specs.Map.{Grid}
-use Rattle.paper.proofs.Tests.{never, or-left, or-right, or-neither}
+use Rattle.paper.proofs.Tests.{never, or-left, or-right, or-neither, by-read}
 use Rattle.stores.specs.Writing.{Wrote}
 use Rattle.paper.specs.Scenario.{readScenario}
 use Rattle.gridmap.specs.declared.Grid.{Grid as Held}
@@ -21,7 +21,6 @@ use Rattle.scenario.specs.declared.ScenarioRead.{ScenarioRead}
 use Rattle.scenario.specs.declared.ScenarioRead.the-variants as scenario-read
 use Rattle.scenario.specs.Under.{bayBy, startsOf, goalsOf, Reads}
 use Rattle.readers.specs.Reading.{Laid, laid, laying, Listing, listing, listingIn, short, MapSays, ScenarioSays}
-use Rattle.readers.proofs.Whole.{by-read}
 
 module _ (n : ℕ) (ends before : List ℕ) (needed : ℕ) (counted : needed ≡ 0 + length ends) where
   pub lay-short : length before < needed → MapSays (laid n ends) before (denied (room needed)) 0 before

@@ -1,5 +1,5 @@
 -- A map that was read: its numbered cells give the map's own rails, and a scenario reads by them as it does by the map.
-use mathlib.Core.Path.{_≡_, refl, _∙_, ap}
+use mathlib.Core.Path.{_≡_, _∙_, ap}
 use mathlib.Core.List.{List}
 use Prim.Native.Nat.{ℕ, _*_, _≤_}
 use native.Mathlib.Omega.{arith}
@@ -10,6 +10,7 @@ use Rattle.paper.specs.Text.{Text, Read, good, badLine}
 use Rattle.paper.specs.Map.{Grid, readMap, cells, bayCount, bayIn, railEnds}
 use Rattle.paper.specs.Scenario.{readScenario}
 use Rattle.paper.proofs.Tests.{never}
+pub use Rattle.paper.proofs.Tests.{by-read}
 use Rattle.gridmap.specs.declared.Grid.{Grid as Held}
 use Rattle.gridmap.specs.declared.MapRead.{MapRead}
 use Rattle.gridmap.specs.declared.MapRead.the-variants as map-read
@@ -19,10 +20,6 @@ use Rattle.gridmap.proofs.OfMap.{rails-of-map}
 use Rattle.scenario.specs.Under.{bayBy}
 use Rattle.scenario.proofs.OfMap.{reads-of-map}
 use Rattle.readers.specs.Reading.{laid, laying, listing, listingIn}
-
-pub by-read : {A P : Type 0} (r : Read A) → ((a : A) → r ≡ good a → P) → ((n : ℕ) → r ≡ badLine n → P) → P
-by-read (good a) f g = f a refl
-by-read (badLine n) f g = g n refl
 
 module _ {file before table : List ℕ} {r : MapRead} (m : Reads file before r table) where
   pub map-bad : (l : ℕ) → r ≡ map-read.Bad l → readMap file ≡ badLine l

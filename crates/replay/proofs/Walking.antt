@@ -14,23 +14,13 @@ use lib.Seq.{take-suc, take-length, getD-set-same, getD-set-other}
 use Rattle.paper.specs.Basics.{_and_, _or_, elem, In}
 use Rattle.paper.specs.Yard.{Yard, Bay, Carrier, Placement, Crossing, bayOf, carrierAt, move, after, legal, crossings, named}
 use Rattle.paper.specs.Docket.{firstIllegal}
-use Rattle.paper.proofs.Tests.{by-cases, never-some, or-right}
+use Rattle.paper.proofs.Tests.{by-cases, never-some, or-right, and-true, or-false}
 use Rattle.paper.proofs.Playing.{Legal, legal-facts, bay-in, placeOf-there, placeOf-bay, move-self, move-other, move-apart, move-empties, move-out}
 use Rattle.plans.proofs.Rest.{rest-next, rest-none}
 use Rattle.paper.proofs.Fields.{and-false}
 use Rattle.paper.proofs.Marking.{flag}
 use Rattle.words.specs.Sets.{span}
 use Rattle.replay.specs.Playing.{Standing, Occupied, Played}
-
-or-false : (p : Bool) → p or false ≡ p
-unfolding _or_
-or-false true = refl
-or-false false = refl
-
-and-true : (p : Bool) → p and true ≡ p
-unfolding _and_
-and-true true = refl
-and-true false = refl
 
 -- A mark set, and a mark taken away.
 module _ (occupied : List ℕ) (x : Bay) (h : x < length occupied) (b : Bay) where

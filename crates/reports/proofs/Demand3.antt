@@ -12,7 +12,7 @@ use Rattle.paper.specs.Yard.{Carrier, after, legalPlan, crossings, named}
 use Rattle.paper.specs.Order.{Order}
 use Rattle.paper.specs.Dependence.{isDone, doneOf, countOf, fresh}
 use Rattle.paper.specs.Docket.{yardOf}
-use Rattle.paper.specs.Answers.{check, already, accepts}
+use Rattle.paper.specs.Answers.{check, accepts}
 use Rattle.paper.specs.Log.{Request, answerTo, marksFrom, namesFrom, marksOf, namesOf}
 use Rattle.demands.proofs.Demands.{Demand3, demand-3}
 use Rattle.marks.specs.Reading.{reportOf}

@@ -1,9 +1,9 @@
 -- Comparing is denied exactly by the first of 1, 5, 8 that applies; 5 looks through the first list, then through the second.
 use mathlib.Core.Path.{_≡_, refl, sym, _∙_, ap}
-use mathlib.Core.Bool.{Bool, true, false, not}
-use mathlib.Core.List.{List, [], _∷_, map}
+use mathlib.Core.Bool.{true, false, not}
+use mathlib.Core.List.{List, [], _∷_}
 use mathlib.Core.Logic.{_↔_, _⊎_, inl, inr, ⊎-elim}
-use mathlib.Core.Option.{Option, none, some}
+use mathlib.Core.Option.{some}
 use Prim.Native.Nat.{ℕ, zero, suc, _<_, _≤_}
 use native.Mathlib.Omega.{arith}
 use lib.Dec.{eqb, ltb, leb}
@@ -12,7 +12,7 @@ use borrow.Author.Tests.{not-true, ltb-true, lt-ltb, leb-true, le-leb, eqb-false
 use Rattle.paper.specs.Basics.{_or_, orElse, find, elem, _and_}
 use Rattle.paper.specs.Limits.{most-carriers}
 use Rattle.paper.specs.Yard.{Carrier, most-crossings}
-use Rattle.paper.specs.Docket.{Refusal, size, start, room, number, carried, Verdict, granted, denied}
+use Rattle.paper.specs.Docket.{Refusal, size, start, room, number, carried, granted, denied}
 use Rattle.paper.proofs.Tests.{by-cases, by-option, not-both, never-some, some-same, or-left, or-right, or-cases, either}
 use Rattle.paper.proofs.Determined.{docket-tells}
 use Rattle.exactly.specs.First.{plain, carrying, NoneOf, Given, distinct, FirstOf}

@@ -1,15 +1,14 @@
 -- A piece of the serial link is refused exactly by the first of 17 and 18 that applies, and taken exactly if neither does.
-use mathlib.Core.Path.{_≡_, refl, sym, _∙_, ap}
+use mathlib.Core.Path.{_≡_, refl, ap}
 use mathlib.Core.Bool.{Bool, true, false, not}
-use mathlib.Core.List.{List, [], _∷_}
+use mathlib.Core.List.{List}
 use mathlib.Core.Logic.{_↔_}
 use mathlib.Core.Option.{Option, none, some}
 use Prim.Native.Nat.{ℕ, _<_}
-use native.Mathlib.Omega.{arith}
 use lib.Dec.{eqb, leb}
 use lib.ListN.{length}
 use borrow.Author.Tests.{not-true, leb-false, lt-leb, eqb-false, ne-eqb}
-use Rattle.paper.specs.Basics.{orElse, when, if-some_then_else_, elem, _and_}
+use Rattle.paper.specs.Basics.{orElse, when, elem, _and_}
 use Rattle.paper.specs.Yard.{Bay}
 use Rattle.paper.specs.Docket.{Refusal, badScenario, ended, longPiece, number, carried, denied}
 use Rattle.paper.specs.Text.{Text, Read, good, badLine}
@@ -19,7 +18,7 @@ use Rattle.exactly.specs.First.{NoneOf, Given, distinct}
 use Rattle.exactly.proofs.First.{after-it, exactly, nothing-exactly, plain-test}
 use Rattle.exactly.proofs.Six.{Refuses}
 use Rattle.link.specs.declared.Link.{Link}
-use Rattle.link.specs.Link.{piece-bytes, Saying, more, told, isOpen, pieceSaying, endSaying}
+use Rattle.link.specs.Link.{piece-bytes, more, told, isOpen, pieceSaying, endSaying}
 use Rattle.requests.specs.Rows.{pieceRows}
 
 module _ (l : Link) (bytes : Text) where

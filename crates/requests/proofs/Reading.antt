@@ -1,27 +1,26 @@
 -- Functions that read a file first: its layout before all else, then what is tested of what was read, then the room. Each refusal exactly if its words hold and
 -- nothing before it applies.
 use mathlib.Core.Path.{_≡_, refl, sym, _∙_, ap}
-use mathlib.Core.Bool.{Bool, true, false, not}
-use mathlib.Core.List.{List, [], _∷_}
+use mathlib.Core.Bool.{true, false, not}
+use mathlib.Core.List.{List}
 use mathlib.Core.Logic.{_↔_, _⊎_, inl, inr, ⊎-elim}
-use mathlib.Core.Option.{Option, none, some}
+use mathlib.Core.Option.{some}
 use Prim.Native.Nat.{ℕ, suc, _<_, _≤_}
-use native.Mathlib.Omega.{arith}
 use lib.Dec.{ltb, leb}
 use lib.ListN.{length}
 use borrow.Author.Tests.{ltb-true, lt-ltb, leb-true, leb-false, le-leb, lt-leb}
-use Rattle.paper.specs.Basics.{if_then_else_, _or_, elem}
+use Rattle.paper.specs.Basics.{_or_, elem}
 use Rattle.paper.specs.Yard.{Bay, most-crossings}
-use Rattle.paper.specs.Docket.{Refusal, size, room, badMap, badScenario, badSurvey, ended, badPlan, badReports, number, carried, Verdict, granted, denied, unlessDenied}
+use Rattle.paper.specs.Docket.{Refusal, size, room, badMap, badScenario, badSurvey, badPlan, badReports, number, carried, granted, denied, unlessDenied}
 use Rattle.paper.specs.Text.{Text, Read, good, badLine}
 use Rattle.paper.specs.Map.{Grid, bayIn, railEnds}
 use Rattle.paper.specs.Scenario.{readScenario}
 use Rattle.paper.proofs.Tests.{by-cases, not-both, never, or-left, or-right, or-cases}
-use Rattle.exactly.specs.First.{Given, numbersOf}
+use Rattle.exactly.specs.First.{Given}
 use Rattle.exactly.proofs.First.{given-number}
 use Rattle.handing.specs.Handing.{handed}
 use Rattle.readback.specs.Files.{planVerdict, reportsVerdict}
-use Rattle.readers.specs.Reading.{laying, laidVerdict, Listing, listed, listingIn, listing, short, listVerdict}
+use Rattle.readers.specs.Reading.{laying, laidVerdict, listed, listingIn, listing, short, listVerdict}
 use Rattle.survey.specs.Survey.{readSurvey, readRefusal}
 use Rattle.survey.proofs.Broken.{BreaksAfter, broken-exactly}
 use Rattle.surveying.specs.Says.{readAnswer}

@@ -1,14 +1,14 @@
 -- Shortening answers by its rows in their order: as the check, 11, 25, 8.
 use mathlib.Core.Path.{_≡_, refl, ap}
-use mathlib.Core.Bool.{true, false}
-use mathlib.Core.List.{List, [], _∷_}
+use mathlib.Core.Bool.{true}
+use mathlib.Core.List.{List}
 use mathlib.Core.Logic.{_↔_}
 use mathlib.Core.Option.{Option, none, some}
-use Prim.Native.Nat.{ℕ, _<_}
+use Prim.Native.Nat.{ℕ}
 use lib.Dec.{eqb}
 use lib.ListN.{length}
 use borrow.Author.Tests.{eqb-true, eq-eqb}
-use Rattle.paper.specs.Basics.{orElse, when, any, elem, _and_}
+use Rattle.paper.specs.Basics.{any, elem, _and_}
 use Rattle.paper.specs.Yard.{Crossing, crossings}
 use Rattle.paper.specs.Order.{Order}
 use Rattle.paper.specs.Docket.{Refusal, begun, number, carried}
@@ -16,7 +16,6 @@ use Rattle.paper.specs.Answers.{accepted, refused, unless}
 use Rattle.paper.proofs.Tests.{never}
 use Rattle.paper.proofs.Determined.{docket-tells}
 use Rattle.exactly.specs.First.{Row, NoneOf, Given, distinct}
-use Rattle.exactly.specs.Words.{mark}
 use Rattle.exactly.proofs.First.{after-it, exactly, nothing-exactly, plain-test}
 use Rattle.exactly.proofs.Lists.{any-exactly}
 use Rattle.exactly.proofs.Six.{Refuses}

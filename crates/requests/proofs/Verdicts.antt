@@ -1,25 +1,24 @@
 -- Functions that answer a verdict: where the carriers stand, slots by an edition, playing backwards, the print of a plan, and surveyors' files. Each
 -- is denied exactly by the first of its rows that applies, and granted exactly if none does.
 use mathlib.Core.Path.{_≡_, refl, sym, _∙_, ap}
-use mathlib.Core.Bool.{Bool, true, false, not}
-use mathlib.Core.List.{List, [], _∷_}
+use mathlib.Core.Bool.{true, false, not}
+use mathlib.Core.List.{List, []}
 use mathlib.Core.Logic.{_↔_}
 use mathlib.Core.Option.{Option, none, some}
 use Prim.Native.Nat.{ℕ, _<_}
-use native.Mathlib.Omega.{arith}
 use lib.Dec.{eqb, ltb, leb}
 use lib.ListN.{length}
 use borrow.Author.Tests.{not-true, ltb-true, lt-ltb, le-ltb, leb-true, leb-false, eqb-false, ne-eqb}
 use Rattle.paper.specs.Basics.{orElse, when, elem, _and_, _or_}
 use Rattle.paper.specs.Yard.{Bay, crossings, most-crossings}
 use Rattle.paper.specs.Order.{Order, order}
-use Rattle.paper.specs.Docket.{Refusal, size, room, edition, number, carried, no-11, no-1, Verdict, granted, denied, unlessDenied}
+use Rattle.paper.specs.Docket.{Refusal, size, room, edition, number, carried, granted, denied, unlessDenied}
 use Rattle.paper.specs.Answers.{check}
 use Rattle.paper.specs.Print.{printPlan}
-use Rattle.paper.proofs.Tests.{by-cases, by-option, never, none-both, or-none, or-neither}
+use Rattle.paper.proofs.Tests.{by-cases, never, or-none, or-neither}
 use Rattle.paper.proofs.Determined.{docket-tells}
-use Rattle.exactly.specs.First.{Row, plain, carrying, NoneOf, Given, numbersOf, distinct}
-use Rattle.exactly.proofs.First.{Reads, after-it, exactly, nothing-exactly, plain-test, known-test}
+use Rattle.exactly.specs.First.{Row, plain, NoneOf, Given, numbersOf, distinct}
+use Rattle.exactly.proofs.First.{after-it, exactly, nothing-exactly, plain-test, known-test}
 use Rattle.exactly.proofs.Six.{Refuses, reads-1, reads-2, reads-3, some-bay}
 use Rattle.exactly.proofs.Plans.{reads-8}
 use Rattle.exactly.proofs.Marks.{reads-11}

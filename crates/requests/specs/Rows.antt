@@ -7,7 +7,7 @@ use mathlib.Core.Path.{_≡_}
 use Prim.Native.Nat.{ℕ, _<_, _≤_}
 use lib.ListN.{length, getD}
 use Rattle.paper.specs.Limits.{most-carriers}
-use Rattle.paper.specs.Yard.{Bay, Carrier, Crossing, most-crossings, crossings}
+use Rattle.paper.specs.Yard.{Bay, Carrier, most-crossings, crossings}
 use Rattle.paper.specs.Order.{Order, order}
 use Rattle.paper.specs.Print.{printPlan}
 use Rattle.exactly.specs.First.{Row, plain, carrying, FirstOf}

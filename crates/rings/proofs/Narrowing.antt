@@ -13,12 +13,11 @@ use lib.Bits.{bitAnd}
 use lib.Dec.{eqb}
 use lib.ListN.{length, getD, set, take}
 use lib.Seq.{take-suc-set}
-use Rattle.paper.proofs.Members.{lowest-least}
+use Rattle.paper.proofs.Members.{lowest-least, in-count, In-head}
 use Rattle.paper.specs.Basics.{_and_, elem, In, Out}
 use Rattle.paper.specs.Yard.{Bay, Yard, joined}
 use Rattle.paper.specs.Path.{Free, rings, inward}
 use Rattle.paper.proofs.Tests.{not-both, and-left, and-right, and-both}
-use Rattle.paper.proofs.Members.{in-count, In-head}
 use Rattle.paper.proofs.Shortest.{Next, next, inward-zero}
 use Rattle.words.specs.Sets.{mem, memRow, on, words, span, Lowest, Kept, Beside}
 use Rattle.words.proofs.Bits.{on-and}

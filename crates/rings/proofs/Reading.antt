@@ -3,7 +3,7 @@
 -- Assumes nothing.
 use mathlib.Core.Path.{_≡_, refl, sym, ap, _∙_}
 use mathlib.Core.Bool.{Bool, true, false}
-use mathlib.Core.List.{List, [], _∷_, _++_, append-assoc}
+use mathlib.Core.List.{List, [], _++_, append-assoc}
 use mathlib.Core.Option.{none, some}
 use Prim.Native.Nat.{ℕ, zero, suc, _+_, _-_, _*_, _≤_, _<_}
 use native.Mathlib.Decide.{ℕ-discrete, decLt}
@@ -13,12 +13,11 @@ use lib.Dec.{eqb}
 use lib.ListN.{length, getD, set, take}
 use lib.Seq.{take-suc-set}
 use borrow.Author.Tests.{eq-eqb, ne-eqb}
-use Rattle.paper.proofs.Members.{lowest-least}
+use Rattle.paper.proofs.Members.{lowest-least, In-nil}
 use Rattle.paper.specs.Basics.{_and_, elem, In}
 use Rattle.paper.specs.Yard.{Bay, joined}
 use Rattle.paper.specs.Path.{rings, nearestFirst, nearestOf, ringOf, inward, shortestPath, pathBetween}
 use Rattle.paper.proofs.Tests.{by-cases, not-both, and-left, and-right, and-both, never-some, never}
-use Rattle.paper.proofs.Members.{In-nil}
 use Rattle.paper.proofs.Rings.{distance-in, distance-least, in-concat}
 use Rattle.paper.proofs.Nearest.{nearest-chosen, nearest-none}
 use Rattle.paper.proofs.Shortest.{Next, next, inward-zero}

@@ -11,13 +11,13 @@ use native.Mathlib.Omega.{arith}
 use lib.Dec.{eqb}
 use lib.ListN.{getD, List·getD-eq-default, length}
 use borrow.Author.Tests.{not-true}
-use Rattle.paper.specs.Basics.{if_then_else_, _and_, _or_, any, filter, elem, without, upTo, In}
+use Rattle.paper.specs.Basics.{_and_, _or_, any, filter, elem, without, upTo, In}
 use Rattle.paper.specs.Yard.{Bay, Yard, joined}
 use Rattle.paper.specs.Path.{nextRing, ringsFrom, rings}
-use Rattle.paper.proofs.Tests.{by-cases, not-both, and-left, and-right, and-both, or-left, or-right, or-cases}
+use Rattle.paper.proofs.Tests.{by-cases, not-both, and-left, and-right, and-both, or-left, or-right, or-cases, same-test}
 use Rattle.paper.proofs.Members.{In-head, In-append, In-append-left, In-append-right, filter-in, filter-passes, in-filter, any-of, any-some, without-out, in-without, count-high, in-count}
-use Rattle.paper.proofs.Rings.{joined-sym, ring-zero}
-use Rattle.paper.proofs.Rings.{ring-free, ringsFrom-length}
+use Rattle.paper.proofs.Reach.{filter-none}
+use Rattle.paper.proofs.Rings.{joined-sym, ring-zero, ring-free, ringsFrom-length}
 use Rattle.words.specs.Sets.{mem, memRow, Kept, Settled, span, words, anyBelow, reaches, Beside, members}
 use Rattle.words.proofs.Sets.{row-zero}
 use Rattle.words.proofs.Besides.{equal-tests, anyBelow-some, anyBelow-of}
@@ -116,11 +116,6 @@ no-member : (l : List ℕ) → ((b : ℕ) → In b l → ⊥) → l ≡ []
 no-member [] f = refl
 no-member (x ∷ l) f = absurd (f x (In-head x l))
 
-filter-none : (q : ℕ → Bool) (l : List ℕ) → ((b : ℕ) → q b ≡ false) → filter q l ≡ []
-unfolding filter
-filter-none q [] f = refl
-filter-none q (x ∷ l) f = rw (f x) (filter-none q l f)
-
 -- after an empty ring all are empty
 ring-dry : (Y : Yard) (held : List Bay) (x : Bay) (d i : ℕ) → around Y held x d ≡ [] → d < i → around Y held x i ≡ []
 unfolding nextRing any
@@ -128,7 +123,7 @@ ring-dry Y held x d zero e h = absurd (omega arith)
 ring-dry Y held x d (suc i) e h = elim (decLt (suc i) (Y .bays)) [
   | yes k ↦
       let before : around Y held x i ≡ [] = elim (ℕ-discrete d i) [ yes q ↦ rw q at e | no q ↦ ring-dry Y held x d i e (omega arith) ] in
-      ring-more Y held x i k ∙ rw before (filter-none (λ b. false) _ (λ b. refl))
+      ring-more Y held x i k ∙ rw before (filter-none _)
   | no k ↦ ring-beyond Y held x (suc i) (omega arith)
 ]
 
@@ -147,10 +142,6 @@ ring-kept table d seen ring rows seen′ ring′ rows′ next p s k = record {
 }
 
 -- ## Where the search stands
-
-same-test : (t : Bool) → (if t then true else false) ≡ t
-same-test true = refl
-same-test false = refl
 
 pub elem-one : (b x : ℕ) → elem b (x ∷ []) ≡ eqb b x
 unfolding elem

@@ -9,8 +9,7 @@ ghost use Rattle.paper.specs.Basics.{_and_};
 ghost use Rattle.words.specs.Sets.{mem, memRow, words, span};
 ghost use Rattle.rings.specs.Search.{NextRing, Shown, Searched};
 ghost use Rattle.rings.specs.Widening.{Widened};
-ghost use Rattle.rings.specs.Ways.{Inside, pathIn, Ended, Narrowed, Outside, pathOut, KeptBeside};
-ghost use Rattle.rings.specs.Ways.{PathNear, WayNear, Ends, pathBy, wayBy, PathAsks, PathSays, WayAsks, WaySays};
+ghost use Rattle.rings.specs.Ways.{Inside, pathIn, Ended, Narrowed, Outside, pathOut, KeptBeside, PathNear, WayNear, Ends, pathBy, wayBy, PathAsks, PathSays, WayAsks, WaySays};
 
 // Words of the rows that a search has at first: 32 rings, which do in most yards and are soon cleared.
 const NEAR: usize = 32 * words::WORDS;
@@ -66,14 +65,7 @@ fn next_ring(
 }
 
 // Ring by ring around x, until a ring has a wanted bay, or there is no further one, or no row for it; answers the number of that ring.
-pub fn search(
-    table: &[u64],
-    n: usize,
-    held: &[u64],
-    x: Bay,
-    wanted: &[u64],
-    rows: &mut [u64],
-) -> usize
+fn search(table: &[u64], n: usize, held: &[u64], x: Bay, wanted: &[u64], rows: &mut [u64]) -> usize
     requires { ⌜
         (n ≤ span)
         × (x .0 < n)

@@ -1,22 +1,20 @@
 -- Demand 3 over any mix of calls. A billed report that is accepted is one that the paper's report accepts, any other changes nothing, and openings and agreement tests
 -- touch no mark: so the marks and names are those of the paper's run of the plain reports and of the billed ones that were accepted.
-use mathlib.Core.Path.{_≡_, refl, sym, _∙_, ap}
-use mathlib.Core.Bool.{Bool, true, false}
-use mathlib.Core.Logic.{_↔_}
+use mathlib.Core.Path.{_≡_, refl, _∙_, ap}
+use mathlib.Core.Bool.{false}
 use mathlib.Core.List.{List, [], _∷_, map}
 use mathlib.Core.Option.{none}
-use Prim.Native.Nat.{ℕ, _<_}
-use native.Mathlib.Omega.{arith}
-use lib.ListN.{length, set}
+use Prim.Native.Nat.{ℕ}
+use lib.ListN.{length}
 use borrow.Author.Tests.{eq-eqb}
-use Rattle.paper.specs.Basics.{if_then_else_, if-some_then_else_, orElse, when}
+use Rattle.paper.specs.Basics.{if_then_else_}
 use Rattle.paper.specs.Yard.{Crossing, pack, crossings}
 use Rattle.paper.specs.Order.{Order}
 use Rattle.paper.specs.Dependence.{fresh}
 use Rattle.paper.specs.Docket.{yardOf, badMarks}
 use Rattle.paper.specs.Answers.{Report, accept, already, refuse, accepts, check, marksAfter, plan as planned, accepted}
-use Rattle.paper.specs.Log.{Request, answerTo, marksBy, marksFrom, namesFrom, marksOf, namesOf}
-use Rattle.paper.proofs.Tests.{by-cases, not-both}
+use Rattle.paper.specs.Log.{Request, answerTo, marksFrom, namesFrom, marksOf, namesOf}
+use Rattle.paper.proofs.Tests.{not-both}
 use Rattle.paper.proofs.Logging.{fine, plan-lawful, kept-from-fresh}
 use Rattle.demands.proofs.Demands.{Demand3, demand-3}
 use Rattle.paper.proofs.Handing.{handed-passes}
@@ -26,7 +24,7 @@ use Rattle.bills.specs.Answering.{opening, marksThen}
 use Rattle.bills.specs.Keeping.{Books, answerOn, booksBy}
 use Rattle.bills.proofs.Keeping.{opened as opened-afresh, eleven-exactly, agrees-exactly, billing-told, kept-afresh}
 use Rattle.bills.proofs.Demand3.{by-acceptance}
-use Rattle.runs.specs.Runs.{Call, reported, billed, opened, compared, requestOf, booksAfter, accepting, booksThen, namesThen, LogDemand, Agreed, asking, Demand3Mixed}
+use Rattle.runs.specs.Runs.{Call, reported, billed, opened, compared, booksAfter, accepting, booksThen, namesThen, LogDemand, Demand3Mixed}
 
 -- ## The paper's run
 

@@ -7,7 +7,7 @@ use mathlib.Core.Path.{_≡_}
 use Prim.Native.Nat.{ℕ, _<_}
 use lib.ListN.{length}
 use Rattle.paper.specs.Basics.{if_then_else_, In, NoDup}
-use Rattle.paper.specs.Yard.{Carrier, Placement, Crossing, after, legalPlan, crossings, named}
+use Rattle.paper.specs.Yard.{Carrier, Placement, after, legalPlan, crossings, named}
 use Rattle.paper.specs.Order.{Order}
 use Rattle.paper.specs.Dependence.{isDone, countOf, placementBy}
 use Rattle.paper.specs.Docket.{yardOf}

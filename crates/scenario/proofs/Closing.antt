@@ -1,7 +1,7 @@
 -- A line that ends gives the state that its closing asks for: a carrier more, or a broken layout in this line.
 use mathlib.Core.Path.{_≡_, refl, sym, _∙_, ap}
 use mathlib.Core.Bool.{Bool, true, false}
-use mathlib.Core.List.{List, [], _∷_}
+use mathlib.Core.List.{List}
 use mathlib.Core.Option.{Option, none, some}
 use Prim.Native.Nat.{ℕ, _+_, _-_, _≤_, _<_}
 use native.Mathlib.Omega.{arith}
@@ -9,6 +9,7 @@ use native.Mathlib.Numerals.{add-one}
 use lib.Dec.{eqb}
 use lib.ListN.{length, length-append}
 use borrow.Author.Tests.{lt-ltb, le-ltb, eq-eqb, ne-eqb}
+use Rattle.lists.proofs.Lists.{no-length}
 use Rattle.paper.specs.Basics.{_and_, _or_}
 use Rattle.paper.specs.Limits.{most-carriers}
 use Rattle.paper.specs.Yard.{Bay}
@@ -38,10 +39,6 @@ module _ (W H : ℕ) (bay : ℕ → ℕ → Option Bay) (p : Past) (r : Bool) (i
       pub carrier-at : (g : ℕ) → some g ≡ bay (p .gx) (p .gy) → some (s, g) ≡ carrierOf W H bay p
       unfolding carrierOf startAndGoal
       carrier-at g f = rw (← is, good, ← start, ← f)
-
-no-length : {A : Type 0} (l : List A) → length l ≡ 0 → l ≡ []
-no-length [] h = refl
-no-length (x ∷ l) h = absurd (omega arith)
 
 module _ (t : List ℕ) (G : Grid) (s : Reading) where
   abbrev due-past : Past

@@ -10,12 +10,11 @@ use lib.Dec.{eqb}
 use lib.ListN.{length, set, take, getD, length-append, length-set}
 use lib.Seq.{sets, take-suc}
 use borrow.Author.Tests.{eq-eqb, ne-eqb, eqb-true}
-use Rattle.paper.specs.Basics.{if_then_else_}
 use Rattle.paper.specs.Yard.{Bay}
 use Rattle.paper.specs.Text.{Text, Read, good, badLine}
 use Rattle.paper.specs.Scenario.{Listed, readScenario}
 use Rattle.paper.specs.Bytes.{State, failed, going, Under, lineClosed, ending, endAfter, finishFile, beginLine, inLine, closeLine, listedSoFar, unread, scenarioStep, scenarioFinish}
-use Rattle.paper.proofs.Tests.{by-cases, never}
+use Rattle.paper.proofs.Tests.{by-cases, never, by-read}
 use Rattle.paper.proofs.Stepping.{stepped}
 use Rattle.stores.specs.Writing.{Wrote}
 use Rattle.stores.proofs.Stores.{wrote-one}
@@ -194,10 +193,6 @@ came-all t G file s₀ s r {a} {b} {c} {a′} {b′} {d} e w f =
 -- ## The whole file
 pub ended-answer : (file : Text) (G : Grid) (t : List ℕ) (r : Reading) {a b a′ b′ : List ℕ} → Ended file G t r a b a′ b′ → answerBy r ≡ countRead (readScenario (G .width) (G .height) (bayBy t G) file)
 ended-answer file G t r w = answer-is r (w .carriers) (w .stored .count) ∙ ap countRead (w .reads)
-
-by-read : {P : Type 0} (r : Read (List (Bay × Bay))) → ((cs : List (Bay × Bay)) → r ≡ good cs → P) → ((n : ℕ) → r ≡ badLine n → P) → P
-by-read (good cs) f g = f cs refl
-by-read (badLine n) f g = g n refl
 
 pub reads-bad : (file : Text) (G : Grid) (t : List ℕ) (n : ℕ) (a b : List ℕ) → badLine n ≡ countRead (readScenario (G .width) (G .height) (bayBy t G) file) → Reads file G t (answer.Bad n) a a b b
 reads-bad file G t n a b e =

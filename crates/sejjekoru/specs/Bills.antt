@@ -11,7 +11,8 @@ use Rattle.bills.specs.declared.Line.{Line}
 use Rattle.bills.specs.declared.Record.{Record}
 use Rattle.ledger.specs.Lines.{gathered}
 use Rattle.ledger.specs.declared.Held.{Held}
-use Rattle.numbers.specs.Numbers.{numberOf, valueOf, agreementNumber, agreementValue, reportNumber, reportValue}
+use Rattle.numbers.specs.Numbers.{numberOf, valueOf, reportNumber, reportValue}
+use Rattle.log_numbers.specs.Agreeing.{agreementNumber, agreementValue}
 use Rattle.numbers.specs.Tells.{Tells}
 use Rattle.sejjekoru.specs.declared.Opening.{Opening}
 use Rattle.sejjekoru.specs.declared.Told.{Told}

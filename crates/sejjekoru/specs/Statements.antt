@@ -9,7 +9,8 @@ use Rattle.paper.specs.Answers.{plan, planParked, planEnd, check, slotsRefusal,
 use Rattle.planner.specs.Statement.{told}
 use Rattle.trips.specs.Shortening.{shortening, shorteningEnd}
 use Rattle.numbers.specs.Tells.{Tells}
-use Rattle.numbers.specs.Numbers.{numberOf, valueOf, planNumber, planValue, verdictNumber, verdictValue, reportNumber, reportValue}
+use Rattle.numbers.specs.Numbers.{numberOf, valueOf, verdictNumber, verdictValue, reportNumber, reportValue}
+use Rattle.plan_numbers.specs.Planned.{planNumber, planValue}
 
 -- the two numbers are the due ones, and so is what stands in the lent list
 pub record TellsAndLeaves (due due-value : ℕ) (due-list : List ℕ) (number value : ℕ) (list : List ℕ) : Type 0 where

@@ -33,7 +33,7 @@ pub extern "C" fn sejjekoru_plan(
         ⌝ }
 {
     let answer = planner::plan_counted(bays, rails, start, goal, plan);
-    numbers::told_planned(answer, parked, value)
+    plan_numbers::told_planned(answer, parked, value)
 }
 
 #[no_mangle]
@@ -48,7 +48,7 @@ pub extern "C" fn sejjekoru_check(
     ensures { λ r. ⌜ CheckTells (order bays (now (rails .entry)) (now (start .entry)) (now (goal .entry))) (now (plan .entry)) r (now (value .exit)) ⌝ }
 {
     let answer = checker::check(bays, rails, start, goal, plan);
-    numbers::told_checked(answer, 0, value)
+    log_numbers::told_checked(answer, 0, value)
 }
 
 #[no_mangle]
@@ -67,7 +67,7 @@ pub extern "C" fn sejjekoru_slots(
         ⌝ }
 {
     let answer = reports::slots(bays, rails, start, goal, plan, slots);
-    numbers::told_checked(answer, plan.len() as u64, value)
+    log_numbers::told_checked(answer, plan.len() as u64, value)
 }
 
 #[no_mangle]
@@ -87,7 +87,7 @@ pub extern "C" fn sejjekoru_report(
         ⌝ }
 {
     let answer = reports::report(bays, rails, start, goal, plan, marks, name);
-    numbers::told_reported(answer, value)
+    log_numbers::told_reported(answer, value)
 }
 
 #[no_mangle]
@@ -139,7 +139,7 @@ fn open_on(
     let running = opening.running;
     let held = opening.held;
     Opening {
-        number: numbers::told_checked(answer, 0, value),
+        number: log_numbers::told_checked(answer, 0, value),
         record: running,
         held: held,
     }
@@ -196,7 +196,7 @@ fn agrees_on(
         ⌝ }
 {
     let answer = ledger::compare(bays, rails, start, goal, plan, marks, record, held);
-    numbers::told_agreement(answer, value)
+    log_numbers::told_agreement(answer, value)
 }
 
 #[no_mangle]
@@ -252,7 +252,7 @@ fn report_on(
     let at = told.at;
     let line = told.line;
     Told {
-        number: numbers::told_reported(answer, value),
+        number: log_numbers::told_reported(answer, value),
         record: running,
         at: at,
         line: line,

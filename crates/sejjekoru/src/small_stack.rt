@@ -18,5 +18,5 @@ pub extern "C" fn sejjekoru_plan_lean(
         ⌝ }
 {
     let answer = planner::plan_lean(bays, rails, start, goal, plan);
-    numbers::told_planned(answer, parked, value)
+    plan_numbers::told_planned(answer, parked, value)
 }

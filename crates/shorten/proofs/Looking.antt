@@ -175,3 +175,7 @@ pub take-fresh : (v k n : ℕ) → k ≤ n → take k (replicate n v) ≡ replic
 take-fresh v zero n h = refl
 take-fresh v (suc k) zero h = absurd (omega arith)
 take-fresh v (suc k) (suc n) h = ap (λ l. v ∷ l) (take-fresh v k n (omega arith))
+
+-- as many places as are taken of it
+pub enough : (v k n : ℕ) → k ≤ n → length (take k (replicate n v)) ≡ k
+enough v k n h = ap length (take-fresh v k n h) ∙ length-replicate {A = ℕ} k v

@@ -1,7 +1,7 @@
 -- What shortening says, way out by way out: the check's refusal, 11, 25, and then 8 or the shorter plan.
-use mathlib.Core.Path.{_≡_, refl, sym, _∙_, ap, ap₂}
+use mathlib.Core.Path.{_≡_, sym, _∙_, ap, ap₂}
 use mathlib.Core.Bool.{true, false}
-use mathlib.Core.List.{List, [], _∷_, _++_, map}
+use mathlib.Core.List.{List, _++_, map}
 use mathlib.Core.Option.{none, some}
 use Prim.Native.Nat.{ℕ, _<_, _≤_}
 use native.Mathlib.Omega.{arith}
@@ -19,7 +19,7 @@ use Rattle.paper.proofs.Tests.{or-left, or-neither}
 use Rattle.paper.proofs.Admitted.{clean-of, good-of}
 use Rattle.paper.proofs.Checking.{check-passed}
 use Rattle.paper.proofs.Handing.{check-fits}
-use Rattle.paper.proofs.Packing.{pack-unpack}
+use Rattle.paper.proofs.Packing.{packed-back}
 use Rattle.docket.specs.Reading.{refusalOf}
 use Rattle.docket.specs.declared.Refusal.{Refusal}
 use Rattle.docket.specs.declared.Refusal.the-variants.{Room, Mismarked, Begun}
@@ -33,10 +33,6 @@ use Rattle.trips.proofs.Shortened.{cuts-left}
 use Rattle.trips.proofs.Naming.{left-map}
 use Rattle.shorten.specs.Going.{Lawful}
 use Rattle.shorten.specs.Statements.{RoomSays, ShortenSays}
-
-packed-back : (plan : List ℕ) → map pack (crossings plan) ≡ plan
-packed-back [] = refl
-packed-back (w ∷ plan) = ap₂ (λ v vs. v ∷ vs) (pack-unpack w) (packed-back plan)
 
 -- what is left, as numbers and as crossings
 module _ (plan gone out : List ℕ) (done : left gone (crossings plan) ≡ shorten (crossings plan)) where

@@ -6,7 +6,7 @@ use mathlib.Core.List.{List}
 use mathlib.Core.Option.{Option, none, some}
 use Prim.Native.Nat.{ℕ, suc, _≤_, _<_, _+_, _*_, _-_}
 use lib.ListN.{length, getD, drop}
-use Rattle.paper.specs.Yard.{Yard, Placement, Crossing, crossings, named, legalPlan}
+use Rattle.paper.specs.Yard.{Yard, Placement, Crossing, crossings, legalPlan}
 use Rattle.paper.proofs.Playing.{Apart}
 use Rattle.trips.specs.Trips.{shorten}
 use Rattle.trips.specs.Names.{left, lastPlace}

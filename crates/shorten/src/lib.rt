@@ -7,7 +7,7 @@ ghost use mathlib.Core.List.{_++_};
 ghost use Prim.Native.Nat.{ℕ, suc, _≤_, _<_, _*_, _-_};
 ghost use lib.Dec.{eqb};
 ghost use lib.ListN.{length, getD, drop, replicate};
-ghost use Rattle.paper.specs.Basics.{_and_, any, if_then_else_};
+ghost use Rattle.paper.specs.Basics.{_and_, if_then_else_};
 ghost use Rattle.paper.specs.Yard.{crossings, named, most-crossings};
 ghost use Rattle.paper.specs.Limits.{most-bays};
 ghost use Rattle.paper.specs.OnePass.{Fits};

@@ -30,18 +30,16 @@ module _ (plan : List ℕ) (name : ℕ) (carriers bays : List ℕ) (i : ℕ) (p 
   reaching-on less =
       let more : i < length plan = omega arith in
       let e : name - i ≡ suc (name - (i + 1)) = omega arith in
-      let next = still-on plan carriers bays i (p .tables) more fits x is in
-      rw (turned .of-carriers, turned .of-bays)
-      (record {
-        tables = tables-on plan carriers bays i (p .tables) more fits x is;
+      let next = still-on (p .tables) more fits is turned in
+      record {
+        tables = tables-on (p .tables) more fits is turned;
         near = omega arith;
         ahead = p .ahead ∙ ap (λ k. getD (still plan carriers bays i) k 0) e ∙ ap (λ l. getD l (suc (name - (i + 1))) 0) next;
-      })
+      }
 
   pub reaching-end : name ≤ i → s ≡ getD (slots (crossings plan)) name 0
   reaching-end there =
       let more : i < length plan = omega (arith, p .near) in
       let e : name - i ≡ 0 = omega arith in
-      let next = still-on plan carriers bays i (p .tables) more fits x is in
-      turned .slot
-      ∙ sym (p .ahead ∙ ap (λ k. getD (still plan carriers bays i) k 0) e ∙ ap (λ l. getD l 0 0) next)
+      let next = still-on (p .tables) more fits is turned in
+      sym (p .ahead ∙ ap (λ k. getD (still plan carriers bays i) k 0) e ∙ ap (λ l. getD l 0 0) next)

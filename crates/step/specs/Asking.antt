@@ -5,14 +5,16 @@ use mathlib.Core.Bool.{true, false}
 use mathlib.Core.List.{List}
 use Prim.Native.Nat.{ℕ, _≤_, _<_}
 use lib.ListN.{length, getD, take}
-use Rattle.paper.specs.Basics.{elem}
+use Rattle.paper.specs.Basics.{_and_, elem}
 use Rattle.paper.specs.Procedure.{step}
-use Rattle.paper.specs.Yard.{Bay, Carrier}
-use Rattle.words.specs.Sets.{mem, memRow, words}
+use Rattle.paper.specs.Yard.{Bay}
+use Rattle.words.specs.Sets.{mem, memRow, words, span}
+use Rattle.choice.specs.Taking.{Taken}
 use Rattle.moving.specs.Bounds.{swap-most, room-step}
 use Rattle.acting.specs.Acting.{Within, ProceedsAs}
 use Rattle.acting.specs.declared.Tally.{Tally}
 use Rattle.acting.specs.declared.Tried.{Tried}
+use Rattle.step.specs.declared.NextStep.{NextStep}
 
 -- no rail joins a bay to itself
 pub record Loopless (n : ℕ) (table : List ℕ) : Type 0 where
@@ -23,27 +25,40 @@ pub record BaysBelow (finished : ℕ) (p settled : List ℕ) : Type 0 where
   pub size : length settled ≡ words
   pub bays : (b : ℕ) → mem settled b ≡ elem b (take finished p)
 
--- a step of r to w, which a rail joins to its bay; the carriers below `finished` are finished
-abbrev pub StepAsks : (finished : ℕ) → Carrier → Bay → (table p standing settled : List ℕ) → Tally → Type 0
-StepAsks finished r w table p standing settled at =
-    (r < length p)
-    × (finished ≤ length p)
-    × (w < length standing)
-    × (memRow table (getD p r 0) w ≡ true)
+-- a step of a carrier to a bay that a rail joins to its own; the carriers below `finished` are finished
+abbrev pub StepAsks : NextStep → (table p standing settled : List ℕ) → Tally → Type 0
+StepAsks next table p standing settled at =
+    (next .carrier .0 < length p)
+    × (next .finished ≤ length p)
+    × (next .to .0 < length standing)
+    × (memRow table (getD p (next .carrier .0) 0) (next .to .0) ≡ true)
     × Loopless (length standing) table
     × (at .crossings < room-step)
-    × BaysBelow finished p settled
+    × BaysBelow (next .finished) p settled
+
+-- the same where a carrier stands at the bay that is not finished, and the empty bay e beside it is the choice
+abbrev pub AsideAsks : NextStep → Bay → (table p standing empty : List ℕ) → Tally → Type 0
+AsideAsks next e table p standing empty at =
+    (next .carrier .0 < length p)
+    × (next .finished ≤ length p)
+    × (next .to .0 < length standing)
+    × (memRow table (getD p (next .carrier .0) 0) (next .to .0) ≡ true)
+    × Loopless (length standing) table
+    × (at .crossings < room-step)
+    × (next .finished ≤ getD standing (next .to .0) 0)
+    × (mem empty (next .to .0) ≡ false)
+    × Taken table (λ b. memRow table (next .to .0) b and memRow empty 0 b) e
+    × (e < span)
 
 -- the paper's step
-abbrev pub StepSays : (finished : ℕ) → Carrier → Bay → (table p standing out : List ℕ) → Tally → (p′ standing′ empty′ out′ : List ℕ) → Tried → Type 0
-StepSays finished r w table p standing out at p′ standing′ empty′ out′ z =
+abbrev pub StepSays : NextStep → (table p standing out : List ℕ) → Tally → (p′ standing′ empty′ out′ : List ℕ) → Tried → Type 0
+StepSays next table p standing out at p′ standing′ empty′ out′ z =
     Within at swap-most z
-    × ProceedsAs (λ Y. step Y finished r w) table p standing out at p′ standing′ empty′ out′ z
+    × ProceedsAs (λ Y. step Y (next .finished) (next .carrier .0) (next .to .0)) table p standing out at p′ standing′ empty′ out′ z
 
 -- the same, and the set has the finished carriers' bays after it
-abbrev pub StepSettles : (finished : ℕ) → Carrier → Bay → (table p standing out : List ℕ) → Tally
-    → (p′ standing′ empty′ settled′ out′ : List ℕ) → Tried → Type 0
-StepSettles finished r w table p standing out at p′ standing′ empty′ settled′ out′ z =
+abbrev pub StepSettles : NextStep → (table p standing out : List ℕ) → Tally → (p′ standing′ empty′ settled′ out′ : List ℕ) → Tried → Type 0
+StepSettles next table p standing out at p′ standing′ empty′ settled′ out′ z =
     Within at swap-most z
-    × ProceedsAs (λ Y. step Y finished r w) table p standing out at p′ standing′ empty′ out′ z
-    × BaysBelow finished p′ settled′
+    × ProceedsAs (λ Y. step Y (next .finished) (next .carrier .0) (next .to .0)) table p standing out at p′ standing′ empty′ out′ z
+    × BaysBelow (next .finished) p′ settled′

@@ -4,26 +4,29 @@ use acting::Tried;
 use docket::Bay;
 use docket::Carrier;
 ghost use mathlib.Core.Path.{_≡_};
-ghost use mathlib.Core.Bool.{true, false};
+ghost use mathlib.Core.Bool.{true};
 ghost use Prim.Native.Nat.{ℕ, _≤_, _<_};
 ghost use lib.ListN.{length, getD};
-ghost use Rattle.paper.specs.Basics.{_and_};
 ghost use Rattle.paper.specs.Procedure.{trade};
-ghost use Rattle.words.specs.Sets.{mem, memRow, words, span};
-ghost use Rattle.choice.specs.Taking.{Taken};
+ghost use Rattle.words.specs.Sets.{mem, words, span};
 ghost use Rattle.moving.specs.Bounds.{room-step};
 ghost use Rattle.moving.specs.Placed.{Placed};
 ghost use Rattle.acting.specs.Acting.{Ready, CrossCounts};
-ghost use Rattle.step.specs.Asking.{Loopless, BaysBelow, StepAsks, StepSays, StepSettles};
+ghost use Rattle.step.specs.Asking.{BaysBelow, StepAsks, AsideAsks, StepSays, StepSettles};
+
+// One step: the carrier r that steps and the next bay w on its way. The carriers below `finished` are finished.
+pub struct NextStep {
+    pub finished: usize,
+    pub carrier: Carrier,
+    pub to: Bay,
+}
 
 // The step where a carrier may stand at w: it is vacated, then r crosses; or else r is swapped with the carrier there. Held are r's own bay and
 // those of the finished carriers.
 fn make_way(
     table: &[u64],
     settled: &[u64],
-    finished: usize,
-    r: Carrier,
-    w: Bay,
+    next: NextStep,
     placement: &mut [u16],
     standing: &mut [u16],
     empty: &mut [u64],
@@ -31,13 +34,15 @@ fn make_way(
     at: Tally,
 ) -> Tried
     requires { ⌜ Ready (now table) (now placement) (now standing) (now empty) ⌝ }
-    requires { ⌜ StepAsks finished (r .0) (w .0) (now table) (now placement) (now standing) (now settled) at ⌝ }
+    requires { ⌜ StepAsks next (now table) (now placement) (now standing) (now settled) at ⌝ }
     ensures { λ z. ⌜
-        StepSays finished (r .0) (w .0)
+        StepSays next
         (now (table .entry)) (now (placement .entry)) (now (standing .entry)) (now (out .entry)) at
         (now (placement .exit)) (now (standing .exit)) (now (empty .exit)) (now (out .exit)) z
         ⌝ }
 {
+    let r = next.carrier;
+    let w = next.to;
     let own = r.0 as usize;
     let mut held = [0u64; words::WORDS];
     words::keep(&mut held, 0, settled);
@@ -60,9 +65,7 @@ fn make_way(
 // what is.
 fn step_aside(
     table: &[u64],
-    finished: usize,
-    r: Carrier,
-    w: Bay,
+    next: NextStep,
     e: Bay,
     placement: &mut [u16],
     standing: &mut [u16],
@@ -71,24 +74,15 @@ fn step_aside(
     at: Tally,
 ) -> Tried
     requires { ⌜ Ready (now table) (now placement) (now standing) (now empty) ⌝ }
-    requires { ⌜
-        (r .0 < length (now placement))
-        × (finished ≤ length (now placement))
-        × (w .0 < length (now standing))
-        × (memRow (now table) (getD (now placement) (r .0) 0) (w .0) ≡ true)
-        × Loopless (length (now standing)) (now table)
-        × (at .crossings < room-step)
-        × (finished ≤ getD (now standing) (w .0) 0)
-        × (mem (now empty) (w .0) ≡ false)
-        × Taken (now table) (λ b. memRow (now table) (w .0) b and memRow (now empty) 0 b) (e .0)
-        × (e .0 < span)
-        ⌝ }
+    requires { ⌜ AsideAsks next (e .0) (now table) (now placement) (now standing) (now empty) at ⌝ }
     ensures { λ z. ⌜
-        StepSays finished (r .0) (w .0)
+        StepSays next
         (now (table .entry)) (now (placement .entry)) (now (standing .entry)) (now (out .entry)) at
         (now (placement .exit)) (now (standing .exit)) (now (empty .exit)) (now (out .exit)) z
         ⌝ }
 {
+    let r = next.carrier;
+    let w = next.to;
     let a = acting::fill(table, placement, standing, empty, w, e, out, at);
     let own = r.0 as usize;
     let u = Bay(placement[own]);
@@ -100,9 +94,7 @@ fn step_aside(
 fn step_to(
     table: &[u64],
     settled: &[u64],
-    finished: usize,
-    r: Carrier,
-    w: Bay,
+    next: NextStep,
     placement: &mut [u16],
     standing: &mut [u16],
     empty: &mut [u64],
@@ -110,13 +102,15 @@ fn step_to(
     at: Tally,
 ) -> Tried
     requires { ⌜ Ready (now table) (now placement) (now standing) (now empty) ⌝ }
-    requires { ⌜ StepAsks finished (r .0) (w .0) (now table) (now placement) (now standing) (now settled) at ⌝ }
+    requires { ⌜ StepAsks next (now table) (now placement) (now standing) (now settled) at ⌝ }
     ensures { λ z. ⌜
-        StepSays finished (r .0) (w .0)
+        StepSays next
         (now (table .entry)) (now (placement .entry)) (now (standing .entry)) (now (out .entry)) at
         (now (placement .exit)) (now (standing .exit)) (now (empty .exit)) (now (out .exit)) z
         ⌝ }
 {
+    let r = next.carrier;
+    let w = next.to;
     let bay = w.0 as usize;
     if words::is_in(empty, bay) {
         let own = r.0 as usize;
@@ -126,7 +120,7 @@ fn step_to(
     }
     let s = standing[bay];
     let there = s as usize;
-    if there < finished {
+    if there < next.finished {
         let carrier = s as u32;
         return swap::swap(
             table,
@@ -143,31 +137,9 @@ fn step_to(
     if beside < words::SPAN {
         let number = beside as u16;
         let e = Bay(number);
-        return step_aside(
-            table,
-            finished,
-            r,
-            w,
-            e,
-            placement,
-            standing,
-            empty,
-            out,
-            at,
-        );
+        return step_aside(table, next, e, placement, standing, empty, out, at);
     }
-    make_way(
-        table,
-        settled,
-        finished,
-        r,
-        w,
-        placement,
-        standing,
-        empty,
-        out,
-        at,
-    )
+    make_way(table, settled, next, placement, standing, empty, out, at)
 }
 
 // The set after whoever stood at u and at w have traded bays: if one of the two was in it, that one leaves and the other joins.
@@ -234,9 +206,7 @@ pub fn step_in(
 // One step of r to w, and the bays of the finished carriers after it: r or one of them may have left its bay for another's.
 pub fn step(
     table: &[u64],
-    finished: usize,
-    r: Carrier,
-    w: Bay,
+    next: NextStep,
     placement: &mut [u16],
     standing: &mut [u16],
     empty: &mut [u64],
@@ -245,27 +215,18 @@ pub fn step(
     at: Tally,
 ) -> Tried
     requires { ⌜ Ready (now table) (now placement) (now standing) (now empty) ⌝ }
-    requires { ⌜ StepAsks finished (r .0) (w .0) (now table) (now placement) (now standing) (now settled) at ⌝ }
+    requires { ⌜ StepAsks next (now table) (now placement) (now standing) (now settled) at ⌝ }
     ensures { λ z. ⌜
-        StepSettles finished (r .0) (w .0)
+        StepSettles next
         (now (table .entry)) (now (placement .entry)) (now (standing .entry)) (now (out .entry)) at
         (now (placement .exit)) (now (standing .exit)) (now (empty .exit)) (now (settled .exit)) (now (out .exit)) z
         ⌝ }
 {
+    let r = next.carrier;
+    let w = next.to;
     let own = r.0 as usize;
     let u = Bay(placement[own]);
-    let stepped = step_to(
-        table,
-        settled,
-        finished,
-        r,
-        w,
-        placement,
-        standing,
-        empty,
-        out,
-        at,
-    );
+    let stepped = step_to(table, settled, next, placement, standing, empty, out, at);
     let Tried::Done(done) = stepped else {
         return Tried::Failed;
     };

@@ -6,11 +6,8 @@ use native.Mathlib.Omega.{arith}
 use native.Mathlib.Numerals.{add-one}
 use lib.ListN.{length, set, take, drop, getD, length-append}
 use lib.Seq.{sets, length-sets, sets-eq, take-suc, take-append-seam, take-all}
+use Rattle.lists.proofs.Lists.{sets-append}
 use Rattle.stores.specs.Writing.{Wrote}
-
-pub sets-append : (l : List ℕ) (i : ℕ) (a b : List ℕ) → sets l i (a ++ b) ≡ sets (sets l i a) (i + length a) b
-sets-append l i [] b = ap (λ j. sets l j b) (omega arith)
-sets-append l i (x ∷ a) b = sets-append (set l i x) (suc i) a b ∙ ap (λ j. sets (sets (set l i x) (suc i) a) j b) (omega arith)
 
 pub wrote-none : (l : List ℕ) (i : ℕ) → Wrote l i [] l i
 wrote-none l i = record { left = refl; counted = omega arith }

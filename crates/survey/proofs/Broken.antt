@@ -1,6 +1,6 @@
 -- 16 in words: line n is the bad one exactly if the lines before it keep the layout and line n breaks it, or is missing. For any
 -- layout, and then for the survey.
-use mathlib.Core.Path.{_≡_, refl, sym, _∙_, ap}
+use mathlib.Core.Path.{_≡_, refl, _∙_, ap}
 use mathlib.Core.List.{List, [], _∷_}
 use mathlib.Core.Logic.{_↔_}
 use mathlib.Core.Option.{Option, none, some}
@@ -8,16 +8,9 @@ use Prim.Native.Nat.{ℕ, zero, suc, _+_, _≤_, _<_}
 use native.Mathlib.Omega.{arith}
 use lib.ListN.{length, getD, take}
 use Rattle.paper.specs.Basics.{_>>=_}
-use Rattle.paper.specs.Yard.{Bay}
-use Rattle.paper.specs.Text.{Text, lines, Read, good, badLine, readLines}
-use Rattle.paper.proofs.Tests.{by-option, never-some, never, some-same}
-use Rattle.survey.specs.Survey.{Surveyed, headDue, surveyLine, surveyEnd, readSurvey}
-
-bad-same : {R : Type 0} {m n : ℕ} → _≡_ {A = Read R} (badLine m) (badLine n) → m ≡ n
-bad-same h = cc
-
-not-good : {R P : Type 0} {r : R} {n : ℕ} → good r ≡ badLine n → P
-not-good h = never (cc)
+use Rattle.paper.specs.Text.{Text, lines, good, badLine, readLines}
+use Rattle.paper.proofs.Tests.{by-option, never-some, never, some-same, bad-same, not-good}
+use Rattle.survey.specs.Survey.{headDue, surveyLine, surveyEnd, readSurvey}
 
 module _ {A R : Type 0} (line : A → Text → Option A) (end : A → Option R) where
   -- what the lines make of what was read before them, none where one of them breaks the layout

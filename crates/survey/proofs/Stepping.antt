@@ -1,24 +1,23 @@
 -- The survey read byte by byte is the survey read line by line: behind the word stand two fields, and each byte of a field decides
 -- whether it can still be a number of one to five digits.
-use mathlib.Core.Path.{_≡_, refl, sym, _∙_, ap}
+use mathlib.Core.Path.{_≡_, refl, sym, _∙_}
 use mathlib.Core.Bool.{Bool, true, false}
-use mathlib.Core.List.{List, [], _∷_, _++_, foldl}
+use mathlib.Core.List.{List, [], _∷_, foldl}
 use mathlib.Core.Option.{Option, none, some}
-use Prim.Native.Nat.{ℕ, zero, suc, _+_, _≤_, _<_}
+use Prim.Native.Nat.{ℕ, suc, _+_, _≤_, _<_}
 use native.Mathlib.Omega.{arith}
 use lib.Dec.{eqb, ltb, leb}
-use lib.ListN.{length, take, drop, getD}
-use borrow.Author.Tests.{ne-eqb, eqb-true, leb-true, leb-false, ltb-true, ltb-false, le-leb, lt-leb}
-use Rattle.paper.specs.Basics.{if_then_else_, _and_, _>>=_, when}
-use Rattle.paper.specs.Yard.{Bay}
-use Rattle.paper.specs.Text.{Text, SPACE, text, join, split, same, all, isDigit, value, sized, isNumber}
+use lib.ListN.{length, take, drop}
+use borrow.Author.Tests.{ne-eqb, leb-true, ltb-true, ltb-false, le-leb, lt-leb}
+use Rattle.paper.specs.Basics.{if_then_else_, _and_, _>>=_}
+use Rattle.paper.specs.Text.{Text, SPACE, join, split, same, all, isDigit, value, sized, isNumber}
 use Rattle.paper.specs.Bytes.{Field, blank, see, fieldOf, tally}
-use Rattle.paper.proofs.Tests.{by-cases, and-left, and-right, not-both}
+use Rattle.paper.proofs.Tests.{by-cases, and-left}
 use Rattle.paper.proofs.Fed.{ByByte, fed}
-use Rattle.paper.proofs.Fields.{value-mark, and-false, and-assoc}
+use Rattle.paper.proofs.Fields.{value-mark, and-false, leb-same}
 use Rattle.paper.proofs.Stepping.{split-some}
 use Rattle.survey.specs.Survey.{Surveyed, headDue, railsDue, wordOf, isComment, twoNumbers, numbersAfter, taken, surveyLine, surveyEnd, readSurvey}
-use Rattle.survey.specs.Bytes.{Line, fresh, comment, broken, inWord, inFirst, inSecond, await, wordByte, digitByte, lineByte, lineWorth, Under, beginLine, inLine, closeLine, endLine, unread, surveyStep, surveyFinish}
+use Rattle.survey.specs.Bytes.{Line, fresh, comment, broken, inFirst, inSecond, await, wordByte, digitByte, lineByte, lineWorth, beginLine, inLine, closeLine, endLine, unread, surveyStep, surveyFinish}
 
 -- ## Numbers
 -- k digits were read, and the text goes on with a number of at most five
@@ -29,12 +28,6 @@ numberOn k (b ∷ f) = isDigit b and ltb k 5 and numberOn (suc k) f
 abbrev tallyOn : ℕ → Text → ℕ
 tallyOn n [] = n
 tallyOn n (b ∷ f) = tallyOn (tally n b) f
-
-leb-same : (a b c d : ℕ) → (a ≤ b → c ≤ d) → (c ≤ d → a ≤ b) → leb a b ≡ leb c d
-leb-same a b c d f g =
-    by-cases (leb a b)
-    (λ e. e ∙ sym (le-leb c d (f (leb-true a b e))))
-    (λ e. by-cases (leb c d) (λ q. let z = g (leb-true c d q) in let y = leb-false a b e in absurd (omega arith)) (λ q. e ∙ sym q))
 
 number-on : (k : ℕ) (f : Text) → k ≤ 5 → numberOn k f ≡ leb 1 (k + length f) and leb (k + length f) 5 and all isDigit f
 unfolding all _and_

@@ -1,25 +1,25 @@
 -- Refusals 1 to 3 alone are what a yard with no carriers is tested for; and an end above any bay may be read as 65,535, which is
 -- above any bay too: the same rail is the first bad one.
 use mathlib.Core.Path.{_≡_, refl, sym, _∙_, ap}
-use mathlib.Core.Bool.{Bool, true, false}
+use mathlib.Core.Bool.{true, false}
 use mathlib.Core.List.{List, [], _∷_, _++_, map}
-use mathlib.Core.Option.{Option, none, some}
+use mathlib.Core.Option.{none, some}
 use Prim.Native.Nat.{ℕ, suc, _+_, _*_, _%_, _≤_, _<_, min}
 use native.Mathlib.Omega.{arith}
 use lib.Dec.{leb, ltb}
 use lib.ListN.{length, length-map}
 use borrow.Author.Tests.{le-leb, lt-leb, leb-true, leb-false, le-ltb, eqb-false}
-use Rattle.paper.specs.Basics.{_or_, _>>=_, orElse, when, firstBad}
+use Rattle.paper.specs.Basics.{_or_, firstBad}
 use Rattle.paper.specs.Limits.{most-rails}
 use Rattle.paper.specs.Yard.{Bay, Rail}
 use Rattle.paper.specs.Order.{order}
-use Rattle.paper.specs.Docket.{Refusal, size, rail, railsOf, yardOf, badSize, badRail, no-1, no-2, no-3, no-4, no-5, no-6}
+use Rattle.paper.specs.Docket.{size, rail, railsOf, badSize, badRail, no-2, no-3}
 use Rattle.paper.specs.Answers.{firstSix}
-use Rattle.paper.proofs.Tests.{by-cases, by-option, or-none, or-left, or-right, not-both, never-some, none-when}
+use Rattle.paper.proofs.Tests.{by-cases, by-option, or-none, or-left, or-right, never-some}
 use Rattle.paper.proofs.Admitted.{sizes-of}
 use Rattle.survey.specs.Survey.{firstThree}
 use Rattle.survey.specs.Narrow.{narrow}
-use Rattle.survey.proofs.Written.{Below, Passes, passes}
+use Rattle.survey.proofs.Written.{Below, passes}
 
 -- ## No carriers
 pub three-are-six : (n : ℕ) (ends : List Bay) → firstSix (order n ends [] []) 0 ≡ firstThree n ends

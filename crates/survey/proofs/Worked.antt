@@ -5,7 +5,7 @@ use mathlib.Core.List.{List, [], _∷_, map}
 use Prim.Native.Nat.{ℕ}
 use Prim.Native.String.{String}
 use Rattle.paper.specs.Yard.{Bay}
-use Rattle.paper.specs.Text.{Text, text, Read, good, badLine}
+use Rattle.paper.specs.Text.{text, Read, good, badLine}
 use Rattle.worked.proofs.Read.{reading}
 use Rattle.survey.specs.Survey.{readSurvey, surveyOf}
 use Rattle.survey.specs.Survey

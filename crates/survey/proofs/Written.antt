@@ -1,26 +1,27 @@
 -- What is written reads back: a yard that passes 1 to 3 is what its file reads as, rails in the order held. So a file that was
 -- written is canonical, and writing what was read and reading that again gives the same yard.
-use mathlib.Core.Path.{_≡_, refl, sym, _∙_, ap}
-use mathlib.Core.Bool.{Bool, true, false}
+use mathlib.Core.Path.{_≡_, sym, _∙_, ap}
+use mathlib.Core.Bool.{true, false}
 use mathlib.Core.List.{List, [], _∷_, _++_, map, append-nil, append-assoc}
-use mathlib.Core.Option.{Option, none, some}
+use mathlib.Core.Option.{none, some}
 use Prim.Native.Nat.{ℕ, suc, _+_, _-_, _*_, _/_, _%_, _≤_, _<_}
 use native.Mathlib.Omega.{arith}
 use lib.Dec.{eqb, leb}
 use lib.ListN.{length, length-append}
 use borrow.Author.Tests.{eq-eqb, lt-ltb, le-leb, leb-false, eqb-true, eqb-false}
-use Rattle.paper.specs.Basics.{_and_, _>>=_, firstBad}
+use Rattle.paper.specs.Basics.{_and_, firstBad}
 use Rattle.paper.specs.Limits.{most-bays, most-rails}
-use Rattle.paper.specs.Yard.{Bay, Rail, joined}
+use Rattle.paper.specs.Yard.{Bay, Rail}
 use Rattle.paper.specs.Order.{order}
-use Rattle.paper.specs.Docket.{railsOf, badRail, badSize, size, rail, no-1, no-2, no-3}
-use Rattle.paper.specs.Text.{Text, text, SPACE, lines, split, same, all, value, isNumber, Read, good, readLines}
+use Rattle.paper.specs.Docket.{railsOf, badRail, size, rail, no-1, no-2, no-3}
+use Rattle.paper.specs.Text.{Text, SPACE, lines, split, same, all, value, good, readLines}
 use Rattle.paper.specs.Print.{decimal, ended}
-use Rattle.paper.proofs.Tests.{by-cases, and-both, none-both, none-from, none-when, never-some, or-none, not-both}
-use Rattle.paper.proofs.Printing.{decimal-value, decimal-digits}
+use Rattle.paper.proofs.Tests.{by-cases, none-both, none-from, none-when, never-some, or-none, good-same}
+use Rattle.paper.proofs.Digits.{decimal-value}
+use Rattle.paper.proofs.Lines.{plain, AllPlain, lines-ended, number-plain, all-cat}
 use Rattle.paper.proofs.Admitted.{sizes-of}
-use Rattle.survey.specs.Survey.{Surveyed, headDue, railsDue, isComment, twoNumbers, numbersAfter, taken, surveyLine, surveyEnd, readSurvey, headLine, railLine, surveyOf, firstThree}
-use Rattle.survey.proofs.Words.{decimal-number, two-fields, plain, AllPlain, lines-ended, number-plain, plain-append}
+use Rattle.survey.specs.Survey.{headDue, railsDue, isComment, twoNumbers, numbersAfter, taken, surveyLine, surveyEnd, readSurvey, headLine, railLine, surveyOf, firstThree}
+use Rattle.survey.proofs.Words.{decimal-number, two-fields}
 
 -- ## A line
 -- the two numbers that were written behind a word
@@ -83,11 +84,11 @@ rails-back n m k done (a ∷ b ∷ rest) small below even all =
 -- ## The file
 head-plain : (a b : ℕ) → all plain (headLine a b) ≡ true
 unfolding headLine all plain _and_
-head-plain a b = simp (plain-append, number-plain)
+head-plain a b = simp (all-cat, number-plain)
 
 rail-plain : (r : Rail) → all plain (railLine r) ≡ true
 unfolding railLine all plain _and_
-rail-plain r = simp (plain-append, number-plain)
+rail-plain r = simp (all-cat, number-plain)
 
 rails-plain : (rs : List Rail) → AllPlain (map railLine rs)
 rails-plain [] = tt
@@ -132,9 +133,6 @@ read-written n ends h =
 -- A file is canonical where it is the file of what it reads as.
 abbrev pub Canonical : Text → Type 0
 Canonical bs = (n : ℕ) (ends : List Bay) → readSurvey bs ≡ good (n, ends) → bs ≡ surveyOf n ends
-
-good-same : {a b : ℕ × List Bay} → good a ≡ good b → a ≡ b
-good-same h = cc
 
 -- What is written is canonical.
 pub written-canonical : (n : ℕ) (ends : List Bay) → firstThree n ends ≡ none → Canonical (surveyOf n ends)

@@ -11,7 +11,7 @@ use Rattle.paper.specs.Basics.{if_then_else_, _and_}
 use Rattle.paper.specs.Yard.{Bay}
 use Rattle.paper.specs.Text.{Text, SPACE, isDigit, Read}
 use Rattle.paper.specs.Bytes.{State, going, feed, finishFile, tally}
-use Rattle.survey.specs.Survey.{Surveyed, headDue, railsDue, wordOf, taken, surveyEnd}
+use Rattle.survey.specs.Survey.{Surveyed, headDue, wordOf, taken, surveyEnd}
 
 -- A line under way: no byte yet; a comment; broken; the rest of the word that is due; the digits and the number so far of the first
 -- number; the first number, and the same of the second.

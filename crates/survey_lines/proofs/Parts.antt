@@ -4,16 +4,16 @@ use mathlib.Core.List.{List, [], _∷_, _++_, map, append-nil, append-assoc}
 use Prim.Native.Nat.{ℕ, suc, _+_, _*_, _/_, _≤_, _<_, _^_}
 use native.Mathlib.Omega.{arith}
 use native.Mathlib.Numerals.{add-one}
-use lib.ListN.{length, getD, drop, length-append, length-drop}
+use lib.ListN.{length, getD, drop, length-drop}
 use lib.Seq.{drop-cons}
-use Rattle.paper.specs.Yard.{Bay, Rail}
+use Rattle.paper.specs.Yard.{Bay}
 use Rattle.paper.specs.Docket.{railsOf}
 use Rattle.paper.specs.Text.{Text, text, LF}
 use Rattle.paper.specs.Print.{decimal, ended}
 use Rattle.stores.specs.Writing.{Wrote}
 use Rattle.stores.proofs.Stores.{wrote-none, wrote-then}
 use Rattle.printing.specs.Parts.{named}
-use Rattle.printing.proofs.Digits.{decimal-short}
+use Rattle.printing.proofs.Lines.{named-short}
 use Rattle.survey.specs.Survey.{headLine, railLine, railLines, surveyOf}
 
 five : (a x b y l : Text) → (a ++ x) ++ (b ++ y) ++ l ≡ (((a ++ x) ++ b) ++ y) ++ l
@@ -26,10 +26,6 @@ head-parts n m = five (text "p edge ") (decimal n) (text " ") (decimal m) (LF �
 pub rail-parts : (a b : ℕ) → named (text "e ") (a + 1) ++ named (text " ") (b + 1) ++ text "\n" ≡ ended (railLine (a, b) ∷ [])
 unfolding named railLine ended
 rail-parts a b = rw (add-one a, add-one b) (five (text "e ") (decimal (suc a)) (text " ") (decimal (suc b)) (LF ∷ []))
-
-pub named-short : (t : Text) (n : ℕ) → n < 2 ^ 64 → length (named t n) ≤ length t + 20
-unfolding named
-named-short t n h = simp length-append (omega (arith, decimal-short n h))
 
 module _ {l a b c : List ℕ} {at i j k : ℕ} (x y : ℕ) (small : (x < 2 ^ 64) × (y < 2 ^ 64)) where
   pub head-done : Wrote l at (named (text "p edge ") x) a i → Wrote a i (named (text " ") y) b j → Wrote b j (text "\n") c k

@@ -1,6 +1,6 @@
 // A yard's rails as a surveyors' file. All bytes are counted and those that fit are stored, so an empty list only counts.
 ghost use mathlib.Core.List.{_∷_, []};
-ghost use Prim.Native.Nat.{suc, _+_, _*_, _/_, _≤_, _<_, _^_};
+ghost use Prim.Native.Nat.{_+_, _/_, _≤_, _<_, _^_};
 ghost use lib.ListN.{length};
 ghost use Rattle.paper.specs.Limits.{most-rails};
 ghost use Rattle.paper.specs.Print.{ended};

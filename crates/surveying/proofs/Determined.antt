@@ -1,5 +1,5 @@
 -- Any two answers that the statements of reading and writing allow are equal, and so is what is left in the lent list.
-use mathlib.Core.Path.{_≡_, sym, _∙_}
+use mathlib.Core.Path.{sym, _∙_}
 use mathlib.Core.List.{List}
 use Prim.Native.Nat.{ℕ}
 use lib.ListN.{length}
@@ -8,7 +8,6 @@ use Rattle.paper.specs.Text.{Text}
 use Rattle.paper.proofs.Determined.{Determined, determined-by}
 use Rattle.docket.specs.Reading.{verdictOf}
 use Rattle.docket.proofs.Telling.{verdict-tells}
-use Rattle.surveying.specs.declared.Survey.{Survey}
 use Rattle.surveying.specs.Says.{ReadSays, WriteSays, writeAnswer, writeLeft}
 
 pub read-determined : (file : Text) (before : List ℕ) → Determined (ReadSays file before)

@@ -1,33 +1,31 @@
 -- What is answered and left, case by case: refused by the layout, by 1 to 3, by 8, or taken over whole.
 use mathlib.Core.Path.{_≡_, refl, sym, _∙_, ap}
 use mathlib.Core.Bool.{true, false}
-use mathlib.Core.List.{List, [], _∷_, _++_, map}
+use mathlib.Core.List.{List, _++_, map}
 use mathlib.Core.Option.{Option, none, some}
 use Prim.Native.Nat.{ℕ, _+_, _-_, _*_, _≤_, _<_}
 use native.Mathlib.Omega.{arith}
 use lib.Dec.{ltb}
 use lib.ListN.{length, take, drop, length-map}
-use lib.Seq.{sets, sets-eq, length-sets, take-append-seam}
+use lib.Seq.{sets, sets-eq, take-append-seam}
 use borrow.Author.Tests.{lt-ltb, le-ltb, ltb-true, ltb-false}
-use Rattle.paper.specs.Basics.{_or_, orElse, if-some_then_else_}
+use Rattle.paper.specs.Basics.{_or_, orElse}
 use Rattle.paper.specs.Limits.{most-rails, most-crossings}
 use Rattle.paper.specs.Yard.{Bay}
-use Rattle.paper.specs.Docket.{Refusal, size, room, no-8}
-use Rattle.paper.specs.Docket as paper
+use Rattle.paper.specs.Docket.{Refusal, size, room, no-8, granted, denied, badSurvey}
 use Rattle.paper.specs.Text.{Text, Read, good, badLine}
 use Rattle.paper.proofs.Tests.{by-cases, by-option, or-left, or-neither, never, none-both}
 use Rattle.stores.specs.Writing.{Wrote}
 use Rattle.survey.specs.Survey.{readSurvey, surveyOf, firstThree, readRefusal, writeRefusal}
 use Rattle.survey.specs.Narrow.{narrow}
-use Rattle.survey.proofs.Written.{Passes, passes}
+use Rattle.survey.proofs.Written.{passes}
 use Rattle.survey.proofs.Three.{narrow-three, narrow-same, long-size}
 use Rattle.edges.specs.Held.{Reads, answerOf, countRead}
 use Rattle.edges.specs.declared.SurveyRead.{SurveyRead}
 use Rattle.edges.specs.declared.SurveyRead.the-variants.{Yard, Bad}
 use Rattle.docket.specs.Reading.{verdictOf}
-use Rattle.paper.specs.Docket.{granted, denied, unlessDenied, badSurvey}
 use Rattle.docket.specs.declared.Verdict.{Verdict as Told}
-use Rattle.surveying.specs.Says.{readAnswer, readBays, readLeft, Says, ReadSays, TakeSays, WriteSays}
+use Rattle.surveying.specs.Says.{Says, ReadSays, TakeSays, WriteSays}
 use Rattle.surveying.specs.declared.Survey.{Survey}
 
 -- ## 8

@@ -29,7 +29,7 @@ fn test(bays: u64, rails: &[u16]) -> Tested
 {
     let mut table = [0u64; Yard::TABLE];
     let nobody = &rails[..0];
-    let opened = Yard::open(bays, rails, nobody, nobody, 0, &mut table);
+    let opened = Yard::open_in(bays, rails, nobody, nobody, 0, &mut table);
     if let Opened::Refused(r) = opened {
         return Tested::Refused(r);
     }

@@ -3,6 +3,7 @@ use acting::Tally;
 use acting::Tried;
 use docket::Bay;
 use docket::Carrier;
+use trial::Trial;
 ghost use mathlib.Core.Path.{_≡_};
 ghost use mathlib.Core.Bool.{true};
 ghost use Prim.Native.Nat.{_+_, _*_, _≤_, _<_};
@@ -23,6 +24,14 @@ pub enum Junction {
 pub enum Spare {
     Both(Bay, Bay),
     Fewer,
+}
+
+// The bays of an exchange: the junction, the bay behind it where the follower stands, and the two that are kept, the lower one first.
+struct Exchange {
+    junction: Bay,
+    behind: Bay,
+    lower: Bay,
+    higher: Bay,
 }
 
 // Whether the trial at v, which is not r's own bay, is bound to fail: v is blocked.
@@ -88,7 +97,12 @@ fn try_junction(
             crossings: 0,
             parked: 0,
         };
-        return trial::try_at(table, v, r, s, placement, standing, empty, log, from);
+        let here = Trial {
+            carrier: r,
+            neighbour: s,
+            junction: v,
+        };
+        return trial::try_at(table, here, placement, standing, empty, log, from);
     }
     Tried::Failed
 }
@@ -203,14 +217,11 @@ fn spare_bays(table: &[u64], u: Bay, w: Bay, empty: &[u64]) -> Spare
     Spare::Both(Bay(x as u16), Bay(y as u16))
 }
 
-// Swap of r at u with s at w by the exchange alone, x and y beside u being empty.
+// Swap of r at the junction with s behind it by the exchange alone, the two kept bays being empty.
 fn swap_beside(
     r: Carrier,
     s: Carrier,
-    u: Bay,
-    w: Bay,
-    x: Bay,
-    y: Bay,
+    bays: Exchange,
     placement: &mut [u16],
     standing: &mut [u16],
     out: &mut [u64],
@@ -227,14 +238,23 @@ fn swap_beside(
     ensures { λ m. ⌜
         (now (placement .exit) ≡ placementTraded (r .0) (s .0) (now (placement .entry)))
         × (now (standing .exit) ≡ standingTraded (r .0) (s .0) (now (placement .entry)) (now (standing .entry)))
-        × Noted (exchanges (r .0) (s .0) (u .0) (w .0) (x .0) (y .0))
+        × Noted (exchanges (r .0) (s .0) (bays .junction .0) (bays .behind .0) (bays .lower .0) (bays .higher .0))
         (now (out .entry)) (at .crossings) (now (out .exit)) (m .crossings)
         × (m .parked ≡ at .parked)
         ⌝ }
 {
     let before = at.crossings;
     let parked = at.parked;
-    let crossings = exchange::exchange(out, before, r, s, u, w, x, y);
+    let crossings = exchange::exchange(
+        out,
+        before,
+        r,
+        s,
+        bays.junction,
+        bays.behind,
+        bays.lower,
+        bays.higher,
+    );
     trade(placement, standing, r, s);
     Tally { crossings, parked }
 }
@@ -265,7 +285,13 @@ pub fn swap(
     let w = Bay(placement[second]);
     let spare = spare_bays(table, u, w, empty);
     if let Spare::Both(x, y) = spare {
-        return Tried::Done(swap_beside(r, s, u, w, x, y, placement, standing, out, at));
+        let bays = Exchange {
+            junction: u,
+            behind: w,
+            lower: x,
+            higher: y,
+        };
+        return Tried::Done(swap_beside(r, s, bays, placement, standing, out, at));
     }
     swap_far(table, r, s, placement, standing, empty, out, at)
 }

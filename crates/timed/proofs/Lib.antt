@@ -1,4 +1,3 @@
 pub mod Printing
-pub mod Readying
 pub mod Back
 pub mod Determined

@@ -1,7 +1,8 @@
 -- Why the timed print is that of the paper's answer, and is handed over whole or not at all: a plan's numbers read as its crossings, and what is
 -- counted without room is what is written with it.
-use mathlib.Core.Path.{_≡_, sym, _∙_, ap}
-use mathlib.Core.Bool.{true, false}
+use mathlib.Core.Path.{_≡_, _∙_, ap}
+use mathlib.Core.Bool.{Bool, true, false}
+use mathlib.Core.Option.{Option}
 use mathlib.Core.List.{List, _++_}
 use Prim.Native.Nat.{ℕ, _+_, _<_, _≤_}
 use native.Mathlib.Omega.{arith}
@@ -9,31 +10,31 @@ use borrow.Author.Tests.{lt-ltb, le-ltb}
 use lib.Dec.{ltb, eqb}
 use lib.ListN.{length, take, drop, length-map}
 use lib.Seq.{sets, take-at, length-take-le}
-use Rattle.paper.specs.Basics.{if_then_else_}
 use Rattle.paper.specs.Yard.{Crossing, unpack, crossings}
-use Rattle.paper.specs.Docket.{Verdict, granted, denied, room}
-use Rattle.paper.specs.Answers.{Answer, accepted, refused}
+use Rattle.paper.specs.Docket.{edition}
+use Rattle.paper.specs.Program.{programAnswer}
+use Rattle.paper.specs.Answers.{Answer, refused}
 use Rattle.paper.specs.Dependence.{slots}
 use Rattle.paper.specs.Print.{printed}
 use Rattle.paper.specs.Text.{Text}
-use Rattle.paper.proofs.Tests.{never, by-cases}
+use Rattle.paper.proofs.Tests.{by-cases}
 use Rattle.paper.proofs.Slotting as first
 use Rattle.docket.specs.declared.Refusal.{Refusal}
 use Rattle.docket.specs.declared.Refusal.the-variants.{Room}
+use Rattle.docket.specs.declared.Verdict.{Verdict}
 use Rattle.docket.specs.declared.Verdict.the-variants.{Granted, Denied}
 use Rattle.docket.specs.Reading.{refusalOf}
 use Rattle.stores.specs.Writing.{Wrote}
 use Rattle.planner.specs.declared.Planned.{Planned}
 use Rattle.planner.specs.declared.Planned.the-variants.{Accepted, Refused}
-use Rattle.planner.specs.Statement.{long, told, plannedOf}
-use Rattle.program.specs.Printout.{Within, Handed}
-use Rattle.program.proofs.Telling.{by-answer}
-use Rattle.trains.specs.Slots.{trainSlots}
+use Rattle.program.specs.Printout.{Handed}
+use Rattle.program.specs.Short.{shortOr}
+use Rattle.program.proofs.Telling.{plan-is, refusal-is}
 use Rattle.trains.specs.Print.{printTimed}
 use Rattle.trains.proofs.Meeting.{slots-length}
-use Rattle.editions.specs.Editions.{slotsBy}
-use Rattle.timed.specs.Timed.{printedTimed}
-use Rattle.timed.specs.Handing.{Slottable, TimedPrints, TimedSays, HandsOver}
+use Rattle.editions.specs.Editions.{isKnown, slotsBy}
+use Rattle.timed.specs.Timed.{printedTimed, programTimed}
+use Rattle.timed.specs.Handing.{TimedPrints, TimedSays, HandsOver}
 
 -- one slot a crossing, by either edition
 pub by-length : (e : ℕ) (xs : List Crossing) → length (slotsBy e xs) ≡ length xs
@@ -49,21 +50,6 @@ slots-stand e list lent slots′ m h w =
     (by-length e (crossings (take m list)) ∙ length-map (take m list) unpack ∙ length-take-le m list h)
 
 module _ {r : Planned} {list : List ℕ} where
-  plan-is : (m : ℕ) → r ≡ Accepted m → (a : Answer) → Handed r list a → a ≡ accepted (crossings (take m list))
-  plan-is m e a h =
-      by-answer a
-      (λ xs q.
-      let y : long m ≡ long (length xs) = rw (e, q) at (h .tells) in
-      let n : m ≡ length xs = cc in
-      q ∙ ap accepted (sym (ap (λ j. crossings (take j list)) n ∙ h .stands xs q)))
-      (λ f q. let y : long m ≡ told (refused f) = rw (e, q) at (h .tells) in never (cc))
-
-  refusal-is : (f : Refusal) → r ≡ Refused f → (a : Answer) → Handed r list a → a ≡ refused (refusalOf f)
-  refusal-is f e a h =
-      by-answer a
-      (λ xs q. let y : plannedOf (Refused f) ≡ told (accepted xs) = rw (e, q) at (h .tells) in never (cc))
-      (λ g q. let y : plannedOf (Refused f) ≡ told (refused g) = rw (e, q) at (h .tells) in let z : refusalOf f ≡ g = cc in q ∙ ap refused (sym z))
-
   pub plan-prints : (e : ℕ) (m : ℕ) → r ≡ Accepted m → {before after ss : List ℕ} {n : ℕ} → ss ≡ slotsBy e (crossings (take m list))
       → Wrote before 0 (printTimed ss (crossings (take m list))) after n → TimedPrints e r list before after n
   unfolding printedTimed
@@ -96,3 +82,16 @@ module _ {e : ℕ} {r : Planned} {list nothing counted : List ℕ} {needed : ℕ
   hands-whole out l {after} w = record {
     hands = λ a h. let n = needs a h in rw (n, w .prints a h .left) (says-whole (printedTimed e a) out (rw n at l));
   }
+
+-- ## The whole print
+
+module _ (b : Bool) (mapFile scenarioFile : Option Text) {e : ℕ} {r : Planned} {list out : List ℕ} {answer : Verdict} {out′ : List ℕ} where
+  pub edition-says : isKnown e ≡ false → Handed r list (refused edition) → HandsOver e r list out answer out′
+      → TimedSays (programTimed e b mapFile scenarioFile) out answer out′
+  unfolding programTimed printedTimed
+  edition-says k h p = rw k (p .hands (refused edition) h)
+
+  pub known-says : isKnown e ≡ true → Handed r list (shortOr b (programAnswer mapFile scenarioFile)) → HandsOver e r list out answer out′
+      → TimedSays (programTimed e b mapFile scenarioFile) out answer out′
+  unfolding programTimed
+  known-says k h p = rw k (p .hands (shortOr b (programAnswer mapFile scenarioFile)) h)

@@ -2,34 +2,20 @@
 -- Assumes nothing.
 use mathlib.Core.Path.{_≡_}
 use mathlib.Core.List.{List}
-use Prim.Native.Nat.{ℕ, _≤_}
+use Prim.Native.Nat.{ℕ}
 use lib.Dec.{ltb}
-use lib.ListN.{length, take}
+use lib.ListN.{length}
 use lib.Seq.{sets}
 use Rattle.paper.specs.Basics.{if_then_else_}
-use Rattle.paper.specs.Limits.{most-bays}
-use Rattle.paper.specs.Docket.{Verdict, granted, denied, room}
+use Rattle.paper.specs.Docket.{granted, denied, room}
 use Rattle.paper.specs.Answers.{Answer}
 use Rattle.paper.specs.Text.{Text}
-use Rattle.paper.specs.OnePass.{Fits}
-use Rattle.paper.specs.Program.{program-room}
 use Rattle.docket.specs.Reading.{verdictOf}
 use Rattle.docket.specs.declared.Verdict.{Verdict as Given}
 use Rattle.stores.specs.Writing.{Wrote}
 use Rattle.planner.specs.declared.Planned.{Planned}
-use Rattle.planner.specs.declared.Planned.the-variants.{Accepted}
-use Rattle.program.specs.Printout.{Within, Handed}
+use Rattle.program.specs.Printout.{Handed}
 use Rattle.timed.specs.Timed.{printedTimed}
-
--- a plan lies in the list, and its numbers fit the tables of slots
-pub record Slottable (r : Planned) (list : List ℕ) : Type 0 where
-  pub within : Within r list
-  pub sized : length list ≤ program-room
-  pub fits : (m : ℕ) → r ≡ Accepted m → Fits most-bays most-bays (take m list)
-
-pub record Ready (a : Answer) (r : Planned) (list : List ℕ) : Type 0 where
-  pub handed : Handed r list a
-  pub slottable : Slottable r list
 
 pub record TimedPrints (e : ℕ) (r : Planned) (list before after : List ℕ) (n : ℕ) : Type 0 where
   pub prints : (a : Answer) → Handed r list a → Wrote before 0 (printedTimed e a) after n

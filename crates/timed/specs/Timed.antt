@@ -1,6 +1,6 @@
 -- The program with `--timed`: the plan that the two files ask for, each crossing with its time.
 -- Assumes nothing.
-use mathlib.Core.Bool.{Bool, true, false}
+use mathlib.Core.Bool.{Bool}
 use mathlib.Core.Option.{Option}
 use Prim.Native.Nat.{ℕ}
 use Rattle.paper.specs.Basics.{if_then_else_}
@@ -9,7 +9,7 @@ use Rattle.paper.specs.Answers.{Answer, accepted, refused}
 use Rattle.paper.specs.Text.{Text}
 use Rattle.paper.specs.Print.{printed}
 use Rattle.paper.specs.Program.{programAnswer}
-use Rattle.program.specs.Short.{shortAnswer}
+use Rattle.program.specs.Short.{shortOr}
 use Rattle.trains.specs.Print.{printTimed}
 use Rattle.editions.specs.Editions.{isKnown, slotsBy}
 
@@ -17,11 +17,6 @@ use Rattle.editions.specs.Editions.{isKnown, slotsBy}
 unfoldable pub printedTimed : ℕ → Answer → Text
 printedTimed e (accepted xs) = printTimed (slotsBy e xs) xs
 printedTimed e (refused r) = printed (refused r)
-
--- shortened where that is asked for
-abbrev pub shortOr : Bool → Answer → Answer
-shortOr true a = shortAnswer a
-shortOr false a = a
 
 -- all that the program prints; 20 is tested before any file is looked at
 unfoldable pub programTimed : ℕ → Bool → Option Text → Option Text → Text

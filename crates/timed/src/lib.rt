@@ -1,20 +1,11 @@
 // The timed plan on bytes: from the two files to all that is printed. It is handed over whole or not at all.
 use docket::Refusal;
 use docket::Verdict;
-use filing::Order;
-use filing::Ordered;
 use planner::Planned;
-use yard::Yard;
-ghost use mathlib.Core.Path.{_≡_};
-ghost use Prim.Native.Nat.{_≤_};
-ghost use lib.ListN.{length};
-ghost use Rattle.paper.specs.Answers.{plan as planned};
-ghost use Rattle.paper.specs.Program.{programAnswer, program-room};
-ghost use Rattle.filing.specs.Filing.{fileOf, orderIn};
-ghost use Rattle.timed.specs.Timed.{shortOr, programTimed};
-ghost use Rattle.timed.specs.Handing.{Slottable, Ready, TimedPrints, HandsOver, TimedSays};
-
-const ENDS: usize = 16384;
+ghost use Rattle.filing.specs.Filing.{fileOf};
+ghost use Rattle.program.specs.Ready.{Slottable};
+ghost use Rattle.timed.specs.Timed.{programTimed};
+ghost use Rattle.timed.specs.Handing.{TimedPrints, HandsOver, TimedSays};
 
 const CROSSINGS: usize = 8192;
 
@@ -48,74 +39,6 @@ fn hand(edition: u64, answer: Planned, plan: &[u64], out: &mut [u8]) -> Verdict
     Verdict::Granted(needed as u64)
 }
 
-// The order's plan in the list, shortened where that is asked for, or why it has none.
-fn plan_order(
-    shorten: bool,
-    order: Order,
-    ends: &[u16],
-    starts: &[u16],
-    goals: &[u16],
-    plan: &mut [u64],
-) -> Planned
-    requires { ⌜
-        (order .ends ≤ length (now ends))
-        × (order .carriers ≤ length (now starts))
-        × (order .carriers ≤ length (now goals))
-        × (length (now plan) ≡ program-room)
-        ⌝ }
-    ensures { λ r. ⌜
-        Ready (shortOr shorten (planned (orderIn order (now (ends .entry)) (now (starts .entry)) (now (goals .entry))) program-room))
-        r (now (plan .exit))
-        ⌝ }
-{
-    let n = order.ends;
-    let k = order.carriers;
-    if shorten {
-        let mut long = [0u64; CROSSINGS];
-        let found = planner::plan(order.bays, &ends[..n], &starts[..k], &goals[..k], &mut long);
-        return program::shorten_planned(
-            found,
-            order.bays,
-            &ends[..n],
-            &starts[..k],
-            &goals[..k],
-            &long,
-            plan,
-        );
-    }
-    planner::plan(order.bays, &ends[..n], &starts[..k], &goals[..k], plan)
-}
-
-// What the two files ask for, in the list.
-fn answer_for(
-    shorten: bool,
-    map: &[u8],
-    mapped: bool,
-    scenario: &[u8],
-    listed: bool,
-    plan: &mut [u64],
-) -> Planned
-    requires { ⌜ length (now plan) ≡ program-room ⌝ }
-    ensures { λ r. ⌜ Ready (shortOr shorten (programAnswer (fileOf mapped (now (map .entry))) (fileOf listed (now (scenario .entry))))) r (now (plan .exit)) ⌝ }
-{
-    let mut ends = [0u16; ENDS];
-    let mut starts = [0u16; Yard::CARRIERS];
-    let mut goals = [0u16; Yard::CARRIERS];
-    let ordered = filing::read_order(
-        map,
-        mapped,
-        scenario,
-        listed,
-        &mut ends,
-        &mut starts,
-        &mut goals,
-    );
-    match ordered {
-        Ordered::Order(order) => plan_order(shorten, order, &ends, &starts, &goals, plan),
-        Ordered::Refused(r) => Planned::Refused(r),
-    }
-}
-
 // All that is printed, by an edition of slots, for two files, each with whether it could be read. The answer is how many bytes were written, or 8
 // with how many it takes.
 pub fn program(
@@ -137,6 +60,6 @@ pub fn program(
     if !fits {
         return hand(edition, Planned::Refused(Refusal::Edition), &plan, out);
     }
-    let answer = answer_for(shorten, map, mapped, scenario, listed, &mut plan);
+    let answer = program::answer_for(shorten, map, mapped, scenario, listed, &mut plan);
     hand(edition, answer, &plan, out)
 }

@@ -6,12 +6,12 @@ use native.Mathlib.Omega.{arith}
 use native.Mathlib.Numerals.{add-one}
 use lib.ListN.{length, take, getD, length-append, length-map}
 use Rattle.paper.specs.Yard.{Crossing, unpack, crossings}
-use Rattle.paper.specs.Text.{Text, text, LF}
+use Rattle.paper.specs.Text.{text}
 use Rattle.paper.proofs.Packing.{unpack-small}
 use Rattle.paper.specs.Print.{decimal, actionLine, costLine, ended}
 use Rattle.printing.specs.Parts.{named}
-use Rattle.printing.proofs.Digits.{decimal-short}
-use Rattle.printing.proofs.Lines.{named-short}
+use Rattle.paper.proofs.Digits.{decimal-short}
+use Rattle.printing.proofs.Lines.{named-short, ended-append}
 use Rattle.trains.specs.Print.{timedLine, timedLines, printTimed}
 use Rattle.timed_print.specs.Lines.{linesOf}
 
@@ -26,11 +26,6 @@ pub line-short : (s : ℕ) (x : Crossing) → s < 2 ^ 64 → x .carrier < 2 ^ 64
 line-short s x hs hc hf ht =
     rw (← line-parts s x)
     (simp length-append (omega (arith, decimal-short (s - 1) (omega arith), named-short (text ": (move c") (x .carrier) hc, named-short (text " b") (x .from) hf, named-short (text " b") (x .to) ht)))
-
-ended-append : (ls ms : List Text) → ended (ls ++ ms) ≡ ended ls ++ ended ms
-unfolding ended
-ended-append [] ms = refl
-ended-append (l ∷ ls) ms = rw (ended-append ls ms) (sym (append-assoc l (LF ∷ ended ls) (ended ms)))
 
 -- one line more
 lines-snoc : (ss ws : List ℕ) (i : ℕ) → i < length ws → i < length ss

@@ -14,7 +14,7 @@ use docket::Crossing;
 use paper::BAYS;
 
 // The slot of the crossing after those that the tables have met; it becomes its carrier's last, and that of the latest leaving of its `from`.
-pub fn next_slot(x: Crossing, carriers: &mut [u32; BAYS], left: &mut [u32; BAYS]) -> u32
+fn next_slot(x: Crossing, carriers: &mut [u32; BAYS], left: &mut [u32; BAYS]) -> u32
     requires { ⌜
         (crossingOf x .carrier < most-bays)
         × (crossingOf x .from < most-bays)

@@ -1,21 +1,20 @@
 -- The train slots keep the two rules, and no numbering that keeps them gives any crossing a lower slot: each is one more than its carrier's
 -- last or that of the latest leaving, whichever is higher. The first edition's slots keep the two rules, so they are no lower.
-use mathlib.Core.Path.{_≡_, refl, sym, _∙_}
+use mathlib.Core.Path.{_≡_, sym, _∙_}
 use mathlib.Core.Bool.{Bool, true, false}
 use mathlib.Core.List.{List, [], _∷_}
-use Prim.Native.Nat.{ℕ, zero, suc, _<_, _≤_, max}
+use Prim.Native.Nat.{ℕ, zero, suc, _<_, _≤_}
 use native.Mathlib.Omega.{arith}
 use lib.Dec.{ltb, eqb}
 use lib.ListN.{length, getD}
 use borrow.Author.Tests.{ltb-true, ltb-false, eqb-true, eqb-false, eq-eqb, ne-eqb}
-use Rattle.paper.specs.Basics.{if_then_else_}
 use Rattle.paper.specs.Yard.{Carrier, Crossing, named}
 use Rattle.paper.specs.Dependence.{depend, slots}
 use Rattle.paper.proofs.Tests.{by-cases, or-left, or-right}
 use Rattle.paper.proofs.Slotting.{Numbering, slots-rise}
 use Rattle.paper.proofs.Slotting as first
 use Rattle.trains.specs.Slots.{latest, isOf, leaves, trainSlot, trainSlots, highestSlot}
-use Rattle.trains.specs.Rules.{LatestOut, TwoRules}
+use Rattle.trains.specs.Rules.{TwoRules}
 use Rattle.trains.proofs.Meeting.{metBy, slotAt, slots-length, slot-is, met-none, met-on, highestMet, met-below}
 
 module _ (xs : List Crossing) (test : Crossing → Bool) where

@@ -10,7 +10,7 @@ use borrow.Author.Tests.{ltb-true, ltb-false}
 use Rattle.paper.specs.Basics.{if_then_else_}
 use Rattle.paper.specs.Yard.{Placement, Crossing, named, move, after}
 use Rattle.paper.proofs.Tests.{by-cases}
-use Rattle.trains.specs.Slots.{Timed, latest, trainSlot, trainSlotsAfter, trainSlots}
+use Rattle.trains.specs.Slots.{Timed, trainSlot, trainSlotsAfter, trainSlots}
 
 -- what is met once i more crossings are
 metAfter : List Timed → List Crossing → ℕ → List Timed

@@ -12,11 +12,11 @@ use lib.Seq.{getD-set-same, getD-set-other}
 use borrow.Author.Tests.{eqb-true, eqb-false, eq-eqb, ne-eqb, ltb-true, ltb-false, leb-true, leb-false, le-leb, lt-leb}
 use Rattle.paper.specs.Basics.{if_then_else_, Out}
 use Rattle.paper.specs.Yard.{Bay, Carrier, Yard, Placement, Crossing, bayOf, named, move, after, legalPlan}
-use Rattle.paper.proofs.Tests.{by-cases, not-both}
+use Rattle.paper.proofs.Tests.{by-cases}
 use Rattle.paper.proofs.Playing.{Apart, Legal, legal-facts, plan-head, plan-tail, out-of, out-no, move-self, move-other, move-apart, move-differs, move-empties, move-out}
 use Rattle.trains.specs.Slots.{Timed, latest, isOf, leaves}
 use Rattle.trains.proofs.Meeting.{metBy, slotAt, met-none, met-on, stands, stands-by, highestMet, met-below}
-use Rattle.trains.proofs.Lowest.{slot-above, own-highest}
+use Rattle.trains.proofs.Lowest.{slot-above}
 
 -- a crossing into bay b
 abbrev pub enters : Bay → Crossing → Bool

@@ -1,6 +1,6 @@
 -- What the train slots of a plan that passes the check promise. The placements after each slot are those in which every carrier has made its
 -- crossings of the slots so far, and there is no other way to do each slot's crossings all at once.
-use mathlib.Core.Path.{_≡_, refl, sym, _∙_, ap}
+use mathlib.Core.Path.{_≡_, sym, _∙_, ap}
 use mathlib.Core.Bool.{Bool, true, false}
 use mathlib.Core.List.{List, _∷_}
 use mathlib.Core.Option.{none}
@@ -9,7 +9,7 @@ use native.Mathlib.Omega.{arith}
 use lib.Dec.{eqb, leb, ltb}
 use lib.ListN.{length, getD, take}
 use lib.Seq.{ext-getD, take-length}
-use borrow.Author.Tests.{eqb-true, eqb-false, eq-eqb, ne-eqb, ltb-true, ltb-false, leb-true, leb-false}
+use borrow.Author.Tests.{eqb-true, eq-eqb, ne-eqb, ltb-true, ltb-false, leb-true, leb-false}
 use Rattle.paper.specs.Basics.{_and_, find, upTo}
 use Rattle.paper.specs.Yard.{Carrier, Yard, Placement, Crossing, bayOf, named, move, after, legalPlan, crossings}
 use Rattle.paper.specs.Order.{Order}

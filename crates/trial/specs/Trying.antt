@@ -16,12 +16,14 @@ use Rattle.words.specs.Sets.{span}
 use Rattle.moving.specs.Bounds.{set-up-most, swap-most, room-step}
 use Rattle.acting.specs.Acting.{Tabled, Within}
 use Rattle.clear_on.specs.Going.{Listed, PairBy}
+use Rattle.clear_on.specs.declared.Lead.{Lead}
 use Rattle.clear_on.specs.declared.Pair.the-variants.{Both, Missing}
 use Rattle.clear_on.specs.declared.Pair.{Pair}
 use Rattle.acting.specs.declared.Tally.{Tally}
 use Rattle.acting.specs.declared.Tried.{Tried}
 use Rattle.acting.specs.declared.Tried.the-variants.{Done, Failed}
 use Rattle.docket.specs.declared.Bay.{Bay as Numbered}
+use Rattle.trial.specs.declared.Trial.{Trial}
 
 -- ## Bring and clear
 
@@ -59,54 +61,77 @@ pub record Near (Y : Yard) (r s : Carrier) (v : Bay) (p : Placement) : Type 0 wh
 -- ## What is asked, what is said
 
 -- leader and follower are two, and the path's bays are in the yard
-abbrev pub LedAsks : (L M : Carrier) (v : Bay) (path : List Bay) (p standing : List ℕ) → Tally → Type 0
-LedAsks L M v path p standing at =
-    (L < length p)
-    × (M < length p)
-    × (M ≡ L → ⊥)
-    × (v < length standing)
+abbrev pub LedAsks : Lead → (path : List Bay) (p standing : List ℕ) → Tally → Type 0
+LedAsks lead path p standing at =
+    (lead .couple .leader .0 < length p)
+    × (lead .couple .follower .0 < length p)
+    × (lead .couple .follower .0 ≡ lead .couple .leader .0 → ⊥)
+    × (lead .junction .0 < length standing)
     × ((k : ℕ) → k < length path → getD path k 0 < length standing)
     × (length path ≤ span)
     × (at .crossings < room-step)
 
+-- the path leads the leader to the junction
+abbrev pub Leads : Yard → Lead → (path : List Bay) → Placement → Type 0
+Leads Y lead path p = Led Y (lead .couple .leader .0) (lead .couple .follower .0) (lead .junction .0) path p
+
 -- bring and clear
-abbrev pub SetUpSays : (L M : Carrier) (v : Bay) (path : List Bay) (table p standing out : List ℕ) → Tally → (p′ out′ : List ℕ) → Pair → Type 0
-SetUpSays L M v path table p standing out at p′ out′ r =
+abbrev pub SetUpSays : Lead → (path : List Bay) (table p standing out : List ℕ) → Tally → (p′ out′ : List ℕ) → Pair → Type 0
+SetUpSays lead path table p standing out at p′ out′ r =
     PairBy at set-up-most r
     × ((t : Tabled (length standing) table)
-    → Led (t .yard) L M v path p
-    → SetsUp (t .yard) L M v path p out at p′ out′ r)
+    → Leads (t .yard) lead path p
+    → SetsUp (t .yard) (lead .couple .leader .0) (lead .couple .follower .0) (lead .junction .0) path p out at p′ out′ r)
 
 -- the whole trial, where leader and follower are known
-abbrev pub LedSays : (L M : Carrier) (v : Bay) (path : List Bay) (table p standing out : List ℕ) → Tally → (out′ : List ℕ) → Tried → Type 0
-LedSays L M v path table p standing out at out′ r =
+abbrev pub LedSays : Lead → (path : List Bay) (table p standing out : List ℕ) → Tally → (out′ : List ℕ) → Tried → Type 0
+LedSays lead path table p standing out at out′ r =
     Within at swap-most r
     × ((t : Tabled (length standing) table)
-    → Led (t .yard) L M v path p
-    → Wrote (trialLed (t .yard) L M v path p) out at out′ r)
+    → Leads (t .yard) lead path p
+    → Wrote (trialLed (t .yard) (lead .couple .leader .0) (lead .couple .follower .0) (lead .junction .0) path p) out at out′ r)
 
--- r and its neighbour s
-abbrev pub TrialAsks : (r s : Carrier) (v : Bay) (p standing : List ℕ) → Tally → Type 0
-TrialAsks r s v p standing at =
-    (r < length p)
-    × (s < length p)
-    × (s ≡ r → ⊥)
-    × (v < length standing)
-    × (at .crossings < room-step)
-
--- the paper's trial, where the path from r's bay to v is known
-abbrev pub TrialOnSays : (r s : Carrier) (v : Bay) (path : List Bay) (table p standing out : List ℕ) → Tally → (out′ : List ℕ) → Tried → Type 0
-TrialOnSays r s v path table p standing out at out′ z =
-    Within at swap-most z
-    × ((t : Tabled (length standing) table)
-    → Near (t .yard) r s v p
-    → path ≡ shortestPath (t .yard) [] (bayOf p r) v
-    → Wrote (trial (t .yard) r s v p) out at out′ z)
+-- the junction is reached from the carrier's bay, and the neighbour is beside it
+abbrev pub Nears : Yard → Trial → Placement → Type 0
+Nears Y x p = Near Y (x .carrier .0) (x .neighbour .0) (x .junction .0) p
 
 -- the paper's trial
-abbrev pub TrialSays : (r s : Carrier) (v : Bay) (table p standing out : List ℕ) → Tally → (out′ : List ℕ) → Tried → Type 0
-TrialSays r s v table p standing out at out′ z =
+abbrev pub tries : Yard → Trial → Placement → Option Made
+tries Y x p = trial Y (x .carrier .0) (x .neighbour .0) (x .junction .0) p
+
+-- carrier and neighbour are two
+abbrev pub TrialAsks : Trial → (p standing : List ℕ) → Tally → Type 0
+TrialAsks x p standing at =
+    (x .carrier .0 < length p)
+    × (x .neighbour .0 < length p)
+    × (x .neighbour .0 ≡ x .carrier .0 → ⊥)
+    × (x .junction .0 < length standing)
+    × (at .crossings < room-step)
+
+-- the path from the carrier's bay to the junction is known
+abbrev pub TrialOnAsks : Trial → (path : List Bay) (p standing : List ℕ) → Tally → Type 0
+TrialOnAsks x path p standing at =
+    (x .carrier .0 < length p)
+    × (x .neighbour .0 < length p)
+    × (x .neighbour .0 ≡ x .carrier .0 → ⊥)
+    × (x .junction .0 < length standing)
+    × ((k : ℕ) → k < length path → getD path k 0 < length standing)
+    × (length path ≤ span)
+    × (at .crossings < room-step)
+    × (1 ≤ length path)
+
+abbrev pub TrialOnSays : Trial → (path : List Bay) (table p standing out : List ℕ) → Tally → (out′ : List ℕ) → Tried → Type 0
+TrialOnSays x path table p standing out at out′ z =
     Within at swap-most z
     × ((t : Tabled (length standing) table)
-    → Near (t .yard) r s v p
-    → Wrote (trial (t .yard) r s v p) out at out′ z)
+    → Nears (t .yard) x p
+    → path ≡ shortestPath (t .yard) [] (bayOf p (x .carrier .0)) (x .junction .0)
+    → Wrote (tries (t .yard) x p) out at out′ z)
+
+-- the paper's trial
+abbrev pub TrialSays : Trial → (table p standing out : List ℕ) → Tally → (out′ : List ℕ) → Tried → Type 0
+TrialSays x table p standing out at out′ z =
+    Within at swap-most z
+    × ((t : Tabled (length standing) table)
+    → Nears (t .yard) x p
+    → Wrote (tries (t .yard) x p) out at out′ z)

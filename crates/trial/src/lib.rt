@@ -2,27 +2,32 @@
 // lent list as they are made, and undo reads them back from there. An empty list only counts.
 use acting::Tally;
 use acting::Tried;
+use bring::Couple;
+use clear_on::Lead;
 use clear_on::Pair;
 use docket::Bay;
 use docket::Carrier;
 use rings::Path;
 ghost use mathlib.Core.Path.{_≡_};
-ghost use Prim.Native.Nat.{ℕ, min, max, _≤_, _<_};
+ghost use Prim.Native.Nat.{min, max};
 ghost use lib.Dec.{eqb, ltb};
 ghost use lib.ListN.{length, getD};
 ghost use Rattle.paper.specs.Basics.{_and_};
-ghost use Rattle.words.specs.Sets.{span};
-ghost use Rattle.moving.specs.Bounds.{room-step};
 ghost use Rattle.acting.specs.Acting.{Ready};
-ghost use Rattle.trial.specs.Trying.{LedAsks, SetUpSays, LedSays, TrialAsks, TrialOnSays, TrialSays};
+ghost use Rattle.trial.specs.Trying.{LedAsks, SetUpSays, LedSays, TrialAsks, TrialOnAsks, TrialOnSays, TrialSays};
+
+// The swap of a carrier with its neighbour, tried at a junction.
+pub struct Trial {
+    pub carrier: Carrier,
+    pub neighbour: Carrier,
+    pub junction: Bay,
+}
 
 // Bring and clear.
 fn set_up(
     table: &[u64],
     path: &[u16],
-    v: Bay,
-    l: Carrier,
-    m: Carrier,
+    lead: Lead,
     placement: &mut [u16],
     standing: &mut [u16],
     empty: &mut [u64],
@@ -30,20 +35,29 @@ fn set_up(
     at: Tally,
 ) -> Pair
     requires { ⌜ Ready (now table) (now placement) (now standing) (now empty) ⌝ }
-    requires { ⌜ LedAsks (l .0) (m .0) (v .0) (now path) (now placement) (now standing) at ⌝ }
+    requires { ⌜ LedAsks lead (now path) (now placement) (now standing) at ⌝ }
     ensures { λ r. ⌜
-        SetUpSays (l .0) (m .0) (v .0) (now (path .entry))
+        SetUpSays lead (now (path .entry))
         (now (table .entry)) (now (placement .entry)) (now (standing .entry)) (now (out .entry)) at
         (now (placement .exit)) (now (out .exit)) r
         ⌝ }
 {
-    let brought = bring::bring(table, path, l, m, placement, standing, empty, out, at);
+    let brought = bring::bring(
+        table,
+        path,
+        lead.couple,
+        placement,
+        standing,
+        empty,
+        out,
+        at,
+    );
     let Tried::Done(a) = brought else {
         return Pair::Missing;
     };
-    let follower = m.0 as usize;
+    let follower = lead.couple.follower.0 as usize;
     let b = Bay(placement[follower]);
-    clear_on::clear_two(table, l, m, v, b, placement, standing, empty, out, a)
+    clear_on::clear_two(table, lead, b, placement, standing, empty, out, a)
 }
 
 fn lower(x: Bay, y: Bay) -> Bay
@@ -64,13 +78,11 @@ fn higher(x: Bay, y: Bay) -> Bay
     x
 }
 
-// A trial with leader l and follower m, on a placement that is used up.
+// A trial, where leader and follower are known, on a placement that is used up.
 fn attempt_on(
     table: &[u64],
     path: &[u16],
-    v: Bay,
-    l: Carrier,
-    m: Carrier,
+    lead: Lead,
     placement: &mut [u16],
     standing: &mut [u16],
     empty: &mut [u64],
@@ -78,36 +90,36 @@ fn attempt_on(
     at: Tally,
 ) -> Tried
     requires { ⌜ Ready (now table) (now placement) (now standing) (now empty) ⌝ }
-    requires { ⌜ LedAsks (l .0) (m .0) (v .0) (now path) (now placement) (now standing) at ⌝ }
+    requires { ⌜ LedAsks lead (now path) (now placement) (now standing) at ⌝ }
     ensures { λ r. ⌜
-        LedSays (l .0) (m .0) (v .0) (now (path .entry))
+        LedSays lead (now (path .entry))
         (now (table .entry)) (now (placement .entry)) (now (standing .entry)) (now (out .entry)) at (now (out .exit)) r
         ⌝ }
 {
-    let ready = set_up(table, path, v, l, m, placement, standing, empty, out, at);
+    let ready = set_up(table, path, lead, placement, standing, empty, out, at);
     let Pair::Both(x, y, c) = ready else {
         return Tried::Failed;
     };
+    let l = lead.couple.leader;
+    let m = lead.couple.follower;
     let follower = m.0 as usize;
     let behind = placement[follower];
     let b = Bay(behind);
     let from = at.crossings;
     let made = c.crossings;
     let parked = c.parked;
-    let d = exchange::exchange(out, made, l, m, v, b, lower(x, y), higher(x, y));
+    let d = exchange::exchange(out, made, l, m, lead.junction, b, lower(x, y), higher(x, y));
     bring::undo(out, from, made - from, d, l, m);
     let many = made - from;
     let crossings = d + many;
     Tried::Done(Tally { crossings, parked })
 }
 
-// A trial with leader l and follower m, on copies.
+// The same on copies.
 fn attempt(
     table: &[u64],
     path: &[u16],
-    v: Bay,
-    l: Carrier,
-    m: Carrier,
+    lead: Lead,
     placement: &[u16],
     standing: &[u16],
     empty: &[u64],
@@ -115,9 +127,9 @@ fn attempt(
     at: Tally,
 ) -> Tried
     requires { ⌜ Ready (now table) (now placement) (now standing) (now empty) ⌝ }
-    requires { ⌜ LedAsks (l .0) (m .0) (v .0) (now path) (now placement) (now standing) at ⌝ }
+    requires { ⌜ LedAsks lead (now path) (now placement) (now standing) at ⌝ }
     ensures { λ r. ⌜
-        LedSays (l .0) (m .0) (v .0) (now (path .entry))
+        LedSays lead (now (path .entry))
         (now (table .entry)) (now (placement .entry)) (now (standing .entry)) (now (out .entry)) at (now (out .exit)) r
         ⌝ }
 {
@@ -132,9 +144,7 @@ fn attempt(
     attempt_on(
         table,
         path,
-        v,
-        l,
-        m,
+        lead,
         &mut bays[..k],
         &mut carriers[..n],
         &mut unused,
@@ -153,13 +163,12 @@ fn second_is(path: &[u16], w: Bay) -> bool
     path[1] == w.0
 }
 
-// A trial at v, where the path from r's bay leads: where its second bay is s's, s leads and r follows; otherwise r leads.
+// A trial at the junction, where the path from the carrier's bay leads: where its second bay is the neighbour's, the neighbour leads and the
+// carrier follows; otherwise the carrier leads.
 fn try_on(
     table: &[u64],
     path: &[u16],
-    v: Bay,
-    r: Carrier,
-    s: Carrier,
+    trial: Trial,
     placement: &[u16],
     standing: &[u16],
     empty: &[u64],
@@ -167,33 +176,29 @@ fn try_on(
     at: Tally,
 ) -> Tried
     requires { ⌜ Ready (now table) (now placement) (now standing) (now empty) ⌝ }
-    requires { ⌜
-        (r .0 < length (now placement))
-        × (s .0 < length (now placement))
-        × (s .0 ≡ r .0 → ⊥)
-        × (v .0 < length (now standing))
-        × ((k : ℕ) → k < length (now path) → getD (now path) k 0 < length (now standing))
-        × (length (now path) ≤ span)
-        × (at .crossings < room-step)
-        × (1 ≤ length (now path))
-        ⌝ }
+    requires { ⌜ TrialOnAsks trial (now path) (now placement) (now standing) at ⌝ }
     ensures { λ z. ⌜
-        TrialOnSays (r .0) (s .0) (v .0) (now (path .entry))
+        TrialOnSays trial (now (path .entry))
         (now (table .entry)) (now (placement .entry)) (now (standing .entry)) (now (out .entry)) at (now (out .exit)) z
         ⌝ }
 {
+    let r = trial.carrier;
+    let s = trial.neighbour;
+    let junction = trial.junction;
     let neighbour = s.0 as usize;
     let w = Bay(placement[neighbour]);
     if second_is(path, w) {
         if path.len() < 2 {
             return Tried::Failed;
         }
+        let couple = Couple {
+            leader: s,
+            follower: r,
+        };
         return attempt(
             table,
             &path[2..],
-            v,
-            s,
-            r,
+            Lead { couple, junction },
             placement,
             standing,
             empty,
@@ -201,12 +206,14 @@ fn try_on(
             at,
         );
     }
+    let couple = Couple {
+        leader: r,
+        follower: s,
+    };
     attempt(
         table,
         &path[1..],
-        v,
-        r,
-        s,
+        Lead { couple, junction },
         placement,
         standing,
         empty,
@@ -215,12 +222,10 @@ fn try_on(
     )
 }
 
-// A trial at v, where it is not r's own bay: the path is found.
+// A trial at a junction that is not the carrier's own bay: the path is found.
 fn try_along(
     table: &[u64],
-    v: Bay,
-    r: Carrier,
-    s: Carrier,
+    trial: Trial,
     placement: &[u16],
     standing: &[u16],
     empty: &[u64],
@@ -228,26 +233,24 @@ fn try_along(
     at: Tally,
 ) -> Tried
     requires { ⌜ Ready (now table) (now placement) (now standing) (now empty) ⌝ }
-    requires { ⌜ TrialAsks (r .0) (s .0) (v .0) (now placement) (now standing) at ⌝ }
+    requires { ⌜ TrialAsks trial (now placement) (now standing) at ⌝ }
     ensures { λ z. ⌜
-        TrialSays (r .0) (s .0) (v .0)
+        TrialSays trial
         (now (table .entry)) (now (placement .entry)) (now (standing .entry)) (now (out .entry)) at (now (out .exit)) z
         ⌝ }
 {
-    let carrier = r.0 as usize;
+    let carrier = trial.carrier.0 as usize;
     let u = Bay(placement[carrier]);
     let n = standing.len();
     let none = [0u64; words::WORDS];
     let mut path = [0u16; words::SPAN];
-    let Path::First(k) = ways::path_between(table, n, &none, u, v, &mut path) else {
+    let Path::First(k) = ways::path_between(table, n, &none, u, trial.junction, &mut path) else {
         return Tried::Failed;
     };
     try_on(
         table,
         &path[..k],
-        v,
-        r,
-        s,
+        trial,
         placement,
         standing,
         empty,
@@ -256,13 +259,10 @@ fn try_along(
     )
 }
 
-// A trial at v of the swap of r with its neighbour s. From r's own bay, the nearest junction, the path is that bay alone; to
-// a junction beside it, those two bays.
+// A trial. From the carrier's own bay, the nearest junction, the path is that bay alone; to a junction beside it, those two bays.
 pub fn try_at(
     table: &[u64],
-    v: Bay,
-    r: Carrier,
-    s: Carrier,
+    trial: Trial,
     placement: &[u16],
     standing: &[u16],
     empty: &[u64],
@@ -270,21 +270,22 @@ pub fn try_at(
     at: Tally,
 ) -> Tried
     requires { ⌜ Ready (now table) (now placement) (now standing) (now empty) ⌝ }
-    requires { ⌜ TrialAsks (r .0) (s .0) (v .0) (now placement) (now standing) at ⌝ }
+    requires { ⌜ TrialAsks trial (now placement) (now standing) at ⌝ }
     ensures { λ z. ⌜
-        TrialSays (r .0) (s .0) (v .0)
+        TrialSays trial
         (now (table .entry)) (now (placement .entry)) (now (standing .entry)) (now (out .entry)) at (now (out .exit)) z
         ⌝ }
 {
-    let carrier = r.0 as usize;
+    let v = trial.junction;
+    let carrier = trial.carrier.0 as usize;
     let u = placement[carrier];
     if u == v.0 {
         let path = [u];
-        return try_on(table, &path, v, r, s, placement, standing, empty, out, at);
+        return try_on(table, &path, trial, placement, standing, empty, out, at);
     }
     if words::is_in(table, u as usize * words::SPAN + v.0 as usize) {
         let path = [u, v.0];
-        return try_on(table, &path, v, r, s, placement, standing, empty, out, at);
+        return try_on(table, &path, trial, placement, standing, empty, out, at);
     }
-    try_along(table, v, r, s, placement, standing, empty, out, at)
+    try_along(table, trial, placement, standing, empty, out, at)
 }

@@ -8,8 +8,8 @@ use native.Mathlib.Omega.{arith}
 use lib.Dec.{eqb}
 use lib.ListN.{length, getD, drop, replicate}
 use borrow.Author.Tests.{eqb-true, eqb-false, eq-eqb, ne-eqb}
-use Rattle.paper.specs.Basics.{if_then_else_, if-some_then_else_, _>>=_, orElse}
-use Rattle.paper.specs.Yard.{Bay, Carrier, Crossing, crossing, named}
+use Rattle.paper.specs.Basics.{_>>=_, orElse}
+use Rattle.paper.specs.Yard.{Bay, Carrier, Crossing, named}
 use Rattle.paper.proofs.Tests.{by-cases, by-option, some-same, never-some}
 use Rattle.trips.specs.Trips.{enters, isOf, lastReturn, kept, cut}
 use Rattle.trips.specs.Names.{left, lastPlace, dropOwn, dropTrip}

@@ -10,7 +10,6 @@ use native.Mathlib.Omega.{arith}
 use lib.Dec.{ltb}
 use lib.ListN.{length, take, drop}
 use borrow.Author.Tests.{eqb-true, eqb-false, eq-eqb, ltb-true, ltb-false}
-use Rattle.paper.specs.Basics.{if_then_else_}
 use Rattle.paper.specs.Yard.{Bay, Carrier, Crossing, named}
 use Rattle.paper.proofs.Tests.{by-cases, by-option, never-some, none-from}
 use Rattle.trips.specs.Trips.{enters, isOf, lastReturn, kept, cut, Trip, LowestTrip, CutAt}

@@ -9,9 +9,10 @@ use Prim.Native.Nat.{ℕ, zero, suc, _+_, _-_, _*_, _≤_, _<_}
 use native.Mathlib.Decide.{ℕ-discrete, decLt}
 use native.Mathlib.Omega.{arith}
 use lib.Dec.{eqb}
-use lib.ListN.{length, getD, take, replicate}
+use lib.ListN.{length, take, replicate}
 use lib.Seq.{take-take, length-take-le}
 use borrow.Author.Tests.{eqb-true, eq-eqb, not-true}
+use Rattle.lists.proofs.Lists.{low-zeros}
 use Rattle.paper.specs.Basics.{_and_, _or_, elem, In}
 use Rattle.paper.specs.Yard.{Bay}
 use Rattle.paper.specs.Path.{rings, nearestFirst, ringOf, pathBetween}
@@ -40,14 +41,9 @@ use Rattle.ways.proofs.Tracing.{free-of, path-back}
 
 -- ## Where the search stands
 
-zeros : (k y : ℕ) → getD (replicate k 0) y 0 ≤ 0
-zeros zero y = omega arith
-zeros (suc k) zero = omega arith
-zeros (suc k) (suc y) = zeros k y
-
 -- before the search no bay was met from any but bay 0
 pub zeros-low : Low (replicate span 0)
-zeros-low y = let z = zeros span y in omega arith
+zeros-low y = let z = low-zeros span y in omega arith
 
 -- at ring d, and no ring up to it has a wanted bay
 pub record Stage {n : ℕ} {table held : List ℕ} (s : Shown n table held) (x : Bay) (wanted : List ℕ) (d : ℕ) (seen met before : List ℕ) (done count : ℕ) : Type 0 where

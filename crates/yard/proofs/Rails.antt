@@ -10,10 +10,10 @@ use lib.Dec.{eqb, leb}
 use lib.ListN.{length, getD, take}
 use lib.Seq.{take-suc, take-all}
 use borrow.Author.Tests.{eqb-true, eq-eqb, ne-eqb, leb-false}
-use Rattle.paper.specs.Basics.{if_then_else_, _and_, _or_, any, firstBad}
+use Rattle.paper.specs.Basics.{_and_, _or_, any, firstBad}
 use Rattle.paper.specs.Yard.{Bay, Rail, Yard, joined}
 use Rattle.paper.specs.Docket.{railsOf, yardBy, badRail}
-use Rattle.paper.proofs.Tests.{by-cases, not-both, and-left, and-right, or-left, or-right, or-cases, or-none, never}
+use Rattle.paper.proofs.Tests.{by-cases, not-both, and-left, and-right, or-left, or-right, or-cases, or-none, never, same-test}
 use Rattle.words.specs.Sets.{mem, memRow, span}
 use Rattle.yard.specs.Table.{Table}
 use Rattle.yard.specs.Opening.{Laid, Lays}
@@ -48,15 +48,11 @@ unfolding any _or_
 any-append q [] ys = refl
 any-append q (x ∷ xs) ys = by-cases (q x) (λ e. rw e) (λ e. rw e (any-append q xs ys))
 
-as-it-is : (t : Bool) → (if t then true else false) ≡ t
-as-it-is true = refl
-as-it-is false = refl
-
 joined-more : (n : ℕ) (rails : List Rail) (r : Rail) (x y : Bay) → joined (with-rails n (rails ++ (r ∷ []))) x y
     ≡ joined (with-rails n rails) x y or ((eqb x (r .0) and eqb y (r .1)) or (eqb x (r .1) and eqb y (r .0)))
 unfolding joined
 joined-more n rails r x y =
-    let one : (q : Rail → Bool) → any q (r ∷ []) ≡ q r = λ q. unfold any in as-it-is (q r) in
+    let one : (q : Rail → Bool) → any q (r ∷ []) ≡ q r = λ q. unfold any in same-test (q r) in
     any-append _ rails (r ∷ []) ∙ ap (λ (t : Bool). joined (with-rails n rails) x y or t) (one _)
 
 same-place : (a b x y : ℕ) → b < span → y < span → eqb (a * span + b) (x * span + y) ≡ eqb a x and eqb b y

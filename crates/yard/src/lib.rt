@@ -78,6 +78,21 @@ impl Yard {
         ensures { λ r. ⌜ Opens (order bays (now (rails .entry)) (now (start .entry)) (now (goal .entry))) crossings r (now (table .exit)) ⌝ }
     {
         words::clear(table);
+        Yard::open_in(bays, rails, start, goal, crossings, table)
+    }
+
+    // The same in a table that is empty: one that was just made need not be cleared once more.
+    pub fn open_in(
+        bays: u64,
+        rails: &[u16],
+        start: &[u16],
+        goal: &[u16],
+        crossings: u64,
+        table: &mut [u64; Yard::TABLE],
+    ) -> Opened
+        requires { ⌜ ((x : ℕ) → mem (now table) x ≡ false) ⌝ }
+        ensures { λ r. ⌜ Opens (order bays (now (rails .entry)) (now (start .entry)) (now (goal .entry))) crossings r (now (table .exit)) ⌝ }
+    {
         let tested = first_six(bays as usize, rails, start, goal, crossings as usize, table);
         if let Opened::Refused(r) = tested {
             words::clear(table);

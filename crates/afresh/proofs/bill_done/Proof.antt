@@ -40,8 +40,7 @@ next-slot-requires c κs =
     let k = c .before .before in
     let t = k .before .before .loop in
     let s = k .before .before .before .before .before in
-    turn-asks (now (s .args .plan)) (t .carriers) (t .bays) (t .i) (t .inv .rising .tables) (k .before .loop-test .taken) (s .pre .2)
-    (crossingOf (k .crossing-at .result)) (k .crossing-at .ensures) (s .pre .1)
+    turn-asks (t .inv .rising .tables) (k .before .loop-test .taken) (s .pre .2) (k .crossing-at .ensures) (s .pre .1)
 
 asked-with-requires : tie.Need-asked-with-requires Inv-loop μ-loop
 asked-with-requires c κs = search needs

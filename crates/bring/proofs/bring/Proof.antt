@@ -19,20 +19,20 @@ use Rattle.bring.proofs.bring.Lts as lts
 use Rattle.bring.proofs.bring_one.Reads as bring-one-reads
 
 abbrev Inv-loop : tie.InvT-loop
-Inv-loop table path l m placement₀ standing₀ empty₀ out₀ at i₀ placement standing empty out count i = (i ≤ length path) × (count .crossings ≤ at .crossings + entry-most * i) × (length placement ≡ length placement₀) × (length standing ≡ length standing₀) × (length empty ≡ length empty₀)
-    × (length out ≡ length out₀) × ((t : Tabled (length standing₀) table) → Bringing (t .yard) (l .0) (m .0) path (length standing₀) placement₀ out₀ at i placement standing empty out count)
+Inv-loop table path couple placement₀ standing₀ empty₀ out₀ at i₀ placement standing empty out count i = (i ≤ length path) × (count .crossings ≤ at .crossings + entry-most * i) × (length placement ≡ length placement₀) × (length standing ≡ length standing₀) × (length empty ≡ length empty₀)
+    × (length out ≡ length out₀) × ((t : Tabled (length standing₀) table) → Bringing (t .yard) (couple .leader .0) (couple .follower .0) path (length standing₀) placement₀ out₀ at i placement standing empty out count)
 
 abbrev μ-loop : tie.MeasureT-loop
-μ-loop table path l m placement₀ standing₀ empty₀ out₀ at i₀ placement standing empty out count i = length path - i
+μ-loop table path couple placement₀ standing₀ empty₀ out₀ at i₀ placement standing empty out count i = length path - i
 
 loop-holds : tie.Need-loop-holds Inv-loop μ-loop
 loop-holds c = (omega arith, omega arith, refl, refl, refl, refl, λ t. bringing-none _ _ _ _ _ _ _ _ _ _ (c .before .before .before .before .before .before .pre .0 .placed))
 
-mul-t16 : tie.Need-mul-t16 Inv-loop μ-loop
-mul-t16 c = search needs
+mul-t15 : tie.Need-mul-t15 Inv-loop μ-loop
+mul-t15 c = search needs
 
-shared-slice-read-t19 : tie.Need-shared-slice-read-t19 Inv-loop μ-loop
-shared-slice-read-t19 c = search needs
+shared-slice-read-t18 : tie.Need-shared-slice-read-t18 Inv-loop μ-loop
+shared-slice-read-t18 c = search needs
 
 bring-one-requires : tie.Need-bring-one-requires Inv-loop μ-loop
 bring-one-requires c κs =
@@ -113,10 +113,10 @@ loop-again c =
     let f = rw kw at (bring-one .ensures .1) in (
       omega (arith, loop-test .taken),
       omega (arith, few, v .1),
-      omega (arith, k .1 .1 .1 .1 .0, v .2),
-      omega (arith, k .1 .1 .1 .1 .1 .0, v .3),
-      omega (arith, k .1 .1 .1 .1 .1 .1 .0, v .4),
-      omega (arith, k .1 .1 .1 .1 .1 .1 .1 .0, v .5),
+      omega (arith, k .1 .1 .1 .0, v .2),
+      omega (arith, k .1 .1 .1 .1 .0, v .3),
+      omega (arith, k .1 .1 .1 .1 .1 .0, v .4),
+      omega (arith, k .1 .1 .1 .1 .1 .1 .0, v .5),
       λ t. bringing-more (v .6 t) (loop-test .taken) (omega (arith, z .0, v .2)) (omega (arith, z .1, v .2)) (z .2) (bay-low t (z .3 (l .i) (loop-test .taken))) (rw e at (f t)),
     )
 
@@ -139,8 +139,8 @@ bring-spec =
     Inv-loop
     μ-loop
     loop-holds
-    mul-t16
-    shared-slice-read-t19
+    mul-t15
+    shared-slice-read-t18
     bring-one-requires
     enum-known-one
     enum-told

@@ -53,7 +53,7 @@ returns c =
     let entry = enter .ensures in (
       omega (arith, entry .counted),
       λ t.
-          brought-one (t .yard) (length (a .standing .now)) (a .l .0) (a .m .0) (a .x .0) (a .placement .now) (p .placed .apart) (z .0) (z .1) (z .2) (bay-low t (z .3)) (acts-free (a .x .0) (a .placement .now) (p .placed) (z .3) h (t .yard) _) entry,
+          brought-one (t .yard) (length (a .standing .now)) (a .couple .leader .0) (a .couple .follower .0) (a .x .0) (a .placement .now) (p .placed .apart) (z .0) (z .1) (z .2) (bay-low t (z .3)) (acts-free (a .x .0) (a .placement .now) (p .placed) (z .3) h (t .yard) _) entry,
     )
 
 cast-first : tie.Need-cast-first
@@ -82,14 +82,14 @@ cast-alone c =
     let start = c .before .before .before .before .before .before .before .before .before .before .before .before .before .before in
     let p = start .pre in
     let a = start .args in
-    omega (arith, p .0 .placed .inside (a .l .0) (p .1 .0))
+    omega (arith, p .0 .placed .inside (a .couple .leader .0) (p .1 .0))
 
 alone-requires : tie.Need-alone-requires
 alone-requires c κs =
     let start = c .before .before .before .before .before .before .before .before .before .before .before .before .before .before in
     let p = start .pre in
     let a = start .args in
-    (omega arith, omega (arith, p .0 .placed .inside (a .l .0) (p .1 .0), p .0 .most))
+    (omega arith, omega (arith, p .0 .placed .inside (a .couple .leader .0) (p .1 .0), p .0 .most))
 
 slice-aggregate-join : tie.Need-slice-aggregate-join
 slice-aggregate-join c = search needs
@@ -99,14 +99,14 @@ cast-join c =
     let start = c .before .before .before .before .before .before .before .before .before .before .before .before .before .before .before .before .before in
     let p = start .pre in
     let a = start .args in
-    omega (arith, p .0 .placed .inside (a .l .0) (p .1 .0), p .0 .placed .inside (a .m .0) (p .1 .1))
+    omega (arith, p .0 .placed .inside (a .couple .leader .0) (p .1 .0), p .0 .placed .inside (a .couple .follower .0) (p .1 .1))
 
 join-requires : tie.Need-join-requires
 join-requires c κs =
     let start = c .before .before .before .before .before .before .before .before .before .before .before .before .before .before .before .before .before in
     let p = start .pre in
     let a = start .args in
-    (omega arith, omega (arith, p .0 .placed .inside (a .l .0) (p .1 .0), p .0 .placed .inside (a .m .0) (p .1 .1), p .0 .most))
+    (omega arith, omega (arith, p .0 .placed .inside (a .couple .leader .0) (p .1 .0), p .0 .placed .inside (a .couple .follower .0) (p .1 .1), p .0 .most))
 
 slice-aggregate-make-room : tie.Need-slice-aggregate-make-room
 slice-aggregate-make-room c = search needs
@@ -148,7 +148,7 @@ returns-2 c =
       λ t.
           let v = pairShown t _ _ _ _ (alone .ensures) (join .ensures) in
           let e : make-room .result ≡ Failed = c .enum-told .given .1 in
-          tries-none (brought-not (t .yard) (start .args .l .0) (start .args .m .0) (start .args .x .0) (start .args .placement .now) (acted-failed (rw e at (make-room .ensures .1 v))) []),
+          tries-none (brought-not (t .yard) (start .args .couple .leader .0) (start .args .couple .follower .0) (start .args .x .0) (start .args .placement .now) (acted-failed (rw e at (make-room .ensures .1 v))) []),
     )
 
 enter-requires-2 : tie.Need-enter-requires-2
@@ -167,7 +167,7 @@ enter-requires-2 c κs =
     let kw : length (make-room .last .1 .1 .1 .1 .0) ≡ length (a .standing .now) = make-room .kept .1 .1 .1 .1 .0 in
     let kf : length (make-room .last .1 .1 .1 .1 .1 .0) ≡ length (a .empty .now) = make-room .kept .1 .1 .1 .1 .1 .0 in
     let acts = rw e at (make-room .ensures .1 (pairShown (p .tabled) _ _ _ _ (alone .ensures) (join .ensures))) in
-    let l = led (p .tabled .yard) (length (a .standing .now)) (a .l .0) (a .m .0) (a .x .0) (a .placement .now) (p .placed .apart) (z .0) (z .1) (z .2) (bay-low (p .tabled) (z .3)) acts in
+    let l = led (p .tabled .yard) (length (a .standing .now)) (a .couple .leader .0) (a .couple .follower .0) (a .x .0) (a .placement .now) (p .placed .apart) (z .0) (z .1) (z .2) (bay-low (p .tabled) (z .3)) acts in
     (l .0, l .1, z .2, omega (arith, z .3, kw), omega (arith, p .most, kw), omega (arith, p .empty-size, kf), omega (arith, few, z .4), l .2, rw kw (l .3))
 
 same-length-9 : tie.Need-same-length-9
@@ -201,7 +201,7 @@ returns-3 c =
       omega (arith, few, entry .counted),
       λ t.
           let acts = rw e at (make-room .ensures .1 (pairShown t _ _ _ _ (alone .ensures) (join .ensures))) in
-          brought-one (t .yard) (length (a .standing .now)) (a .l .0) (a .m .0) (a .x .0) (a .placement .now) (p .placed .apart) (z .0) (z .1) (z .2) (bay-low t (z .3)) acts entry,
+          brought-one (t .yard) (length (a .standing .now)) (a .couple .leader .0) (a .couple .follower .0) (a .x .0) (a .placement .now) (p .placed .apart) (z .0) (z .1) (z .2) (bay-low t (z .3)) acts entry,
     )
 
 pub bring-one-spec : {M : Type 1} → statement M

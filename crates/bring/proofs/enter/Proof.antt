@@ -15,24 +15,24 @@ cast-first c = search needs
 cast-second : tie.Need-cast-second
 cast-second c = search needs
 
-mul-t14 : tie.Need-mul-t14
-mul-t14 c = search needs
+mul-t13 : tie.Need-mul-t13
+mul-t13 c = search needs
 
-slice-read-t16 : tie.Need-slice-read-t16
-slice-read-t16 c = search needs
+slice-read-t15 : tie.Need-slice-read-t15
+slice-read-t15 c = search needs
 
-mul-t14-2 : tie.Need-mul-t14-2
-mul-t14-2 c = search needs
+mul-t13-2 : tie.Need-mul-t13-2
+mul-t13-2 c = search needs
 
-slice-read-t16-2 : tie.Need-slice-read-t16-2
-slice-read-t16-2 c = search needs
+slice-read-t15-2 : tie.Need-slice-read-t15-2
+slice-read-t15-2 c = search needs
 
 cross-requires : tie.Need-cross-requires
 cross-requires c κs =
     let start = c .before .before .before .before .before .before .before .before .before .before .before .before in
     let z = start .pre in
     let a = start .args in
-    (z .8 .inside (a .l .0) (z .0), z .3, z .4, z .5, omega (arith, z .6), bay-in (a .placement .now) (a .l .0) (z .0), z .7, z .8)
+    (z .8 .inside (a .couple .leader .0) (z .0), z .3, z .4, z .5, omega (arith, z .6), bay-in (a .placement .now) (a .couple .leader .0) (z .0), z .7, z .8)
 
 cross-requires-2 : tie.Need-cross-requires-2
 cross-requires-2 c κs =
@@ -41,11 +41,11 @@ cross-requires-2 c κs =
     let z = start .pre in
     let a = start .args in
     let first = cross .ensures in
-    let f = followed (a .placement .now) (a .l .0) (a .m .0) (a .x .0) (z .8 .apart) (z .0) (z .1) (z .2) (z .7) first in
+    let f = followed (a .placement .now) (a .couple .leader .0) (a .couple .follower .0) (a .x .0) (z .8 .apart) (z .0) (z .1) (z .2) (z .7) first in
     let kw : length (cross .last .1 .0) ≡ length (a .standing .now) = cross .kept .1 .0 in
     let kf : length (cross .last .1 .1 .0) ≡ length (a .empty .now) = cross .kept .1 .1 .0 in (
-      omega (arith, z .8 .inside (a .m .0) (z .1), kw),
-      omega (arith, z .8 .inside (a .l .0) (z .0), kw),
+      omega (arith, z .8 .inside (a .couple .follower .0) (z .1), kw),
+      omega (arith, z .8 .inside (a .couple .leader .0) (z .0), kw),
       omega (arith, z .4, kw),
       omega (arith, z .5, kf),
       omega (arith, z .6, first .counted),
@@ -76,7 +76,7 @@ returns c =
     let first = cross .ensures in
     let kw : length (cross .last .1 .0) ≡ length (a .standing .now) = cross .kept .1 .0 in
     let second = rw kw at (cross2 .ensures) in
-    entered (a .placement .now) (a .l .0) (a .m .0) (a .x .0) (z .8 .apart) (z .0) (z .1) (z .2) (z .7) first second
+    entered (a .placement .now) (a .couple .leader .0) (a .couple .follower .0) (a .x .0) (z .8 .apart) (z .0) (z .1) (z .2) (z .7) first second
 
 pub enter-spec : {M : Type 1} → statement M
 enter-spec =
@@ -84,10 +84,10 @@ enter-spec =
     (tie.spec
     cast-first
     cast-second
-    mul-t14
-    slice-read-t16
-    mul-t14-2
-    slice-read-t16-2
+    mul-t13
+    slice-read-t15
+    mul-t13-2
+    slice-read-t15-2
     cross-requires
     cross-requires-2
     same-length

@@ -1,150 +1,408 @@
--- `carry::carry` meets its contract. The path is the paper's; where there is none, the paper is stuck too.
+-- `carry::carry` meets its contract. The way home starts where r's path ends: the bays from i on are looked after, and the rest of the finished carriers are
+-- home or one bay back.
 -- Assumes nothing.
-use mathlib.Core.Path.{_≡_, sym, refl}
+use mathlib.Core.Path.{_≡_, _∙_, refl}
+use Prim.Native.Nat.{ℕ, _≤_, _<_, _-_, _+_, _*_}
 use native.Mathlib.Omega.{arith}
-use lib.ListN.{length, take}
+use lib.ListN.{length, getD, drop, drop-of-length-le}
 use lib.Seq.{length-take-le}
+use mathlib.Core.List.{List, [], _∷_, _++_}
 use borrow.Author.Needs.{needs}
+use Rattle.paper.specs.Text.{count}
+use Rattle.paper.proofs.Playing.{Apart}
 use Rattle.words.specs.Sets.{span}
-use Rattle.home.proofs.Homing.{at-most-stuck}
-use Rattle.carry.proofs.Carrying.{settledShown, on-path, carried-nowhere, settles-stuck}
+use Rattle.moving.specs.Bounds.{swap-most}
+use Rattle.acting.specs.Acting.{Tabled}
+use Rattle.clear.proofs.Clearing.{ready-again}
+use Rattle.step.specs.Asking.{BaysBelow}
+use Rattle.home.specs.Homing.{Owners}
+use Rattle.home.proofs.Homing.{stages-stuck, Homed, homed-none, homed-more, homed-stops, homed-all, at-most, at-most-stuck, turn-due, turn-low, turn-homed}
+use Rattle.home.proofs.Settling.{Settled, Homeward}
+use Rattle.carry.proofs.Carrying.{between, between-length, between-get, settles, settles-stuck, gone-homeward, gone-short, gone-home}
+use Rattle.home.specs.declared.Staged.the-variants.{Planned}
+use Rattle.home.specs.declared.Staged.the-variants.{Stuck}
+use Rattle.carry.specs.declared.Gone.the-variants.{There, Nowhere}
 use Rattle.carry.proofs.carry.Statement.{statement}
 use Rattle.carry.proofs.carry.Tie as tie
 
-cast-own : tie.Need-cast-own
-cast-own c = search needs
+abbrev Inv-loop : tie.InvT-loop
+Inv-loop table owner placement₀ standing₀ empty₀ settled₀ out₀ path k finished at i₀ placement standing empty settled out count i =
+    (i ≤ i₀) × (count .crossings + swap-most * i ≤ at .crossings + swap-most * i₀) × (length placement ≡ length placement₀) × (length standing ≡ length standing₀) × (length empty ≡ length empty₀) × (length out ≡ length out₀)
+    × ((goals : List ℕ) (h : Homeward (length standing₀) table goals finished (between k path) placement₀) → Apart goals → finished ≤ length goals → length placement₀ ≡ length goals → Owners (length standing₀) goals owner
+    → Settled goals finished (h .first) (between k path ++ (h .last ∷ [])) (drop i (between k path) ++ (h .last ∷ [])) placement)
+    × ((t : Tabled (length standing₀) table) (goals : List ℕ) → finished ≤ length goals → Owners (length standing₀) goals owner → Homed (t .yard) goals finished (between k path) (length standing₀) placement₀ out₀ at i placement standing empty out count)
+    × (length settled ≡ length settled₀) × BaysBelow finished placement settled
 
-mul-t18 : tie.Need-mul-t18
-mul-t18 c = search needs
+abbrev μ-loop : tie.MeasureT-loop
+μ-loop table owner placement₀ standing₀ empty₀ settled₀ out₀ path k finished at i₀ placement standing empty settled out count i =
+    i
 
-slice-read-t20 : tie.Need-slice-read-t20
-slice-read-t20 c = search needs
+slice-aggregate-go-along : tie.Need-slice-aggregate-go-along Inv-loop μ-loop
+slice-aggregate-go-along c = search needs
 
-mul-t18-2 : tie.Need-mul-t18-2
-mul-t18-2 c = search needs
+go-along-requires : tie.Need-go-along-requires Inv-loop μ-loop
+go-along-requires c κs =
+    let start = c .before .before .before .before .before .before .before .before .before .before .before .before .before .before .before in
+    (start .pre .0, (start .pre .1 .0, (start .pre .1 .1 .0, refl)))
 
-shared-slice-read-t20 : tie.Need-shared-slice-read-t20
-shared-slice-read-t20 c = search needs
+enum-known-gone : tie.Need-enum-known-gone Inv-loop μ-loop
+enum-known-gone c = c .match .keys1
 
-slice-aggregate-path-past : tie.Need-slice-aggregate-path-past
-slice-aggregate-path-past c = search needs
-
-path-past-requires : tie.Need-path-past-requires
-path-past-requires c κs =
-    let start = c .before .before .before .before .before .before .before .before .before .before .before .before .before in
-    let p = start .pre .0 in
-    let z = start .pre .1 in
-    let r = start .args .r .0 in
-    (p .most, p .placed .inside r (z .0), z .1 .inside r (omega (arith, z .0, z .1 .many)), omega (arith, p .table-size), z .7 .size, omega (arith, p .most), settledShown (p .tabled) r _ (z .7), z .8)
-
-enum-known-k : tie.Need-enum-known-k
-enum-known-k c = c .match .keys1
-
-enum-told : tie.Need-enum-told
+enum-told : tie.Need-enum-told Inv-loop μ-loop
 enum-told c = c .match .keys2
 
-same-length : tie.Need-same-length
-same-length c = refl
+same-length : tie.Need-same-length Inv-loop μ-loop
+same-length c = search needs
 
-returns : tie.Need-returns
+same-length-2 : tie.Need-same-length-2 Inv-loop μ-loop
+same-length-2 c = search needs
+
+same-length-3 : tie.Need-same-length-3 Inv-loop μ-loop
+same-length-3 c = search needs
+
+same-length-4 : tie.Need-same-length-4 Inv-loop μ-loop
+same-length-4 c = search needs
+
+same-length-5 : tie.Need-same-length-5 Inv-loop μ-loop
+same-length-5 c = search needs
+
+returns : tie.Need-returns Inv-loop μ-loop
 returns c =
-    let start = c .before .before .before .before .before .before .before .before .before .before .before .before .before .before .before .before .before in
-    let z = start .pre .1 in (
+    let go-along = c .before .before .before .before .before .before .before .before .before .before .before .before .before .go-along in
+    let e : go-along .result ≡ Nowhere = c .enum-told .given .1 in
+    (at-most-stuck, λ t b o. stages-stuck ((go-along .ensures .1 t b) .nowhere e), settles-stuck)
+
+same-length-6 : tie.Need-same-length-6 Inv-loop μ-loop
+same-length-6 c = search needs
+
+same-length-7 : tie.Need-same-length-7 Inv-loop μ-loop
+same-length-7 c = search needs
+
+same-length-8 : tie.Need-same-length-8 Inv-loop μ-loop
+same-length-8 c = search needs
+
+same-length-9 : tie.Need-same-length-9 Inv-loop μ-loop
+same-length-9 c = search needs
+
+same-length-10 : tie.Need-same-length-10 Inv-loop μ-loop
+same-length-10 c = search needs
+
+returns-2 : tie.Need-returns-2 Inv-loop μ-loop
+returns-2 c =
+    let gone = c .before .before .gone in
+    let go-along = c .before .before .before .before .before .before .before .before .before .before .before .before .before .before .before .go-along in
+    let start = c .before .before .before .before .before .before .before .before .before .before .before .before .before .before .before .before .before .before .before .before .before .before .before .before .before .before .before .before .before .before .before in
+    let p = start .pre .0 in
+    let z = start .pre .1 .0 in
+    let a = start .args in
+    let r = a .to .turn .carrier .0 in
+    let room = go-along .last .1 .1 .1 .1 .1 .1 .1 .0 in
+    let k = gone .given .0 .0 in
+    let m = gone .given .0 .1 .0 in
+    let e : go-along .result ≡ There k m = gone .given .1 in
+    let kept : length room ≡ span = go-along .kept .1 .1 .1 .1 .1 .1 .1 .0 in
+    let arrived = go-along .ensures .0 in
+    let same = length-take-le k room (omega (arith, arrived .fits k m e, p .most, kept)) in (
+      at-most (omega (arith, arrived .few k m e, c .if1 .taken)),
+      λ t b o.
+          let g = (go-along .ensures .1 t b) .there k m e in
+          gone-short t (p .most) (z .1) r (a .placement .now) (p .placed) (z .0) b room k (g .0) (g .1) (g .2) (omega (arith, same, c .if1 .taken)) (g .3),
+      settles (arrived .below k m e),
+    )
+
+cast-finished : tie.Need-cast-finished Inv-loop μ-loop
+cast-finished c = search needs
+
+add-finished : tie.Need-add-finished Inv-loop μ-loop
+add-finished c = search needs
+
+sub-i : tie.Need-sub-i Inv-loop μ-loop
+sub-i c = search needs
+
+loop-holds : tie.Need-loop-holds Inv-loop μ-loop
+loop-holds c =
+    let gone = c .before .before .before .gone in
+    let go-along = c .before .before .before .before .before .before .before .before .before .before .before .before .before .before .before .before .go-along in
+    let start = c .before .before .before .before .before .before .before .before .before .before .before .before .before .before .before .before .before .before .before .before .before .before .before .before .before .before .before .before .before .before .before .before in
+    let p = start .pre .0 in
+    let room = go-along .last .1 .1 .1 .1 .1 .1 .1 .0 in
+    let k = gone .given .0 .0 in
+    let m = gone .given .0 .1 .0 in
+    let e : go-along .result ≡ There k m = gone .given .1 in
+    let kept : length room ≡ span = go-along .kept .1 .1 .1 .1 .1 .1 .1 .0 in
+    let arrived = go-along .ensures .0 in
+    let g = (go-along .ensures .1 (p .tabled) (start .pre .1 .1 .0)) .there k m e in
+    let kw : length (go-along .last .1 .1 .1 .0) ≡ length (start .args .standing .now) = go-along .kept .1 .1 .1 .0 in
+    let all : length (between k room) ≤ k - 2 = omega (arith, between-length k room (omega (arith, arrived .fits k m e, p .most, kept))) in (
+      omega arith,
+      omega arith,
+      refl,
+      refl,
+      refl,
+      refl,
+      λ goals h apart many same o. rw (drop-of-length-le (between k room) all) (h .settled),
+      λ t goals many o. homed-none _ _ _ _ _ _ _ _ _ _ _ all (rw kw (g .3 .placed)),
+      refl,
+      arrived .below k m e,
+    )
+
+mul-t39 : tie.Need-mul-t39 Inv-loop μ-loop
+mul-t39 c =
+    let l = c .before .loop in
+    let gone = c .before .before .before .before .before .gone in
+    let go-along = c .before .before .before .before .before .before .before .before .before .before .before .before .before .before .before .before .before .before .go-along in
+    let start = c .before .before .before .before .before .before .before .before .before .before .before .before .before .before .before .before .before .before .before .before .before .before .before .before .before .before .before .before .before .before .before .before .before .before in
+    omega (arith, l .inv .0, go-along .ensures .0 .fits (gone .given .0 .0) (gone .given .0 .1 .0) (gone .given .1), start .pre .0 .most)
+
+array-read-t42 : tie.Need-array-read-t42 Inv-loop μ-loop
+array-read-t42 c =
+    let l = c .before .loop in
+    let gone = c .before .before .before .before .before .gone in
+    let go-along = c .before .before .before .before .before .before .before .before .before .before .before .before .before .before .before .before .before .before .go-along in
+    let start = c .before .before .before .before .before .before .before .before .before .before .before .before .before .before .before .before .before .before .before .before .before .before .before .before .before .before .before .before .before .before .before .before .before .before in
+    omega (arith, l .inv .0, go-along .ensures .0 .fits (gone .given .0 .0) (gone .given .0 .1 .0) (gone .given .1), start .pre .0 .most)
+
+home-at-requires : tie.Need-home-at-requires Inv-loop μ-loop
+home-at-requires c κs =
+    let loop-test = c .before .before .before .before .before .loop-test in
+    let l = c .before .before .before .before .before .before .loop in
+    let gone = c .before .before .before .before .before .before .before .before .before .before .gone in
+    let go-along = c .before .before .before .before .before .before .before .before .before .before .before .before .before .before .before .before .before .before .before .before .before .before .before .go-along in
+    let start = c .before .before .before .before .before .before .before .before .before .before .before .before .before .before .before .before .before .before .before .before .before .before .before .before .before .before .before .before .before .before .before .before .before .before .before .before .before .before .before in
+    let p = start .pre .0 in
+    let z = start .pre .1 .0 in
+    let b = start .pre .1 .1 .0 in
+    let o = start .pre .1 .1 .1 in
+    let a = start .args in
+    let r = a .to .turn .carrier .0 in
+    let room = go-along .last .1 .1 .1 .1 .1 .1 .1 .0 in
+    let k = gone .given .0 .0 in
+    let m = gone .given .0 .1 .0 in
+    let e : go-along .result ≡ There k m = gone .given .1 in
+    let q = go-along .last .1 .1 .0 in
+    let arrived = go-along .ensures .0 in
+    let g = (go-along .ensures .1 (p .tabled) b) .there k m e in
+    let kept : length room ≡ span = go-along .kept .1 .1 .1 .1 .1 .1 .1 .0 in
+    let kp : length q ≡ length (a .placement .now) = go-along .kept .1 .1 .0 in
+    let kw : length (go-along .last .1 .1 .1 .0) ≡ length (a .standing .now) = go-along .kept .1 .1 .1 .0 in
+    let fits : k ≤ length room = omega (arith, arrived .fits k m e, p .most, kept) in
+    let h = gone-homeward (p .tabled) (p .most) (z .1) r (a .placement .now) (p .placed) (z .0) b room k (g .0) (g .1) (g .2) q (g .3 .moved) (omega (arith, length-take-le k room fits, c .before .before .before .before .before .before .before .before .if1 .left)) in
+    let v = l .inv in
+    let w : length (l .standing) ≡ length (a .standing .now) = v .3 ∙ kw in
+    let i = l .i - 1 in
+    let one : l .i - 1 + 1 ≡ l .i = omega (arith, loop-test .taken) in
+    let here : i < length (between k room) = omega (arith, loop-test .taken, v .0, between-length k room fits) in
+    let get : getD room (l .i) 0 ≡ getD (between k room) i 0 = rw one at (between-get k room fits i here) in
+    let many : r + 1 ≤ length (b .goals) = omega (arith, z .0, b .each .many) in
+    let len : length (l .placement) ≡ length (b .goals) = omega (arith, v .2, kp, b .each .many) in
+    let s = rw (← one) at ((rw kw at (v .6)) (b .goals) h (b .each .apart) many (omega (arith, kp, b .each .many)) o) in
+    let low = turn-low h (b .each .apart) many i here (l .placement) len s in
+    let due = turn-due h (b .each .apart) many i here (l .placement) len s o in
+    let homed = (rw kw at (v .7)) (p .tabled) (b .goals) many o in (
+      ready-again p _ _ _ w (v .4 ∙ go-along .kept .1 .1 .1 .1 .0) (homed .played .placed),
+      (
+        omega (arith, z .0, v .2, kp),
+        rw (w, get) low,
+        omega (arith, w, o .many),
+        rw w (z .1),
+        omega (arith, v .1, arrived .few k m e, z .2, loop-test .taken, arrived .fits k m e, p .most),
+        rw get due,
+        v .9,
+      ),
+    )
+
+enum-known-homed : tie.Need-enum-known-homed Inv-loop μ-loop
+enum-known-homed c = c .match2 .keys1
+
+enum-told-2 : tie.Need-enum-told-2 Inv-loop μ-loop
+enum-told-2 c = c .match2 .keys2
+
+same-length-11 : tie.Need-same-length-11 Inv-loop μ-loop
+same-length-11 c = search needs
+
+same-length-12 : tie.Need-same-length-12 Inv-loop μ-loop
+same-length-12 c = search needs
+
+same-length-13 : tie.Need-same-length-13 Inv-loop μ-loop
+same-length-13 c = search needs
+
+same-length-14 : tie.Need-same-length-14 Inv-loop μ-loop
+same-length-14 c = search needs
+
+same-length-15 : tie.Need-same-length-15 Inv-loop μ-loop
+same-length-15 c = search needs
+
+returns-3 : tie.Need-returns-3 Inv-loop μ-loop
+returns-3 c =
+    let home-at = c .before .before .before .before .before .before .before .before .before .before .before .before .home-at in
+    let loop-test = c .before .before .before .before .before .before .before .before .before .before .before .before .before .before .before .before .before .before .loop-test in
+    let l = c .before .before .before .before .before .before .before .before .before .before .before .before .before .before .before .before .before .before .before .loop in
+    let gone = c .before .before .before .before .before .before .before .before .before .before .before .before .before .before .before .before .before .before .before .before .before .before .before .gone in
+    let go-along = c .before .before .before .before .before .before .before .before .before .before .before .before .before .before .before .before .before .before .before .before .before .before .before .before .before .before .before .before .before .before .before .before .before .before .before .before .go-along in
+    let start = c .before .before .before .before .before .before .before .before .before .before .before .before .before .before .before .before .before .before .before .before .before .before .before .before .before .before .before .before .before .before .before .before .before .before .before .before .before .before .before .before .before .before .before .before .before .before .before .before .before .before .before .before in
+    let p = start .pre .0 in
+    let z = start .pre .1 .0 in
+    let a = start .args in
+    let r = a .to .turn .carrier .0 in
+    let room = go-along .last .1 .1 .1 .1 .1 .1 .1 .0 in
+    let k = gone .given .0 .0 in
+    let m = gone .given .0 .1 .0 in
+    let there : go-along .result ≡ There k m = gone .given .1 in
+    let arrived = go-along .ensures .0 in
+    let kept : length room ≡ span = go-along .kept .1 .1 .1 .1 .1 .1 .1 .0 in
+    let kw : length (go-along .last .1 .1 .1 .0) ≡ length (a .standing .now) = go-along .kept .1 .1 .1 .0 in
+    let fits : k ≤ length room = omega (arith, arrived .fits k m there, p .most, kept) in
+    let v = l .inv in
+    let w : length (l .standing) ≡ length (a .standing .now) = v .3 ∙ kw in
+    let i = l .i - 1 in
+    let one : l .i - 1 + 1 ≡ l .i = omega (arith, loop-test .taken) in
+    let here : i < length (between k room) = omega (arith, loop-test .taken, v .0, between-length k room fits) in
+    let get : getD room (l .i) 0 ≡ getD (between k room) i 0 = rw one at (between-get k room fits i here) in
+    let e : home-at .result ≡ Stuck (c .enum-told2 .given .0 .0) = c .enum-told2 .given .1 in
+    let f = rw (w, get) at (home-at .ensures .1) in
+    rw e (
       at-most-stuck,
-      λ t. carried-nowhere t _ _ _ refl ((rw (c .enum-told .given .1) at (c .before .before .before .path-past .ensures (settledShown t (start .args .r .0) _ (z .7)))) .same),
+      λ t b o.
+          let g = (go-along .ensures .1 t b) .there k m there in
+          let many : r + 1 ≤ length (b .goals) = omega (arith, z .0, b .each .many) in
+          gone-home t (p .most) (z .1) r (a .placement .now) (p .placed) (z .0) b room k (g .0) (g .1) (g .2) (g .3)
+          (stages-stuck (homed-stops (rw (← one) at ((rw kw at (v .7)) t (b .goals) many o)) here (rw e at (f t (b .goals) many o)))),
       settles-stuck,
     )
 
-array-share-prefix-path : tie.Need-array-share-prefix-path
-array-share-prefix-path c =
-    let path-past = c .before .before .before .before .path-past in
-    let start = c .before .before .before .before .before .before .before .before .before .before .before .before .before .before .before .before .before .before in
+sub-i-2 : tie.Need-sub-i-2 Inv-loop μ-loop
+sub-i-2 c = search needs
+
+loop-less : tie.Need-loop-less Inv-loop μ-loop
+loop-less c = search needs
+
+loop-again : tie.Need-loop-again Inv-loop μ-loop
+loop-again c =
+    let home-at = c .before .before .before .before .before .before .before .before .before .before .before .before .before .home-at in
+    let loop-test = c .before .before .before .before .before .before .before .before .before .before .before .before .before .before .before .before .before .before .before .loop-test in
+    let l = c .before .before .before .before .before .before .before .before .before .before .before .before .before .before .before .before .before .before .before .before .loop in
+    let gone = c .before .before .before .before .before .before .before .before .before .before .before .before .before .before .before .before .before .before .before .before .before .before .before .before .gone in
+    let go-along = c .before .before .before .before .before .before .before .before .before .before .before .before .before .before .before .before .before .before .before .before .before .before .before .before .before .before .before .before .before .before .before .before .before .before .before .before .before .go-along in
+    let start = c .before .before .before .before .before .before .before .before .before .before .before .before .before .before .before .before .before .before .before .before .before .before .before .before .before .before .before .before .before .before .before .before .before .before .before .before .before .before .before .before .before .before .before .before .before .before .before .before .before .before .before .before .before in
     let p = start .pre .0 in
-    let z = start .pre .1 in
-    let f = rw (c .before .k .given .1) at (path-past .ensures (settledShown (p .tabled) (start .args .r .0) _ (z .7))) in
-    let kept : length (path-past .last .1 .1 .1 .1 .1 .1 .0) ≡ span = path-past .kept .1 .1 .1 .1 .1 .1 .0 in
-    omega (arith, f .fits, p .most, kept)
+    let z = start .pre .1 .0 in
+    let a = start .args in
+    let r = a .to .turn .carrier .0 in
+    let room = go-along .last .1 .1 .1 .1 .1 .1 .1 .0 in
+    let k = gone .given .0 .0 in
+    let m = gone .given .0 .1 .0 in
+    let there : go-along .result ≡ There k m = gone .given .1 in
+    let arrived = go-along .ensures .0 in
+    let kept : length room ≡ span = go-along .kept .1 .1 .1 .1 .1 .1 .1 .0 in
+    let kw : length (go-along .last .1 .1 .1 .0) ≡ length (a .standing .now) = go-along .kept .1 .1 .1 .0 in
+    let fits : k ≤ length room = omega (arith, arrived .fits k m there, p .most, kept) in
+    let v = l .inv in
+    let n = home-at .kept in
+    let i = l .i - 1 in
+    let one : l .i - 1 + 1 ≡ l .i = omega (arith, loop-test .taken) in
+    let here : i < length (between k room) = omega (arith, loop-test .taken, v .0, between-length k room fits) in
+    let get : getD room (l .i) 0 ≡ getD (between k room) i 0 = rw one at (between-get k room fits i here) in
+    let e : home-at .result ≡ Planned (c .before .homed .given .0 .0) = c .before .homed .given .1 in
+    let few = home-at .ensures .0 .few _ e in
+    let f = rw (v .3, get) at (home-at .ensures .1) in
+    let t₀ = rw (← kw) at (p .tabled) in (
+      omega (arith, loop-test .taken, v .0),
+      omega (arith, few, v .1, loop-test .taken),
+      n .1 .1 .1 .0 ∙ v .2,
+      n .1 .1 .1 .1 .0 ∙ v .3,
+      n .1 .1 .1 .1 .1 .0 ∙ v .4,
+      n .1 .1 .1 .1 .1 .1 .1 .0 ∙ v .5,
+      λ goals h apart many same o.
+          turn-homed h apart many i here (l .placement) (v .2 ∙ same) (rw (← one) at (v .6 goals h apart many same o)) t₀ (omega (arith, p .most, kw)) (rw (← kw) at (z .1)) (v .7 t₀ goals many o .played .placed) (rw e at (f t₀ goals many o)),
+      λ t goals many o. homed-more (rw (← one) at (v .7 t goals many o)) here (rw e at (f t goals many o)),
+      n .1 .1 .1 .1 .1 .1 .0 ∙ v .8,
+      home-at .ensures .2,
+    )
 
-slice-aggregate-carry-along : tie.Need-slice-aggregate-carry-along
-slice-aggregate-carry-along c =
-    let path-past = c .before .before .before .before .before .path-past in
-    let start = c .before .before .before .before .before .before .before .before .before .before .before .before .before .before .before .before .before .before .before in
+same-length-16 : tie.Need-same-length-16 Inv-loop μ-loop
+same-length-16 c = search needs
+
+same-length-17 : tie.Need-same-length-17 Inv-loop μ-loop
+same-length-17 c = search needs
+
+same-length-18 : tie.Need-same-length-18 Inv-loop μ-loop
+same-length-18 c = search needs
+
+same-length-19 : tie.Need-same-length-19 Inv-loop μ-loop
+same-length-19 c = search needs
+
+same-length-20 : tie.Need-same-length-20 Inv-loop μ-loop
+same-length-20 c = search needs
+
+returns-4 : tie.Need-returns-4 Inv-loop μ-loop
+returns-4 c =
+    let l = c .before .loop in
+    let gone = c .before .before .before .before .before .gone in
+    let go-along = c .before .before .before .before .before .before .before .before .before .before .before .before .before .before .before .before .before .before .go-along in
+    let start = c .before .before .before .before .before .before .before .before .before .before .before .before .before .before .before .before .before .before .before .before .before .before .before .before .before .before .before .before .before .before .before .before .before .before in
     let p = start .pre .0 in
-    let z = start .pre .1 in
-    let f = rw (c .before .before .k .given .1) at (path-past .ensures (settledShown (p .tabled) (start .args .r .0) _ (z .7))) in
-    let kept : length (path-past .last .1 .1 .1 .1 .1 .1 .0) ≡ span = path-past .kept .1 .1 .1 .1 .1 .1 .0 in
-    sym (length-take-le _ _ (omega (arith, f .fits, p .most, kept)))
-
-carry-along-requires : tie.Need-carry-along-requires
-carry-along-requires c κs =
-    let k = c .before .before .before .before .before .before .before .k in
-    let path-past = c .before .before .before .before .before .before .before .before .before .before .path-past in
-    let start = c .before .before .before .before .before .before .before .before .before .before .before .before .before .before .before .before .before .before .before .before .before .before .before .before in
-    let p = start .pre .0 in
-    let z = start .pre .1 in
-    let f = rw (k .given .1) at (path-past .ensures (settledShown (p .tabled) (start .args .r .0) _ (z .7))) in
-    let kept : length (path-past .last .1 .1 .1 .1 .1 .1 .0) ≡ span = path-past .kept .1 .1 .1 .1 .1 .1 .0 in
-    let len : length (take (k .given .0 .0) (path-past .last .1 .1 .1 .1 .1 .1 .0)) ≡ k .given .0 .0 = length-take-le _ _ (omega (arith, f .fits, p .most, kept)) in
-    (p, (z .0, z .1, z .2, z .3, omega (arith, len, f .fits, p .most), on-path (p .tabled) (p .most) (z .2) _ _ _ (p .placed) (z .1) (z .0) (z .3) _ (f .same), z .5, z .6, z .7))
-
-same-length-2 : tie.Need-same-length-2
-same-length-2 c =
-    let carry-along = c .before .before .before .before .before .before .before .before .before .before .carry-along in
-    carry-along .kept .1 .1 .1 .1 .1 .0
-
-same-length-3 : tie.Need-same-length-3
-same-length-3 c =
-    let carry-along = c .before .before .before .before .before .before .before .before .before .before .carry-along in
-    carry-along .kept .1 .1 .1 .1 .1 .1 .0
-
-same-length-4 : tie.Need-same-length-4
-same-length-4 c =
-    let carry-along = c .before .before .before .before .before .before .before .before .before .before .carry-along in
-    carry-along .kept .1 .1 .1 .1 .1 .1 .1 .0
-
-same-length-5 : tie.Need-same-length-5
-same-length-5 c =
-    let carry-along = c .before .before .before .before .before .before .before .before .before .before .carry-along in
-    carry-along .kept .1 .1 .1 .1 .1 .1 .1 .1 .0
-
-same-length-6 : tie.Need-same-length-6
-same-length-6 c =
-    let carry-along = c .before .before .before .before .before .before .before .before .before .before .carry-along in
-    carry-along .kept .1 .1 .1 .1 .1 .1 .1 .1 .1 .0
-
-returns-2 : tie.Need-returns-2
-returns-2 c =
-    let carry-along = c .before .before .before .before .before .before .before .before .before .before .carry-along in
-    let k = c .before .before .before .before .before .before .before .before .before .before .before .before .before .before .before .before .before .before .k in
-    let path-past = c .before .before .before .before .before .before .before .before .before .before .before .before .before .before .before .before .before .before .before .before .before .path-past in
-    let start = c .before .before .before .before .before .before .before .before .before .before .before .before .before .before .before .before .before .before .before .before .before .before .before .before .before .before .before .before .before .before .before .before .before .before .before in
-    let z = start .pre .1 in (
-      carry-along .ensures .0,
-      λ t. carry-along .ensures .1 t ((rw (k .given .1) at (path-past .ensures (settledShown t (start .args .r .0) _ (z .7)))) .same),
-      carry-along .ensures .2,
+    let z = start .pre .1 .0 in
+    let a = start .args in
+    let r = a .to .turn .carrier .0 in
+    let room = go-along .last .1 .1 .1 .1 .1 .1 .1 .0 in
+    let k = gone .given .0 .0 in
+    let m = gone .given .0 .1 .0 in
+    let there : go-along .result ≡ There k m = gone .given .1 in
+    let arrived = go-along .ensures .0 in
+    let kw : length (go-along .last .1 .1 .1 .0) ≡ length (a .standing .now) = go-along .kept .1 .1 .1 .0 in
+    let v = l .inv in
+    let nil : l .i ≡ 0 = omega (arith, c .loop-test .left) in (
+      at-most (omega (arith, v .1, nil, arrived .few k m there, arrived .fits k m there, p .most)),
+      λ t b o.
+          let g = (go-along .ensures .1 t b) .there k m there in
+          let many : r + 1 ≤ length (b .goals) = omega (arith, z .0, b .each .many) in
+          gone-home t (p .most) (z .1) r (a .placement .now) (p .placed) (z .0) b room k (g .0) (g .1) (g .2) (g .3) (homed-all (rw nil at ((rw kw at (v .7)) t (b .goals) many o))),
+      settles (v .9),
     )
 
 pub carry-spec : {M : Type 1} → statement M
 carry-spec =
     tie.close
     (tie.spec
-    cast-own
-    mul-t18
-    slice-read-t20
-    mul-t18-2
-    shared-slice-read-t20
-    slice-aggregate-path-past
-    path-past-requires
-    enum-known-k
+    Inv-loop
+    μ-loop
+    slice-aggregate-go-along
+    go-along-requires
+    enum-known-gone
     enum-told
     same-length
-    returns
-    array-share-prefix-path
-    slice-aggregate-carry-along
-    carry-along-requires
     same-length-2
     same-length-3
     same-length-4
     same-length-5
+    returns
     same-length-6
-    returns-2)
+    same-length-7
+    same-length-8
+    same-length-9
+    same-length-10
+    returns-2
+    cast-finished
+    add-finished
+    sub-i
+    loop-holds
+    mul-t39
+    array-read-t42
+    home-at-requires
+    enum-known-homed
+    enum-told-2
+    same-length-11
+    same-length-12
+    same-length-13
+    same-length-14
+    same-length-15
+    returns-3
+    sub-i-2
+    loop-less
+    loop-again
+    same-length-16
+    same-length-17
+    same-length-18
+    same-length-19
+    same-length-20
+    returns-4)

@@ -3,14 +3,14 @@
 use mathlib.Core.Path.{_∙_, _≡_, refl}
 use Prim.Native.Nat.{_≤_, _<_, _-_, _*_}
 use native.Mathlib.Omega.{arith}
-use lib.ListN.{length}
+use lib.ListN.{length, getD}
 use borrow.Author.Needs.{needs}
 use Rattle.paper.specs.Text.{count}
 use Rattle.acting.specs.Acting.{Tabled}
 use Rattle.moving.specs.Bounds.{carrier-most}
 use Rattle.step.specs.Asking.{BaysBelow}
 use Rattle.home.proofs.Homing.{stages-stuck}
-use Rattle.carry.specs.Carrying.{Goals, HomeBelow}
+use Rattle.carry.specs.Carrying.{Goals, HomeBelow, Bound}
 use Rattle.carry.proofs.Carrying.{settles, settles-stuck, Served, served-none, served-more, served-stuck, served-all, home-more}
 use Rattle.home.specs.declared.Staged.the-variants.{Planned}
 use Rattle.home.specs.declared.Staged.the-variants.{Stuck}
@@ -45,13 +45,19 @@ cast-number c =
     let z = start .pre .1 in
     omega (arith, c .loop-test .taken, z .0 .many, p .placed .few, p .most)
 
+mul-t21 : tie.Need-mul-t21 Inv-loop μ-loop
+mul-t21 c = search needs
+
+shared-slice-read-t24 : tie.Need-shared-slice-read-t24 Inv-loop μ-loop
+shared-slice-read-t24 c = search needs
+
 carry-requires : tie.Need-carry-requires Inv-loop μ-loop
 carry-requires c κs =
-    let loop-test = c .before .before .before .before .before .loop-test in
-    let start = c .before .before .before .before .before .before .before .before .before .before .before .before .before .before .before .before in
+    let loop-test = c .before .before .before .before .before .before .loop-test in
+    let start = c .before .before .before .before .before .before .before .before .before .before .before .before .before .before .before .before .before in
     let p = start .pre .0 in
     let z = start .pre .1 in
-    let l = c .before .before .before .before .before .before .loop in
+    let l = c .before .before .before .before .before .before .before .loop in
     let v = l .inv in
     let b = v .7 (p .tabled) in
     let e : length (l .standing) ≡ length (start .args .standing .now) = v .3 in (
@@ -63,7 +69,10 @@ carry-requires c κs =
         tabled = rw e (p .tabled);
         levelled = rw e (p .levelled);
       },
-      (omega (arith, loop-test .taken, v .2, z .0 .many), record { many = omega (arith, v .2, z .0 .many); apart = z .0 .apart; inside = rw e (z .0 .inside) }, rw e (z .1), v .6, rw e (z .2), omega (arith, v .1, loop-test .taken, z .0 .many, p .placed .few, p .most), rw e (z .3), v .9, rw e (c .before .before .before .before .before .before .before .is-carousel .ensures)),
+      (
+        (omega (arith, loop-test .taken, v .2, z .0 .many), rw e (z .1), omega (arith, v .1, loop-test .taken, z .0 .many, p .placed .few, p .most), v .9, rw e (c .before .before .before .before .before .before .before .before .is-carousel .ensures)),
+        (record { goals = start .args .goals .now; each = record { many = omega (arith, v .2, z .0 .many); apart = z .0 .apart; inside = rw e (z .0 .inside) }; own = refl; below = v .6 }, rw e (z .3)),
+      ),
     )
 
 enum-known-carried : tie.Need-enum-known-carried Inv-loop μ-loop
@@ -75,49 +84,52 @@ enum-told c = c .match .keys2
 same-length : tie.Need-same-length Inv-loop μ-loop
 same-length c =
     let carry = c .before .before .before .before .before .before .before .before .before .before .before .before .carry in
-    let loop = c .before .before .before .before .before .before .before .before .before .before .before .before .before .before .before .before .before .before .before .loop in
-    carry .kept .1 .1 .1 .1 .1 .0 ∙ loop .inv .2
+    let loop = c .before .before .before .before .before .before .before .before .before .before .before .before .before .before .before .before .before .before .before .before .loop in
+    carry .kept .1 .1 .1 .0 ∙ loop .inv .2
 
 same-length-2 : tie.Need-same-length-2 Inv-loop μ-loop
 same-length-2 c =
     let carry = c .before .before .before .before .before .before .before .before .before .before .before .before .carry in
-    let loop = c .before .before .before .before .before .before .before .before .before .before .before .before .before .before .before .before .before .before .before .loop in
-    carry .kept .1 .1 .1 .1 .1 .1 .0 ∙ loop .inv .3
+    let loop = c .before .before .before .before .before .before .before .before .before .before .before .before .before .before .before .before .before .before .before .before .loop in
+    carry .kept .1 .1 .1 .1 .0 ∙ loop .inv .3
 
 same-length-3 : tie.Need-same-length-3 Inv-loop μ-loop
 same-length-3 c =
     let carry = c .before .before .before .before .before .before .before .before .before .before .before .before .carry in
-    let loop = c .before .before .before .before .before .before .before .before .before .before .before .before .before .before .before .before .before .before .before .loop in
-    carry .kept .1 .1 .1 .1 .1 .1 .1 .0 ∙ loop .inv .4
+    let loop = c .before .before .before .before .before .before .before .before .before .before .before .before .before .before .before .before .before .before .before .before .loop in
+    carry .kept .1 .1 .1 .1 .1 .0 ∙ loop .inv .4
 
 same-length-4 : tie.Need-same-length-4 Inv-loop μ-loop
 same-length-4 c =
     let carry = c .before .before .before .before .before .before .before .before .before .before .before .before .carry in
-    let loop = c .before .before .before .before .before .before .before .before .before .before .before .before .before .before .before .before .before .before .before .loop in
-    carry .kept .1 .1 .1 .1 .1 .1 .1 .1 .0 ∙ loop .inv .8
+    let loop = c .before .before .before .before .before .before .before .before .before .before .before .before .before .before .before .before .before .before .before .before .loop in
+    carry .kept .1 .1 .1 .1 .1 .1 .0 ∙ loop .inv .8
 
 same-length-5 : tie.Need-same-length-5 Inv-loop μ-loop
 same-length-5 c =
     let carry = c .before .before .before .before .before .before .before .before .before .before .before .before .carry in
-    let loop = c .before .before .before .before .before .before .before .before .before .before .before .before .before .before .before .before .before .before .before .loop in
-    carry .kept .1 .1 .1 .1 .1 .1 .1 .1 .1 .0 ∙ loop .inv .5
+    let loop = c .before .before .before .before .before .before .before .before .before .before .before .before .before .before .before .before .before .before .before .before .loop in
+    carry .kept .1 .1 .1 .1 .1 .1 .1 .0 ∙ loop .inv .5
 
 returns : tie.Need-returns Inv-loop μ-loop
 returns c =
     let carry = c .before .before .before .before .before .before .before .before .before .before .before .before .carry in
-    let loop-test = c .before .before .before .before .before .before .before .before .before .before .before .before .before .before .before .before .before .before .loop-test in
-    let start = c .before .before .before .before .before .before .before .before .before .before .before .before .before .before .before .before .before .before .before .before .before .before .before .before .before .before .before .before .before in
-    let l = c .before .before .before .before .before .before .before .before .before .before .before .before .before .before .before .before .before .before .before .loop in
+    let loop-test = c .before .before .before .before .before .before .before .before .before .before .before .before .before .before .before .before .before .before .before .loop-test in
+    let start = c .before .before .before .before .before .before .before .before .before .before .before .before .before .before .before .before .before .before .before .before .before .before .before .before .before .before .before .before .before .before in
+    let l = c .before .before .before .before .before .before .before .before .before .before .before .before .before .before .before .before .before .before .before .before .loop in
     let v = l .inv in
+    let z = start .pre .1 in
     let kw : length (l .standing) ≡ length (start .args .standing .now) = v .3 in
     let e : carry .result ≡ Stuck (c .enum-told .given .0 .0) = c .enum-told .given .1 in
     let f = rw kw at (carry .ensures .1) in
-    rw e (λ t. stages-stuck (served-stuck (v .7 t) (loop-test .taken) (rw e at (f t))), settles-stuck)
+    let g : Goals (length (start .args .standing .now)) (start .args .goals .now) (l .placement) = record { many = omega (arith, v .2, z .0 .many); apart = z .0 .apart; inside = z .0 .inside } in
+    let b : Bound (length (start .args .standing .now)) (l .placement) (l .r) (getD (start .args .goals .now) (l .r) 0) = record { goals = start .args .goals .now; each = g; own = refl; below = v .6 } in
+    rw e (λ t. stages-stuck (served-stuck (v .7 t) (loop-test .taken) (rw e at (f t b (z .3)))), settles-stuck)
 
 add-r : tie.Need-add-r Inv-loop μ-loop
 add-r c =
-    let loop-test = c .before .before .before .before .before .before .before .before .before .before .before .before .before .before .before .before .before .before .before .loop-test in
-    let start = c .before .before .before .before .before .before .before .before .before .before .before .before .before .before .before .before .before .before .before .before .before .before .before .before .before .before .before .before .before .before in
+    let loop-test = c .before .before .before .before .before .before .before .before .before .before .before .before .before .before .before .before .before .before .before .before .loop-test in
+    let start = c .before .before .before .before .before .before .before .before .before .before .before .before .before .before .before .before .before .before .before .before .before .before .before .before .before .before .before .before .before .before .before in
     let p = start .pre .0 in
     let z = start .pre .1 in
     omega (arith, loop-test .taken, z .0 .many, p .placed .few, p .most)
@@ -128,11 +140,11 @@ loop-less c = search needs
 loop-again : tie.Need-loop-again Inv-loop μ-loop
 loop-again c =
     let carry = c .before .before .before .before .before .before .before .before .before .before .before .before .before .carry in
-    let loop-test = c .before .before .before .before .before .before .before .before .before .before .before .before .before .before .before .before .before .before .before .loop-test in
-    let start = c .before .before .before .before .before .before .before .before .before .before .before .before .before .before .before .before .before .before .before .before .before .before .before .before .before .before .before .before .before .before in
+    let loop-test = c .before .before .before .before .before .before .before .before .before .before .before .before .before .before .before .before .before .before .before .before .loop-test in
+    let start = c .before .before .before .before .before .before .before .before .before .before .before .before .before .before .before .before .before .before .before .before .before .before .before .before .before .before .before .before .before .before .before in
     let p = start .pre .0 in
     let z = start .pre .1 in
-    let l = c .before .before .before .before .before .before .before .before .before .before .before .before .before .before .before .before .before .before .before .before .loop in
+    let l = c .before .before .before .before .before .before .before .before .before .before .before .before .before .before .before .before .before .before .before .before .before .loop in
     let v = l .inv in
     let b = v .7 (p .tabled) in
     let k = carry .kept in
@@ -141,16 +153,17 @@ loop-again c =
     let few = carry .ensures .0 .few _ e in
     let f = rw kw at (carry .ensures .1) in
     let g : Goals (length (start .args .standing .now)) (start .args .goals .now) (l .placement) = record { many = omega (arith, v .2, z .0 .many); apart = z .0 .apart; inside = z .0 .inside } in
+    let bound : Bound (length (start .args .standing .now)) (l .placement) (l .r) (getD (start .args .goals .now) (l .r) 0) = record { goals = start .args .goals .now; each = g; own = refl; below = v .6 } in
     let hr : l .r < length (l .placement) = omega (arith, loop-test .taken, v .2, z .0 .many) in (
       omega (arith, loop-test .taken),
       omega (arith, few, v .1),
-      omega (arith, k .1 .1 .1 .1 .1 .0, v .2),
-      omega (arith, k .1 .1 .1 .1 .1 .1 .0, v .3),
-      omega (arith, k .1 .1 .1 .1 .1 .1 .1 .0, v .4),
-      omega (arith, k .1 .1 .1 .1 .1 .1 .1 .1 .1 .0, v .5),
-      home-more (p .tabled) (p .most) (z .1) (start .args .goals .now) (l .r) (l .placement) (b .played .placed) g hr (v .6) (rw e at (f (p .tabled))),
-      λ t. served-more (v .7 t) (loop-test .taken) (rw e at (f t)),
-      omega (arith, k .1 .1 .1 .1 .1 .1 .1 .1 .0, v .8),
+      omega (arith, k .1 .1 .1 .0, v .2),
+      omega (arith, k .1 .1 .1 .1 .0, v .3),
+      omega (arith, k .1 .1 .1 .1 .1 .0, v .4),
+      omega (arith, k .1 .1 .1 .1 .1 .1 .1 .0, v .5),
+      home-more (p .tabled) (p .most) (z .1) (start .args .goals .now) (l .r) (l .placement) (b .played .placed) g hr (v .6) (rw e at (f (p .tabled) bound (z .3))),
+      λ t. served-more (v .7 t) (loop-test .taken) (rw e at (f t bound (z .3))),
+      omega (arith, k .1 .1 .1 .1 .1 .1 .0, v .8),
       carry .ensures .2 .below _ e,
     )
 
@@ -185,6 +198,8 @@ carry-all-spec =
     is-carousel-requires
     loop-holds
     cast-number
+    mul-t21
+    shared-slice-read-t24
     carry-requires
     enum-known-carried
     enum-told

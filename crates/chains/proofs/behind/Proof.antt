@@ -5,7 +5,7 @@ use Rattle.chains.proofs.Linking.{down-on, down-found, linked-behind}
 use Rattle.chains.specs.Links.{links-each, MetBelow, LeadsDown}
 use Rattle.paper.specs.Yard.{crossings, named}
 use lib.ListN.{length, getD}
-use Prim.Native.Nat.{ℕ, _≤_, _<_, _+_, _*_}
+use Prim.Native.Nat.{ℕ, _≤_, _+_, _*_}
 use mathlib.Core.Path.{_≡_}
 use denote.Ref.{now}
 use native.Mathlib.Omega.{arith}

@@ -1,7 +1,6 @@
 -- `chains::fill` meets its contract: the links up, then those down.
 -- Assumes nothing.
 use borrow.Author.Needs.{needs}
-use mathlib.Core.Path.{_∙_}
 use Rattle.chains.proofs.fill.Statement.{statement}
 use Rattle.chains.proofs.fill.Tie as tie
 

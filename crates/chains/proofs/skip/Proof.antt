@@ -6,7 +6,7 @@ use Rattle.chains.specs.Links.{keyOf, links-each, sought, Met}
 use Rattle.paper.specs.Yard.{crossings, named}
 use lib.ListN.{length, getD}
 use Prim.Native.Nat.{ℕ, suc, _≤_, _<_, _+_, _*_, _-_}
-use mathlib.Core.Path.{_≡_, sym, _∙_}
+use mathlib.Core.Path.{_≡_}
 use denote.Ref.{now}
 use native.Mathlib.Omega.{arith}
 use Rattle.chains.proofs.skip.Statement.{statement}

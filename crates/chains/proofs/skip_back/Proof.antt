@@ -6,7 +6,7 @@ use Rattle.chains.specs.Links.{links-each, MetBelow}
 use Rattle.paper.specs.Yard.{crossings, named}
 use lib.ListN.{length, getD}
 use Prim.Native.Nat.{ℕ, suc, _≤_, _<_, _+_, _*_, _-_}
-use mathlib.Core.Path.{_≡_, sym, _∙_}
+use mathlib.Core.Path.{_≡_, sym}
 use denote.Ref.{now}
 use native.Mathlib.Omega.{arith}
 use Rattle.chains.proofs.skip_back.Statement.{statement}

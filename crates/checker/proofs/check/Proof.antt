@@ -3,6 +3,9 @@
 use mathlib.Core.Path.{sym, _∙_, ap}
 use borrow.Author.Needs.{needs}
 use denote.Ref.{now}
+use Prim.Native.Nat.{_*_}
+use Rattle.paper.specs.Limits.{most-bays, set-words}
+use Rattle.words.proofs.Sets.{mem-zeros}
 use Rattle.paper.specs.Order.{order}
 use Rattle.yard.specs.Opening.{openedOf}
 use Rattle.checker.specs.Reading.{checkedOf}
@@ -10,8 +13,8 @@ use Rattle.checker.proofs.Six.{six-refused, as-many, few-carriers, star
 use Rattle.checker.proofs.check.Statement.{statement}
 use Rattle.checker.proofs.check.Tie as tie
 
-open-requires : tie.Need-open-requires
-open-requires c κs = search needs
+open-in-requires : tie.Need-open-in-requires
+open-in-requires c κs = mem-zeros (most-bays * set-words)
 
 enum-known-opened : tie.Need-enum-known-opened
 enum-known-opened c = search needs
@@ -22,20 +25,20 @@ enum-told c = search needs
 check-from-requires : tie.Need-check-from-requires
 check-from-requires c κs =
     let s = c .before .before .before .before .before .before .before .before .before in
-    let passes = ap openedOf (sym (c .before .enum-told .given .1)) ∙ c .before .before .before .«open» .ensures .answer in
+    let passes = ap openedOf (sym (c .before .enum-told .given .1)) ∙ c .before .before .before .open-in .ensures .answer in
     (as-many (order (s .args .bays) (now (s .args .rails)) (now (s .args .start)) (now (s .args .goal))) (now (s .args .plan)) passes, few-carriers (order (s .args .bays) (now (s .args .rails)) (now (s .args .start)) (now (s .args .goal))) (now (s .args .plan)) passes, starts-inside (order (s .args .bays) (now (s .args .rails)) (now (s .args .start)) (now (s .args .goal))) (now (s .args .plan)) passes, goals-inside (order (s .args .bays) (now (s .args .rails)) (now (s .args .start)) (now (s .args .goal))) (now (s .args .plan)) passes)
 
 returns : tie.Need-returns
-returns c = let s = c .before .before .before .before .before .before .before .before .before in six-refused (order (s .args .bays) (now (s .args .rails)) (now (s .args .start)) (now (s .args .goal))) (now (s .args .plan)) _ (ap openedOf (sym (c .before .opened .given .1)) ∙ c .before .before .before .«open» .ensures .answer)
+returns c = let s = c .before .before .before .before .before .before .before .before .before in six-refused (order (s .args .bays) (now (s .args .rails)) (now (s .args .start)) (now (s .args .goal))) (now (s .args .plan)) _ (ap openedOf (sym (c .before .opened .given .1)) ∙ c .before .before .before .open-in .ensures .answer)
 
 returns-2 : tie.Need-returns-2
 returns-2 c =
     let s = c .before .before .before .before .before .before .before .before .before .before in
-    let o = c .before .before .before .before .«open» .ensures in
+    let o = c .before .before .before .before .open-in .ensures in
     six-passed (order (s .args .bays) (now (s .args .rails)) (now (s .args .start)) (now (s .args .goal))) (now (s .args .plan)) (ap openedOf (sym (c .before .before .enum-told .given .1)) ∙ o .answer) _ (o .admitted _ (c .before .before .enum-told .given .1) .rows)
     (checkedOf (c .check-from .result)) (c .check-from .ensures)
 
 pub check-spec : {M : Type 1} → statement M
 check-spec =
     tie.close
-    (tie.spec open-requires enum-known-opened enum-told check-from-requires returns returns-2)
+    (tie.spec open-in-requires enum-known-opened enum-told check-from-requires returns returns-2)

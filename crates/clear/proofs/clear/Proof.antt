@@ -69,11 +69,11 @@ lowest-common-requires-2 c κs =
     let start = c .before .before .before .before .before .before .before .before .before .before .before .before .before .before .before .before .before .before .before .before .before .before .before .before .before .before .before .before .before .before in
     (omega (arith, c .before .before .before .remove2 .kept .0, remove .kept .0, join-row .kept .0), omega (arith, start .pre .0 .empty-size))
 
-cast-t39 : tie.Need-cast-t39
-cast-t39 c = search needs
+cast-t43 : tie.Need-cast-t43
+cast-t43 c = search needs
 
-cast-t41 : tie.Need-cast-t41
-cast-t41 c = search needs
+cast-t45 : tie.Need-cast-t45
+cast-t45 c = search needs
 
 same-length : tie.Need-same-length
 same-length c = refl
@@ -94,14 +94,14 @@ returns c =
     let hy = lowest-in _ j (c .before .lowest-common2 .ensures) (c .if2 .taken) in
     (two-both (if1 .taken) (c .if2 .taken) (omega arith) (omega arith), λ t. clears-both (clear-two (around-of t _ _ _ _ (p .most) (z .0) (join-row .ensures) (remove .ensures)) (p .most) (p .placed) (lowest-common .ensures) hx _ (remove2 .ensures) (c .before .lowest-common2 .ensures) hy) _ _ (p .placed))
 
+cast-t47 : tie.Need-cast-t47
+cast-t47 c = search needs
+
 slice-aggregate-keep-second : tie.Need-slice-aggregate-keep-second
 slice-aggregate-keep-second c = search needs
 
 slice-aggregate-keep-second-2 : tie.Need-slice-aggregate-keep-second-2
 slice-aggregate-keep-second-2 c = search needs
-
-cast-t47 : tie.Need-cast-t47
-cast-t47 c = search needs
 
 keep-second-requires : tie.Need-keep-second-requires
 keep-second-requires c κs =
@@ -122,22 +122,22 @@ keep-second-requires c κs =
 same-length-2 : tie.Need-same-length-2
 same-length-2 c =
     let keep-second = c .before .before .before .before .before .before .before .before .before .keep-second in
-    keep-second .kept .1 .1 .1 .1 .1 .0
+    keep-second .kept .1 .1 .1 .1 .0
 
 same-length-3 : tie.Need-same-length-3
 same-length-3 c =
     let keep-second = c .before .before .before .before .before .before .before .before .before .keep-second in
-    keep-second .kept .1 .1 .1 .1 .1 .1 .0
+    keep-second .kept .1 .1 .1 .1 .1 .0
 
 same-length-4 : tie.Need-same-length-4
 same-length-4 c =
     let keep-second = c .before .before .before .before .before .before .before .before .before .keep-second in
-    keep-second .kept .1 .1 .1 .1 .1 .1 .1 .0
+    keep-second .kept .1 .1 .1 .1 .1 .1 .0
 
 same-length-5 : tie.Need-same-length-5
 same-length-5 c =
     let keep-second = c .before .before .before .before .before .before .before .before .before .keep-second in
-    keep-second .kept .1 .1 .1 .1 .1 .1 .1 .1 .0
+    keep-second .kept .1 .1 .1 .1 .1 .1 .1 .0
 
 returns-2 : tie.Need-returns-2
 returns-2 c =
@@ -217,22 +217,22 @@ returns-3 c =
     let e : keep-one .result ≡ Nothing = c .enum-told .given .1 in
     (two-short _ _, λ t. clears-short (rw (clear-none (around-of t _ _ _ _ (p .most) (z .0) (join-row .ensures) (remove .ensures)) (p .most) (p .placed) (lowest-common .ensures) (if1 .left)) (first-none _ _ _ _ _ _ (p .most) ((rw e at (keep-one .ensures .1 (twoShown t (holdsTwo t _ _ _ _ (alone .ensures) (join .ensures))))) .stuck))))
 
-slice-aggregate-keep-second-3 : tie.Need-slice-aggregate-keep-second-3
-slice-aggregate-keep-second-3 c =
-    let remove = c .before .before .before .before .before .before .before .before .before .before .before .before .before .before .before .before .before .before .before .before .before .before .before .before .before .before .before .before .before .before .before .before .remove in
-    let join-row = c .before .before .before .before .before .before .before .before .before .before .before .before .before .before .before .before .before .before .before .before .before .before .before .before .before .before .before .before .before .before .before .before .before .before .before .before .join-row in
-    omega (arith, remove .kept .0, join-row .kept .0)
+cast-t23 : tie.Need-cast-t23
+cast-t23 c = search needs
 
-cast-keep-second : tie.Need-cast-keep-second
-cast-keep-second c = search needs
-
-add-keep-second : tie.Need-add-keep-second
-add-keep-second c =
-    let first = c .before .before .before .first in
-    let keep-one = c .before .before .before .before .before .before .before .before .before .before .before .before .before .keep-one in
+add-t73 : tie.Need-add-t73
+add-t73 c =
+    let first = c .before .before .first in
+    let keep-one = c .before .before .before .before .before .before .before .before .before .before .before .before .keep-one in
     let e : keep-one .result ≡ One (first .given .0 .0) (first .given .0 .1 .0) = first .given .1 in
     let few = rw e at (keep-one .ensures .0) in
     omega (arith, few .0)
+
+slice-aggregate-keep-second-3 : tie.Need-slice-aggregate-keep-second-3
+slice-aggregate-keep-second-3 c =
+    let remove = c .before .before .before .before .before .before .before .before .before .before .before .before .before .before .before .before .before .before .before .before .before .before .before .before .before .before .before .before .before .before .before .before .before .remove in
+    let join-row = c .before .before .before .before .before .before .before .before .before .before .before .before .before .before .before .before .before .before .before .before .before .before .before .before .before .before .before .before .before .before .before .before .before .before .before .before .before .join-row in
+    omega (arith, remove .kept .0, join-row .kept .0)
 
 slice-aggregate-keep-second-4 : tie.Need-slice-aggregate-keep-second-4
 slice-aggregate-keep-second-4 c = search needs
@@ -261,25 +261,25 @@ same-length-10 : tie.Need-same-length-10
 same-length-10 c =
     let keep-second2 = c .before .before .before .before .before .before .before .before .before .keep-second2 in
     let keep-one = c .before .before .before .before .before .before .before .before .before .before .before .before .before .before .before .before .before .before .before .before .before .before .before .before .before .before .before .before .keep-one in
-    keep-second2 .kept .1 .1 .1 .1 .1 .0 ∙ keep-one .kept .1 .1 .1 .1 .0
+    keep-second2 .kept .1 .1 .1 .1 .0 ∙ keep-one .kept .1 .1 .1 .1 .0
 
 same-length-11 : tie.Need-same-length-11
 same-length-11 c =
     let keep-second2 = c .before .before .before .before .before .before .before .before .before .keep-second2 in
     let keep-one = c .before .before .before .before .before .before .before .before .before .before .before .before .before .before .before .before .before .before .before .before .before .before .before .before .before .before .before .before .keep-one in
-    keep-second2 .kept .1 .1 .1 .1 .1 .1 .0 ∙ keep-one .kept .1 .1 .1 .1 .1 .0
+    keep-second2 .kept .1 .1 .1 .1 .1 .0 ∙ keep-one .kept .1 .1 .1 .1 .1 .0
 
 same-length-12 : tie.Need-same-length-12
 same-length-12 c =
     let keep-second2 = c .before .before .before .before .before .before .before .before .before .keep-second2 in
     let keep-one = c .before .before .before .before .before .before .before .before .before .before .before .before .before .before .before .before .before .before .before .before .before .before .before .before .before .before .before .before .keep-one in
-    keep-second2 .kept .1 .1 .1 .1 .1 .1 .1 .0 ∙ keep-one .kept .1 .1 .1 .1 .1 .1 .0
+    keep-second2 .kept .1 .1 .1 .1 .1 .1 .0 ∙ keep-one .kept .1 .1 .1 .1 .1 .1 .0
 
 same-length-13 : tie.Need-same-length-13
 same-length-13 c =
     let keep-second2 = c .before .before .before .before .before .before .before .before .before .keep-second2 in
     let keep-one = c .before .before .before .before .before .before .before .before .before .before .before .before .before .before .before .before .before .before .before .before .before .before .before .before .before .before .before .before .keep-one in
-    keep-second2 .kept .1 .1 .1 .1 .1 .1 .1 .1 .0 ∙ keep-one .kept .1 .1 .1 .1 .1 .1 .1 .0
+    keep-second2 .kept .1 .1 .1 .1 .1 .1 .1 .0 ∙ keep-one .kept .1 .1 .1 .1 .1 .1 .1 .0
 
 returns-4 : tie.Need-returns-4
 returns-4 c =
@@ -329,13 +329,13 @@ clear-spec =
     remove-requires-2
     slice-aggregate-lowest-common-2
     lowest-common-requires-2
-    cast-t39
-    cast-t41
+    cast-t43
+    cast-t45
     same-length
     returns
+    cast-t47
     slice-aggregate-keep-second
     slice-aggregate-keep-second-2
-    cast-t47
     keep-second-requires
     same-length-2
     same-length-3
@@ -352,9 +352,9 @@ clear-spec =
     same-length-8
     same-length-9
     returns-3
+    cast-t23
+    add-t73
     slice-aggregate-keep-second-3
-    cast-keep-second
-    add-keep-second
     slice-aggregate-keep-second-4
     keep-second-requires-2
     same-length-10

@@ -18,12 +18,12 @@ use Rattle.clear.proofs.keep_one.Statement.{statement}
 use Rattle.clear.proofs.keep_one.Tie as tie
 
 abbrev Inv-loop : tie.InvT-loop
-Inv-loop table others a held placement₀ standing₀ empty₀ out₀ at x₀ placement standing empty out x =
-    (x ≤ span) × (a ≤ x) × (x < span → mem others x ≡ true) × (length placement ≡ length placement₀) × (length standing ≡ length standing₀) × (length empty ≡ length empty₀) × (length out ≡ length out₀)
-    × Unchanged placement₀ standing₀ empty₀ out₀ placement standing empty out × ((v : Shown (length standing₀) table held) → Stuck (v .yard) (v .bays) others a x placement₀)
+Inv-loop table others held round placement₀ standing₀ empty₀ out₀ x₀ placement standing empty out x =
+    (x ≤ span) × (round .from ≤ x) × (x < span → mem others x ≡ true) × (length placement ≡ length placement₀) × (length standing ≡ length standing₀) × (length empty ≡ length empty₀) × (length out ≡ length out₀)
+    × Unchanged placement₀ standing₀ empty₀ out₀ placement standing empty out × ((v : Shown (length standing₀) table held) → Stuck (v .yard) (v .bays) others (round .from) x placement₀)
 
 abbrev μ-loop : tie.MeasureT-loop
-μ-loop table others a held placement₀ standing₀ empty₀ out₀ at x₀ placement standing empty out x =
+μ-loop table others held round placement₀ standing₀ empty₀ out₀ x₀ placement standing empty out x =
     span - x
 
 next-from-requires : tie.Need-next-from-requires Inv-loop μ-loop
@@ -32,8 +32,8 @@ next-from-requires c κs = search needs
 loop-holds : tie.Need-loop-holds Inv-loop μ-loop
 loop-holds c = let l = c .next-from .ensures in (l .upto, l .from, l .hit, refl, refl, refl, refl, record { same-placement = refl; same-standing = refl; same-empty = refl; same-list = refl }, λ v. stuck-none _ _ _ _ _ _ l)
 
-cast-t16 : tie.Need-cast-t16 Inv-loop μ-loop
-cast-t16 c = search needs
+cast-t15 : tie.Need-cast-t15 Inv-loop μ-loop
+cast-t15 c = search needs
 
 make-room-requires : tie.Need-make-room-requires Inv-loop μ-loop
 make-room-requires c κs =
@@ -151,7 +151,7 @@ keep-one-spec =
     μ-loop
     next-from-requires
     loop-holds
-    cast-t16
+    cast-t15
     make-room-requires
     enum-known-vacated
     same-length

@@ -17,7 +17,7 @@ join-requires c κs = search needs
 
 keep-one-requires : tie.Need-keep-one-requires
 keep-one-requires c κs =
-    let start = c .before .before .before .before .before .before .before .before .before .before .before .before .before .before .before .before .before in
+    let start = c .before .before .before .before .before .before .before .before .before .before .before .before .before .before .before .before .before .before in
     let p = start .pre .0 in
     let z = start .pre .1 in
     (p, (z .0, search needs, omega (arith, p .most, z .2), z .4, z .5, heldShown (p .tabled) (z .6) _ (c .before .before .before .before .before .before .before .join .ensures)))
@@ -30,37 +30,37 @@ enum-told c = c .match .keys2
 
 same-length : tie.Need-same-length
 same-length c =
-    let join = c .before .before .before .before .before .before .before .before .before .before .before .before .before .before .before .before .before .before .join in
+    let join = c .before .before .before .before .before .before .before .before .before .before .before .before .before .before .before .before .before .before .before .join in
     join .kept .0
 
 same-length-2 : tie.Need-same-length-2
 same-length-2 c =
-    let keep-one = c .before .before .before .before .before .before .before .before .before .before .keep-one in
+    let keep-one = c .before .before .before .before .before .before .before .before .before .before .before .keep-one in
     keep-one .kept .1 .1 .1 .1 .0
 
 same-length-3 : tie.Need-same-length-3
 same-length-3 c =
-    let keep-one = c .before .before .before .before .before .before .before .before .before .before .keep-one in
+    let keep-one = c .before .before .before .before .before .before .before .before .before .before .before .keep-one in
     keep-one .kept .1 .1 .1 .1 .1 .0
 
 same-length-4 : tie.Need-same-length-4
 same-length-4 c =
-    let keep-one = c .before .before .before .before .before .before .before .before .before .before .keep-one in
+    let keep-one = c .before .before .before .before .before .before .before .before .before .before .before .keep-one in
     keep-one .kept .1 .1 .1 .1 .1 .1 .0
 
 same-length-5 : tie.Need-same-length-5
 same-length-5 c =
-    let keep-one = c .before .before .before .before .before .before .before .before .before .before .keep-one in
+    let keep-one = c .before .before .before .before .before .before .before .before .before .before .before .keep-one in
     keep-one .kept .1 .1 .1 .1 .1 .1 .1 .0
 
 returns : tie.Need-returns
 returns c =
-    let keep-one = c .before .before .before .before .before .before .before .before .before .before .keep-one in
-    let join = c .before .before .before .before .before .before .before .before .before .before .before .before .before .before .before .before .before .before .join in
-    let start = c .before .before .before .before .before .before .before .before .before .before .before .before .before .before .before .before .before .before .before .before .before .before .before .before .before .before .before .before in
+    let keep-one = c .before .before .before .before .before .before .before .before .before .before .before .keep-one in
+    let join = c .before .before .before .before .before .before .before .before .before .before .before .before .before .before .before .before .before .before .before .join in
+    let start = c .before .before .before .before .before .before .before .before .before .before .before .before .before .before .before .before .before .before .before .before .before .before .before .before .before .before .before .before .before .before in
     let p = start .pre .0 in
     let z = start .pre .1 in
-    let e : keep-one .result ≡ Nothing = c .enum-told .given .1 in
+    let e : keep-one .result ≡ Nothing = c .before .enum-told .given .1 in
     (two-single (omega (arith, z .3, p .most)) (omega arith) (omega arith), λ t h. second-single (z .2) (p .most) (z .3) (z .7) (rw e at (keep-one .ensures .1 (heldShown t h _ (join .ensures)))))
 
 same-length-6 : tie.Need-same-length-6
@@ -92,7 +92,7 @@ returns-2 : tie.Need-returns-2
 returns-2 c =
     let keep-one = c .before .before .before .before .before .before .before .before .before .before .before .keep-one in
     let join = c .before .before .before .before .before .before .before .before .before .before .before .before .before .before .before .before .before .before .before .join in
-    let start = c .before .before .before .before .before .before .before .before .before .before .before .before .before .before .before .before .before .before .before .before .before .before .before .before .before .before .before .before .before in
+    let start = c .before .before .before .before .before .before .before .before .before .before .before .before .before .before .before .before .before .before .before .before .before .before .before .before .before .before .before .before .before .before in
     let z = start .pre .1 in
     let e : keep-one .result ≡ One (c .before .second .given .0 .0) (c .before .second .given .0 .1 .0) = c .before .second .given .1 in
     let few = rw e at (keep-one .ensures .0) in

@@ -54,10 +54,10 @@ go-round-requires c κs =
     let z = start .pre .1 in
     let e = copy .ensures in
     let d = copy2 .ensures in
-    (ready-copy p _ _ _ e d (search needs) (c .before .before .before .before .before .before .keep .ensures .row), (rw e (z .0), rw e (z .1), z .2, rw d (z .3), rw d (z .4), rw d (z .5), rw d (z .6), omega arith, rw e (z .7)))
+    (ready-copy p _ _ _ e d (search needs) (c .before .before .before .before .before .before .keep .ensures .row), ((rw e (z .0 .0), rw e (z .0 .1), z .0 .2, rw d (z .0 .3), rw d (z .0 .4), rw d (z .0 .5), rw e (z .0 .6)), rw d (z .1), omega arith))
 
 same-length : tie.Need-same-length
-same-length c = c .before .before .before .before .before .go-round .kept .1 .1 .1 .1 .1 .1 .1 .1 .1 .1 .0
+same-length c = c .before .before .before .before .before .go-round .kept .1 .1 .1 .1 .1 .1 .0
 
 returns : tie.Need-returns
 returns c =
@@ -74,38 +74,38 @@ array-borrow-prefix-bays-2 c = search needs
 
 slice-aggregate-vacate-both : tie.Need-slice-aggregate-vacate-both
 slice-aggregate-vacate-both c =
-    let copy = c .before .before .before .before .before .before .before .before .before .copy in
+    let copy = c .before .before .before .before .before .before .before .before .before .before .before .before .copy in
     sym (ap length (copy .ensures))
 
 array-borrow-prefix-carriers-2 : tie.Need-array-borrow-prefix-carriers-2
 array-borrow-prefix-carriers-2 c = search needs
 
 slice-aggregate-vacate-both-2 : tie.Need-slice-aggregate-vacate-both-2
-slice-aggregate-vacate-both-2 c = sym (ap length (c .before .before .before .before .before .before .before .copy2 .ensures))
+slice-aggregate-vacate-both-2 c = sym (ap length (c .before .before .before .before .before .before .before .before .before .before .copy2 .ensures))
 
 slice-aggregate-vacate-both-3 : tie.Need-slice-aggregate-vacate-both-3
 slice-aggregate-vacate-both-3 c = search needs
 
 vacate-both-requires : tie.Need-vacate-both-requires
 vacate-both-requires c κs =
-    let copy2 = c .before .before .before .before .before .before .before .before .before .copy2 in
-    let copy = c .before .before .before .before .before .before .before .before .before .before .before .before .copy in
-    let start = c .before .before .before .before .before .before .before .before .before .before .before .before .before .before .before .before .before .before .before in
+    let copy2 = c .before .before .before .before .before .before .before .before .before .before .before .before .copy2 in
+    let copy = c .before .before .before .before .before .before .before .before .before .before .before .before .before .before .before .copy in
+    let start = c .before .before .before .before .before .before .before .before .before .before .before .before .before .before .before .before .before .before .before .before .before .before in
     let p = start .pre .0 in
     let z = start .pre .1 in
     let e = copy .ensures in
     let d = copy2 .ensures in
-    (ready-copy p _ _ _ e d (search needs) (c .before .before .before .before .before .before .keep .ensures .row), (rw d (z .3), rw d (z .4), rw d (z .5), rw d (z .6), omega arith))
+    (ready-copy p _ _ _ e d (search needs) (c .before .before .before .before .before .before .before .before .before .keep .ensures .row), (rw d (z .0 .3), rw d (z .0 .4), rw d (z .0 .5), rw d (z .1), omega arith))
 
 same-length-2 : tie.Need-same-length-2
-same-length-2 c = c .before .before .before .before .before .vacate-both .kept .1 .1 .1 .1 .1 .1 .1 .1 .0
+same-length-2 c = c .before .before .before .before .before .vacate-both .kept .1 .1 .1 .1 .1 .1 .0
 
 returns-2 : tie.Need-returns-2
 returns-2 c =
     let vacate-both = c .before .before .before .before .before .vacate-both in
-    let if1 = c .before .before .before .before .before .before .before .before .before .before .if1 in
-    let copy2 = c .before .before .before .before .before .before .before .before .before .before .before .before .before .before .before .copy2 in
-    let copy = c .before .before .before .before .before .before .before .before .before .before .before .before .before .before .before .before .before .before .copy in
+    let if1 = c .before .before .before .before .before .before .before .before .before .before .before .before .before .if1 in
+    let copy2 = c .before .before .before .before .before .before .before .before .before .before .before .before .before .before .before .before .before .before .copy2 in
+    let copy = c .before .before .before .before .before .before .before .before .before .before .before .before .before .before .before .before .before .before .before .before .before .copy in
     let e = copy .ensures in
     let d = copy2 .ensures in
     (within-more (vacate-both .result) nothing clear-once-most attempt-most (omega arith) (vacate-both .ensures .0), λ t j. rw (if1 .left) (attempted (rw (e, d) at (vacate-both .ensures .1) t)))

@@ -32,7 +32,7 @@ go-on-requires c κs =
     let f = clear .ensures .0 .single _ _ (cleared2 .given .1) in
     let kp : length (clear .last .1 .1 .1 .0) ≡ length (start .args .placement .now) = clear .kept .1 .1 .1 .0 in
     let kw : length (clear .last .1 .1 .1 .1 .0) ≡ length (start .args .standing .now) = clear .kept .1 .1 .1 .1 .0 in
-    (ready-again p _ _ _ kw (clear .kept .1 .1 .1 .1 .1 .0) (k .played .placed), (rw kp (z .0), rw kp (z .1), z .2, rw kw (z .3), rw kw (z .4), rw kw (k .low), omega (arith, f .1, z .5), k .free))
+    (ready-again p _ _ _ kw (clear .kept .1 .1 .1 .1 .1 .0) (k .played .placed), ((rw kp (z .0), rw kp (z .1), z .2, rw kw (z .3), rw kw (z .4), rw kw (k .low), k .free), omega (arith, f .1, z .5)))
 
 enum-told : tie.Need-enum-told
 enum-told c = c .match .keys3
@@ -81,7 +81,7 @@ same-length-7 c =
 same-length-8 : tie.Need-same-length-8
 same-length-8 c =
     let clear = c .before .before .before .before .before .before .before .before .before .before .before .before .before .before .before .before .before .before .clear in
-    c .before .before .go-on .kept .1 .1 .1 .1 .1 .1 .1 .1 .1 .0 ∙ clear .kept .1 .1 .1 .1 .1 .1 .0
+    c .before .before .go-on .kept .1 .1 .1 .1 .1 .0 ∙ clear .kept .1 .1 .1 .1 .1 .1 .0
 
 returns-2 : tie.Need-returns-2
 returns-2 c =

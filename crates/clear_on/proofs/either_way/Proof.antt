@@ -16,14 +16,15 @@ enum-known-first : tie.Need-enum-known-first
 enum-known-first c = c .match .keys1
 
 same-length : tie.Need-same-length
-same-length c = c .before .before .before .before .before .first-kept .kept .1 .1 .1 .1 .1 .1 .1 .1 .1 .1 .1 .0
+same-length c = c .before .before .before .before .before .first-kept .kept .1 .1 .1 .1 .1 .1 .1 .0
 
 returns : tie.Need-returns
 returns c =
     let first-kept = c .before .before .before .before .before .first-kept in
     let start = c .before .before .before .before .before .before .before .before .before .before .before .before .before in
+    let one = start .args .one in
     let e : first-kept .result ≡ One (c .before .first .given .0 .0) (c .before .first .given .0 .1 .0) = c .before .first .given .1 in
-    (rw e at (first-kept .ensures .0), λ t j o. first-way (t .yard) (start .args .l .0) (start .args .m .0) (start .args .v .0) (start .args .b .0) (start .args .e .0) (start .args .placement .now) (length (start .args .standing .now)) (start .args .others .now) o (rw e at (first-kept .ensures .1 t j)))
+    (rw e at (first-kept .ensures .0), λ t j o. first-way (t .yard) (one .lead .couple .leader .0) (one .lead .couple .follower .0) (one .lead .junction .0) (one .behind .0) (one .kept .0) (start .args .placement .now) (length (start .args .standing .now)) (start .args .others .now) o (rw e at (first-kept .ensures .1 t j)))
 
 enum-told : tie.Need-enum-told
 enum-told c = c .match .keys2
@@ -36,14 +37,15 @@ first-kept-requires-2 c κs =
 same-length-2 : tie.Need-same-length-2
 same-length-2 c =
     let first-kept = c .before .before .before .before .before .before .before .before .first-kept in
-    c .before .before .first-kept2 .kept .1 .1 .1 .1 .1 .1 .1 .1 .1 .1 .1 .0 ∙ first-kept .kept .1 .1 .1 .1 .1 .1 .1 .1 .1 .1 .1 .0
+    c .before .before .first-kept2 .kept .1 .1 .1 .1 .1 .1 .1 .0 ∙ first-kept .kept .1 .1 .1 .1 .1 .1 .1 .0
 
 returns-2 : tie.Need-returns-2
 returns-2 c =
     let first-kept = c .before .before .before .before .before .before .before .before .first-kept in
     let start = c .before .before .before .before .before .before .before .before .before .before .before .before .before .before .before .before in
+    let one = start .args .one in
     let e : first-kept .result ≡ Nothing = c .before .before .before .before .enum-told .given .1 in
-    (c .before .before .first-kept2 .ensures .0, λ t j o. second-way (t .yard) (start .args .l .0) (start .args .m .0) (start .args .v .0) (start .args .b .0) (start .args .e .0) (start .args .placement .now) (length (start .args .standing .now)) (start .args .others .now) o (first-kept .ensures .1 t j .nothing e) (c .before .before .first-kept2 .ensures .1 t j))
+    (c .before .before .first-kept2 .ensures .0, λ t j o. second-way (t .yard) (one .lead .couple .leader .0) (one .lead .couple .follower .0) (one .lead .junction .0) (one .behind .0) (one .kept .0) (start .args .placement .now) (length (start .args .standing .now)) (start .args .others .now) o (first-kept .ensures .1 t j .nothing e) (c .before .before .first-kept2 .ensures .1 t j))
 
 pub either-way-spec : {M : Type 1} → statement M
 either-way-spec =

@@ -7,7 +7,7 @@ use native.Mathlib.Omega.{arith}
 use lib.ListN.{length}
 use Rattle.words.specs.Sets.{mem, span}
 use Rattle.acting.specs.Acting.{Tabled}
-use Rattle.clear_on.specs.Going.{AtJunction, wayOf}
+use Rattle.clear_on.specs.Asking.{Arrived, wayWith}
 use Rattle.clear_on.proofs.Attempting.{Failing, failing-none, failing-more, kept-none, kept-one}
 use Rattle.acting.specs.declared.Tried.the-variants.{Done, Failed}
 use borrow.Author.Needs.{needs}
@@ -15,12 +15,12 @@ use Rattle.clear_on.proofs.first_kept.Statement.{statement}
 use Rattle.clear_on.proofs.first_kept.Tie as tie
 
 abbrev Inv-loop : tie.InvT-loop
-Inv-loop table second others l m v b e placement standing empty log₀ x₀ log x =
+Inv-loop table second others one placement standing empty log₀ x₀ log x =
     (x ≤ span) × (x < span → mem others x ≡ true) × (length log ≡ length log₀)
-    × ((t : Tabled (length standing) table) → AtJunction (l .0) (m .0) (v .0) (b .0) placement → Failing (wayOf second (t .yard) (l .0) (m .0) (v .0) (b .0) (e .0)) others x placement)
+    × ((t : Tabled (length standing) table) → Arrived (one .lead) (one .behind .0) placement → Failing (wayWith second (t .yard) one) others x placement)
 
 abbrev μ-loop : tie.MeasureT-loop
-μ-loop table second others l m v b e placement standing empty log₀ x₀ log x =
+μ-loop table second others one placement standing empty log₀ x₀ log x =
     span - x
 
 next-from-requires : tie.Need-next-from-requires Inv-loop μ-loop
@@ -29,8 +29,8 @@ next-from-requires c κs = search needs
 loop-holds : tie.Need-loop-holds Inv-loop μ-loop
 loop-holds c = let l = c .next-from .ensures in (l .upto, l .hit, refl, λ t j. failing-none _ _ _ _ l)
 
-cast-t19 : tie.Need-cast-t19 Inv-loop μ-loop
-cast-t19 c = search needs
+cast-t15 : tie.Need-cast-t15 Inv-loop μ-loop
+cast-t15 c = search needs
 
 attempt-requires : tie.Need-attempt-requires Inv-loop μ-loop
 attempt-requires c κs =
@@ -38,7 +38,7 @@ attempt-requires c κs =
     let p = start .pre .0 in
     let z = start .pre .1 in
     let t = c .before .loop-test .taken in
-    (p, (z .0, z .1, z .2, z .3, z .4, z .5, z .7 .low _ t (c .before .before .loop .inv .1 t), z .8))
+    (p, (z .0, z .2 .low _ t (c .before .before .loop .inv .1 t)))
 
 enum-known-tried : tie.Need-enum-known-tried Inv-loop μ-loop
 enum-known-tried c = c .match .keys1
@@ -46,7 +46,7 @@ enum-known-tried c = c .match .keys1
 same-length : tie.Need-same-length Inv-loop μ-loop
 same-length c =
     let loop = c .before .before .before .before .before .before .before .before .loop in
-    c .before .before .before .before .before .attempt .kept .1 .1 .1 .1 .1 .1 .1 .1 .1 .1 .1 .0 ∙ loop .inv .2
+    c .before .before .before .before .before .attempt .kept .1 .1 .1 .1 .1 .1 .1 .0 ∙ loop .inv .2
 
 returns : tie.Need-returns Inv-loop μ-loop
 returns c =
@@ -58,7 +58,7 @@ returns c =
     let v = loop .inv in
     let e : attempt .result ≡ Done (c .before .tried .given .0 .0) = c .before .tried .given .1 in
     let few = rw e at (attempt .ensures .0) in
-    (omega (arith, few), λ w j. kept-one _ _ _ _ (z .7 .low _ t (v .1 t)) (v .1 t) (v .3 w j) (attempt .ensures .1 w j .done _ e))
+    (omega (arith, few), λ w j. kept-one _ _ _ _ (z .2 .low _ t (v .1 t)) (v .1 t) (v .3 w j) (attempt .ensures .1 w j .done _ e))
 
 enum-told : tie.Need-enum-told Inv-loop μ-loop
 enum-told c = c .match .keys2
@@ -97,7 +97,7 @@ first-kept-spec =
     μ-loop
     next-from-requires
     loop-holds
-    cast-t19
+    cast-t15
     attempt-requires
     enum-known-tried
     same-length

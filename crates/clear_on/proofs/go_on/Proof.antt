@@ -4,7 +4,7 @@ use mathlib.Core.Path.{_≡_}
 use native.Mathlib.Omega.{arith}
 use Rattle.clear.proofs.Clearing.{inside-of, inside-less}
 use Rattle.clear_on.proofs.Attempting.{others-is, log-stored, pair-none, pair-both, gone-none, gone-both}
-use Rattle.clear.specs.declared.Kept.the-variants.{One, Nothing}
+use Rattle.clear.specs.declared.Kept.the-variants.{One}
 use borrow.Author.Needs.{needs}
 use Rattle.clear_on.proofs.go_on.Statement.{statement}
 use Rattle.clear_on.proofs.go_on.Tie as tie
@@ -44,7 +44,7 @@ slice-aggregate-either-way c = search needs
 
 mul-either-way : tie.Need-mul-either-way
 mul-either-way c =
-    let good = c .before .before .before .before .before .before .before .before .before .before .before .before .before .before .before .before .before .before .before .before .good in
+    let good = c .before .before .before .before .before .before .before .before .before .before .before .before .before .before .before .before .before .before .before .before .before .good in
     search (needs, c .before .place-in .ensures, good)
 
 sub-either-way : tie.Need-sub-either-way
@@ -61,11 +61,11 @@ either-way-requires c κs =
     let remove2 = c .before .before .before .before .before .remove2 in
     let remove = c .before .before .before .before .before .before .before .before .before .remove in
     let join-row = c .before .before .before .before .before .before .before .before .before .before .before .before .before .join-row in
-    let start = c .before .before .before .before .before .before .before .before .before .before .before .before .before .before .before .before .before .before .before .before .before in
+    let start = c .before .before .before .before .before .before .before .before .before .before .before .before .before .before .before .before .before .before .before .before .before .before in
     let p = start .pre .0 in
     let z = start .pre .1 in
-    let i = inside-of (p .tabled) _ _ _ _ (z .3) (join-row .ensures) (remove .ensures) in
-    (p, (z .0, z .1, z .2, z .3, z .4, z .5, omega (arith, remove2 .kept .0, remove .kept .0, join-row .kept .0), inside-less i _ _ (remove2 .ensures), z .7))
+    let i = inside-of (p .tabled) _ _ _ _ (z .0 .3) (join-row .ensures) (remove .ensures) in
+    (p, (z .0, omega (arith, remove2 .kept .0, remove .kept .0, join-row .kept .0), inside-less i _ _ (remove2 .ensures)))
 
 enum-known-found : tie.Need-enum-known-found
 enum-known-found c = c .match .keys1
@@ -81,16 +81,16 @@ returns c =
     let remove2 = c .before .before .before .before .before .before .before .before .before .before .remove2 in
     let remove = c .before .before .before .before .before .before .before .before .before .before .before .before .before .before .remove in
     let join-row = c .before .before .before .before .before .before .before .before .before .before .before .before .before .before .before .before .before .before .join-row in
-    let start = c .before .before .before .before .before .before .before .before .before .before .before .before .before .before .before .before .before .before .before .before .before .before .before .before .before .before in
-    (pair-none _ _, λ t j. gone-none (c .before .before .before .before .either-way .ensures .1 t j (others-is t _ _ _ _ _ _ (start .pre .0 .most) (start .pre .1 .3) (join-row .ensures) (remove .ensures) (remove2 .ensures)) .nothing (c .enum-told .given .1)))
+    let start = c .before .before .before .before .before .before .before .before .before .before .before .before .before .before .before .before .before .before .before .before .before .before .before .before .before .before .before in
+    (pair-none _ _, λ t j. gone-none (c .before .before .before .before .either-way .ensures .1 t j (others-is t _ _ _ _ _ _ (start .pre .0 .most) (start .pre .1 .0 .3) (join-row .ensures) (remove .ensures) (remove2 .ensures)) .nothing (c .enum-told .given .1)))
 
 add-requires : tie.Need-add-requires
 add-requires c κs =
     let either-way = c .before .before .before .before .before .either-way in
-    let start = c .before .before .before .before .before .before .before .before .before .before .before .before .before .before .before .before .before .before .before .before .before .before .before .before .before .before .before in
+    let start = c .before .before .before .before .before .before .before .before .before .before .before .before .before .before .before .before .before .before .before .before .before .before .before .before .before .before .before .before in
     let e : either-way .result ≡ One (c .before .found .given .0 .0) (c .before .found .given .0 .1 .0) = c .before .found .given .1 in
     let few = rw e at (either-way .ensures .0) in
-    omega (arith, few, start .pre .1 .6)
+    omega (arith, few, start .pre .1 .1)
 
 same-length-2 : tie.Need-same-length-2
 same-length-2 c = search needs
@@ -103,13 +103,13 @@ returns-2 c =
     let remove2 = c .before .before .before .before .before .before .before .before .before .before .before .before .remove2 in
     let remove = c .before .before .before .before .before .before .before .before .before .before .before .before .before .before .before .before .remove in
     let join-row = c .before .before .before .before .before .before .before .before .before .before .before .before .before .before .before .before .before .before .before .before .join-row in
-    let start = c .before .before .before .before .before .before .before .before .before .before .before .before .before .before .before .before .before .before .before .before .before .before .before .before .before .before .before .before in
+    let start = c .before .before .before .before .before .before .before .before .before .before .before .before .before .before .before .before .before .before .before .before .before .before .before .before .before .before .before .before .before in
     let sum = c .add .ensures in
     let e : either-way .result ≡ One (c .before .before .found .given .0 .0) (c .before .before .found .given .0 .1 .0) = c .before .before .found .given .1 in
     let few = rw e at (either-way .ensures .0) in (
       pair-both (omega (arith, few, sum .crossings)) (omega (arith, sum .crossings)),
       λ t j.
-          let d = either-way .ensures .1 t j (others-is t _ _ _ _ _ _ (start .pre .0 .most) (start .pre .1 .3) (join-row .ensures) (remove .ensures) (remove2 .ensures)) .one _ _ e in
+          let d = either-way .ensures .1 t j (others-is t _ _ _ _ _ _ (start .pre .0 .most) (start .pre .1 .0 .3) (join-row .ensures) (remove .ensures) (remove2 .ensures)) .one _ _ e in
           gone-both (d .0) (d .1) (record { stored = log-stored _ (d .0) (place-in .ensures) (out .given .0) (out .given .1) (d .2); counted = omega (arith, sum .crossings, d .2 .counted); parks = omega (arith, sum .parks, d .2 .parks); few = λ h. omega (arith, h, sum .few, sum .crossings, d .2 .few) }),
     )
 

@@ -7,39 +7,25 @@ use Rattle.comparing.proofs.Handing.{begins}
 use borrow.Author.Needs.{needs}
 use Rattle.comparing.proofs.compare.Statement.{statement}
 use Rattle.comparing.proofs.compare.Tie as tie
-use Rattle.comparing.proofs.compare.Reads as reads
-use Rattle.comparing.proofs.compare.Lts as lts
-use Rattle.comparing.proofs.differ.Reads as differ-reads
-use Rattle.comparing.proofs.longer_of.Reads as longer-of-reads
-use Rattle.comparing.proofs.number_of.Reads as number-of-reads
-use Rattle.comparing.proofs.rest.Reads as rest-reads
-use Rattle.comparing.proofs.value_of.Reads as value-of-reads
 
--- src/lib.rt:178:9
 differ-requires : tie.Need-differ-requires
 differ-requires c κs = search needs
 
--- src/lib.rt:179:15
 number-of-requires : tie.Need-number-of-requires
 number-of-requires c κs = search needs
 
--- src/lib.rt:180:14
 value-of-requires : tie.Need-value-of-requires
 value-of-requires c κs = search needs
 
--- src/lib.rt:181:15
 longer-of-requires : tie.Need-longer-of-requires
 longer-of-requires c κs = search needs
 
--- src/lib.rt:182:5
 rest-requires : tie.Need-rest-requires
 rest-requires c κs = let s = c .before .before .before .before .before .before .before .before in begins (now (s .args .first)) (now (s .args .second)) _ _ (c .before .before .before .before .differ .ensures .answers)
 
--- src/lib.rt:168:1
 same-length : tie.Need-same-length
 same-length c = search needs
 
--- src/lib.rt:168:1
 returns : tie.Need-returns
 returns c =
     let s = c .before .before .before .before .before .before .before .before .before in

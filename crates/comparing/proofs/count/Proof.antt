@@ -10,9 +10,6 @@ use Rattle.comparing.proofs.Counting.{Counting, counting-start, countin
 use borrow.Author.Needs.{needs}
 use Rattle.comparing.proofs.count.Statement.{statement}
 use Rattle.comparing.proofs.count.Tie as tie
-use Rattle.comparing.proofs.count.Reads as reads
-use Rattle.comparing.proofs.count.Lts as lts
-use Rattle.docket.proofs.unpack.Reads as unpack-reads
 
 abbrev Inv-loop : tie.InvT-loop
 Inv-loop list counts₀ i₀ counts i = Counting list counts i
@@ -20,27 +17,21 @@ Inv-loop list counts₀ i₀ counts i = Counting list counts i
 abbrev μ-loop : tie.MeasureT-loop
 μ-loop list counts₀ i₀ counts i = length list - i
 
--- src/lib.rt:35:5
 loop-holds : tie.Need-loop-holds Inv-loop μ-loop
 loop-holds c = let s = c .before in rw (s .pre .1) (counting-start (now (s .args .list)))
 
--- src/lib.rt:36:32
 mul-unpack : tie.Need-mul-unpack Inv-loop μ-loop
 mul-unpack c = search needs
 
--- src/lib.rt:36:32
 shared-slice-read-unpack : tie.Need-shared-slice-read-unpack Inv-loop μ-loop
 shared-slice-read-unpack c = search needs
 
--- src/lib.rt:36:13
 unpack-requires : tie.Need-unpack-requires Inv-loop μ-loop
 unpack-requires c κs = search needs
 
--- src/lib.rt:38:21
 cast-place : tie.Need-cast-place Inv-loop μ-loop
 cast-place c = search needs
 
--- src/lib.rt:40:13
 returns : tie.Need-returns Inv-loop μ-loop
 returns c =
     let l = c .before .before .before .before .before .before .loop in
@@ -50,41 +41,33 @@ returns c =
       counted = λ e. never-some _ (sym e);
     }
 
--- src/lib.rt:42:9
 mul-counts : tie.Need-mul-counts Inv-loop μ-loop
 mul-counts c = search needs
 
--- src/lib.rt:42:9
 element-copy-out-counts : tie.Need-element-copy-out-counts Inv-loop μ-loop
 element-copy-out-counts c = search needs
 
--- src/lib.rt:42:9
 add-counts : tie.Need-add-counts Inv-loop μ-loop
 add-counts c =
     let l = c .before .before .before .before .before .before .before .loop in
     let s = c .before .before .before .before .before .before .before .before .before in
     omega (arith, l .inv .low (c .before .before .before .before .unpack .result .carrier .0), c .before .before .before .before .before .before .loop-test .taken, s .pre .0)
 
--- src/lib.rt:42:9
 element-write-counts : tie.Need-element-write-counts Inv-loop μ-loop
 element-write-counts c = search needs
 
--- src/lib.rt:43:9
 add-i : tie.Need-add-i Inv-loop μ-loop
 add-i c = search needs
 
--- src/lib.rt:35:5
 loop-less : tie.Need-loop-less Inv-loop μ-loop
 loop-less c = search needs
 
--- src/lib.rt:35:5
 loop-again : tie.Need-loop-again Inv-loop μ-loop
 loop-again c =
     let l = c .before .before .before .before .before .before .before .loop in
     let s = c .before .before .before .before .before .before .before .before .before in
     counting-on (now (s .args .list)) (l .counts) (l .i) (l .inv) (c .before .before .before .before .before .before .loop-test .taken) _ (ap (λ x. x .carrier) (c .before .before .before .before .unpack .ensures)) (c .before .if1 .left)
 
--- src/lib.rt:30:1
 returns-2 : tie.Need-returns-2 Inv-loop μ-loop
 returns-2 c =
     let l = c .before .loop in

@@ -8,12 +8,6 @@ use Rattle.comparing.specs.Statements.{countedOf}
 use Rattle.comparing.proofs.Saying.{says-first-long, says-second-long, says-above, says-room, says-granted}
 use Rattle.comparing.proofs.differ.Statement.{statement}
 use Rattle.comparing.proofs.differ.Tie as tie
-use Rattle.comparing.proofs.differ.Reads as reads
-use Rattle.comparing.proofs.differ.Lts as lts
-use Rattle.comparing.proofs.count.Reads as count-reads
-use Rattle.comparing.proofs.earlier.Reads as earlier-reads
-use Rattle.comparing.proofs.equal_leading.Reads as equal-leading-reads
-use Rattle.comparing.proofs.fill.Reads as fill-reads
 
 returns : tie.Need-returns
 returns c = let s = c .before .before .before in says-first-long (now (s .args .first)) (now (s .args .second)) (now (s .args .differences)) (c .if1 .taken)

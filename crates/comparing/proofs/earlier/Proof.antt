@@ -6,24 +6,18 @@ use Rattle.comparing.specs.Statements.{countedOf}
 use borrow.Author.Needs.{needs}
 use Rattle.comparing.proofs.earlier.Statement.{statement}
 use Rattle.comparing.proofs.earlier.Tie as tie
-use Rattle.comparing.proofs.earlier.Reads as reads
-use Rattle.comparing.proofs.earlier.Lts as lts
 
--- src/lib.rt:54:24
 enum-known-one : tie.Need-enum-known-one
 enum-known-one c = search needs
 
--- src/lib.rt:55:25
 enum-told : tie.Need-enum-told
 enum-told c = search needs
 
--- src/lib.rt:50:1
 returns : tie.Need-returns
 returns c =
     let s = c .before .before .before in
     sym (ap (λ a. orElse (countedOf a) (countedOf (s .args .other))) (c .before .one .given .1))
 
--- src/lib.rt:50:1
 returns-2 : tie.Need-returns-2
 returns-2 c = search needs
 

@@ -8,9 +8,6 @@ use Rattle.comparing.proofs.Filling.{Passing, passing-start, passing-st
 use borrow.Author.Needs.{needs}
 use Rattle.comparing.proofs.equal_leading.Statement.{statement}
 use Rattle.comparing.proofs.equal_leading.Tie as tie
-use Rattle.comparing.proofs.equal_leading.Reads as reads
-use Rattle.comparing.proofs.equal_leading.Lts as lts
-use Rattle.comparing.proofs.lower.Reads as lower-reads
 
 abbrev Inv-loop : tie.InvT-loop
 Inv-loop first second both equal₀ equal = Passing first second equal
@@ -18,31 +15,24 @@ Inv-loop first second both equal₀ equal = Passing first second equal
 abbrev μ-loop : tie.MeasureT-loop
 μ-loop first second both equal₀ equal = both - equal
 
--- src/lib.rt:81:9
 lower-requires : tie.Need-lower-requires Inv-loop μ-loop
 lower-requires c κs = search needs
 
--- src/lib.rt:83:5
 loop-holds : tie.Need-loop-holds Inv-loop μ-loop
 loop-holds c = let s = c .before .before .before in passing-start (now (s .args .first)) (now (s .args .second))
 
--- src/lib.rt:84:12
 mul-if1 : tie.Need-mul-if1 Inv-loop μ-loop
 mul-if1 c = search needs
 
--- src/lib.rt:84:12
 shared-slice-read-if1 : tie.Need-shared-slice-read-if1 Inv-loop μ-loop
 shared-slice-read-if1 c = search needs
 
--- src/lib.rt:84:24
 mul-if1-2 : tie.Need-mul-if1-2 Inv-loop μ-loop
 mul-if1-2 c = search needs
 
--- src/lib.rt:84:24
 shared-slice-read-if1-2 : tie.Need-shared-slice-read-if1-2 Inv-loop μ-loop
 shared-slice-read-if1-2 c = search needs
 
--- src/lib.rt:85:13
 returns : tie.Need-returns Inv-loop μ-loop
 returns c =
     let l = c .before .before .before .before .loop in
@@ -50,15 +40,12 @@ returns c =
     let below : l .equal < min (length (now (s .args .first))) (length (now (s .args .second))) = rw (← c .before .before .before .before .before .lower .ensures) (c .before .before .before .loop-test .taken) in
     passing-stops (now (s .args .first)) (now (s .args .second)) (l .equal) (l .inv) (omega arith) (omega arith) (c .if1 .taken)
 
--- src/lib.rt:87:9
 add-equal : tie.Need-add-equal Inv-loop μ-loop
 add-equal c = search needs
 
--- src/lib.rt:83:5
 loop-less : tie.Need-loop-less Inv-loop μ-loop
 loop-less c = search needs
 
--- src/lib.rt:83:5
 loop-again : tie.Need-loop-again Inv-loop μ-loop
 loop-again c =
     let l = c .before .before .before .before .loop in
@@ -66,7 +53,6 @@ loop-again c =
     let below : l .equal < min (length (now (s .args .first))) (length (now (s .args .second))) = rw (← c .before .before .before .before .before .lower .ensures) (c .before .before .before .loop-test .taken) in
     passing-on (now (s .args .first)) (now (s .args .second)) (l .equal) (l .inv) (omega arith) (omega arith) (c .if1 .left)
 
--- src/lib.rt:78:1
 returns-2 : tie.Need-returns-2 Inv-loop μ-loop
 returns-2 c =
     let l = c .before .loop in

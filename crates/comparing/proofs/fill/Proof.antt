@@ -10,9 +10,6 @@ use borrow.Author.Needs.{needs}
 use Rattle.paper.specs.Limits.{most-carriers}
 use Rattle.comparing.proofs.fill.Statement.{statement}
 use Rattle.comparing.proofs.fill.Tie as tie
-use Rattle.comparing.proofs.fill.Reads as reads
-use Rattle.comparing.proofs.fill.Lts as lts
-use Rattle.comparing.proofs.less.Reads as less-reads
 
 abbrev Inv-loop : tie.InvT-loop
 Inv-loop firsts seconds differences₀ c₀ differences c = Filling seconds firsts differences c
@@ -20,58 +17,45 @@ Inv-loop firsts seconds differences₀ c₀ differences c = Filling seconds firs
 abbrev μ-loop : tie.MeasureT-loop
 μ-loop firsts seconds differences₀ c₀ differences c = most-carriers - c
 
--- src/lib.rt:61:5
 loop-holds : tie.Need-loop-holds Inv-loop μ-loop
 loop-holds c = filling-start (now (c .args .seconds)) (now (c .args .firsts)) (now (c .args .differences)) (c .pre)
 
--- src/lib.rt:62:31
 mul-less : tie.Need-mul-less Inv-loop μ-loop
 mul-less c = search needs
 
--- src/lib.rt:62:31
 element-copy-out-less : tie.Need-element-copy-out-less Inv-loop μ-loop
 element-copy-out-less c = search needs
 
--- src/lib.rt:62:43
 mul-less-2 : tie.Need-mul-less-2 Inv-loop μ-loop
 mul-less-2 c = search needs
 
--- src/lib.rt:62:43
 element-copy-out-less-2 : tie.Need-element-copy-out-less-2 Inv-loop μ-loop
 element-copy-out-less-2 c = search needs
 
--- src/lib.rt:62:26
 less-requires : tie.Need-less-requires Inv-loop μ-loop
 less-requires c κs = search needs
 
--- src/lib.rt:62:9
 mul-t15 : tie.Need-mul-t15 Inv-loop μ-loop
 mul-t15 c = search needs
 
--- src/lib.rt:62:9
 slice-set-from-differences : tie.Need-slice-set-from-differences Inv-loop μ-loop
 slice-set-from-differences c = search needs
 
--- src/lib.rt:63:9
 add-c : tie.Need-add-c Inv-loop μ-loop
 add-c c = search needs
 
--- src/lib.rt:61:5
 loop-less : tie.Need-loop-less Inv-loop μ-loop
 loop-less c = search needs
 
--- src/lib.rt:61:5
 loop-again : tie.Need-loop-again Inv-loop μ-loop
 loop-again c =
     let l = c .before .before .before .before .loop in
     let s = c .before .before .before .before .before in
     filling-on (now (s .args .seconds)) (now (s .args .firsts)) (l .differences) (l .c) (l .inv) (c .before .before .before .loop-test .taken) _ (toZ-ofZ w64 (c .less .result) (record { sfits = c .less .ok }) ∙ c .less .ensures)
 
--- src/lib.rt:56:1
 same-length : tie.Need-same-length Inv-loop μ-loop
 same-length c = search needs
 
--- src/lib.rt:56:1
 returns : tie.Need-returns Inv-loop μ-loop
 returns c =
     let l = c .before .loop in

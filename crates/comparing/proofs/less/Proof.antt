@@ -3,8 +3,6 @@ use borrow.Author.Needs.{needs}
 use Rattle.comparing.proofs.Signed.{less-fits, less-read}
 use Rattle.comparing.proofs.less.Statement.{statement}
 use Rattle.comparing.proofs.less.Tie as tie
-use Rattle.comparing.proofs.less.Reads as reads
-use Rattle.comparing.proofs.less.Lts as lts
 
 cast-result : tie.Need-cast-result
 cast-result c = search needs

@@ -1,31 +1,23 @@
 -- `comparing::longer_of` meets its contract: by the lengths, where the comparison is granted.
 -- Assumes nothing.
 use denote.Ref.{now}
-use native.Mathlib.Omega.{arith}
 use Rattle.comparing.proofs.Handing.{tells-second, tells-first}
 use borrow.Author.Needs.{needs}
 use Rattle.comparing.proofs.longer_of.Statement.{statement}
 use Rattle.comparing.proofs.longer_of.Tie as tie
-use Rattle.comparing.proofs.longer_of.Reads as reads
-use Rattle.comparing.proofs.longer_of.Lts as lts
 
--- src/lib.rt:141:16
 enum-told : tie.Need-enum-told
 enum-told c = search needs
 
--- src/lib.rt:147:31
 enum-told-2 : tie.Need-enum-told-2
 enum-told-2 c = search needs
 
--- src/lib.rt:136:1
 returns : tie.Need-returns
 returns c = let s = c .before .before .before in tells-second (now (s .args .first)) (now (s .args .second)) (s .args .answer) _ (c .before .enum-told .given .1) (c .if1 .taken)
 
--- src/lib.rt:136:1
 returns-2 : tie.Need-returns-2
 returns-2 c = let s = c .before .before .before in tells-first (now (s .args .first)) (now (s .args .second)) (s .args .answer) _ (c .before .enum-told .given .1) (c .if1 .left)
 
--- src/lib.rt:136:1
 returns-3 : tie.Need-returns-3
 returns-3 c = search needs
 

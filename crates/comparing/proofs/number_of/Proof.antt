@@ -6,27 +6,19 @@ use Rattle.comparing.specs.Comparing.{numberBy}
 use borrow.Author.Needs.{needs}
 use Rattle.comparing.proofs.number_of.Statement.{statement}
 use Rattle.comparing.proofs.number_of.Tie as tie
-use Rattle.comparing.proofs.number_of.Reads as reads
-use Rattle.comparing.proofs.number_of.Lts as lts
-use Rattle.docket.proofs.number.Reads as number-reads
 
--- src/lib.rt:125:32
 enum-told : tie.Need-enum-told
 enum-told c = search needs
 
--- src/lib.rt:126:25
 enum-known-answer : tie.Need-enum-known-answer
 enum-known-answer c = search needs
 
--- src/lib.rt:126:31
 number-requires : tie.Need-number-requires
 number-requires c κs = search needs
 
--- src/lib.rt:121:1
 returns : tie.Need-returns
 returns c = search needs
 
--- src/lib.rt:121:1
 returns-2 : tie.Need-returns-2
 returns-2 c = c .number .ensures ∙ sym (ap (λ a. numberBy (verdictOf a)) (c .before .before .answer .given .1))
 

@@ -6,74 +6,55 @@ use Rattle.comparing.proofs.Handing.{begins-within, hands-second, hands
 use borrow.Author.Needs.{needs}
 use Rattle.comparing.proofs.rest.Statement.{statement}
 use Rattle.comparing.proofs.rest.Tie as tie
-use Rattle.comparing.proofs.rest.Reads as reads
-use Rattle.comparing.proofs.rest.Lts as lts
 
--- src/lib.rt:156:26
 enum-known-answer : tie.Need-enum-known-answer
 enum-known-answer c = search needs
 
--- src/lib.rt:157:23
 enum-told : tie.Need-enum-told
 enum-told c = search needs
 
--- src/lib.rt:157:16
 mul-result : tie.Need-mul-result
 mul-result c = search needs
 
--- src/lib.rt:157:16
 sub-result : tie.Need-sub-result
 sub-result c = search needs
 
--- src/lib.rt:157:16
 part-result-start : tie.Need-part-result-start
 part-result-start c = search needs
 
--- src/lib.rt:157:16
 part-result-end : tie.Need-part-result-end
 part-result-end c = search needs
 
--- src/lib.rt:157:9
 returns : tie.Need-returns
 returns c = let s = c .before .before .before in hands-none (now (s .args .first)) (now (s .args .second)) (s .args .answer) _ (c .before .enum-told .given .1)
 
--- src/lib.rt:161:9
 mul-result-2 : tie.Need-mul-result-2
 mul-result-2 c = let s = c .before .before .before .before in let w = begins-within (now (s .args .first)) (now (s .args .second)) (s .args .answer) _ (c .before .before .answer .given .1) (s .pre) in omega (arith, w .1)
 
--- src/lib.rt:161:9
 sub-result-2 : tie.Need-sub-result-2
 sub-result-2 c = let s = c .before .before .before .before in let w = begins-within (now (s .args .first)) (now (s .args .second)) (s .args .answer) _ (c .before .before .answer .given .1) (s .pre) in omega (arith, w .1)
 
--- src/lib.rt:161:9
 part-result-start-2 : tie.Need-part-result-start-2
 part-result-start-2 c = let s = c .before .before .before .before in let w = begins-within (now (s .args .first)) (now (s .args .second)) (s .args .answer) _ (c .before .before .answer .given .1) (s .pre) in omega (arith, w .1)
 
--- src/lib.rt:161:9
 part-result-end-2 : tie.Need-part-result-end-2
 part-result-end-2 c = search needs
 
--- src/lib.rt:163:9
 mul-result-3 : tie.Need-mul-result-3
 mul-result-3 c = let s = c .before .before .before .before in let w = begins-within (now (s .args .first)) (now (s .args .second)) (s .args .answer) _ (c .before .before .answer .given .1) (s .pre) in omega (arith, w .0)
 
--- src/lib.rt:163:9
 sub-result-3 : tie.Need-sub-result-3
 sub-result-3 c = let s = c .before .before .before .before in let w = begins-within (now (s .args .first)) (now (s .args .second)) (s .args .answer) _ (c .before .before .answer .given .1) (s .pre) in omega (arith, w .0)
 
--- src/lib.rt:163:9
 part-result-start-3 : tie.Need-part-result-start-3
 part-result-start-3 c = let s = c .before .before .before .before in let w = begins-within (now (s .args .first)) (now (s .args .second)) (s .args .answer) _ (c .before .before .answer .given .1) (s .pre) in omega (arith, w .0)
 
--- src/lib.rt:163:9
 part-result-end-3 : tie.Need-part-result-end-3
 part-result-end-3 c = search needs
 
--- src/lib.rt:152:1
 returns-2 : tie.Need-returns-2
 returns-2 c = let s = c .before .before .before .before .before in hands-second (now (s .args .first)) (now (s .args .second)) (s .args .answer) _ (c .before .before .before .answer .given .1) (c .before .if1 .taken)
 
--- src/lib.rt:152:1
 returns-3 : tie.Need-returns-3
 returns-3 c = let s = c .before .before .before .before .before in hands-first (now (s .args .first)) (now (s .args .second)) (s .args .answer) _ (c .before .before .before .answer .given .1) (c .before .if1 .left)
 

@@ -4,8 +4,6 @@ use borrow.Author.Needs.{needs}
 use borrow.Author.Tests.{eq-eqb, ne-eqb}
 use Rattle.edges.proofs.answer.Statement.{statement}
 use Rattle.edges.proofs.answer.Tie as tie
-use Rattle.edges.proofs.answer.Reads as reads
-use Rattle.edges.proofs.answer.Lts as lts
 
 returns : tie.Need-returns
 returns c = rw (c .if1 .taken)

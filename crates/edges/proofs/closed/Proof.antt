@@ -7,11 +7,6 @@ use Rattle.survey.specs.Bytes.{lineWorth}
 use Rattle.edges.proofs.Closing.{closes-none, closes-few, closes-two, closes-comment}
 use Rattle.edges.proofs.closed.Statement.{statement}
 use Rattle.edges.proofs.closed.Tie as tie
-use Rattle.edges.proofs.closed.Reads as reads
-use Rattle.edges.proofs.closed.Lts as lts
-use Rattle.edges.proofs.broken.Reads as broken-reads
-use Rattle.edges.proofs.opened.Reads as opened-reads
-use Rattle.edges.proofs.take.Reads as take-reads
 
 enum-told : tie.Need-enum-told
 enum-told c = search needs

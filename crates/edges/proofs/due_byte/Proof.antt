@@ -3,9 +3,6 @@
 use borrow.Author.Needs.{needs}
 use Rattle.edges.proofs.due_byte.Statement.{statement}
 use Rattle.edges.proofs.due_byte.Tie as tie
-use Rattle.edges.proofs.due_byte.Reads as reads
-use Rattle.edges.proofs.due_byte.Lts as lts
-use Rattle.edges.proofs.word_byte.Reads as word-byte-reads
 
 enum-told : tie.Need-enum-told
 enum-told c = search needs

@@ -1,7 +1,7 @@
 -- `edges::feed` meets its contract. After i turns the first i bytes of the piece were read and their ends stored.
 -- Assumes nothing.
 use mathlib.Core.Path.{_≡_, refl, _∙_, ap}
-use mathlib.Core.List.{List, [], _++_, append-nil}
+use mathlib.Core.List.{List, _++_, append-nil}
 use Prim.Native.Nat.{ℕ, _+_, _-_, _≤_, _<_}
 use lib.ListN.{length, take}
 use lib.Seq.{take-all}
@@ -11,10 +11,6 @@ use Rattle.edges.specs.Held.{last-line, Came}
 use Rattle.edges.proofs.Storing.{stored-length, came-piece}
 use Rattle.edges.proofs.feed.Statement.{statement}
 use Rattle.edges.proofs.feed.Tie as tie
-use Rattle.edges.proofs.feed.Reads as reads
-use Rattle.edges.proofs.feed.Lts as lts
-use Rattle.edges.proofs.keep.Reads as keep-reads
-use Rattle.edges.proofs.step.Reads as step-reads
 
 abbrev Inv-loop : tie.InvT-loop
 Inv-loop piece ends₀ now₀ i₀ ends now i =

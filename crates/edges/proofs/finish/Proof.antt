@@ -7,10 +7,6 @@ use Rattle.edges.proofs.Storing.{stored-length, reads-all}
 use Rattle.edges.proofs.finish.Statement.{statement}
 use Rattle.edges.proofs.finish.Tie as tie
 use Rattle.edges.proofs.finish.Reads as reads
-use Rattle.edges.proofs.finish.Lts as lts
-use Rattle.edges.proofs.answer.Reads as answer-reads
-use Rattle.edges.proofs.finished.Reads as finished-reads
-use Rattle.edges.proofs.keep.Reads as keep-reads
 
 finished-requires : tie.Need-finished-requires
 finished-requires c κs = search needs

@@ -4,11 +4,6 @@ use borrow.Author.Needs.{needs}
 use Rattle.edges.proofs.Stepping.{finishes-failed, finishes-fresh, finishes-line}
 use Rattle.edges.proofs.finished.Statement.{statement}
 use Rattle.edges.proofs.finished.Tie as tie
-use Rattle.edges.proofs.finished.Reads as reads
-use Rattle.edges.proofs.finished.Lts as lts
-use Rattle.edges.proofs.closed.Reads as closed-reads
-use Rattle.edges.proofs.marked.Reads as marked-reads
-use Rattle.edges.proofs.released.Reads as released-reads
 
 returns : tie.Need-returns
 returns c = finishes-failed (c .before .args .s) (c .if1 .taken)

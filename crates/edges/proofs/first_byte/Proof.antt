@@ -5,10 +5,6 @@ use borrow.Author.Needs.{needs}
 use Rattle.edges.proofs.Parts.{first-space, first-none, first-on, first-other, first-long}
 use Rattle.edges.proofs.first_byte.Statement.{statement}
 use Rattle.edges.proofs.first_byte.Tie as tie
-use Rattle.edges.proofs.first_byte.Reads as reads
-use Rattle.edges.proofs.first_byte.Lts as lts
-use Rattle.edges.proofs.is_digit.Reads as is-digit-reads
-use Rattle.edges.proofs.tallied.Reads as tallied-reads
 
 returns : tie.Need-returns
 returns c = λ w. first-space w (c .before .before .args .k) (c .before .before .args .n) (c .before .before .args .b) (c .before .if1 .taken) (c .if2 .taken)

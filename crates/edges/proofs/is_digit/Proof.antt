@@ -1,13 +1,10 @@
 -- `edges::is_digit` meets its contract.
 -- Assumes nothing.
-use borrow.Author.Needs.{needs}
 use borrow.Author.Tests.{le-leb, lt-leb}
 use Rattle.paper.specs.Basics.{_and_}
 use Rattle.paper.specs.Text.{isDigit}
 use Rattle.edges.proofs.is_digit.Statement.{statement}
 use Rattle.edges.proofs.is_digit.Tie as tie
-use Rattle.edges.proofs.is_digit.Reads as reads
-use Rattle.edges.proofs.is_digit.Lts as lts
 
 returns : tie.Need-returns
 unfolding isDigit _and_

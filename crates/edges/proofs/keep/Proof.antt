@@ -5,10 +5,6 @@ use Rattle.survey.specs.Narrow.{narrow}
 use Rattle.edges.proofs.Storing.{stored-off, stored-on}
 use Rattle.edges.proofs.keep.Statement.{statement}
 use Rattle.edges.proofs.keep.Tie as tie
-use Rattle.edges.proofs.keep.Reads as reads
-use Rattle.edges.proofs.keep.Lts as lts
-use Rattle.edges.proofs.count.Reads as count-reads
-use Rattle.edges.proofs.narrow.Reads as narrow-reads
 
 count-requires : tie.Need-count-requires
 count-requires c κs = search needs

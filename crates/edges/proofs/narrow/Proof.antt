@@ -5,8 +5,6 @@ use borrow.Author.Needs.{needs}
 use Rattle.survey.specs.Narrow.{narrow}
 use Rattle.edges.proofs.narrow.Statement.{statement}
 use Rattle.edges.proofs.narrow.Tie as tie
-use Rattle.edges.proofs.narrow.Reads as reads
-use Rattle.edges.proofs.narrow.Lts as lts
 
 cast-result : tie.Need-cast-result
 cast-result c = search needs

@@ -6,11 +6,6 @@ use Rattle.survey.specs.Bytes.{lineByte}
 use Rattle.edges.specs.Held.{wordBy}
 use Rattle.edges.proofs.on_byte.Statement.{statement}
 use Rattle.edges.proofs.on_byte.Tie as tie
-use Rattle.edges.proofs.on_byte.Reads as reads
-use Rattle.edges.proofs.on_byte.Lts as lts
-use Rattle.edges.proofs.due_byte.Reads as due-byte-reads
-use Rattle.edges.proofs.first_byte.Reads as first-byte-reads
-use Rattle.edges.proofs.second_byte.Reads as second-byte-reads
 
 enum-told : tie.Need-enum-told
 enum-told c = search needs

@@ -5,11 +5,6 @@ use native.Mathlib.Omega.{arith}
 use borrow.Author.Needs.{needs}
 use Rattle.edges.proofs.read.Statement.{statement}
 use Rattle.edges.proofs.read.Tie as tie
-use Rattle.edges.proofs.read.Reads as reads
-use Rattle.edges.proofs.read.Lts as lts
-use Rattle.edges.proofs.feed.Reads as feed-reads
-use Rattle.edges.proofs.finish.Reads as finish-reads
-use Rattle.edges.proofs.start.Reads as start-reads
 
 start-requires : tie.Need-start-requires
 start-requires c κs = search needs

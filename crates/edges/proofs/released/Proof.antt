@@ -3,9 +3,6 @@
 use borrow.Author.Needs.{needs}
 use Rattle.edges.proofs.released.Statement.{statement}
 use Rattle.edges.proofs.released.Tie as tie
-use Rattle.edges.proofs.released.Reads as reads
-use Rattle.edges.proofs.released.Lts as lts
-use Rattle.edges.proofs.on_byte.Reads as on-byte-reads
 
 on-byte-requires : tie.Need-on-byte-requires
 on-byte-requires c κs = search needs

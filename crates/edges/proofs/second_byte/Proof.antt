@@ -5,10 +5,6 @@ use borrow.Author.Needs.{needs}
 use Rattle.edges.proofs.Parts.{second-on, second-other, second-long}
 use Rattle.edges.proofs.second_byte.Statement.{statement}
 use Rattle.edges.proofs.second_byte.Tie as tie
-use Rattle.edges.proofs.second_byte.Reads as reads
-use Rattle.edges.proofs.second_byte.Lts as lts
-use Rattle.edges.proofs.is_digit.Reads as is-digit-reads
-use Rattle.edges.proofs.tallied.Reads as tallied-reads
 
 is-digit-requires : tie.Need-is-digit-requires
 is-digit-requires c κs = search needs

@@ -3,12 +3,9 @@
 use mathlib.Core.Path.{refl}
 use mathlib.Core.List.{[]}
 use native.Mathlib.Omega.{arith}
-use borrow.Author.Needs.{needs}
 use Rattle.stores.proofs.Stores.{wrote-none}
 use Rattle.edges.proofs.start.Statement.{statement}
 use Rattle.edges.proofs.start.Tie as tie
-use Rattle.edges.proofs.start.Reads as reads
-use Rattle.edges.proofs.start.Lts as lts
 
 returns : tie.Need-returns
 returns c = λ room. record { ends = []; count = refl; wrote = wrote-none room 0; state = refl; line = omega arith }

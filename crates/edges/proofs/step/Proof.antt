@@ -4,12 +4,6 @@ use borrow.Author.Needs.{needs}
 use Rattle.edges.proofs.Stepping.{steps-failed, steps-end, steps-cr, steps-on}
 use Rattle.edges.proofs.step.Statement.{statement}
 use Rattle.edges.proofs.step.Tie as tie
-use Rattle.edges.proofs.step.Reads as reads
-use Rattle.edges.proofs.step.Lts as lts
-use Rattle.edges.proofs.closed.Reads as closed-reads
-use Rattle.edges.proofs.marked.Reads as marked-reads
-use Rattle.edges.proofs.on_byte.Reads as on-byte-reads
-use Rattle.edges.proofs.released.Reads as released-reads
 
 returns : tie.Need-returns
 returns c = steps-failed (c .before .args .s) (c .before .args .b) (c .if1 .taken)

@@ -4,10 +4,6 @@ use borrow.Author.Needs.{needs}
 use Rattle.edges.proofs.Closing.{takes-head, takes-more, takes-zero, takes-zero-2, takes-rail}
 use Rattle.edges.proofs.take.Statement.{statement}
 use Rattle.edges.proofs.take.Tie as tie
-use Rattle.edges.proofs.take.Reads as reads
-use Rattle.edges.proofs.take.Lts as lts
-use Rattle.edges.proofs.broken.Reads as broken-reads
-use Rattle.edges.proofs.opened.Reads as opened-reads
 
 enum-told : tie.Need-enum-told
 enum-told c = search needs

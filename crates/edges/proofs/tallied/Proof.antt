@@ -4,8 +4,6 @@ use borrow.Author.Needs.{needs}
 use Rattle.edges.proofs.Parts.{tally-on, tally-full, tally-high, tally-low}
 use Rattle.edges.proofs.tallied.Statement.{statement}
 use Rattle.edges.proofs.tallied.Tie as tie
-use Rattle.edges.proofs.tallied.Reads as reads
-use Rattle.edges.proofs.tallied.Lts as lts
 
 mul-result : tie.Need-mul-result
 mul-result c = search needs

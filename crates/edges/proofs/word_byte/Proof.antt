@@ -4,8 +4,6 @@ use borrow.Author.Needs.{needs}
 use Rattle.edges.proofs.Parts.{word-past, word-off, word-last, word-on}
 use Rattle.edges.proofs.word_byte.Statement.{statement}
 use Rattle.edges.proofs.word_byte.Tie as tie
-use Rattle.edges.proofs.word_byte.Reads as reads
-use Rattle.edges.proofs.word_byte.Lts as lts
 
 shared-slice-read-if2 : tie.Need-shared-slice-read-if2
 shared-slice-read-if2 c = search needs

@@ -1,7 +1,6 @@
 -- `editions::known` meets its contract: 1 and 2 are the editions.
 -- Assumes nothing.
 use Rattle.editions.proofs.Saying.{known-one, known-else}
-use borrow.Author.Needs.{needs}
 use Rattle.editions.proofs.known.Statement.{statement}
 use Rattle.editions.proofs.known.Tie as tie
 

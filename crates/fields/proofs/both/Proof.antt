@@ -3,8 +3,6 @@
 use Rattle.paper.specs.Basics.{_and_}
 use Rattle.fields.proofs.both.Statement.{statement}
 use Rattle.fields.proofs.both.Tie as tie
-use Rattle.fields.proofs.both.Reads as reads
-use Rattle.fields.proofs.both.Lts as lts
 
 returns : tie.Need-returns
 unfolding _and_

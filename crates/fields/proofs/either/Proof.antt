@@ -3,8 +3,6 @@
 use Rattle.paper.specs.Basics.{_or_}
 use Rattle.fields.proofs.either.Statement.{statement}
 use Rattle.fields.proofs.either.Tie as tie
-use Rattle.fields.proofs.either.Reads as reads
-use Rattle.fields.proofs.either.Lts as lts
 
 returns : tie.Need-returns
 unfolding _or_

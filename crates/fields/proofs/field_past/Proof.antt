@@ -4,12 +4,6 @@ use borrow.Author.Needs.{needs}
 use Rattle.paper.specs.Bytes.{fieldPast}
 use Rattle.fields.proofs.field_past.Statement.{statement}
 use Rattle.fields.proofs.field_past.Tie as tie
-use Rattle.fields.proofs.field_past.Reads as reads
-use Rattle.fields.proofs.field_past.Lts as lts
-use Rattle.fields.proofs.both.Reads as both-reads
-use Rattle.fields.proofs.kept.Reads as kept-reads
-use Rattle.fields.proofs.one_on.Reads as one-on-reads
-use Rattle.fields.proofs.well_field.Reads as well-field-reads
 
 one-on-requires : tie.Need-one-on-requires
 one-on-requires c κs = search needs

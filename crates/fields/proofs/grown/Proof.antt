@@ -6,8 +6,6 @@ use borrow.Author.Tests.{lt-ltb, le-ltb}
 use Rattle.paper.specs.Bytes.{grow}
 use Rattle.fields.proofs.grown.Statement.{statement}
 use Rattle.fields.proofs.grown.Tie as tie
-use Rattle.fields.proofs.grown.Reads as reads
-use Rattle.fields.proofs.grown.Lts as lts
 
 add-result : tie.Need-add-result
 add-result c = search needs

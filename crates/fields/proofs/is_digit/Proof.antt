@@ -4,9 +4,6 @@ use borrow.Author.Needs.{needs}
 use Rattle.paper.specs.Text.{isDigit}
 use Rattle.fields.proofs.is_digit.Statement.{statement}
 use Rattle.fields.proofs.is_digit.Tie as tie
-use Rattle.fields.proofs.is_digit.Reads as reads
-use Rattle.fields.proofs.is_digit.Lts as lts
-use Rattle.fields.proofs.both.Reads as both-reads
 
 both-requires : tie.Need-both-requires
 both-requires c κs = search needs

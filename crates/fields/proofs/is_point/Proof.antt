@@ -4,8 +4,6 @@ use mathlib.Core.Path.{refl}
 use Rattle.paper.specs.Text.{isPoint}
 use Rattle.fields.proofs.is_point.Statement.{statement}
 use Rattle.fields.proofs.is_point.Tie as tie
-use Rattle.fields.proofs.is_point.Reads as reads
-use Rattle.fields.proofs.is_point.Lts as lts
 
 returns : tie.Need-returns
 unfolding isPoint

@@ -4,10 +4,6 @@ use borrow.Author.Needs.{needs}
 use Rattle.paper.specs.Bytes.{matched}
 use Rattle.fields.proofs.is_version.Statement.{statement}
 use Rattle.fields.proofs.is_version.Tie as tie
-use Rattle.fields.proofs.is_version.Reads as reads
-use Rattle.fields.proofs.is_version.Lts as lts
-use Rattle.fields.proofs.both.Reads as both-reads
-use Rattle.fields.proofs.either.Reads as either-reads
 
 both-requires : tie.Need-both-requires
 both-requires c κs = search needs

@@ -4,8 +4,6 @@ use borrow.Author.Tests.{eq-eqb, ne-eqb}
 use Rattle.paper.specs.Bytes.{keepAt}
 use Rattle.fields.proofs.kept.Statement.{statement}
 use Rattle.fields.proofs.kept.Tie as tie
-use Rattle.fields.proofs.kept.Reads as reads
-use Rattle.fields.proofs.kept.Lts as lts
 
 returns : tie.Need-returns
 unfolding keepAt

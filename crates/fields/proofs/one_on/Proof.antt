@@ -5,8 +5,6 @@ use borrow.Author.Needs.{needs}
 use borrow.Author.Tests.{lt-ltb, le-ltb}
 use Rattle.fields.proofs.one_on.Statement.{statement}
 use Rattle.fields.proofs.one_on.Tie as tie
-use Rattle.fields.proofs.one_on.Reads as reads
-use Rattle.fields.proofs.one_on.Lts as lts
 
 add-result : tie.Need-add-result
 add-result c = search needs

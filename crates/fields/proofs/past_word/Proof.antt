@@ -5,8 +5,6 @@ use borrow.Author.Needs.{needs}
 use borrow.Author.Tests.{le-leb, lt-leb}
 use Rattle.fields.proofs.past_word.Statement.{statement}
 use Rattle.fields.proofs.past_word.Tie as tie
-use Rattle.fields.proofs.past_word.Reads as reads
-use Rattle.fields.proofs.past_word.Lts as lts
 
 add-result : tie.Need-add-result
 add-result c = search needs

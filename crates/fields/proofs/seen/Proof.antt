@@ -4,14 +4,6 @@ use borrow.Author.Needs.{needs}
 use Rattle.paper.specs.Bytes.{see}
 use Rattle.fields.proofs.seen.Statement.{statement}
 use Rattle.fields.proofs.seen.Tie as tie
-use Rattle.fields.proofs.seen.Reads as reads
-use Rattle.fields.proofs.seen.Lts as lts
-use Rattle.fields.proofs.both.Reads as both-reads
-use Rattle.fields.proofs.either.Reads as either-reads
-use Rattle.fields.proofs.grown.Reads as grown-reads
-use Rattle.fields.proofs.is_digit.Reads as is-digit-reads
-use Rattle.fields.proofs.is_point.Reads as is-point-reads
-use Rattle.fields.proofs.tallied.Reads as tallied-reads
 
 is-digit-requires : tie.Need-is-digit-requires
 is-digit-requires c κs = search needs

@@ -4,9 +4,6 @@ use borrow.Author.Needs.{needs}
 use Rattle.paper.specs.Bytes.{sizedField}
 use Rattle.fields.proofs.sized_field.Statement.{statement}
 use Rattle.fields.proofs.sized_field.Tie as tie
-use Rattle.fields.proofs.sized_field.Reads as reads
-use Rattle.fields.proofs.sized_field.Lts as lts
-use Rattle.fields.proofs.both.Reads as both-reads
 
 both-requires : tie.Need-both-requires
 both-requires c κs = search needs

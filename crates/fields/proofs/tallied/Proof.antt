@@ -5,10 +5,6 @@ use borrow.Author.Needs.{needs}
 use Rattle.fields.proofs.Cases.{tally-low, tally-on, tally-off, tally-digit}
 use Rattle.fields.proofs.tallied.Statement.{statement}
 use Rattle.fields.proofs.tallied.Tie as tie
-use Rattle.fields.proofs.tallied.Reads as reads
-use Rattle.fields.proofs.tallied.Lts as lts
-use Rattle.fields.proofs.both.Reads as both-reads
-use Rattle.fields.proofs.is_digit.Reads as is-digit-reads
 
 is-digit-requires : tie.Need-is-digit-requires
 is-digit-requires c κs = search needs

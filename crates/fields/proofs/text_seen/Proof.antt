@@ -4,10 +4,6 @@ use borrow.Author.Needs.{needs}
 use Rattle.fields.proofs.Cases.{text-on, text-past}
 use Rattle.fields.proofs.text_seen.Statement.{statement}
 use Rattle.fields.proofs.text_seen.Tie as tie
-use Rattle.fields.proofs.text_seen.Reads as reads
-use Rattle.fields.proofs.text_seen.Lts as lts
-use Rattle.fields.proofs.both.Reads as both-reads
-use Rattle.fields.proofs.past_word.Reads as past-word-reads
 
 cast-at : tie.Need-cast-at
 cast-at c = search needs

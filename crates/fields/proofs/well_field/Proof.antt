@@ -6,12 +6,6 @@ use Rattle.fields.specs.Kept.{seenOf}
 use Rattle.fields.proofs.Cases.{well-name, well-length, well-width, well-height, well-number, well-none}
 use Rattle.fields.proofs.well_field.Statement.{statement}
 use Rattle.fields.proofs.well_field.Tie as tie
-use Rattle.fields.proofs.well_field.Reads as reads
-use Rattle.fields.proofs.well_field.Lts as lts
-use Rattle.fields.proofs.both.Reads as both-reads
-use Rattle.fields.proofs.length_field.Reads as length-field-reads
-use Rattle.fields.proofs.number_field.Reads as number-field-reads
-use Rattle.fields.proofs.sized_field.Reads as sized-field-reads
 
 sized-field-requires : tie.Need-sized-field-requires
 sized-field-requires c κs = search needs

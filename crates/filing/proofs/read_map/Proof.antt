@@ -4,9 +4,6 @@ use borrow.Author.Needs.{needs}
 use Rattle.filing.proofs.Joining.{map-there, map-missing}
 use Rattle.filing.proofs.read_map.Statement.{statement}
 use Rattle.filing.proofs.read_map.Tie as tie
-use Rattle.filing.proofs.read_map.Reads as reads
-use Rattle.filing.proofs.read_map.Lts as lts
-use Rattle.gridmap.proofs.read.Reads as read-reads
 
 read-requires : tie.Need-read-requires
 read-requires c κs = search needs

@@ -5,11 +5,6 @@ use borrow.Author.Needs.{needs}
 use Rattle.filing.proofs.Joining.{map-refused, scenario-refused, order-filed}
 use Rattle.filing.proofs.read_order.Statement.{statement}
 use Rattle.filing.proofs.read_order.Tie as tie
-use Rattle.filing.proofs.read_order.Reads as reads
-use Rattle.filing.proofs.read_order.Lts as lts
-use Rattle.filing.proofs.read_map.Reads as read-map-reads
-use Rattle.filing.proofs.read_scenario.Reads as read-scenario-reads
-use Rattle.gridmap.proofs.rails.Reads as rails-reads
 
 slice-aggregate-read-map : tie.Need-slice-aggregate-read-map
 slice-aggregate-read-map c = search needs

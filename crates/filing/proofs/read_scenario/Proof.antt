@@ -4,9 +4,6 @@ use borrow.Author.Needs.{needs}
 use Rattle.filing.proofs.Joining.{scenario-there, scenario-missing}
 use Rattle.filing.proofs.read_scenario.Statement.{statement}
 use Rattle.filing.proofs.read_scenario.Tie as tie
-use Rattle.filing.proofs.read_scenario.Reads as reads
-use Rattle.filing.proofs.read_scenario.Lts as lts
-use Rattle.scenario.proofs.read.Reads as read-reads
 
 read-requires : tie.Need-read-requires
 read-requires c κs = search needs

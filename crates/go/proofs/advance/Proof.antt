@@ -15,7 +15,7 @@ is-in-requires c κs = search needs
 
 step-in-requires : tie.Need-step-in-requires
 step-in-requires c κs =
-    let start = c .before .before .before .before .before .before .before .before .before .before .before .before .before .before .before in
+    let start = c .before .before .before .before .before .before .before .before .before .before .before .before .before .before .before .before .before in
     let p = start .pre .0 in
     let z = start .pre .1 in
     let free = sym (c .before .before .before .before .before .before .is-in .ensures) ∙ c .before .before .before .before .before .if1 .taken in
@@ -41,15 +41,15 @@ returns c =
     let step-in = c .before .before .before .before .before .before .before .before .before .before .step-in in
     let if1 = c .before .before .before .before .before .before .before .before .before .before .before .before .before .before .before .before .if1 in
     let is-in = c .before .before .before .before .before .before .before .before .before .before .before .before .before .before .before .before .before .is-in in
-    let start = c .before .before .before .before .before .before .before .before .before .before .before .before .before .before .before .before .before .before .before .before .before .before .before .before .before .before in
+    let start = c .before .before .before .before .before .before .before .before .before .before .before .before .before .before .before .before .before .before .before .before .before .before .before .before .before .before .before .before in
     let a = start .args in
     let p = start .pre .0 in
     let z = start .pre .1 in
     let free = sym (if1 .taken) ∙ is-in .ensures in
     let stepped = step-in .ensures in (
       omega (arith, stepped .0 .counted),
-      λ t. stepped-free t (p .most) (z .4) (a .finished) (a .r .0) (a .w .0) (a .placement .now) (p .placed) (z .0) (z .2) (z .3) free (stepped .0),
-      stepped .1 (a .finished) (z .6),
+      λ t. stepped-free t (p .most) (z .4) (a .next .finished) (a .next .carrier .0) (a .next .to .0) (a .placement .now) (p .placed) (z .0) (z .2) (z .3) free (stepped .0),
+      stepped .1 (a .next .finished) (z .6),
     )
 
 step-requires : tie.Need-step-requires

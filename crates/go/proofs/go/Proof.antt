@@ -19,14 +19,14 @@ use Rattle.go.proofs.go.Statement.{statement}
 use Rattle.go.proofs.go.Tie as tie
 
 abbrev Inv-loop : tie.InvT-loop
-Inv-loop table ahead r placement₀ standing₀ empty₀ settled₀ out₀ finished at i₀ placement standing empty settled out count i =
+Inv-loop table ahead placement₀ standing₀ empty₀ settled₀ out₀ r finished at i₀ placement standing empty settled out count i =
     (i ≤ length ahead) × (count .crossings ≤ at .crossings + swap-most * i) × (length placement ≡ length placement₀) × (length standing ≡ length standing₀) × (length empty ≡ length empty₀) × (length out ≡ length out₀)
     × Linked (length standing₀) table (getD placement (r .0) 0) (drop i ahead)
     × ((t : Tabled (length standing₀) table) (goals : List ℕ) → Going (t .yard) goals (r .0) ahead (length standing₀) placement₀ out₀ at i placement standing empty out count)
     × (length settled ≡ length settled₀) × BaysBelow (r .0) placement settled
 
 abbrev μ-loop : tie.MeasureT-loop
-μ-loop table ahead r placement₀ standing₀ empty₀ settled₀ out₀ finished at i₀ placement standing empty settled out count i =
+μ-loop table ahead placement₀ standing₀ empty₀ settled₀ out₀ r finished at i₀ placement standing empty settled out count i =
     length ahead - i
 
 cast-finished : tie.Need-cast-finished Inv-loop μ-loop
@@ -34,25 +34,25 @@ cast-finished c = search needs
 
 loop-holds : tie.Need-loop-holds Inv-loop μ-loop
 loop-holds c =
-    let start = c .before .before .before .before .before .before .before .before in
+    let start = c .before .before .before .before .before .before .before .before .before .before in
     (omega arith, omega arith, refl, refl, refl, refl, start .pre .1 .1, λ t goals. going-none _ _ _ _ _ _ _ _ _ _ (start .pre .0 .placed), refl, start .pre .1 .4)
 
-mul-t17 : tie.Need-mul-t17 Inv-loop μ-loop
-mul-t17 c = search needs
+mul-t18 : tie.Need-mul-t18 Inv-loop μ-loop
+mul-t18 c = search needs
 
-shared-slice-read-t20 : tie.Need-shared-slice-read-t20 Inv-loop μ-loop
-shared-slice-read-t20 c = search needs
+shared-slice-read-t21 : tie.Need-shared-slice-read-t21 Inv-loop μ-loop
+shared-slice-read-t21 c = search needs
 
 advance-requires : tie.Need-advance-requires Inv-loop μ-loop
 advance-requires c κs =
     let loop-test = c .before .before .before .before .before .before .loop-test in
-    let start = c .before .before .before .before .before .before .before .before .before .before .before .before .before .before .before .before in
+    let start = c .before .before .before .before .before .before .before .before .before .before .before .before .before .before .before .before .before .before in
     let p = start .pre .0 in
     let z = start .pre .1 in
     let l = c .before .before .before .before .before .before .before .loop in
     let v = l .inv in
     let b = v .7 (p .tabled) [] in
-    let h = linked-here (length (start .args .standing .now)) (start .args .table .now) (getD (l .placement) (start .args .r .0) 0) (start .args .ahead .now) (l .i) (loop-test .taken) (v .6) in
+    let h = linked-here (length (start .args .standing .now)) (start .args .table .now) (getD (l .placement) (start .args .turn .carrier .0) 0) (start .args .ahead .now) (l .i) (loop-test .taken) (v .6) in
     let e : length (l .standing) ≡ length (start .args .standing .now) = v .3 in (
       record {
         most = omega (arith, p .most, e);
@@ -90,7 +90,7 @@ returns : tie.Need-returns Inv-loop μ-loop
 returns c =
     let advance = c .before .before .before .before .before .before .before .before .before .before .before .before .advance in
     let loop-test = c .before .before .before .before .before .before .before .before .before .before .before .before .before .before .before .before .before .before .before .loop-test in
-    let start = c .before .before .before .before .before .before .before .before .before .before .before .before .before .before .before .before .before .before .before .before .before .before .before .before .before .before .before .before .before in
+    let start = c .before .before .before .before .before .before .before .before .before .before .before .before .before .before .before .before .before .before .before .before .before .before .before .before .before .before .before .before .before .before .before in
     let l = c .before .before .before .before .before .before .before .before .before .before .before .before .before .before .before .before .before .before .before .before .loop in
     let v = l .inv in (
       tt,
@@ -112,29 +112,29 @@ loop-again : tie.Need-loop-again Inv-loop μ-loop
 loop-again c =
     let advance = c .before .before .before .before .before .before .before .before .before .before .before .before .before .advance in
     let loop-test = c .before .before .before .before .before .before .before .before .before .before .before .before .before .before .before .before .before .before .before .before .loop-test in
-    let start = c .before .before .before .before .before .before .before .before .before .before .before .before .before .before .before .before .before .before .before .before .before .before .before .before .before .before .before .before .before .before in
+    let start = c .before .before .before .before .before .before .before .before .before .before .before .before .before .before .before .before .before .before .before .before .before .before .before .before .before .before .before .before .before .before .before .before in
     let p = start .pre .0 in
     let z = start .pre .1 in
     let l = c .before .before .before .before .before .before .before .before .before .before .before .before .before .before .before .before .before .before .before .before .before .loop in
     let v = l .inv in
     let b = v .7 (p .tabled) [] in
-    let h = linked-here (length (start .args .standing .now)) (start .args .table .now) (getD (l .placement) (start .args .r .0) 0) (start .args .ahead .now) (l .i) (loop-test .taken) (v .6) in
+    let h = linked-here (length (start .args .standing .now)) (start .args .table .now) (getD (l .placement) (start .args .turn .carrier .0) 0) (start .args .ahead .now) (l .i) (loop-test .taken) (v .6) in
     let kw : length (l .standing) ≡ length (start .args .standing .now) = v .3 in
     let k = advance .kept in
     let e : advance .result ≡ Done (c .before .one .given .0 .0) = c .before .one .given .1 in
     let few = rw e at (advance .ensures .0) in
     let f = rw kw at (advance .ensures .1) in
-    let hr : start .args .r .0 < length (l .placement) = omega (arith, z .0, v .2) in
-    let hf : start .args .r .0 ≤ length (l .placement) = omega (arith, z .0, v .2) in (
+    let hr : start .args .turn .carrier .0 < length (l .placement) = omega (arith, z .0, v .2) in
+    let hf : start .args .turn .carrier .0 ≤ length (l .placement) = omega (arith, z .0, v .2) in (
       omega (arith, loop-test .taken),
       omega (arith, few, v .1),
-      omega (arith, k .1 .1 .1 .1 .0, v .2),
-      omega (arith, k .1 .1 .1 .1 .1 .0, v .3),
-      omega (arith, k .1 .1 .1 .1 .1 .1 .0, v .4),
-      omega (arith, k .1 .1 .1 .1 .1 .1 .1 .1 .0, v .5),
-      rw (arrived (p .tabled) (p .most) (z .2) (start .args .r .0) (start .args .r .0) (getD (start .args .ahead .now) (l .i) 0) (l .placement) (b .played .placed) hr hf (h .0) (h .1) (rw e at (f (p .tabled)))) (h .2),
+      omega (arith, k .1 .1 .0, v .2),
+      omega (arith, k .1 .1 .1 .0, v .3),
+      omega (arith, k .1 .1 .1 .1 .0, v .4),
+      omega (arith, k .1 .1 .1 .1 .1 .1 .0, v .5),
+      rw (arrived (p .tabled) (p .most) (z .2) (start .args .turn .carrier .0) (start .args .turn .carrier .0) (getD (start .args .ahead .now) (l .i) 0) (l .placement) (b .played .placed) hr hf (h .0) (h .1) (rw e at (f (p .tabled)))) (h .2),
       λ t goals. going-more (v .7 t goals) (loop-test .taken) (rw e at (f t)),
-      omega (arith, k .1 .1 .1 .1 .1 .1 .1 .0, v .8),
+      omega (arith, k .1 .1 .1 .1 .1 .0, v .8),
       advance .ensures .2,
     )
 
@@ -164,8 +164,8 @@ go-spec =
     μ-loop
     cast-finished
     loop-holds
-    mul-t17
-    shared-slice-read-t20
+    mul-t18
+    shared-slice-read-t21
     advance-requires
     enum-known-one
     enum-told

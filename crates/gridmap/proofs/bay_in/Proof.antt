@@ -5,9 +5,6 @@ use borrow.Author.Needs.{needs}
 use Rattle.gridmap.proofs.RailEnds.{product-small, cell-side, cell-low, cell-wall, cell-bay}
 use Rattle.gridmap.proofs.bay_in.Statement.{statement}
 use Rattle.gridmap.proofs.bay_in.Tie as tie
-use Rattle.gridmap.proofs.bay_in.Reads as reads
-use Rattle.gridmap.proofs.bay_in.Lts as lts
-use Rattle.gridmap.proofs.number_at.Reads as number-at-reads
 
 cast-width : tie.Need-cast-width
 cast-width c = search needs

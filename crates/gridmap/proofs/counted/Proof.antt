@@ -4,9 +4,6 @@ use borrow.Author.Needs.{needs}
 use Rattle.gridmap.proofs.Numbering.{count-bay, count-wall}
 use Rattle.gridmap.proofs.counted.Statement.{statement}
 use Rattle.gridmap.proofs.counted.Tie as tie
-use Rattle.gridmap.proofs.counted.Reads as reads
-use Rattle.gridmap.proofs.counted.Lts as lts
-use Rattle.sides.proofs.is_bay.Reads as is-bay-reads
 
 is-bay-requires : tie.Need-is-bay-requires
 is-bay-requires c κs = search needs

@@ -4,9 +4,6 @@ use borrow.Author.Needs.{needs}
 use Rattle.gridmap.proofs.Numbering.{mark-bay, mark-wall}
 use Rattle.gridmap.proofs.mark.Statement.{statement}
 use Rattle.gridmap.proofs.mark.Tie as tie
-use Rattle.gridmap.proofs.mark.Reads as reads
-use Rattle.gridmap.proofs.mark.Lts as lts
-use Rattle.sides.proofs.is_bay.Reads as is-bay-reads
 
 is-bay-requires : tie.Need-is-bay-requires
 is-bay-requires c κs = search needs

@@ -16,12 +16,6 @@ use Rattle.gridmap.specs.Cells.{letters, numbering}
 use Rattle.gridmap.proofs.Numbering.{count-with, letters-more, letters-same, letters-few, count-few, numbered-more}
 use Rattle.gridmap.proofs.number.Statement.{statement}
 use Rattle.gridmap.proofs.number.Tie as tie
-use Rattle.gridmap.proofs.number.Reads as reads
-use Rattle.gridmap.proofs.number.Lts as lts
-use Rattle.gridmap.proofs.counted.Reads as counted-reads
-use Rattle.gridmap.proofs.mark.Reads as mark-reads
-use Rattle.sides.proofs.is_letter.Reads as is-letter-reads
-use Rattle.stores.proofs.short.Reads as short-reads
 
 abbrev Inv-loop : tie.InvT-loop
 Inv-loop file cells₀ bays₀ n₀ i₀ cells bays n i = (i ≤ length file) × (Wrote cells₀ 0 (numbering 0 (letters (take i file))) cells n × ((n ≡ length (letters (take i file))) × (bays ≡ count bayLetter (letters (take i file)))))

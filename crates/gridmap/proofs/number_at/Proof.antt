@@ -4,8 +4,6 @@ use borrow.Author.Needs.{needs}
 use Rattle.gridmap.proofs.RailEnds.{number-in, number-past, number-out}
 use Rattle.gridmap.proofs.number_at.Statement.{statement}
 use Rattle.gridmap.proofs.number_at.Tie as tie
-use Rattle.gridmap.proofs.number_at.Reads as reads
-use Rattle.gridmap.proofs.number_at.Lts as lts
 
 mul-result : tie.Need-mul-result
 mul-result c = search needs

@@ -7,9 +7,6 @@ use borrow.Author.Needs.{needs}
 use Rattle.gridmap.proofs.RailEnds.{beside-in, beside-out}
 use Rattle.gridmap.proofs.number_beside.Statement.{statement}
 use Rattle.gridmap.proofs.number_beside.Tie as tie
-use Rattle.gridmap.proofs.number_beside.Reads as reads
-use Rattle.gridmap.proofs.number_beside.Lts as lts
-use Rattle.gridmap.proofs.number_at.Reads as number-at-reads
 
 rem-if1 : tie.Need-rem-if1
 rem-if1 c = search needs

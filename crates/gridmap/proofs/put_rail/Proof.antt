@@ -4,9 +4,6 @@ use borrow.Author.Needs.{needs}
 use Rattle.gridmap.proofs.RailEnds.{rail-none, rail-half, rail-both}
 use Rattle.gridmap.proofs.put_rail.Statement.{statement}
 use Rattle.gridmap.proofs.put_rail.Tie as tie
-use Rattle.gridmap.proofs.put_rail.Reads as reads
-use Rattle.gridmap.proofs.put_rail.Lts as lts
-use Rattle.stores.proofs.short.Reads as short-reads
 
 returns : tie.Need-returns
 returns c = rail-none (c .before .before .args .ends .now) (c .before .before .args .at) (c .before .before .args .a) (c .before .before .args .b) (c .if1 .taken)

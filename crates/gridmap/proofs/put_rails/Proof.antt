@@ -7,11 +7,6 @@ use Rattle.gridmap.specs.Cells.{railsAtIn}
 use Rattle.gridmap.proofs.RailEnds.{rail-next}
 use Rattle.gridmap.proofs.put_rails.Statement.{statement}
 use Rattle.gridmap.proofs.put_rails.Tie as tie
-use Rattle.gridmap.proofs.put_rails.Reads as reads
-use Rattle.gridmap.proofs.put_rails.Lts as lts
-use Rattle.gridmap.proofs.number_at.Reads as number-at-reads
-use Rattle.gridmap.proofs.number_beside.Reads as number-beside-reads
-use Rattle.gridmap.proofs.put_rail.Reads as put-rail-reads
 
 number-at-requires : tie.Need-number-at-requires
 number-at-requires c κs = search needs

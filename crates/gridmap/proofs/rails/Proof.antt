@@ -10,9 +10,6 @@ use Rattle.gridmap.specs.Cells.{railsTo}
 use Rattle.gridmap.proofs.RailEnds.{product-small, product-some, rails-none, rails-more, rails-short}
 use Rattle.gridmap.proofs.rails.Statement.{statement}
 use Rattle.gridmap.proofs.rails.Tie as tie
-use Rattle.gridmap.proofs.rails.Reads as reads
-use Rattle.gridmap.proofs.rails.Lts as lts
-use Rattle.gridmap.proofs.put_rails.Reads as put-rails-reads
 
 abbrev Inv-loop : tie.InvT-loop
 Inv-loop cells ends₀ width size at₀ i₀ ends at i = (i ≤ size) × (Wrote ends₀ 0 (railsTo cells size width i) ends at × ((at ≤ 4 * i) × ((size < 2 ^ 16) × ((i < size → 0 < width) × (width < 2 ^ 8)))))

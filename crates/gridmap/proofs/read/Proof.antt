@@ -7,9 +7,6 @@ use Rattle.gridmap.proofs.Good.{letters-fit, reads-good, reads-bad}
 use Rattle.gridmap.proofs.read.Statement.{statement}
 use Rattle.gridmap.proofs.read.Tie as tie
 use Rattle.gridmap.proofs.read.Reads as reads
-use Rattle.gridmap.proofs.read.Lts as lts
-use Rattle.gridmap.proofs.number.Reads as number-reads
-use Rattle.sides.proofs.read.Reads as read-reads
 
 read-requires : tie.Need-read-requires
 read-requires c κs = search needs

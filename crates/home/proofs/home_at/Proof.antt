@@ -3,52 +3,66 @@
 use mathlib.Core.Path.{_≡_, refl}
 use native.Mathlib.Omega.{arith}
 use borrow.Author.Needs.{needs}
-use Rattle.home.proofs.Homing.{stages-none, home-absent, home-there, home-steps, home-stuck, at-most, at-most-stuck}
+use Rattle.home.proofs.Homing.{whose-low, whose-high, stages-none, home-absent, home-there, home-steps, home-stuck, at-most, at-most-stuck}
 use Rattle.acting.specs.declared.Tried.the-variants.{Done}
 use Rattle.acting.specs.declared.Tried.the-variants.{Failed}
 use Rattle.home.proofs.home_at.Statement.{statement}
 use Rattle.home.proofs.home_at.Tie as tie
 
-bound-for-requires : tie.Need-bound-for-requires
-bound-for-requires c κs =
-    let start = c .before .before .before .before .before .before .before .before in
-    let z = start .pre .1 in
-    (z .0, omega (arith, z .2, z .6 .many), z .6 .whose (start .args .v .0) (z .2))
+cast-bay : tie.Need-cast-bay
+cast-bay c = search needs
+
+mul-c : tie.Need-mul-c
+mul-c c = search needs
+
+shared-slice-read-c : tie.Need-shared-slice-read-c
+shared-slice-read-c c =
+    let start = c .before .before .before .before .before .before .before .before .before .before .before in
+    omega (arith, start .pre .1 .1, start .pre .1 .2)
+
+cast-c : tie.Need-cast-c
+cast-c c =
+    let start = c .before .before .before .before .before .before .before .before .before .before .before in
+    omega (arith, c .shared-slice-known3 .given (start .args .home .bay .0))
 
 returns : tie.Need-returns
 returns c =
-    let start = c .before .before .before .before .before .before .before .before .before .before in
-    (at-most (omega arith), λ t. stages-none (home-absent _ _ _ _ _ _ (c .before .bound-for .ensures) (c .if1 .taken)) (start .pre .0 .placed), start .pre .1 .7)
+    let start = c .before .before .before .before .before .before .before .before .before .before .before .before in
+    let p = start .pre .0 in
+    let z = start .pre .1 in
+    let h = start .args .home in
+    (at-most (omega arith), λ t goals many o. stages-none (home-absent _ _ _ _ _ _ (whose-high o (h .finished) (h .bay .0) (z .1) many (c .if1 .taken)) (omega arith)) (p .placed), z .6)
 
 mul-if2 : tie.Need-mul-if2
 mul-if2 c = search needs
 
 slice-read-if2 : tie.Need-slice-read-if2
 slice-read-if2 c =
-    let start = c .before .before .before .before .before .before .before .before .before .before .before in
-    omega (arith, c .before .if1 .left, start .pre .1 .0, start .pre .1 .1)
+    let start = c .before .before .before .before .before .before .before .before .before .before .before .before .before in
+    omega (arith, c .before .if1 .left, start .pre .1 .0)
 
 returns-2 : tie.Need-returns-2
 returns-2 c =
-    let start = c .before .before .before .before .before .before .before .before .before .before .before .before .before in
-    (at-most (omega arith), λ t. stages-none (home-there _ _ _ _ _ _ (c .before .before .before .before .bound-for .ensures) (c .before .before .before .if1 .left) (c .if2 .taken)) (start .pre .0 .placed), start .pre .1 .7)
-
-cast-t21 : tie.Need-cast-t21
-cast-t21 c =
-    let start = c .before .before .before .before .before .before .before .before .before .before .before .before .before in
+    let if1 = c .before .before .before .if1 in
+    let start = c .before .before .before .before .before .before .before .before .before .before .before .before .before .before .before in
     let p = start .pre .0 in
     let z = start .pre .1 in
-    omega (arith, c .before .before .before .if1 .left, z .0, z .1, p .placed .few, p .most)
+    let h = start .args .home in
+    (at-most (omega arith), λ t goals many o. stages-none (home-there _ _ _ _ _ _ (whose-low o (h .finished) (h .bay .0) (z .1) (if1 .left)) (if1 .left) (c .if2 .taken)) (p .placed), z .6)
+
+cast-t24 : tie.Need-cast-t24
+cast-t24 c =
+    let start = c .before .before .before .before .before .before .before .before .before .before .before .before .before .before .before in
+    let p = start .pre .0 in
+    omega (arith, c .before .before .before .if1 .left, start .pre .1 .0, p .placed .few, p .most)
 
 step-requires : tie.Need-step-requires
 step-requires c κs =
     let if1 = c .before .before .before .before .before .before .before .before .if1 in
-    let bound-for = c .before .before .before .before .before .before .before .before .before .bound-for in
-    let start = c .before .before .before .before .before .before .before .before .before .before .before .before .before .before .before .before .before .before in
-    let p = start .pre .0 in
+    let start = c .before .before .before .before .before .before .before .before .before .before .before .before .before .before .before .before .before .before .before .before in
     let z = start .pre .1 in
-    let rail = (rw (← (bound-for .ensures)) at (z .5 .beside)) (if1 .left) (c .before .before .before .before .before .if2 .left) in
-    (p, (omega (arith, if1 .left, z .0, z .1), omega (arith, z .0, z .1), z .2, rail, z .3, z .4, z .7))
+    let rail = z .5 .beside (if1 .left) (c .before .before .before .before .before .if2 .left) in
+    (start .pre .0, (omega (arith, if1 .left, z .0), z .0, z .1, rail, z .3, z .4, z .6))
 
 enum-known-one : tie.Need-enum-known-one
 enum-known-one c = search needs
@@ -76,9 +90,11 @@ returns-3 c =
     let step = c .before .before .before .before .before .before .before .before .before .before .before .before .step in
     let if2 = c .before .before .before .before .before .before .before .before .before .before .before .before .before .before .before .before .before .before .if2 in
     let if1 = c .before .before .before .before .before .before .before .before .before .before .before .before .before .before .before .before .before .before .before .before .before .if1 in
-    let bound-for = c .before .before .before .before .before .before .before .before .before .before .before .before .before .before .before .before .before .before .before .before .before .before .bound-for in
+    let start = c .before .before .before .before .before .before .before .before .before .before .before .before .before .before .before .before .before .before .before .before .before .before .before .before .before .before .before .before .before .before .before .before .before in
+    let z = start .pre .1 in
+    let h = start .args .home in
     let e : step .result ≡ Failed = c .enum-told .given .1 in
-    (at-most-stuck, λ t. home-stuck _ _ _ _ _ _ (bound-for .ensures) (if1 .left) refl (if2 .left) (rw e at (step .ensures .1 t)), step .ensures .2)
+    (at-most-stuck, λ t goals many o. home-stuck _ _ _ _ _ _ (whose-low o (h .finished) (h .bay .0) (z .1) (if1 .left)) (if1 .left) refl (if2 .left) (rw e at (step .ensures .1 t)), step .ensures .2)
 
 same-length-6 : tie.Need-same-length-6
 same-length-6 c = search needs
@@ -100,21 +116,26 @@ returns-4 c =
     let step = c .before .before .before .before .before .before .before .before .before .before .before .before .before .step in
     let if2 = c .before .before .before .before .before .before .before .before .before .before .before .before .before .before .before .before .before .before .before .if2 in
     let if1 = c .before .before .before .before .before .before .before .before .before .before .before .before .before .before .before .before .before .before .before .before .before .before .if1 in
-    let bound-for = c .before .before .before .before .before .before .before .before .before .before .before .before .before .before .before .before .before .before .before .before .before .before .before .bound-for in
+    let start = c .before .before .before .before .before .before .before .before .before .before .before .before .before .before .before .before .before .before .before .before .before .before .before .before .before .before .before .before .before .before .before .before .before .before in
+    let z = start .pre .1 in
+    let h = start .args .home in
     let e : step .result ≡ Done (c .before .one .given .0 .0) = c .before .one .given .1 in
     let few = rw e at (step .ensures .0) in
-    (at-most few, λ t. home-steps _ _ _ _ _ _ (bound-for .ensures) (if1 .left) (if2 .left) (rw e at (step .ensures .1 t)), step .ensures .2)
+    (at-most few, λ t goals many o. home-steps _ _ _ _ _ _ (whose-low o (h .finished) (h .bay .0) (z .1) (if1 .left)) (if1 .left) (if2 .left) (rw e at (step .ensures .1 t)), step .ensures .2)
 
 pub home-at-spec : {M : Type 1} → statement M
 home-at-spec =
     tie.close
     (tie.spec
-    bound-for-requires
+    cast-bay
+    mul-c
+    shared-slice-read-c
+    cast-c
     returns
     mul-if2
     slice-read-if2
     returns-2
-    cast-t21
+    cast-t24
     step-requires
     enum-known-one
     enum-told

@@ -8,8 +8,6 @@ use Rattle.lines.specs.Lines.{begins}
 use Rattle.lines.proofs.Words.{begins-on, begins-not, begins-short, begins-all}
 use Rattle.lines.proofs.begins_with.Statement.{statement}
 use Rattle.lines.proofs.begins_with.Tie as tie
-use Rattle.lines.proofs.begins_with.Reads as reads
-use Rattle.lines.proofs.begins_with.Lts as lts
 
 abbrev Inv-loop : tie.InvT-loop
 Inv-loop word text i₀ i = (i ≤ length word) × (begins (drop i word) (drop i text) ≡ begins word text)

@@ -5,9 +5,6 @@ use borrow.Author.Needs.{needs}
 use Rattle.lines.proofs.Words.{same-length, same-other}
 use Rattle.lines.proofs.is_word.Statement.{statement}
 use Rattle.lines.proofs.is_word.Tie as tie
-use Rattle.lines.proofs.is_word.Reads as reads
-use Rattle.lines.proofs.is_word.Lts as lts
-use Rattle.lines.proofs.begins_with.Reads as begins-with-reads
 
 begins-with-requires : tie.Need-begins-with-requires
 begins-with-requires c κs = search needs

@@ -10,8 +10,6 @@ use Rattle.lines.specs.Lines.{part, noLF}
 use Rattle.lines.proofs.Cut.{end-none, end-more}
 use Rattle.lines.proofs.line_end.Statement.{statement}
 use Rattle.lines.proofs.line_end.Tie as tie
-use Rattle.lines.proofs.line_end.Reads as reads
-use Rattle.lines.proofs.line_end.Lts as lts
 
 abbrev Inv-loop : tie.InvT-loop
 Inv-loop file at i₀ i = (at ≤ i) × ((at < i → i ≤ length file) × (noLF (part file at i) ≡ true))

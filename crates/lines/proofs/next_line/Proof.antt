@@ -4,9 +4,6 @@ use borrow.Author.Needs.{needs}
 use Rattle.lines.proofs.Cut.{text-cr, text-lf, text-empty, text-last, line-none, found, ended}
 use Rattle.lines.proofs.next_line.Statement.{statement}
 use Rattle.lines.proofs.next_line.Tie as tie
-use Rattle.lines.proofs.next_line.Reads as reads
-use Rattle.lines.proofs.next_line.Lts as lts
-use Rattle.lines.proofs.line_end.Reads as line-end-reads
 
 line-end-requires : tie.Need-line-end-requires
 line-end-requires c κs = search needs

@@ -5,8 +5,6 @@ use lib.Seq.{set-out}
 use borrow.Author.Needs.{needs}
 use Rattle.moving.proofs.store.Statement.{statement}
 use Rattle.moving.proofs.store.Tie as tie
-use Rattle.moving.proofs.store.Reads as reads
-use Rattle.moving.proofs.store.Lts as lts
 
 mul-out : tie.Need-mul-out
 mul-out c = search needs

@@ -8,22 +8,13 @@ use Rattle.placement.proofs.Saying.{says-refused, fits, says-mismarked,
 use borrow.Author.Needs.{needs}
 use Rattle.placement.proofs.placement.Statement.{statement}
 use Rattle.placement.proofs.placement.Tie as tie
-use Rattle.placement.proofs.placement.Reads as reads
-use Rattle.placement.proofs.placement.Lts as lts
-use Rattle.checker.proofs.check.Reads as check-reads
-use Rattle.copies.proofs.shorts.Reads as shorts-reads
-use Rattle.marks.proofs.bad_marks.Reads as bad-marks-reads
-use Rattle.placement.proofs.move_done.Reads as move-done-reads
 
--- src/lib.rt:40:9
 check-requires : tie.Need-check-requires
 check-requires c κs = search needs
 
--- src/lib.rt:41:29
 enum-known-checked : tie.Need-enum-known-checked
 enum-known-checked c = search needs
 
--- src/lib.rt:42:9
 returns : tie.Need-returns
 returns c =
     let s = c .before .before .before .before .before .before .before .before .before .before in
@@ -32,29 +23,24 @@ returns c =
 enum-told : tie.Need-enum-told
 enum-told c = search needs
 
--- src/lib.rt:44:8
 bad-marks-requires : tie.Need-bad-marks-requires
 bad-marks-requires c κs =
     let s = c .before .before .before .before .before .before .before .before .before in
     fits (order (s .args .bays) (now (s .args .rails)) (now (s .args .start)) (now (s .args .goal))) (now (s .args .plan)) (now (s .args .marks)) (now (s .args .at)) (ap checkedOf (sym (c .enum-told .given .1)) ∙ c .before .before .check .ensures)
 
--- src/lib.rt:45:9
 returns-2 : tie.Need-returns-2
 returns-2 c =
     let s = c .before .before .before .before .before .before .before .before .before .before .before in
     says-mismarked (order (s .args .bays) (now (s .args .rails)) (now (s .args .start)) (now (s .args .goal))) (now (s .args .plan)) (now (s .args .marks)) (now (s .args .at)) (ap checkedOf (sym (c .before .before .enum-told .given .1)) ∙ c .before .before .before .before .check .ensures) (sym (c .before .bad-marks .ensures) ∙ c .if1 .taken)
 
--- src/lib.rt:48:9
 returns-3 : tie.Need-returns-3
 returns-3 c =
     let s = c .before .before .before .before .before .before .before .before .before .before .before .before in
     says-room (order (s .args .bays) (now (s .args .rails)) (now (s .args .start)) (now (s .args .goal))) (now (s .args .plan)) (now (s .args .marks)) (now (s .args .at)) (ap checkedOf (sym (c .before .before .before .enum-told .given .1)) ∙ c .before .before .before .before .before .check .ensures) (sym (c .before .before .bad-marks .ensures) ∙ c .before .if1 .left) (c .if2 .taken)
 
--- src/lib.rt:50:5
 shorts-requires : tie.Need-shorts-requires
 shorts-requires c κs = search needs
 
--- src/lib.rt:51:5
 move-done-requires : tie.Need-move-done-requires
 move-done-requires c κs =
     let enum-told = c .before .before .before .before .before .before .before .before .enum-told in
@@ -64,11 +50,9 @@ move-done-requires c κs =
     let b = sym (c .before .before .before .before .before .before .before .bad-marks .ensures) ∙ c .before .before .before .before .before .before .if1 .left in
     (as-many (order (s .args .bays) (now (s .args .rails)) (now (s .args .start)) (now (s .args .goal))) (now (s .args .plan)) (now (s .args .marks)) (now (s .args .at)) passes b, all-there (order (s .args .bays) (now (s .args .rails)) (now (s .args .start)) (now (s .args .goal))) (now (s .args .plan)) (now (s .args .marks)) (now (s .args .at)) passes b _ (c .before .before .before .shorts .ensures))
 
--- src/lib.rt:29:1
 same-length : tie.Need-same-length
 same-length c = search needs
 
--- src/lib.rt:29:1
 returns-4 : tie.Need-returns-4
 returns-4 c =
     let if2 = c .before .before .before .before .before .before .before .before .if2 in

@@ -2,6 +2,9 @@
 -- Assumes nothing.
 use mathlib.Core.Path.{sym, _∙_, ap}
 use denote.Ref.{now}
+use Prim.Native.Nat.{_*_}
+use Rattle.paper.specs.Limits.{most-bays, set-words}
+use Rattle.words.proofs.Sets.{mem-zeros}
 use Rattle.paper.specs.Order.{order}
 use Rattle.yard.specs.Opening.{openedOf}
 use Rattle.planner.proofs.Letting.{let-in, tabled-of}
@@ -10,8 +13,8 @@ use borrow.Author.Needs.{needs}
 use Rattle.planner.proofs.plan_lean.Statement.{statement}
 use Rattle.planner.proofs.plan_lean.Tie as tie
 
-open-requires : tie.Need-open-requires
-open-requires c κs = search needs
+open-in-requires : tie.Need-open-in-requires
+open-in-requires c κs = mem-zeros (most-bays * set-words)
 
 enum-known-opened : tie.Need-enum-known-opened
 enum-known-opened c = c .match .keys1
@@ -25,14 +28,14 @@ hand-out-lean-requires c κs =
     let start = c .before .before .before .before .before .before .before .before .before .before .before in
     let a = start .args in
     let o = order (a .bays) (now (a .rails)) (now (a .start)) (now (a .goal)) in
-    let-in o (ap openedOf (sym (opened2 .given .1)) ∙ c .before .before .before .before .before .«open» .ensures .answer) (c .before .before .before .before .before .«open» .ensures .admitted _ (opened2 .given .1))
+    let-in o (ap openedOf (sym (opened2 .given .1)) ∙ c .before .before .before .before .before .open-in .ensures .answer) (c .before .before .before .before .before .open-in .ensures .admitted _ (opened2 .given .1))
 
 returns : tie.Need-returns
 returns c =
     let start = c .before .before .before .before .before .before .before .before .before in
     let a = start .args in
     let o = order (a .bays) (now (a .rails)) (now (a .start)) (now (a .goal)) in
-    says-refused o _ _ (ap openedOf (sym (c .before .opened .given .1)) ∙ c .before .before .before .«open» .ensures .answer)
+    says-refused o _ _ (ap openedOf (sym (c .before .opened .given .1)) ∙ c .before .before .before .open-in .ensures .answer)
 
 same-length : tie.Need-same-length
 same-length c = c .before .before .hand-out-lean .kept .1 .1 .1 .1 .0
@@ -43,13 +46,13 @@ returns-2 c =
     let start = c .before .before .before .before .before .before .before .before .before .before .before .before .before .before in
     let a = start .args in
     let o = order (a .bays) (now (a .rails)) (now (a .start)) (now (a .goal)) in
-    says-handed o _ _ _ (ap openedOf (sym (opened2 .given .1)) ∙ c .before .before .before .before .before .before .before .before .«open» .ensures .answer) (c .before .before .hand-out-lean .ensures (tabled-of o (c .before .before .before .before .before .before .before .before .«open» .ensures .admitted _ (opened2 .given .1))))
+    says-handed o _ _ _ (ap openedOf (sym (opened2 .given .1)) ∙ c .before .before .before .before .before .before .before .before .open-in .ensures .answer) (c .before .before .hand-out-lean .ensures (tabled-of o (c .before .before .before .before .before .before .before .before .open-in .ensures .admitted _ (opened2 .given .1))))
 
 pub plan-lean-spec : {M : Type 1} → statement M
 plan-lean-spec =
     tie.close
     (tie.spec
-    open-requires
+    open-in-requires
     enum-known-opened
     enum-known-opened-2
     hand-out-lean-requires

@@ -6,23 +6,16 @@ use denote.Ref.{now}
 use Rattle.paper.proofs.Packing.{named-is}
 use Rattle.plans.proofs.crossing_at.Statement.{statement}
 use Rattle.plans.proofs.crossing_at.Tie as tie
-use Rattle.plans.proofs.crossing_at.Reads as reads
-use Rattle.plans.proofs.crossing_at.Lts as lts
-use Rattle.docket.proofs.unpack.Reads as unpack-reads
 
--- src/lib.rt:16:20
 mul-unpack : tie.Need-mul-unpack
 mul-unpack c = search needs
 
--- src/lib.rt:16:20
 shared-slice-read-unpack : tie.Need-shared-slice-read-unpack
 shared-slice-read-unpack c = search needs
 
--- src/lib.rt:16:5
 unpack-requires : tie.Need-unpack-requires
 unpack-requires c κs = search needs
 
--- src/lib.rt:12:1
 returns : tie.Need-returns
 returns c =
     let s = c .before .before .before in

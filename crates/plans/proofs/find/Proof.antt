@@ -10,15 +10,10 @@ use Rattle.paper.specs.Yard.{crossings}
 use Rattle.plans.specs.Reading.{foundIn}
 use Rattle.plans.proofs.find.Statement.{statement}
 use Rattle.plans.proofs.find.Tie as tie
-use Rattle.plans.proofs.find.Reads as reads
-use Rattle.plans.proofs.find.Lts as lts
-use Rattle.plans.proofs.crossing_at.Reads as crossing-at-reads
 
--- src/lib.rt:31:25
 crossing-at-requires : tie.Need-crossing-at-requires
 crossing-at-requires c κs = search needs
 
--- src/lib.rt:26:1
 returns : tie.Need-returns
 unfolding foundIn
 returns c =
@@ -26,7 +21,6 @@ returns c =
     let plan = now (s .args .plan) in
     rw (lt-leb (length (crossings plan)) (s .args .name) (rw length-map (c .before .if1 .taken))) (ap some (c .crossing-at .ensures))
 
--- src/lib.rt:26:1
 returns-2 : tie.Need-returns-2
 unfolding foundIn
 returns-2 c =

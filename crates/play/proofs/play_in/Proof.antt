@@ -2,7 +2,7 @@
 -- Assumes nothing.
 use mathlib.Core.Path.{refl, sym}
 use native.Mathlib.Omega.{arith}
-use Rattle.play.proofs.Playing.{places, none-settled}
+use Rattle.play.proofs.Playing.{places}
 use borrow.Author.Needs.{needs}
 use Rattle.play.proofs.play_in.Statement.{statement}
 use Rattle.play.proofs.play_in.Tie as tie
@@ -21,38 +21,29 @@ array-borrow-prefix-standing c = search needs
 slice-aggregate-play-on-2 : tie.Need-slice-aggregate-play-on-2
 slice-aggregate-play-on-2 c = sym (places _ (c .before .before .before .before .before .before .pre .0 .most))
 
-slice-aggregate-play-on-3 : tie.Need-slice-aggregate-play-on-3
-slice-aggregate-play-on-3 c = search needs
-
-slice-aggregate-play-on-4 : tie.Need-slice-aggregate-play-on-4
-slice-aggregate-play-on-4 c = search needs
-
 array-borrow-prefix-owner : tie.Need-array-borrow-prefix-owner
 array-borrow-prefix-owner c = search needs
 
-slice-aggregate-play-on-5 : tie.Need-slice-aggregate-play-on-5
-slice-aggregate-play-on-5 c =
-    let start = c .before .before .before .before .before .before .before .before .before in
+slice-aggregate-play-on-3 : tie.Need-slice-aggregate-play-on-3
+slice-aggregate-play-on-3 c =
+    let start = c .before .before .before .before .before .before .before in
     sym (places _ (start .pre .0 .most))
-
-slice-aggregate-play-on-6 : tie.Need-slice-aggregate-play-on-6
-slice-aggregate-play-on-6 c = search needs
 
 play-on-requires : tie.Need-play-on-requires
 play-on-requires c κs =
-    let start = c .before .before .before .before .before .before .before .before .before .before .before in
+    let start = c .before .before .before .before .before .before .before .before in
     let pre = start .pre in
     let a = pre .0 in
     let e = places (start .args .n) (a .most) in
-    (rw e a, refl, places _ (omega (arith, a .few, a .most)), refl, refl, none-settled (start .args .start .now), rw e (pre .1), rw e (pre .2))
+    (rw e a, places _ (omega (arith, a .few, a .most)), refl, rw e (pre .1), rw e (pre .2))
 
 same-length : tie.Need-same-length
 same-length c = search needs
 
 returns : tie.Need-returns
 returns c =
-    let play-on = c .before .before .before .before .before .before .before .before .play-on in
-    let start = c .before .before .before .before .before .before .before .before .before .before .before .before .before .before .before .before .before .before .before .before in
+    let play-on = c .before .before .before .before .before .play-on in
+    let start = c .before .before .before .before .before .before .before .before .before .before .before .before .before .before in
     rw (places (start .args .n) (start .pre .0 .most)) at (play-on .ensures)
 
 pub play-in-spec : {M : Type 1} → statement M
@@ -63,11 +54,8 @@ play-in-spec =
     slice-aggregate-play-on
     array-borrow-prefix-standing
     slice-aggregate-play-on-2
-    slice-aggregate-play-on-3
-    slice-aggregate-play-on-4
     array-borrow-prefix-owner
-    slice-aggregate-play-on-5
-    slice-aggregate-play-on-6
+    slice-aggregate-play-on-3
     play-on-requires
     same-length
     returns)

@@ -5,9 +5,6 @@ use lib.Seq.{length-take-le}
 use borrow.Author.Needs.{needs}
 use Rattle.print_cases.proofs.show.Statement.{statement}
 use Rattle.print_cases.proofs.show.Tie as tie
-use Rattle.print_cases.proofs.show.Reads as reads
-use Rattle.print_cases.proofs.show.Lts as lts
-use Rattle.io.proofs.write_all.Reads as write-all-reads
 
 slice-aggregate-write-all : tie.Need-slice-aggregate-write-all
 slice-aggregate-write-all c =

@@ -8,10 +8,6 @@ use Rattle.stores.proofs.Stores.{wrote-then}
 use Rattle.printing.proofs.Lines.{named-short, action-parts}
 use Rattle.printing.proofs.action.Statement.{statement}
 use Rattle.printing.proofs.action.Tie as tie
-use Rattle.printing.proofs.action.Reads as reads
-use Rattle.printing.proofs.action.Lts as lts
-use Rattle.printing.proofs.put_named.Reads as put-named-reads
-use Rattle.printing.proofs.put_text.Reads as put-text-reads
 
 slice-aggregate-put-named : tie.Need-slice-aggregate-put-named
 slice-aggregate-put-named c = search needs

@@ -11,9 +11,6 @@ use Rattle.printing.specs.Parts.{actionLines}
 use Rattle.printing.proofs.Lines.{lines-none, lines-more, lines-short}
 use Rattle.printing.proofs.actions.Statement.{statement}
 use Rattle.printing.proofs.actions.Tie as tie
-use Rattle.printing.proofs.actions.Reads as reads
-use Rattle.printing.proofs.actions.Lts as lts
-use Rattle.printing.proofs.action.Reads as action-reads
 
 abbrev Inv-loop : tie.InvT-loop
 Inv-loop plan out₀ at₀ i₀ out at i = (i ≤ length plan) × (Wrote out₀ 0 (actionLines (take i plan)) out at × (length (actionLines (take i plan)) ≤ 80 * i))

@@ -5,11 +5,6 @@ use Rattle.stores.proofs.Stores.{wrote-then}
 use Rattle.printing.proofs.Lines.{plan-parts, plan-over}
 use Rattle.printing.proofs.plan.Statement.{statement}
 use Rattle.printing.proofs.plan.Tie as tie
-use Rattle.printing.proofs.plan.Reads as reads
-use Rattle.printing.proofs.plan.Lts as lts
-use Rattle.printing.proofs.actions.Reads as actions-reads
-use Rattle.printing.proofs.cost.Reads as cost-reads
-use Rattle.printing.proofs.refusal.Reads as refusal-reads
 
 actions-requires : tie.Need-actions-requires
 actions-requires c κs = search needs

@@ -5,10 +5,6 @@ use Rattle.stores.proofs.Stores.{wrote-then}
 use Rattle.printing.specs.Parts.{named}
 use Rattle.printing.proofs.put_named.Statement.{statement}
 use Rattle.printing.proofs.put_named.Tie as tie
-use Rattle.printing.proofs.put_named.Reads as reads
-use Rattle.printing.proofs.put_named.Lts as lts
-use Rattle.printing.proofs.put_number.Reads as put-number-reads
-use Rattle.printing.proofs.put_text.Reads as put-text-reads
 
 put-text-requires : tie.Need-put-text-requires
 put-text-requires c κs = search needs

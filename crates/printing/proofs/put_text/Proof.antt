@@ -8,8 +8,6 @@ use Rattle.stores.specs.Writing.{Wrote}
 use Rattle.stores.proofs.Stores.{wrote-next, wrote-all, wrote-length}
 use Rattle.printing.proofs.put_text.Statement.{statement}
 use Rattle.printing.proofs.put_text.Tie as tie
-use Rattle.printing.proofs.put_text.Reads as reads
-use Rattle.printing.proofs.put_text.Lts as lts
 
 abbrev Inv-loop : tie.InvT-loop
 Inv-loop out₀ at text i₀ out i = (i ≤ length text) × Wrote out₀ at (take i text) out (at + i)

@@ -10,10 +10,6 @@ use Rattle.stores.proofs.Stores.{wrote-then}
 use Rattle.printing.proofs.Lines.{named-short, refusal-plain, refusal-carried, some-carried, none-carried}
 use Rattle.printing.proofs.refusal.Statement.{statement}
 use Rattle.printing.proofs.refusal.Tie as tie
-use Rattle.printing.proofs.refusal.Reads as reads
-use Rattle.printing.proofs.refusal.Lts as lts
-use Rattle.printing.proofs.put_named.Reads as put-named-reads
-use Rattle.printing.proofs.put_text.Reads as put-text-reads
 
 slice-aggregate-put-named : tie.Need-slice-aggregate-put-named
 slice-aggregate-put-named c = search needs

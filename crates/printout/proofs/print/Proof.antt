@@ -14,7 +14,7 @@ program-short-requires c κs = search needs
 
 -- src/lib.rt:21:9
 same-length : tie.Need-same-length
-same-length c = search needs
+same-length c = c .before .before .program-short .kept .1 .1 .1 .1 .0
 
 -- src/lib.rt:21:9
 returns : tie.Need-returns
@@ -26,7 +26,7 @@ program-requires c κs = search needs
 
 -- src/lib.rt:10:1
 same-length-2 : tie.Need-same-length-2
-same-length-2 c = search needs
+same-length-2 c = c .before .before .program .kept .1 .1 .1 .1 .0
 
 -- src/lib.rt:10:1
 returns-2 : tie.Need-returns-2

@@ -34,7 +34,7 @@ text-requires c κs = search needs
 
 -- src/lib.rt:27:1
 same-length : tie.Need-same-length
-same-length c = search needs
+same-length c = c .before .before .text .kept .1 .0
 
 -- src/lib.rt:27:1
 returns : tie.Need-returns

@@ -6,10 +6,6 @@ use borrow.Author.Needs.{needs}
 use Rattle.program.proofs.Telling.{plan-prints, refusal-prints}
 use Rattle.program.proofs.print_planned.Statement.{statement}
 use Rattle.program.proofs.print_planned.Tie as tie
-use Rattle.program.proofs.print_planned.Reads as reads
-use Rattle.program.proofs.print_planned.Lts as lts
-use Rattle.printing.proofs.plan.Reads as plan-reads
-use Rattle.printing.proofs.refusal.Reads as refusal-reads
 
 enum-known-answer : tie.Need-enum-known-answer
 enum-known-answer c = search needs

@@ -7,9 +7,6 @@ use Rattle.program.proofs.Shortening.{enough, marked, written-short, no
 use borrow.Author.Needs.{needs}
 use Rattle.program.proofs.shorten_planned.Statement.{statement}
 use Rattle.program.proofs.shorten_planned.Tie as tie
-use Rattle.program.proofs.shorten_planned.Reads as reads
-use Rattle.program.proofs.shorten_planned.Lts as lts
-use Rattle.shorten.proofs.shorten.Reads as shorten-reads
 
 enum-known-answer : tie.Need-enum-known-answer
 enum-known-answer c = search needs

@@ -2,14 +2,10 @@
 -- Assumes nothing.
 use Rattle.readback.proofs.Pieces.{action-yes, action-no}
 use lib.Seq.{length-take-le}
-use mathlib.Core.Path.{_≡_, sym, _∙_, ap}
+use mathlib.Core.Path.{sym, _∙_}
 use borrow.Author.Needs.{needs}
 use Rattle.readback.proofs.action.Statement.{statement}
 use Rattle.readback.proofs.action.Tie as tie
-use Rattle.readback.proofs.action.Reads as reads
-use Rattle.readback.proofs.action.Lts as lts
-use Rattle.readback.proofs.cut.Reads as cut-reads
-use Rattle.readback.proofs.words.Reads as words-reads
 
 cut-requires : tie.Need-cut-requires
 cut-requires c κs = search needs

@@ -2,15 +2,10 @@
 -- Assumes nothing.
 use Rattle.readback.proofs.Pieces.{carrier-no, carrier-yes, carrier-short}
 use lib.Seq.{length-take-le}
-use mathlib.Core.Path.{_≡_, sym, _∙_, ap}
+use mathlib.Core.Path.{sym, _∙_}
 use borrow.Author.Needs.{needs}
 use Rattle.readback.proofs.carrier.Statement.{statement}
 use Rattle.readback.proofs.carrier.Tie as tie
-use Rattle.readback.proofs.carrier.Reads as reads
-use Rattle.readback.proofs.carrier.Lts as lts
-use Rattle.readback.proofs.cut.Reads as cut-reads
-use Rattle.readback.proofs.from_bay.Reads as from-bay-reads
-use Rattle.readback.proofs.number_after.Reads as number-after-reads
 
 cut-requires : tie.Need-cut-requires
 cut-requires c κs = search needs

@@ -6,8 +6,6 @@ use Rattle.readback.proofs.Pieces.{Passed, passed-none, passed-one, cut
 use borrow.Author.Needs.{needs}
 use Rattle.readback.proofs.cut.Statement.{statement}
 use Rattle.readback.proofs.cut.Tie as tie
-use Rattle.readback.proofs.cut.Reads as reads
-use Rattle.readback.proofs.cut.Lts as lts
 
 abbrev Inv-loop : tie.InvT-loop
 Inv-loop text b i₀ i = (i ≤ length text) × Passed b text i

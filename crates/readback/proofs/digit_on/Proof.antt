@@ -4,8 +4,6 @@ use Rattle.readback.proofs.Numbers.{digit-yes, digit-no, digit-over, is
 use borrow.Author.Needs.{needs}
 use Rattle.readback.proofs.digit_on.Statement.{statement}
 use Rattle.readback.proofs.digit_on.Tie as tie
-use Rattle.readback.proofs.digit_on.Reads as reads
-use Rattle.readback.proofs.digit_on.Lts as lts
 
 returns : tie.Need-returns
 returns c = digit-no _ _ _ (is-low _ (c .if1 .taken))

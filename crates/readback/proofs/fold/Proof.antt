@@ -9,12 +9,6 @@ use Rattle.readback.proofs.Folding.{Came, came-none, came-next, came-ba
 use borrow.Author.Needs.{needs}
 use Rattle.readback.proofs.fold.Statement.{statement}
 use Rattle.readback.proofs.fold.Tie as tie
-use Rattle.readback.proofs.fold.Reads as reads
-use Rattle.readback.proofs.fold.Lts as lts
-use Rattle.lines.proofs.next_line.Reads as next-line-reads
-use Rattle.readback.proofs.is_broken.Reads as is-broken-reads
-use Rattle.readback.proofs.keep.Reads as keep-reads
-use Rattle.readback.proofs.of_line.Reads as of-line-reads
 
 abbrev Inv-loop : tie.InvT-loop
 Inv-loop reports file out₀ at₀ line₀ count₀ out at line count = (at ≤ length file) × ((line ≤ at + 1) × ((count ≤ at) × ((length out ≡ length out₀) × Came reports file out₀ out at line count)))

@@ -7,15 +7,10 @@ use Rattle.readback.proofs.Pieces.{from-no, from-yes, from-short}
 use Rattle.readback.proofs.Numbers.{capped-low}
 use lib.Seq.{length-take-le}
 use native.Mathlib.Omega.{arith}
-use mathlib.Core.Path.{_≡_, sym, _∙_, ap}
+use mathlib.Core.Path.{sym, _∙_}
 use borrow.Author.Needs.{needs}
 use Rattle.readback.proofs.from_bay.Statement.{statement}
 use Rattle.readback.proofs.from_bay.Tie as tie
-use Rattle.readback.proofs.from_bay.Reads as reads
-use Rattle.readback.proofs.from_bay.Lts as lts
-use Rattle.readback.proofs.cut.Reads as cut-reads
-use Rattle.readback.proofs.number_after.Reads as number-after-reads
-use Rattle.readback.proofs.to_bay.Reads as to-bay-reads
 
 cut-requires : tie.Need-cut-requires
 cut-requires c κs = search needs

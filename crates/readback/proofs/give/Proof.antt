@@ -4,9 +4,6 @@ use Rattle.readback.proofs.Giving.{gives, gives-short}
 use borrow.Author.Needs.{needs}
 use Rattle.readback.proofs.give.Statement.{statement}
 use Rattle.readback.proofs.give.Tie as tie
-use Rattle.readback.proofs.give.Reads as reads
-use Rattle.readback.proofs.give.Lts as lts
-use Rattle.readback.proofs.fold.Reads as fold-reads
 
 fold-requires : tie.Need-fold-requires
 fold-requires c κs = search needs

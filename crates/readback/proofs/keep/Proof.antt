@@ -5,9 +5,6 @@ use Rattle.stores.proofs.Stores.{wrote-none}
 use borrow.Author.Needs.{needs}
 use Rattle.readback.proofs.keep.Statement.{statement}
 use Rattle.readback.proofs.keep.Tie as tie
-use Rattle.readback.proofs.keep.Reads as reads
-use Rattle.readback.proofs.keep.Lts as lts
-use Rattle.readback.proofs.store.Reads as store-reads
 
 enum-known-said : tie.Need-enum-known-said
 enum-known-said c = search needs

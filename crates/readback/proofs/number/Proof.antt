@@ -7,9 +7,6 @@ use Rattle.readback.proofs.Numbers.{readFrom, whole, none-there, first-
 use borrow.Author.Needs.{needs}
 use Rattle.readback.proofs.number.Statement.{statement}
 use Rattle.readback.proofs.number.Tie as tie
-use Rattle.readback.proofs.number.Reads as reads
-use Rattle.readback.proofs.number.Lts as lts
-use Rattle.readback.proofs.digit_on.Reads as digit-on-reads
 
 abbrev Inv-loop : tie.InvT-loop
 Inv-loop digits most n₀ i₀ n i = (i ≤ length digits) × ((n ≤ most) × (readFrom most n (drop i digits) ≡ whole digits most))

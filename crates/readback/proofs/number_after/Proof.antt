@@ -1,13 +1,10 @@
 -- `readback::number_after` meets its contract.
 -- Assumes nothing.
 use Rattle.readback.proofs.Numbers.{after-none, after-letter, after-other}
-use mathlib.Core.Path.{_≡_, sym, _∙_, ap}
+use mathlib.Core.Path.{_∙_}
 use borrow.Author.Needs.{needs}
 use Rattle.readback.proofs.number_after.Statement.{statement}
 use Rattle.readback.proofs.number_after.Tie as tie
-use Rattle.readback.proofs.number_after.Reads as reads
-use Rattle.readback.proofs.number_after.Lts as lts
-use Rattle.readback.proofs.number.Reads as number-reads
 
 returns : tie.Need-returns
 returns c = after-none _ _ _ (c .if1 .taken)

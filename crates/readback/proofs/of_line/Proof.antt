@@ -4,10 +4,6 @@
 use borrow.Author.Needs.{needs}
 use Rattle.readback.proofs.of_line.Statement.{statement}
 use Rattle.readback.proofs.of_line.Tie as tie
-use Rattle.readback.proofs.of_line.Reads as reads
-use Rattle.readback.proofs.of_line.Lts as lts
-use Rattle.readback.proofs.plan_entry.Reads as plan-entry-reads
-use Rattle.readback.proofs.report_entry.Reads as report-entry-reads
 
 report-entry-requires : tie.Need-report-entry-requires
 report-entry-requires c κs = search needs

@@ -1,13 +1,10 @@
 -- `readback::plan_entry` meets its contract.
 -- Assumes nothing.
 use Rattle.readback.proofs.Pieces.{line-none, line-comment, line-action}
-use mathlib.Core.Path.{_≡_, sym, _∙_, ap}
+use mathlib.Core.Path.{_∙_}
 use borrow.Author.Needs.{needs}
 use Rattle.readback.proofs.plan_entry.Statement.{statement}
 use Rattle.readback.proofs.plan_entry.Tie as tie
-use Rattle.readback.proofs.plan_entry.Reads as reads
-use Rattle.readback.proofs.plan_entry.Lts as lts
-use Rattle.readback.proofs.action.Reads as action-reads
 
 returns : tie.Need-returns
 returns c = line-none _ (c .if1 .taken)

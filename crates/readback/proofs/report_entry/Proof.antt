@@ -1,13 +1,10 @@
 -- `readback::report_entry` meets its contract.
 -- Assumes nothing.
 use Rattle.readback.proofs.Numbers.{name-yes, name-no}
-use mathlib.Core.Path.{_≡_, sym, _∙_, ap}
+use mathlib.Core.Path.{sym, _∙_}
 use borrow.Author.Needs.{needs}
 use Rattle.readback.proofs.report_entry.Statement.{statement}
 use Rattle.readback.proofs.report_entry.Tie as tie
-use Rattle.readback.proofs.report_entry.Reads as reads
-use Rattle.readback.proofs.report_entry.Lts as lts
-use Rattle.readback.proofs.number.Reads as number-reads
 
 number-requires : tie.Need-number-requires
 number-requires c κs = search needs

@@ -6,15 +6,10 @@ use Rattle.readback.proofs.Pieces.{to-more, to-no, to-yes}
 use Rattle.readback.proofs.Numbers.{capped-low}
 use Rattle.readback.specs.declared.Entry.the-variants.{Number}
 use native.Mathlib.Omega.{arith}
-use mathlib.Core.Path.{_≡_, sym, _∙_, ap}
+use mathlib.Core.Path.{sym, _∙_, ap}
 use borrow.Author.Needs.{needs}
 use Rattle.readback.proofs.to_bay.Statement.{statement}
 use Rattle.readback.proofs.to_bay.Tie as tie
-use Rattle.readback.proofs.to_bay.Reads as reads
-use Rattle.readback.proofs.to_bay.Lts as lts
-use Rattle.docket.proofs.pack.Reads as pack-reads
-use Rattle.readback.proofs.cut.Reads as cut-reads
-use Rattle.readback.proofs.number_after.Reads as number-after-reads
 
 cut-requires : tie.Need-cut-requires
 cut-requires c κs = search needs

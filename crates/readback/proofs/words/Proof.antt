@@ -2,15 +2,10 @@
 -- Assumes nothing.
 use Rattle.readback.proofs.Pieces.{words-no, words-yes, words-short}
 use lib.Seq.{length-take-le}
-use mathlib.Core.Path.{_≡_, sym, _∙_, ap}
+use mathlib.Core.Path.{sym, _∙_}
 use borrow.Author.Needs.{needs}
 use Rattle.readback.proofs.words.Statement.{statement}
 use Rattle.readback.proofs.words.Tie as tie
-use Rattle.readback.proofs.words.Reads as reads
-use Rattle.readback.proofs.words.Lts as lts
-use Rattle.lines.proofs.is_word.Reads as is-word-reads
-use Rattle.readback.proofs.carrier.Reads as carrier-reads
-use Rattle.readback.proofs.cut.Reads as cut-reads
 
 cut-requires : tie.Need-cut-requires
 cut-requires c κs = search needs

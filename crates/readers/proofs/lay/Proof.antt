@@ -2,11 +2,8 @@
 -- Assumes nothing.
 use borrow.Author.Needs.{needs}
 use Rattle.readers.proofs.Saying.{lay-short, lay-fits}
-use Rattle.readers.proofs.Saying.{lay-short, lay-fits}
 use Rattle.readers.proofs.lay.Statement.{statement}
 use Rattle.readers.proofs.lay.Tie as tie
-use Rattle.readers.proofs.lay.Reads as reads
-use Rattle.readers.proofs.lay.Lts as lts
 
 slice-aggregate-rails : tie.Need-slice-aggregate-rails
 slice-aggregate-rails c = search needs

@@ -2,11 +2,8 @@
 -- Assumes nothing.
 use borrow.Author.Needs.{needs}
 use Rattle.readers.proofs.Saying.{list-short, list-short-2, list-fits, list-bad}
-use Rattle.readers.proofs.Saying.{list-short, list-short-2, list-fits, list-bad}
 use Rattle.readers.proofs.list.Statement.{statement}
 use Rattle.readers.proofs.list.Tie as tie
-use Rattle.readers.proofs.list.Reads as reads
-use Rattle.readers.proofs.list.Lts as lts
 
 slice-aggregate-read : tie.Need-slice-aggregate-read
 slice-aggregate-read c = search needs

@@ -4,13 +4,8 @@ use native.Mathlib.Omega.{arith}
 use borrow.Author.Needs.{needs}
 use Rattle.readers.proofs.Whole.{map-bad, mapped-as, laying-by}
 use Rattle.readers.proofs.Saying.{lay-bad, lay-as}
-use Rattle.readers.proofs.Whole.{map-bad, mapped-as, laying-by}
-use Rattle.readers.proofs.Saying.{lay-bad, lay-as}
 use Rattle.readers.proofs.read_map.Statement.{statement}
 use Rattle.readers.proofs.read_map.Tie as tie
-use Rattle.readers.proofs.read_map.Reads as reads
-use Rattle.readers.proofs.read_map.Lts as lts
-use Rattle.readers.proofs.lay.Reads as lay-reads
 
 slice-aggregate-read : tie.Need-slice-aggregate-read
 slice-aggregate-read c = search needs

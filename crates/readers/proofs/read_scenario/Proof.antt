@@ -4,13 +4,8 @@ use native.Mathlib.Omega.{arith}
 use borrow.Author.Needs.{needs}
 use Rattle.readers.proofs.Whole.{map-bad, mapped-as, listing-by}
 use Rattle.readers.proofs.Saying.{list-unmapped, list-as}
-use Rattle.readers.proofs.Whole.{map-bad, mapped-as, listing-by}
-use Rattle.readers.proofs.Saying.{list-unmapped, list-as}
 use Rattle.readers.proofs.read_scenario.Statement.{statement}
 use Rattle.readers.proofs.read_scenario.Tie as tie
-use Rattle.readers.proofs.read_scenario.Reads as reads
-use Rattle.readers.proofs.read_scenario.Lts as lts
-use Rattle.readers.proofs.list.Reads as list-reads
 
 slice-aggregate-read : tie.Need-slice-aggregate-read
 slice-aggregate-read c = search needs

@@ -9,8 +9,6 @@ use Rattle.rings.specs.Ways.{Inside}
 use Rattle.rings.proofs.Reading.{Walked, walked-none, walked-more, walked-all, walked-inside}
 use Rattle.rings.proofs.inward.Statement.{statement}
 use Rattle.rings.proofs.inward.Tie as tie
-use Rattle.rings.proofs.inward.Reads as reads
-use Rattle.rings.proofs.inward.Lts as lts
 
 abbrev Inv-loop : tie.InvT-loop
 Inv-loop table n rows d path₀ u₀ i₀ path u i = (i ≤ d) × (length path ≡ length path₀) × (u < n) × ((t : Inside n table rows d u₀) → Walked t i u path)

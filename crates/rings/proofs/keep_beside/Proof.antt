@@ -4,9 +4,6 @@ use borrow.Author.Needs.{needs}
 use Rattle.rings.proofs.Narrowing.{kept-beside}
 use Rattle.rings.proofs.keep_beside.Statement.{statement}
 use Rattle.rings.proofs.keep_beside.Tie as tie
-use Rattle.rings.proofs.keep_beside.Reads as reads
-use Rattle.rings.proofs.keep_beside.Lts as lts
-use Rattle.rings.proofs.meet_row.Reads as meet-row-reads
 
 slice-aggregate-beside : tie.Need-slice-aggregate-beside
 slice-aggregate-beside c = search needs

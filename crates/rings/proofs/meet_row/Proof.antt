@@ -11,8 +11,6 @@ use Rattle.words.proofs.Loops.{Done, Left, done-none, done-more, left-all, left
 use Rattle.rings.proofs.Narrowing.{row-met}
 use Rattle.rings.proofs.meet_row.Statement.{statement}
 use Rattle.rings.proofs.meet_row.Tie as tie
-use Rattle.rings.proofs.meet_row.Reads as reads
-use Rattle.rings.proofs.meet_row.Lts as lts
 
 abbrev Inv-loop : tie.InvT-loop
 Inv-loop set₀ rows i k₀ set k = (k ≤ words) × (length set ≡ length set₀) × Done set k (λ j. bitAnd (getD set₀ j 0) (getD rows (i * words + j) 0)) × Left set k (λ j. getD set₀ j 0)

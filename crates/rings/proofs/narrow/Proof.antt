@@ -10,9 +10,6 @@ use Rattle.rings.specs.Ways.{Ended}
 use Rattle.rings.proofs.Narrowing.{Narrowing, narrowing-first, narrowing-inside, narrowing-more, narrowing-all, ended-kept}
 use Rattle.rings.proofs.narrow.Statement.{statement}
 use Rattle.rings.proofs.narrow.Tie as tie
-use Rattle.rings.proofs.narrow.Reads as reads
-use Rattle.rings.proofs.narrow.Lts as lts
-use Rattle.rings.proofs.keep_beside.Reads as keep-beside-reads
 
 abbrev Inv-loop : tie.InvT-loop
 Inv-loop table n rows₀ d last kept₀ i₀ rows kept i = (i ≤ d) × (length rows ≡ length rows₀) × (length kept ≡ words) × ((t : Ended n table rows₀ d last) → Narrowing t i kept rows)

@@ -5,8 +5,6 @@ use borrow.Author.Needs.{needs}
 use Rattle.rings.proofs.Searching.{ring-kept}
 use Rattle.rings.proofs.next_ring.Statement.{statement}
 use Rattle.rings.proofs.next_ring.Tie as tie
-use Rattle.rings.proofs.next_ring.Reads as reads
-use Rattle.rings.proofs.next_ring.Lts as lts
 
 slice-aggregate-beside : tie.Need-slice-aggregate-beside
 slice-aggregate-beside c = search needs

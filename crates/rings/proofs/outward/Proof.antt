@@ -9,8 +9,6 @@ use Rattle.rings.specs.Ways.{Outside}
 use Rattle.rings.proofs.Narrowing.{Going, going-first, going-inside, going-more, going-all}
 use Rattle.rings.proofs.outward.Statement.{statement}
 use Rattle.rings.proofs.outward.Tie as tie
-use Rattle.rings.proofs.outward.Reads as reads
-use Rattle.rings.proofs.outward.Lts as lts
 
 abbrev Inv-loop : tie.InvT-loop
 Inv-loop table n rows d path₀ u₀ i₀ path u i = (i ≤ d) × (length path ≡ length path₀) × (u < n) × ((t : Outside n table rows d u₀) → Going t i u path)

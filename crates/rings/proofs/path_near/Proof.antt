@@ -6,10 +6,6 @@ use borrow.Author.Needs.{needs}
 use Rattle.rings.proofs.Reading.{inside, path-first, path-none, path-near, path-ended}
 use Rattle.rings.proofs.path_near.Statement.{statement}
 use Rattle.rings.proofs.path_near.Tie as tie
-use Rattle.rings.proofs.path_near.Reads as reads
-use Rattle.rings.proofs.path_near.Lts as lts
-use Rattle.rings.proofs.inward.Reads as inward-reads
-use Rattle.rings.proofs.search.Reads as search-reads
 
 cast-from : tie.Need-cast-from
 cast-from c = search needs

@@ -10,9 +10,6 @@ use Rattle.rings.specs.Search.{Shown}
 use Rattle.rings.proofs.Searching.{Searching, searching-first, searching-inside, searching-more, searched-wanted, searched-all, searched-dry, searched-short}
 use Rattle.rings.proofs.search.Statement.{statement}
 use Rattle.rings.proofs.search.Tie as tie
-use Rattle.rings.proofs.search.Reads as reads
-use Rattle.rings.proofs.search.Lts as lts
-use Rattle.rings.proofs.next_ring.Reads as next-ring-reads
 
 abbrev Inv-loop : tie.InvT-loop
 Inv-loop table n held wanted rows₀ middle seen₀ ring₀ d₀ rows seen ring d = (length rows ≡ length rows₀) × (length seen ≡ words) × (length ring ≡ words) × (d < n) × ((d + 1) * words ≤ length rows) × ((s : Shown n table held) → Searching s middle wanted d seen ring rows)

@@ -7,11 +7,6 @@ use Rattle.rings.proofs.Reading.{row-rowed, nearest-nowhere, way-none, 
 use Rattle.rings.proofs.Narrowing.{end-inside, ended, outside, way-found}
 use Rattle.rings.proofs.way_near.Statement.{statement}
 use Rattle.rings.proofs.way_near.Tie as tie
-use Rattle.rings.proofs.way_near.Reads as reads
-use Rattle.rings.proofs.way_near.Lts as lts
-use Rattle.rings.proofs.narrow.Reads as narrow-reads
-use Rattle.rings.proofs.outward.Reads as outward-reads
-use Rattle.rings.proofs.search.Reads as search-reads
 
 search-requires : tie.Need-search-requires
 search-requires c κs = search needs

@@ -4,8 +4,6 @@ use borrow.Author.Needs.{needs}
 use Rattle.scenario.proofs.Ending.{answer-version, answer-failed, answer-good}
 use Rattle.scenario.proofs.answer.Statement.{statement}
 use Rattle.scenario.proofs.answer.Tie as tie
-use Rattle.scenario.proofs.answer.Reads as reads
-use Rattle.scenario.proofs.answer.Lts as lts
 
 returns : tie.Need-returns
 returns c = answer-version (c .before .args .s) (c .if1 .taken)

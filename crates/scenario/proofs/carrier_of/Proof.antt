@@ -8,10 +8,6 @@ use Rattle.scenario.specs.Under.{bayBy}
 use Rattle.scenario.proofs.Closing.{carrier-bad, carrier-wall, carrier-wall-2, carrier-at}
 use Rattle.scenario.proofs.carrier_of.Statement.{statement}
 use Rattle.scenario.proofs.carrier_of.Tie as tie
-use Rattle.scenario.proofs.carrier_of.Reads as reads
-use Rattle.scenario.proofs.carrier_of.Lts as lts
-use Rattle.fields.proofs.both.Reads as both-reads
-use Rattle.gridmap.proofs.bay_in.Reads as bay-in-reads
 
 both-requires : tie.Need-both-requires
 both-requires c κs = search needs

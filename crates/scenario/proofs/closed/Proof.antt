@@ -7,13 +7,6 @@ use Rattle.scenario.specs.Under.{bayBy, carrierIs}
 use Rattle.scenario.proofs.Closing.{not-version, not-carrier, too-many, closes-broken, closes-version, closes-carrier}
 use Rattle.scenario.proofs.closed.Statement.{statement}
 use Rattle.scenario.proofs.closed.Tie as tie
-use Rattle.scenario.proofs.closed.Reads as reads
-use Rattle.scenario.proofs.closed.Lts as lts
-use Rattle.fields.proofs.field_past.Reads as field-past-reads
-use Rattle.fields.proofs.is_version.Reads as is-version-reads
-use Rattle.scenario.proofs.broken.Reads as broken-reads
-use Rattle.scenario.proofs.carrier_of.Reads as carrier-of-reads
-use Rattle.scenario.proofs.due.Reads as due-reads
 
 is-version-requires : tie.Need-is-version-requires
 is-version-requires c κs = search needs

@@ -4,8 +4,6 @@ use borrow.Author.Needs.{needs}
 use Rattle.scenario.proofs.Taking.{counted-below, counted-above}
 use Rattle.scenario.proofs.counted.Statement.{statement}
 use Rattle.scenario.proofs.counted.Tie as tie
-use Rattle.scenario.proofs.counted.Reads as reads
-use Rattle.scenario.proofs.counted.Lts as lts
 
 returns : tie.Need-returns
 returns c = search needs

@@ -9,10 +9,6 @@ use Rattle.scenario.specs.Under.{FeedsOn}
 use Rattle.scenario.proofs.Ending.{kept-length, feeds-none, feeds-next}
 use Rattle.scenario.proofs.feed_on.Statement.{statement}
 use Rattle.scenario.proofs.feed_on.Tie as tie
-use Rattle.scenario.proofs.feed_on.Reads as reads
-use Rattle.scenario.proofs.feed_on.Lts as lts
-use Rattle.scenario.proofs.keep.Reads as keep-reads
-use Rattle.scenario.proofs.step.Reads as step-reads
 
 abbrev Inv-loop : tie.InvT-loop
 Inv-loop bytes grid cells starts₀ goals₀ at₀ i₀ starts goals at i =

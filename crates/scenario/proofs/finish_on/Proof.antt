@@ -4,10 +4,6 @@ use borrow.Author.Needs.{needs}
 use Rattle.scenario.proofs.Ending.{kept-length, ends-now}
 use Rattle.scenario.proofs.finish_on.Statement.{statement}
 use Rattle.scenario.proofs.finish_on.Tie as tie
-use Rattle.scenario.proofs.finish_on.Reads as reads
-use Rattle.scenario.proofs.finish_on.Lts as lts
-use Rattle.scenario.proofs.finished.Reads as finished-reads
-use Rattle.scenario.proofs.keep.Reads as keep-reads
 
 finished-requires : tie.Need-finished-requires
 finished-requires c κs = search needs

@@ -4,10 +4,6 @@ use borrow.Author.Needs.{needs}
 use Rattle.scenario.proofs.Ending.{finishes-failed, finishes-between, finishes-line}
 use Rattle.scenario.proofs.finished.Statement.{statement}
 use Rattle.scenario.proofs.finished.Tie as tie
-use Rattle.scenario.proofs.finished.Reads as reads
-use Rattle.scenario.proofs.finished.Lts as lts
-use Rattle.scenario.proofs.closed.Reads as closed-reads
-use Rattle.scenario.proofs.released.Reads as released-reads
 
 returns : tie.Need-returns
 returns c = λ o. finishes-failed (c .before .before .args .cells .now) (c .before .before .args .grid) (c .before .before .args .s) o (c .if1 .taken)

@@ -4,11 +4,6 @@ use borrow.Author.Needs.{needs}
 use Rattle.scenario.proofs.Ending.{came-all}
 use Rattle.scenario.proofs.fold.Statement.{statement}
 use Rattle.scenario.proofs.fold.Tie as tie
-use Rattle.scenario.proofs.fold.Reads as reads
-use Rattle.scenario.proofs.fold.Lts as lts
-use Rattle.scenario.proofs.feed_on.Reads as feed-on-reads
-use Rattle.scenario.proofs.finish_on.Reads as finish-on-reads
-use Rattle.scenario.proofs.start.Reads as start-reads
 
 start-requires : tie.Need-start-requires
 start-requires c κs = search needs

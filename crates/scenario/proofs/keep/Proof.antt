@@ -5,9 +5,6 @@ use borrow.Author.Needs.{needs}
 use Rattle.scenario.proofs.Ending.{kept-same, kept-more}
 use Rattle.scenario.proofs.keep.Statement.{statement}
 use Rattle.scenario.proofs.keep.Tie as tie
-use Rattle.scenario.proofs.keep.Reads as reads
-use Rattle.scenario.proofs.keep.Lts as lts
-use Rattle.stores.proofs.short.Reads as short-reads
 
 returns : tie.Need-returns
 returns c =

@@ -7,11 +7,6 @@ use Rattle.paper.specs.Bytes.{inVersion, inCarrier, inLine, blank}
 use Rattle.fields.specs.Kept.{pastOf}
 use Rattle.scenario.proofs.on_byte.Statement.{statement}
 use Rattle.scenario.proofs.on_byte.Tie as tie
-use Rattle.scenario.proofs.on_byte.Reads as reads
-use Rattle.scenario.proofs.on_byte.Lts as lts
-use Rattle.fields.proofs.field_past.Reads as field-past-reads
-use Rattle.fields.proofs.seen.Reads as seen-reads
-use Rattle.fields.proofs.text_seen.Reads as text-seen-reads
 
 text-seen-requires : tie.Need-text-seen-requires
 text-seen-requires c κs = search needs

@@ -8,9 +8,6 @@ use Rattle.scenario.proofs.Ending.{ended-answer, reads-bad, reads-good}
 use Rattle.scenario.proofs.read.Statement.{statement}
 use Rattle.scenario.proofs.read.Tie as tie
 use Rattle.scenario.proofs.read.Reads as reads
-use Rattle.scenario.proofs.read.Lts as lts
-use Rattle.scenario.proofs.answer.Reads as answer-reads
-use Rattle.scenario.proofs.fold.Reads as fold-reads
 
 slice-aggregate-fold : tie.Need-slice-aggregate-fold
 slice-aggregate-fold c = search needs

@@ -5,9 +5,6 @@ use borrow.Author.Needs.{needs}
 use Rattle.paper.specs.Bytes.{release}
 use Rattle.scenario.proofs.released.Statement.{statement}
 use Rattle.scenario.proofs.released.Tie as tie
-use Rattle.scenario.proofs.released.Reads as reads
-use Rattle.scenario.proofs.released.Lts as lts
-use Rattle.scenario.proofs.on_byte.Reads as on-byte-reads
 
 on-byte-requires : tie.Need-on-byte-requires
 on-byte-requires c κs = search needs

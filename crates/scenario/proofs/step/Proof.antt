@@ -4,12 +4,6 @@ use borrow.Author.Needs.{needs}
 use Rattle.scenario.proofs.Stepping.{steps-failed, steps-end, steps-cr, steps-on}
 use Rattle.scenario.proofs.step.Statement.{statement}
 use Rattle.scenario.proofs.step.Tie as tie
-use Rattle.scenario.proofs.step.Reads as reads
-use Rattle.scenario.proofs.step.Lts as lts
-use Rattle.scenario.proofs.closed.Reads as closed-reads
-use Rattle.scenario.proofs.marked.Reads as marked-reads
-use Rattle.scenario.proofs.on_byte.Reads as on-byte-reads
-use Rattle.scenario.proofs.released.Reads as released-reads
 
 returns : tie.Need-returns
 returns c = λ o. steps-failed (c .before .before .args .cells .now) (c .before .before .args .grid) (c .before .before .args .s) (c .before .before .args .b) o (c .if1 .taken)

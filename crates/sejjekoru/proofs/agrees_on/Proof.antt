@@ -1,6 +1,6 @@
 -- `sejjekoru::agrees_on` meets its contract. The answer is the request's, so what is told of the one is told of the other.
 -- Assumes nothing.
-use Rattle.numbers.specs.Numbers.{agreementNumber, agreementValue}
+use Rattle.log_numbers.specs.Agreeing.{agreementNumber, agreementValue}
 use Rattle.ledger.proofs.Lent.{agreement-of-lent}
 use Rattle.sejjekoru.proofs.Saying.{told-as}
 use borrow.Author.Needs.{needs}

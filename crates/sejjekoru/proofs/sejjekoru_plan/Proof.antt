@@ -1,7 +1,7 @@
 -- `sejjekoru::sejjekoru_plan` meets its contract. The answer is the paper's, so what is told of the one is told of the other.
 -- Assumes nothing.
 use mathlib.Core.Path.{_∙_}
-use Rattle.numbers.specs.Numbers.{planNumber, planValue}
+use Rattle.plan_numbers.specs.Planned.{planNumber, planValue}
 use Rattle.sejjekoru.proofs.Saying.{told-as}
 use borrow.Author.Needs.{needs}
 use Rattle.sejjekoru.proofs.sejjekoru_plan.Statement.{statement}

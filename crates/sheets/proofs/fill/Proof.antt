@@ -4,6 +4,7 @@
 use mathlib.Core.Path.{_≡_, refl, sym, _∙_, ap, subst}
 use Prim.Native.Nat.{ℕ, zero, suc, _+_, _*_, _<_, _≤_, _^_}
 use native.Mathlib.Nat.{add-zero, add-suc, zero-add, suc-add, not-suc-le-zero, le-of-suc-le-suc, lt-of-le-of-lt, lt-of-lt-of-le, le-of-lt, le-add-right, lt-suc-self, lt-irrefl, mul-le-mul-right}
+use native.Mathlib.Numerals.{add-one}
 use mathlib.Core.Bool.{Bool, true, false}
 use mathlib.Core.List.{List, [], _∷_, _++_}
 use lib.ListN.{length, getD, take, drop as dropped, set}
@@ -74,10 +75,6 @@ holds false a = absurd a
 fails : (t : Bool) → (True t → ⊥) → t ≡ false
 fails true f = absurd (f tt)
 fails false _ = refl
-
--- ---- numbers
-one-more : (i : ℕ) → i + 1 ≡ suc i
-one-more i = add-suc i zero ∙ ap suc (add-zero i)
 
 -- ---- the first k of hs, and the others of ys
 abbrev laid : {X : Type 0} → ℕ → List X → List X → List X
@@ -228,7 +225,7 @@ module _ {M : Type 1} (𝓤 : URA M) (H : Heap 𝓤) (A : Atoms 𝓤) (W : Given
           -- [the row; _4; _5; _6; _7; _8; …]
           assigns-last ! (bin ! (load ! (from ! (stop !)) (look ! 1 refl)) (lit ! tt) (record { fits = next-fits })) (from ! (stop !)) (store ! 1 refl (tt, record { fits = next-fits })) $
           forget ! 2 refl $ forget ! 3 refl $ forget ! 4 refl $ forget ! 5 refl $
-          rewrite ! 1 (λ (j : ℕ). ‵ (fat fullShare word l₄ 0 (vint w64 j))) (one-more i) refl $
+          rewrite ! 1 (λ (j : ℕ). ‵ (fat fullShare word l₄ 0 (vint w64 j))) (add-one i) refl $
           rewrite ! 0 (λ (zs : List Line). ‵ (row T.the-row fullShare zs b o)) (ap (λ (z : Line). set (after i) i z) e ∙ laid-next i (held .lines) ys noLine (enough i-256) i-n) refl $ by ! k)))))
         where
           i-256 : i < most-bays
@@ -244,7 +241,7 @@ module _ {M : Type 1} (𝓤 : URA M) (H : Heap 𝓤) (A : Atoms 𝓤) (W : Given
           bytes = lt-of-le-of-lt (mul-le-mul-right 12 (le-of-lt i-256)) (lit< tt)
 
           next-fits : i + 1 < 2 ^ 64
-          next-fits = subst (λ (j : ℕ). j < 2 ^ 64) (sym (one-more i)) (lt-of-le-of-lt i-256 (lit< tt))
+          next-fits = subst (λ (j : ℕ). j < 2 ^ 64) (sym (add-one i)) (lt-of-le-of-lt i-256 (lit< tt))
 
       -- the turn that leaves the loop, and the rest of the body: the borrow is closed at what is filled
       ends : (X : SProp 𝓤) → ent 𝓤 (⋆ 𝓤 H A (At c)) (Wp 𝓤 H C Λ En pieces.turn-1 (afterTurn 𝓤 H X Left))

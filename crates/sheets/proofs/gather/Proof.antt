@@ -4,6 +4,7 @@
 use mathlib.Core.Path.{_≡_, refl, sym, _∙_, ap, subst}
 use Prim.Native.Nat.{ℕ, zero, suc, _+_, _*_, _<_, _^_}
 use native.Mathlib.Nat.{add-zero, add-suc, zero-add, suc-add, lt-of-le-of-lt, lt-of-lt-of-le, lt-trans, le-of-lt, le-add-right, lt-suc-self, lt-irrefl, min-le-left, min-le-right, mul-le-mul-right}
+use native.Mathlib.Numerals.{add-one}
 use mathlib.Core.Bool.{Bool, true, false}
 use mathlib.Core.List.{List, [], _∷_}
 use lib.ListN.{length, getD}
@@ -84,9 +85,6 @@ holds false a = absurd a
 fails : (t : Bool) → (T t → ⊥) → t ≡ false
 fails true f = absurd (f tt)
 fails false _ = refl
-
-one-more : (i : ℕ) → i + 1 ≡ suc i
-one-more i = add-suc i zero ∙ ap suc (add-zero i)
 
 -- ---- the types, and their machine values
 abbrev LineT : RattleType
@@ -290,7 +288,7 @@ module _ {M : Type 1} (𝓤 : URA M) (H : Heap 𝓤) (A : Atoms 𝓤) (W : Given
         -- [kept; the row; _5; _7; _8; _9; _10; _11; _12; _13; _1; …]
         assigns-last ! (bin ! (load ! (from ! (stop !)) (look ! 2 refl)) (lit ! tt) (record { fits = next-fits })) (from ! (stop !)) (store ! 2 refl (tt, record { fits = next-fits })) $
         forget ! 3 refl $ forget ! 4 refl $ forget ! 5 refl $ forget ! 6 refl $ forget ! 7 refl $ forget ! 8 refl $ forget ! 9 refl $
-        rewrite ! 2 (λ (j : ℕ). ‵ (fat fullShare word l₅ 0 (vint w64 j))) (one-more i) refl $ by ! k))
+        rewrite ! 2 (λ (j : ℕ). ‵ (fat fullShare word l₅ 0 (vint w64 j))) (add-one i) refl $ by ! k))
       where
         line : Line
         line = getD ys i noLine
@@ -305,7 +303,7 @@ module _ {M : Type 1} (𝓤 : URA M) (H : Heap 𝓤) (A : Atoms 𝓤) (W : Given
         off-fits = lt-trans (lt-of-le-of-lt (mul-le-mul-right 12 (le-of-lt in-lines)) (g .1)) (lit< tt)
 
         next-fits : i + 1 < 2 ^ 64
-        next-fits = subst (λ (j : ℕ). j < 2 ^ 64) (sym (one-more i)) (lt-of-le-of-lt in-lines (g .0))
+        next-fits = subst (λ (j : ℕ). j < 2 ^ 64) (sym (add-one i)) (lt-of-le-of-lt in-lines (g .0))
 
     -- the turn that leaves the loop, and the rest of the body: the array is put together and handed to `hold`, and the slice is shut
     ends : (X : SProp 𝓤) → ent 𝓤 (⋆ 𝓤 H A (At (topOf n))) (Wp 𝓤 H C Λ En turn (afterTurn 𝓤 H X Left))

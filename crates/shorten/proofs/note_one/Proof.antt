@@ -6,7 +6,7 @@ use Rattle.paper.specs.Yard.{crossings, named}
 use denote.Ref.{now}
 use native.Mathlib.Omega.{arith}
 use Prim.Native.Nat.{ℕ}
-use mathlib.Core.Path.{_≡_, sym, _∙_, ap}
+use mathlib.Core.Path.{_≡_, _∙_, ap}
 use borrow.Author.Needs.{needs}
 use Rattle.shorten.proofs.note_one.Statement.{statement}
 use Rattle.shorten.proofs.note_one.Tie as tie

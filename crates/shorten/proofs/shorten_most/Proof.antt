@@ -1,20 +1,16 @@
 -- `shorten::shorten_most` meets its contract. A plan that passes the check is no longer than the working room.
 -- Assumes nothing.
-use Rattle.shorten.proofs.Looking.{take-fresh}
+use Rattle.shorten.proofs.Looking.{take-fresh, enough}
 use Rattle.chains.specs.Links.{links-each}
-use lib.ListN.{length, take, replicate, length-replicate}
+use lib.ListN.{length, take}
 use denote.Ref.{now}
 use native.Mathlib.Omega.{arith}
-use Prim.Native.Nat.{ℕ, _*_, _≤_}
-use mathlib.Core.Path.{_≡_, sym, _∙_, ap}
+use Prim.Native.Nat.{_*_}
+use mathlib.Core.Path.{sym}
 use borrow.Author.Needs.{needs}
 use Rattle.paper.specs.Limits.{most-crossings}
 use Rattle.shorten.proofs.shorten_most.Statement.{statement}
 use Rattle.shorten.proofs.shorten_most.Tie as tie
-
--- as many places as are taken of it
-enough : (v k n : ℕ) → k ≤ n → length (take k (replicate n v)) ≡ k
-enough v k n h = ap length (take-fresh v k n h) ∙ length-replicate {A = ℕ} k v
 
 mul-long : tie.Need-mul-long
 mul-long c = search needs

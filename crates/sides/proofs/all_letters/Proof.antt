@@ -9,9 +9,6 @@ use Rattle.sides.specs.Letters.{letter}
 use Rattle.sides.proofs.Rows.{all-on, all-not, all-none}
 use Rattle.sides.proofs.all_letters.Statement.{statement}
 use Rattle.sides.proofs.all_letters.Tie as tie
-use Rattle.sides.proofs.all_letters.Reads as reads
-use Rattle.sides.proofs.all_letters.Lts as lts
-use Rattle.sides.proofs.is_letter.Reads as is-letter-reads
 
 abbrev Inv-loop : tie.InvT-loop
 Inv-loop text i₀ i = (i ≤ length text) × (all letter (drop i text) ≡ all letter text)

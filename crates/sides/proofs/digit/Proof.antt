@@ -4,8 +4,6 @@ use borrow.Author.Needs.{needs}
 use Rattle.sides.proofs.Numbers.{digit-in, digit-high, digit-low}
 use Rattle.sides.proofs.digit.Statement.{statement}
 use Rattle.sides.proofs.digit.Tie as tie
-use Rattle.sides.proofs.digit.Reads as reads
-use Rattle.sides.proofs.digit.Lts as lts
 
 cast-result : tie.Need-cast-result
 cast-result c = search needs

@@ -3,8 +3,6 @@
 use Rattle.paper.specs.Basics.{_or_}
 use Rattle.sides.proofs.either.Statement.{statement}
 use Rattle.sides.proofs.either.Tie as tie
-use Rattle.sides.proofs.either.Reads as reads
-use Rattle.sides.proofs.either.Lts as lts
 
 returns : tie.Need-returns
 unfolding _or_

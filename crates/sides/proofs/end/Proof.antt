@@ -5,8 +5,6 @@ use Rattle.sides.specs.Layout.{dueEnd}
 use Rattle.sides.proofs.Taking.{end-early, end-full, end-missing}
 use Rattle.sides.proofs.end.Statement.{statement}
 use Rattle.sides.proofs.end.Tie as tie
-use Rattle.sides.proofs.end.Reads as reads
-use Rattle.sides.proofs.end.Lts as lts
 
 enum-told : tie.Need-enum-told
 enum-told c = search needs

@@ -4,9 +4,6 @@ use borrow.Author.Needs.{needs}
 use Rattle.paper.specs.Map.{bayLetter}
 use Rattle.sides.proofs.is_bay.Statement.{statement}
 use Rattle.sides.proofs.is_bay.Tie as tie
-use Rattle.sides.proofs.is_bay.Reads as reads
-use Rattle.sides.proofs.is_bay.Lts as lts
-use Rattle.sides.proofs.either.Reads as either-reads
 
 either-requires : tie.Need-either-requires
 either-requires c κs = search needs

@@ -4,10 +4,6 @@ use borrow.Author.Needs.{needs}
 use Rattle.paper.specs.Map.{wallLetter}
 use Rattle.sides.proofs.is_letter.Statement.{statement}
 use Rattle.sides.proofs.is_letter.Tie as tie
-use Rattle.sides.proofs.is_letter.Reads as reads
-use Rattle.sides.proofs.is_letter.Lts as lts
-use Rattle.sides.proofs.either.Reads as either-reads
-use Rattle.sides.proofs.is_bay.Reads as is-bay-reads
 
 is-bay-requires : tie.Need-is-bay-requires
 is-bay-requires c κs = search needs

@@ -5,9 +5,6 @@ use borrow.Author.Needs.{needs}
 use Rattle.sides.proofs.Rows.{row-wide, row-other}
 use Rattle.sides.proofs.is_row.Statement.{statement}
 use Rattle.sides.proofs.is_row.Tie as tie
-use Rattle.sides.proofs.is_row.Reads as reads
-use Rattle.sides.proofs.is_row.Lts as lts
-use Rattle.sides.proofs.all_letters.Reads as all-letters-reads
 
 all-letters-requires : tie.Need-all-letters-requires
 all-letters-requires c κs = search needs

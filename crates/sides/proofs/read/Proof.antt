@@ -5,7 +5,6 @@ use mathlib.Core.Option.{none}
 use Prim.Native.Nat.{_+_, _-_, _≤_}
 use native.Mathlib.Omega.{arith}
 use lib.ListN.{length, take, drop}
-use native.Mathlib.Omega.{arith}
 use borrow.Author.Needs.{needs}
 use Rattle.paper.specs.Text.{lines, readLines}
 use Rattle.paper.specs.Map.{readMap}
@@ -14,11 +13,6 @@ use Rattle.sides.proofs.Counted.{sides-read}
 use Rattle.sides.proofs.Taking.{left-end, left-bad, left-on}
 use Rattle.sides.proofs.read.Statement.{statement}
 use Rattle.sides.proofs.read.Tie as tie
-use Rattle.sides.proofs.read.Reads as reads
-use Rattle.sides.proofs.read.Lts as lts
-use Rattle.lines.proofs.next_line.Reads as next-line-reads
-use Rattle.sides.proofs.end.Reads as end-reads
-use Rattle.sides.proofs.take.Reads as take-reads
 
 abbrev Inv-loop : tie.InvT-loop
 Inv-loop file due₀ at₀ n₀ due at n = (at ≤ length file) × ((n ≤ at + 1) × (readLines lineTaken dueEnd n due (lines (drop at file)) ≡ sidesRead (readMap file)))

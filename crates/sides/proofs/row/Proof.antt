@@ -4,9 +4,6 @@ use borrow.Author.Needs.{needs}
 use Rattle.sides.proofs.Taking.{row-yes, row-no, row-more}
 use Rattle.sides.proofs.row.Statement.{statement}
 use Rattle.sides.proofs.row.Tie as tie
-use Rattle.sides.proofs.row.Reads as reads
-use Rattle.sides.proofs.row.Lts as lts
-use Rattle.sides.proofs.is_row.Reads as is-row-reads
 
 is-row-requires : tie.Need-is-row-requires
 is-row-requires c κs = search needs

@@ -8,10 +8,6 @@ use Rattle.sides.specs.Letters.{sideOf}
 use Rattle.sides.proofs.Numbers.{side-one, side-two, side-other}
 use Rattle.sides.proofs.side.Statement.{statement}
 use Rattle.sides.proofs.side.Tie as tie
-use Rattle.sides.proofs.side.Reads as reads
-use Rattle.sides.proofs.side.Lts as lts
-use Rattle.sides.proofs.digit.Reads as digit-reads
-use Rattle.sides.proofs.within.Reads as within-reads
 
 shared-slice-read-digit : tie.Need-shared-slice-read-digit
 shared-slice-read-digit c = search needs

@@ -5,10 +5,6 @@ use borrow.Author.Needs.{needs}
 use Rattle.sides.proofs.Numbers.{after-word, after-other, after-short}
 use Rattle.sides.proofs.side_after.Statement.{statement}
 use Rattle.sides.proofs.side_after.Tie as tie
-use Rattle.sides.proofs.side_after.Reads as reads
-use Rattle.sides.proofs.side_after.Lts as lts
-use Rattle.lines.proofs.begins_with.Reads as begins-with-reads
-use Rattle.sides.proofs.side.Reads as side-reads
 
 begins-with-requires : tie.Need-begins-with-requires
 begins-with-requires c κs = search needs

@@ -6,11 +6,6 @@ use Rattle.sides.specs.Layout.{lineTaken}
 use Rattle.sides.proofs.Taking.{octile-yes, octile-no, height-yes, height-no, width-yes, width-no, map-yes, map-no}
 use Rattle.sides.proofs.take.Statement.{statement}
 use Rattle.sides.proofs.take.Tie as tie
-use Rattle.sides.proofs.take.Reads as reads
-use Rattle.sides.proofs.take.Lts as lts
-use Rattle.lines.proofs.is_word.Reads as is-word-reads
-use Rattle.sides.proofs.row.Reads as row-reads
-use Rattle.sides.proofs.side_after.Reads as side-after-reads
 
 enum-told : tie.Need-enum-told
 enum-told c = search needs

@@ -4,8 +4,6 @@ use borrow.Author.Needs.{needs}
 use Rattle.sides.proofs.Numbers.{within-in, within-out}
 use Rattle.sides.proofs.within.Statement.{statement}
 use Rattle.sides.proofs.within.Tie as tie
-use Rattle.sides.proofs.within.Reads as reads
-use Rattle.sides.proofs.within.Lts as lts
 
 cast-result : tie.Need-cast-result
 cast-result c = search needs

@@ -33,13 +33,13 @@ slice-read-add c = search needs
 
 cast-add : tie.Need-cast-add
 cast-add c =
-    let start = c .before .before .before .before .before .before .before .before .before .before .before .before in
-    let p = start .pre .0 in omega (arith, p .placed .inside (start .args .r .0) (start .pre .1 .0), p .most)
+    let start = c .before .before .before .before .before .before .before .before .before .before .before .before .before .before in
+    let p = start .pre .0 in omega (arith, p .placed .inside (start .args .next .carrier .0) (start .pre .1 .0), p .most)
 
 add-requires : tie.Need-add-requires
 add-requires c κs =
-    let start = c .before .before .before .before .before .before .before .before .before .before .before .before in
-    let p = start .pre .0 in omega (arith, p .placed .inside (start .args .r .0) (start .pre .1 .0), p .most, c .before .before .before .keep .kept .0)
+    let start = c .before .before .before .before .before .before .before .before .before .before .before .before .before .before in
+    let p = start .pre .0 in omega (arith, p .placed .inside (start .args .next .carrier .0) (start .pre .1 .0), p .most, c .before .before .before .keep .kept .0)
 
 slice-aggregate-make-room : tie.Need-slice-aggregate-make-room
 slice-aggregate-make-room c = search needs
@@ -48,10 +48,10 @@ make-room-requires : tie.Need-make-room-requires
 make-room-requires c κs =
     let add = c .before .before .before .before .before .before .add in
     let keep = c .before .before .before .before .before .before .before .before .before .before .keep in
-    let start = c .before .before .before .before .before .before .before .before .before .before .before .before .before .before .before .before .before .before .before in
+    let start = c .before .before .before .before .before .before .before .before .before .before .before .before .before .before .before .before .before .before .before .before .before in
     let p = start .pre .0 in
     let z = start .pre .1 in
-    (p, (z .2, omega (arith, add .kept .0, keep .kept .0), omega (arith, z .5), heldBy (p .tabled) (start .args .r .0) (z .6) (keep .ensures) (add .ensures)))
+    (p, (z .2, omega (arith, add .kept .0, keep .kept .0), omega (arith, z .5), heldBy (p .tabled) (start .args .next .carrier .0) (z .6) (keep .ensures) (add .ensures)))
 
 enum-known-vacated : tie.Need-enum-known-vacated
 enum-known-vacated c = search needs
@@ -68,7 +68,7 @@ mul-t38 c = search needs
 slice-read-t40 : tie.Need-slice-read-t40
 slice-read-t40 c =
     let make-room = c .before .before .before .before .before .before .before .before .before .before .before .before .make-room in
-    let start = c .before .before .before .before .before .before .before .before .before .before .before .before .before .before .before .before .before .before .before .before .before .before .before .before .before .before .before .before .before .before .before .before in
+    let start = c .before .before .before .before .before .before .before .before .before .before .before .before .before .before .before .before .before .before .before .before .before .before .before .before .before .before .before .before .before .before .before .before .before .before in
     omega (arith, start .pre .1 .2, make-room .kept .1 .1 .1 .1 .0)
 
 cast-t41 : tie.Need-cast-t41
@@ -76,13 +76,13 @@ cast-t41 c =
     let make-room = c .before .before .before .before .before .before .before .before .before .before .before .before .make-room in
     let add = c .before .before .before .before .before .before .before .before .before .before .before .before .before .before .before .before .before .before .before .add in
     let keep = c .before .before .before .before .before .before .before .before .before .before .before .before .before .before .before .before .before .before .before .before .before .before .before .keep in
-    let start = c .before .before .before .before .before .before .before .before .before .before .before .before .before .before .before .before .before .before .before .before .before .before .before .before .before .before .before .before .before .before .before .before in
+    let start = c .before .before .before .before .before .before .before .before .before .before .before .before .before .before .before .before .before .before .before .before .before .before .before .before .before .before .before .before .before .before .before .before .before .before in
     let p = start .pre .0 in
     let z = start .pre .1 in
     let e : make-room .result ≡ Failed = c .before .before .enum-told .given .1 in
-    let a = rw e at (make-room .ensures .1 (heldBy (p .tabled) (start .args .r .0) (z .6) (keep .ensures) (add .ensures))) in
+    let a = rw e at (make-room .ensures .1 (heldBy (p .tabled) (start .args .next .carrier .0) (z .6) (keep .ensures) (add .ensures))) in
     let u = a .fails (acted-failed a) .1 in
-    let h : getD (make-room .last .1 .1 .1 .1 .0) (start .args .w .0) 0 < length (start .args .placement .now) = rw (u .same-standing) (met-carrier (p .tabled) (p .most) (z .4) (start .args .finished) (start .args .r .0) (start .args .w .0) (start .args .placement .now) (p .placed) (z .0) (z .2) (z .3) (acted-failed a) .0) in
+    let h : getD (make-room .last .1 .1 .1 .1 .0) (start .args .next .to .0) 0 < length (start .args .placement .now) = rw (u .same-standing) (met-carrier (p .tabled) (p .most) (z .4) (start .args .next .finished) (start .args .next .carrier .0) (start .args .next .to .0) (start .args .placement .now) (p .placed) (z .0) (z .2) (z .3) (acted-failed a) .0) in
     omega (arith, h, p .most, p .placed .few)
 
 swap-requires : tie.Need-swap-requires
@@ -90,15 +90,15 @@ swap-requires c κs =
     let make-room = c .before .before .before .before .before .before .before .before .before .before .before .before .before .before .before .before .make-room in
     let add = c .before .before .before .before .before .before .before .before .before .before .before .before .before .before .before .before .before .before .before .before .before .before .before .add in
     let keep = c .before .before .before .before .before .before .before .before .before .before .before .before .before .before .before .before .before .before .before .before .before .before .before .before .before .before .before .keep in
-    let start = c .before .before .before .before .before .before .before .before .before .before .before .before .before .before .before .before .before .before .before .before .before .before .before .before .before .before .before .before .before .before .before .before .before .before .before .before in
+    let start = c .before .before .before .before .before .before .before .before .before .before .before .before .before .before .before .before .before .before .before .before .before .before .before .before .before .before .before .before .before .before .before .before .before .before .before .before .before .before in
     let p = start .pre .0 in
     let z = start .pre .1 in
     let e : make-room .result ≡ Failed = c .before .before .before .before .before .before .enum-told .given .1 in
-    let a = rw e at (make-room .ensures .1 (heldBy (p .tabled) (start .args .r .0) (z .6) (keep .ensures) (add .ensures))) in
+    let a = rw e at (make-room .ensures .1 (heldBy (p .tabled) (start .args .next .carrier .0) (z .6) (keep .ensures) (add .ensures))) in
     let f = acted-failed a in
     let u = a .fails f .1 in
-    let m = met-carrier (p .tabled) (p .most) (z .4) (start .args .finished) (start .args .r .0) (start .args .w .0) (start .args .placement .now) (p .placed) (z .0) (z .2) (z .3) f in
-    let b = met-beside (p .tabled) (p .most) (z .4) (start .args .finished) (start .args .r .0) (start .args .w .0) (start .args .placement .now) (p .placed) (z .0) (z .2) (z .3) f in
+    let m = met-carrier (p .tabled) (p .most) (z .4) (start .args .next .finished) (start .args .next .carrier .0) (start .args .next .to .0) (start .args .placement .now) (p .placed) (z .0) (z .2) (z .3) f in
+    let b = met-beside (p .tabled) (p .most) (z .4) (start .args .next .finished) (start .args .next .carrier .0) (start .args .next .to .0) (start .args .placement .now) (p .placed) (z .0) (z .2) (z .3) f in
     let sp : make-room .last .1 .1 .1 .0 ≡ start .args .placement .now = u .same-placement in
     let ss : make-room .last .1 .1 .1 .1 .0 ≡ start .args .standing .now = u .same-standing in
     let se : make-room .last .1 .1 .1 .1 .1 .0 ≡ start .args .empty .now = u .same-empty in (
@@ -106,7 +106,7 @@ swap-requires c κs =
       (
         rw sp (z .0),
         rw (sp, ss) (m .0),
-        rw ss (met-other (p .tabled) (p .most) (z .4) (start .args .finished) (start .args .r .0) (start .args .w .0) (start .args .placement .now) (p .placed) (z .0) (z .2) (z .3) f),
+        rw ss (met-other (p .tabled) (p .most) (z .4) (start .args .next .finished) (start .args .next .carrier .0) (start .args .next .to .0) (start .args .placement .now) (p .placed) (z .0) (z .2) (z .3) f),
         z .5,
         rw (sp, ss) (record { tabled = p .tabled; beside = b }),
       ),
@@ -131,18 +131,18 @@ returns c =
     let make-room = c .before .before .before .before .before .before .before .before .before .before .before .before .before .before .before .before .before .before .before .before .before .before .before .make-room in
     let add = c .before .before .before .before .before .before .before .before .before .before .before .before .before .before .before .before .before .before .before .before .before .before .before .before .before .before .before .before .before .before .add in
     let keep = c .before .before .before .before .before .before .before .before .before .before .before .before .before .before .before .before .before .before .before .before .before .before .before .before .before .before .before .before .before .before .before .before .before .before .keep in
-    let start = c .before .before .before .before .before .before .before .before .before .before .before .before .before .before .before .before .before .before .before .before .before .before .before .before .before .before .before .before .before .before .before .before .before .before .before .before .before .before .before .before .before .before .before in
+    let start = c .before .before .before .before .before .before .before .before .before .before .before .before .before .before .before .before .before .before .before .before .before .before .before .before .before .before .before .before .before .before .before .before .before .before .before .before .before .before .before .before .before .before .before .before .before in
     let p = start .pre .0 in
     let z = start .pre .1 in
     let e : make-room .result ≡ Failed = enum-told .given .1 in (
       swap .ensures .0,
       λ t.
-          let a = rw e at (make-room .ensures .1 (heldBy t (start .args .r .0) (z .6) (keep .ensures) (add .ensures))) in
+          let a = rw e at (make-room .ensures .1 (heldBy t (start .args .next .carrier .0) (z .6) (keep .ensures) (add .ensures))) in
           let f = acted-failed a in
           let u = a .fails f .1 in
           let se : make-room .last .1 .1 .1 .1 .1 .0 ≡ start .args .empty .now = u .same-empty in
-          rw se (stepped-swap t (p .most) (z .4) (start .args .finished) (start .args .r .0) (start .args .w .0) (start .args .placement .now) (p .placed) (z .0) (z .2) (z .3) f
-          ((rw (u .same-placement, u .same-standing, u .same-empty, u .same-list) at (swap .ensures .1)) t (met-beside t (p .most) (z .4) (start .args .finished) (start .args .r .0) (start .args .w .0) (start .args .placement .now) (p .placed) (z .0) (z .2) (z .3) f))),
+          rw se (stepped-swap t (p .most) (z .4) (start .args .next .finished) (start .args .next .carrier .0) (start .args .next .to .0) (start .args .placement .now) (p .placed) (z .0) (z .2) (z .3) f
+          ((rw (u .same-placement, u .same-standing, u .same-empty, u .same-list) at (swap .ensures .1)) t (met-beside t (p .most) (z .4) (start .args .next .finished) (start .args .next .carrier .0) (start .args .next .to .0) (start .args .placement .now) (p .placed) (z .0) (z .2) (z .3) f))),
     )
 
 mul-t24 : tie.Need-mul-t24
@@ -151,7 +151,7 @@ mul-t24 c = search needs
 slice-read-t26 : tie.Need-slice-read-t26
 slice-read-t26 c =
     let make-room = c .before .before .before .before .before .before .before .before .before .before .before .before .make-room in
-    let start = c .before .before .before .before .before .before .before .before .before .before .before .before .before .before .before .before .before .before .before .before .before .before .before .before .before .before .before .before .before .before .before .before in
+    let start = c .before .before .before .before .before .before .before .before .before .before .before .before .before .before .before .before .before .before .before .before .before .before .before .before .before .before .before .before .before .before .before .before .before .before in
     omega (arith, start .pre .1 .0, make-room .kept .1 .1 .1 .0)
 
 cross-requires : tie.Need-cross-requires
@@ -160,7 +160,7 @@ cross-requires c κs =
     let make-room = c .before .before .before .before .before .before .before .before .before .before .before .before .before .before .before .before .make-room in
     let add = c .before .before .before .before .before .before .before .before .before .before .before .before .before .before .before .before .before .before .before .before .before .before .before .add in
     let keep = c .before .before .before .before .before .before .before .before .before .before .before .before .before .before .before .before .before .before .before .before .before .before .before .before .before .before .before .keep in
-    let start = c .before .before .before .before .before .before .before .before .before .before .before .before .before .before .before .before .before .before .before .before .before .before .before .before .before .before .before .before .before .before .before .before .before .before .before .before in
+    let start = c .before .before .before .before .before .before .before .before .before .before .before .before .before .before .before .before .before .before .before .before .before .before .before .before .before .before .before .before .before .before .before .before .before .before .before .before .before .before in
     let p = start .pre .0 in
     let z = start .pre .1 in
     let m = vacated .given .0 .0 in
@@ -168,14 +168,14 @@ cross-requires c κs =
     let few = rw e at (make-room .ensures .0) in
     let kw : length (make-room .last .1 .1 .1 .1 .0) ≡ length (start .args .standing .now) = make-room .kept .1 .1 .1 .1 .0 in
     let kf : length (make-room .last .1 .1 .1 .1 .1 .0) ≡ length (start .args .empty .now) = make-room .kept .1 .1 .1 .1 .1 .0 in
-    let d = acted-done (rw e at (make-room .ensures .1 (heldBy (p .tabled) (start .args .r .0) (z .6) (keep .ensures) (add .ensures)))) in (
-      rw kw (d .2 .placed .inside (start .args .r .0) (r-inside (p .tabled) (p .most) (z .4) (start .args .finished) (start .args .r .0) (start .args .w .0) (start .args .placement .now) (p .placed) (z .0) (z .2) (z .3) (d .0) (d .1) _ (d .2 .moved))),
+    let d = acted-done (rw e at (make-room .ensures .1 (heldBy (p .tabled) (start .args .next .carrier .0) (z .6) (keep .ensures) (add .ensures)))) in (
+      rw kw (d .2 .placed .inside (start .args .next .carrier .0) (r-inside (p .tabled) (p .most) (z .4) (start .args .next .finished) (start .args .next .carrier .0) (start .args .next .to .0) (start .args .placement .now) (p .placed) (z .0) (z .2) (z .3) (d .0) (d .1) _ (d .2 .moved))),
       rw kw (z .2),
       omega (arith, p .most, kw),
       omega (arith, p .empty-size, kf),
       omega (arith, few, z .5),
-      r-there (p .tabled) (p .most) (z .4) (start .args .finished) (start .args .r .0) (start .args .w .0) (start .args .placement .now) (p .placed) (z .0) (z .2) (z .3) (d .0) (d .1) _ (d .2 .moved),
-      w-empty (p .tabled) (p .most) (z .4) (start .args .finished) (start .args .r .0) (start .args .w .0) (start .args .placement .now) (p .placed) (z .0) (z .2) (z .3) (d .0) (d .1) _ (d .2 .moved),
+      r-there (p .tabled) (p .most) (z .4) (start .args .next .finished) (start .args .next .carrier .0) (start .args .next .to .0) (start .args .placement .now) (p .placed) (z .0) (z .2) (z .3) (d .0) (d .1) _ (d .2 .moved),
+      w-empty (p .tabled) (p .most) (z .4) (start .args .next .finished) (start .args .next .carrier .0) (start .args .next .to .0) (start .args .placement .now) (p .placed) (z .0) (z .2) (z .3) (d .0) (d .1) _ (d .2 .moved),
       rw kw (d .2 .placed),
     )
 
@@ -198,7 +198,7 @@ returns-2 c =
     let make-room = c .before .before .before .before .before .before .before .before .before .before .before .before .before .before .before .before .before .before .before .before .before .before .before .before .before .make-room in
     let add = c .before .before .before .before .before .before .before .before .before .before .before .before .before .before .before .before .before .before .before .before .before .before .before .before .before .before .before .before .before .before .before .before .add in
     let keep = c .before .before .before .before .before .before .before .before .before .before .before .before .before .before .before .before .before .before .before .before .before .before .before .before .before .before .before .before .before .before .before .before .before .before .before .before .keep in
-    let start = c .before .before .before .before .before .before .before .before .before .before .before .before .before .before .before .before .before .before .before .before .before .before .before .before .before .before .before .before .before .before .before .before .before .before .before .before .before .before .before .before .before .before .before .before .before in
+    let start = c .before .before .before .before .before .before .before .before .before .before .before .before .before .before .before .before .before .before .before .before .before .before .before .before .before .before .before .before .before .before .before .before .before .before .before .before .before .before .before .before .before .before .before .before .before .before .before in
     let p = start .pre .0 in
     let z = start .pre .1 in
     let m = vacated .given .0 .0 in
@@ -208,8 +208,8 @@ returns-2 c =
     let crossed = rw kw at (cross .ensures) in (
       omega (arith, few, crossed .counted),
       λ t.
-          let d = acted-done (rw e at (make-room .ensures .1 (heldBy t (start .args .r .0) (z .6) (keep .ensures) (add .ensures)))) in
-          stepped-cross t (p .most) (z .4) (start .args .finished) (start .args .r .0) (start .args .w .0) (start .args .placement .now) (p .placed) (z .0) (z .2) (z .3) (d .0) (d .1) (d .2) crossed,
+          let d = acted-done (rw e at (make-room .ensures .1 (heldBy t (start .args .next .carrier .0) (z .6) (keep .ensures) (add .ensures)))) in
+          stepped-cross t (p .most) (z .4) (start .args .next .finished) (start .args .next .carrier .0) (start .args .next .to .0) (start .args .placement .now) (p .placed) (z .0) (z .2) (z .3) (d .0) (d .1) (d .2) crossed,
     )
 
 pub make-way-spec : {M : Type 1} → statement M

@@ -45,7 +45,7 @@ same-length-5 c = search needs
 returns : tie.Need-returns
 returns c =
     let step-to = c .before .before .before .before .before .before .before .before .before .before .step-to in
-    let start = c .before .before .before .before .before .before .before .before .before .before .before .before .before .before .before .before .before .before .before .before .before .before .before .before in
+    let start = c .before .before .before .before .before .before .before .before .before .before .before .before .before .before .before .before .before .before .before .before .before .before .before .before .before .before in
     let p = start .pre .0 in
     let z = start .pre .1 in
     let e : step-to .result ≡ Failed = c .enum-told .given .1 in
@@ -55,10 +55,10 @@ returns c =
 
 settle-requires : tie.Need-settle-requires
 settle-requires c κs =
-    let start = c .before .before .before .before .before .before .before .before .before .before .before .before .before .before .before .before .before .before .before .before .before .before .before .before .before .before in
+    let start = c .before .before .before .before .before .before .before .before .before .before .before .before .before .before .before .before .before .before .before .before .before .before .before .before .before .before .before .before in
     let p = start .pre .0 in
     let z = start .pre .1 in
-    (z .6 .size, omega (arith, p .placed .inside (start .args .r .0) (z .0), p .most), omega (arith, z .2, p .most))
+    (z .6 .size, omega (arith, p .placed .inside (start .args .next .carrier .0) (z .0), p .most), omega (arith, z .2, p .most))
 
 same-length-6 : tie.Need-same-length-6
 same-length-6 c = search needs
@@ -79,14 +79,14 @@ returns-2 : tie.Need-returns-2
 returns-2 c =
     let stepped = c .before .before .before .before .before .stepped in
     let step-to = c .before .before .before .before .before .before .before .before .before .before .before .before .before .before .before .step-to in
-    let start = c .before .before .before .before .before .before .before .before .before .before .before .before .before .before .before .before .before .before .before .before .before .before .before .before .before .before .before .before .before in
+    let start = c .before .before .before .before .before .before .before .before .before .before .before .before .before .before .before .before .before .before .before .before .before .before .before .before .before .before .before .before .before .before .before in
     let p = start .pre .0 in
     let z = start .pre .1 in
     let e : step-to .result ≡ Done (stepped .given .0 .0) = stepped .given .1 in
     let a = rw e at (step-to .ensures .1) in (
       rw e at (step-to .ensures .0),
       a,
-      settled-after (p .tabled) (p .most) (z .4) (start .args .finished) (start .args .r .0) (start .args .w .0) (start .args .placement .now) (p .placed) (z .0) (z .1) (z .2) (z .3)
+      settled-after (p .tabled) (p .most) (z .4) (start .args .next .finished) (start .args .next .carrier .0) (start .args .next .to .0) (start .args .placement .now) (p .placed) (z .0) (z .1) (z .2) (z .3)
           (a (p .tabled)) (z .6) (c .before .before .settle .kept .0) (c .before .before .settle .ensures),
     )
 

@@ -11,17 +11,17 @@ use Rattle.step.proofs.step_aside.Tie as tie
 
 fill-requires : tie.Need-fill-requires
 fill-requires c κs =
-    let start = c .before .before .before .before .before .before .before .before .before in
+    let start = c .before .before .before .before .before .before .before .before .before .before .before in
     let p = start .pre .0 in
     let z = start .pre .1 in (
       (
         z .2,
-        inside-e (p .tabled) (p .most) (z .4) (start .args .finished) (start .args .r .0) (start .args .w .0) (start .args .placement .now) (p .placed) (z .0) (z .1) (z .2) (z .3) (z .6) (z .7) (start .args .e .0) (z .8) (z .9),
+        inside-e (p .tabled) (p .most) (z .4) (start .args .next .finished) (start .args .next .carrier .0) (start .args .next .to .0) (start .args .placement .now) (p .placed) (z .0) (z .1) (z .2) (z .3) (z .6) (z .7) (start .args .e .0) (z .8) (z .9),
         p .most,
         p .empty-size,
         omega (arith, z .5),
-        full-in (p .tabled) (p .most) (z .4) (start .args .finished) (start .args .r .0) (start .args .w .0) (start .args .placement .now) (p .placed) (z .0) (z .1) (z .2) (z .3) (z .6) (z .7) (start .args .e .0) (z .8) (z .9),
-        empty-e (p .tabled) (p .most) (z .4) (start .args .finished) (start .args .r .0) (start .args .w .0) (start .args .placement .now) (p .placed) (z .0) (z .1) (z .2) (z .3) (z .6) (z .7) (start .args .e .0) (z .8) (z .9),
+        full-in (p .tabled) (p .most) (z .4) (start .args .next .finished) (start .args .next .carrier .0) (start .args .next .to .0) (start .args .placement .now) (p .placed) (z .0) (z .1) (z .2) (z .3) (z .6) (z .7) (start .args .e .0) (z .8) (z .9),
+        empty-e (p .tabled) (p .most) (z .4) (start .args .next .finished) (start .args .next .carrier .0) (start .args .next .to .0) (start .args .placement .now) (p .placed) (z .0) (z .1) (z .2) (z .3) (z .6) (z .7) (start .args .e .0) (z .8) (z .9),
         p .placed,
       ),
       p .table-size,
@@ -39,20 +39,20 @@ slice-read-t24 c = search needs
 cross-requires : tie.Need-cross-requires
 cross-requires c κs =
     let fill = c .before .before .before .before .before .before .before .before .before .before .before .before .before .before .fill in
-    let start = c .before .before .before .before .before .before .before .before .before .before .before .before .before .before .before .before .before .before .before .before .before .before .before .before in
+    let start = c .before .before .before .before .before .before .before .before .before .before .before .before .before .before .before .before .before .before .before .before .before .before .before .before .before .before in
     let p = start .pre .0 in
     let z = start .pre .1 in
     let kw : length (fill .last .1 .1 .0) ≡ length (start .args .standing .now) = fill .kept .1 .1 .0 in
     let kf : length (fill .last .1 .1 .1 .0) ≡ length (start .args .empty .now) = fill .kept .1 .1 .1 .0 in
     let d = fill .ensures (p .tabled) in
-    let m = made-aside (p .tabled) (p .most) (z .4) (start .args .finished) (start .args .r .0) (start .args .w .0) (start .args .placement .now) (p .placed) (z .0) (z .1) (z .2) (z .3) (z .6) (z .7) (start .args .e .0) (z .8) (z .9) in (
-      rw kw (d .placed .inside (start .args .r .0) (r-inside (p .tabled) (p .most) (z .4) (start .args .finished) (start .args .r .0) (start .args .w .0) (start .args .placement .now) (p .placed) (z .0) (z .2) (z .3) _ m _ (d .moved))),
+    let m = made-aside (p .tabled) (p .most) (z .4) (start .args .next .finished) (start .args .next .carrier .0) (start .args .next .to .0) (start .args .placement .now) (p .placed) (z .0) (z .1) (z .2) (z .3) (z .6) (z .7) (start .args .e .0) (z .8) (z .9) in (
+      rw kw (d .placed .inside (start .args .next .carrier .0) (r-inside (p .tabled) (p .most) (z .4) (start .args .next .finished) (start .args .next .carrier .0) (start .args .next .to .0) (start .args .placement .now) (p .placed) (z .0) (z .2) (z .3) _ m _ (d .moved))),
       rw kw (z .2),
       omega (arith, p .most, kw),
       omega (arith, p .empty-size, kf),
       omega (arith, d .counted, z .5),
-      r-there (p .tabled) (p .most) (z .4) (start .args .finished) (start .args .r .0) (start .args .w .0) (start .args .placement .now) (p .placed) (z .0) (z .2) (z .3) _ m _ (d .moved),
-      w-empty (p .tabled) (p .most) (z .4) (start .args .finished) (start .args .r .0) (start .args .w .0) (start .args .placement .now) (p .placed) (z .0) (z .2) (z .3) _ m _ (d .moved),
+      r-there (p .tabled) (p .most) (z .4) (start .args .next .finished) (start .args .next .carrier .0) (start .args .next .to .0) (start .args .placement .now) (p .placed) (z .0) (z .2) (z .3) _ m _ (d .moved),
+      w-empty (p .tabled) (p .most) (z .4) (start .args .next .finished) (start .args .next .carrier .0) (start .args .next .to .0) (start .args .placement .now) (p .placed) (z .0) (z .2) (z .3) _ m _ (d .moved),
       rw kw (d .placed),
     )
 
@@ -72,7 +72,7 @@ returns : tie.Need-returns
 returns c =
     let cross = c .before .before .before .before .before .before .before .before .cross in
     let fill = c .before .before .before .before .before .before .before .before .before .before .before .before .before .before .before .before .before .before .before .before .before .before .before .fill in
-    let start = c .before .before .before .before .before .before .before .before .before .before .before .before .before .before .before .before .before .before .before .before .before .before .before .before .before .before .before .before .before .before .before .before .before in
+    let start = c .before .before .before .before .before .before .before .before .before .before .before .before .before .before .before .before .before .before .before .before .before .before .before .before .before .before .before .before .before .before .before .before .before .before .before in
     let p = start .pre .0 in
     let z = start .pre .1 in
     let kw : length (fill .last .1 .1 .0) ≡ length (start .args .standing .now) = fill .kept .1 .1 .0 in
@@ -80,8 +80,8 @@ returns c =
     let crossed = rw kw at (cross .ensures) in (
       omega (arith, d .counted, crossed .counted),
       λ t.
-          let m = made-aside t (p .most) (z .4) (start .args .finished) (start .args .r .0) (start .args .w .0) (start .args .placement .now) (p .placed) (z .0) (z .1) (z .2) (z .3) (z .6) (z .7) (start .args .e .0) (z .8) (z .9) in
-          stepped-cross t (p .most) (z .4) (start .args .finished) (start .args .r .0) (start .args .w .0) (start .args .placement .now) (p .placed) (z .0) (z .2) (z .3) _ m (fill .ensures t) crossed,
+          let m = made-aside t (p .most) (z .4) (start .args .next .finished) (start .args .next .carrier .0) (start .args .next .to .0) (start .args .placement .now) (p .placed) (z .0) (z .1) (z .2) (z .3) (z .6) (z .7) (start .args .e .0) (z .8) (z .9) in
+          stepped-cross t (p .most) (z .4) (start .args .next .finished) (start .args .next .carrier .0) (start .args .next .to .0) (start .args .placement .now) (p .placed) (z .0) (z .2) (z .3) _ m (fill .ensures t) crossed,
     )
 
 pub step-aside-spec : {M : Type 1} → statement M

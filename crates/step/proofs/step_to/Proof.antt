@@ -28,17 +28,17 @@ slice-read-here c = search needs
 
 cross-requires : tie.Need-cross-requires
 cross-requires c κs =
-    let start = c .before .before .before .before .before .before .before .before .before .before .before .before .before .before .before .before in
+    let start = c .before .before .before .before .before .before .before .before .before .before .before .before .before .before .before .before .before .before in
     let p = start .pre .0 in
     let z = start .pre .1 in
     let h = sym (c .before .before .before .before .before .before .if1 .taken) ∙ c .before .before .before .before .before .before .before .is-in .ensures in (
-      p .placed .inside (start .args .r .0) (z .0),
+      p .placed .inside (start .args .next .carrier .0) (z .0),
       z .2,
       p .most,
       p .empty-size,
       omega (arith, z .5),
-      bay-in (start .args .placement .now) (start .args .r .0) (z .0),
-      free (p .tabled) (p .most) (z .4) (start .args .finished) (start .args .r .0) (start .args .w .0) (start .args .placement .now) (p .placed) (z .0) (z .2) (z .3) h,
+      bay-in (start .args .placement .now) (start .args .next .carrier .0) (z .0),
+      free (p .tabled) (p .most) (z .4) (start .args .next .finished) (start .args .next .carrier .0) (start .args .next .to .0) (start .args .placement .now) (p .placed) (z .0) (z .2) (z .3) h,
       p .placed,
     )
 
@@ -59,13 +59,13 @@ returns c =
     let cross = c .before .before .before .before .before .before .before .before .cross in
     let if1 = c .before .before .before .before .before .before .before .before .before .before .before .before .before .before .before .if1 in
     let is-in = c .before .before .before .before .before .before .before .before .before .before .before .before .before .before .before .before .is-in in
-    let start = c .before .before .before .before .before .before .before .before .before .before .before .before .before .before .before .before .before .before .before .before .before .before .before .before .before in
+    let start = c .before .before .before .before .before .before .before .before .before .before .before .before .before .before .before .before .before .before .before .before .before .before .before .before .before .before .before in
     let p = start .pre .0 in
     let z = start .pre .1 in
     let h = sym (if1 .taken) ∙ is-in .ensures in
     let crossed = cross .ensures in (
       omega (arith, crossed .counted),
-      λ t. stepped-free t (p .most) (z .4) (start .args .finished) (start .args .r .0) (start .args .w .0) (start .args .placement .now) (p .placed) (z .0) (z .2) (z .3) h crossed,
+      λ t. stepped-free t (p .most) (z .4) (start .args .next .finished) (start .args .next .carrier .0) (start .args .next .to .0) (start .args .placement .now) (p .placed) (z .0) (z .2) (z .3) h crossed,
     )
 
 mul-s : tie.Need-mul-s
@@ -76,25 +76,25 @@ slice-read-s c = search needs
 
 cast-there : tie.Need-cast-there
 cast-there c =
-    let start = c .before .before .before .before .before .before .before .before .before .before .before in
-    omega (arith, c .slice-known10 .given (start .args .w .0))
+    let start = c .before .before .before .before .before .before .before .before .before .before .before .before .before in
+    omega (arith, c .slice-known10 .given (start .args .next .to .0))
 
 cast-carrier : tie.Need-cast-carrier
 cast-carrier c = search needs
 
 swap-requires : tie.Need-swap-requires
 swap-requires c κs =
-    let start = c .before .before .before .before .before .before .before .before .before .before .before .before .before .before .before .before in
+    let start = c .before .before .before .before .before .before .before .before .before .before .before .before .before .before .before .before .before .before .before in
     let p = start .pre .0 in
     let z = start .pre .1 in
-    let f = held-fails (p .tabled) (p .most) (z .4) (start .args .finished) (start .args .r .0) (start .args .w .0) (start .args .placement .now) (p .placed) (z .0) (z .2) (z .3) (z .1) (omega (arith, c .before .before .before .before .if2 .taken)) in (
+    let f = held-fails (p .tabled) (p .most) (z .4) (start .args .next .finished) (start .args .next .carrier .0) (start .args .next .to .0) (start .args .placement .now) (p .placed) (z .0) (z .2) (z .3) (z .1) (omega (arith, c .before .before .before .before .if2 .taken)) in (
       p,
       (
         z .0,
-        met-carrier (p .tabled) (p .most) (z .4) (start .args .finished) (start .args .r .0) (start .args .w .0) (start .args .placement .now) (p .placed) (z .0) (z .2) (z .3) f .0,
-        met-other (p .tabled) (p .most) (z .4) (start .args .finished) (start .args .r .0) (start .args .w .0) (start .args .placement .now) (p .placed) (z .0) (z .2) (z .3) f,
+        met-carrier (p .tabled) (p .most) (z .4) (start .args .next .finished) (start .args .next .carrier .0) (start .args .next .to .0) (start .args .placement .now) (p .placed) (z .0) (z .2) (z .3) f .0,
+        met-other (p .tabled) (p .most) (z .4) (start .args .next .finished) (start .args .next .carrier .0) (start .args .next .to .0) (start .args .placement .now) (p .placed) (z .0) (z .2) (z .3) f,
         z .5,
-        record { tabled = p .tabled; beside = met-beside (p .tabled) (p .most) (z .4) (start .args .finished) (start .args .r .0) (start .args .w .0) (start .args .placement .now) (p .placed) (z .0) (z .2) (z .3) f },
+        record { tabled = p .tabled; beside = met-beside (p .tabled) (p .most) (z .4) (start .args .next .finished) (start .args .next .carrier .0) (start .args .next .to .0) (start .args .placement .now) (p .placed) (z .0) (z .2) (z .3) f },
       ),
     )
 
@@ -114,18 +114,18 @@ returns-2 : tie.Need-returns-2
 returns-2 c =
     let swap = c .before .before .before .before .before .before .swap in
     let if2 = c .before .before .before .before .before .before .before .before .before .before .before .if2 in
-    let start = c .before .before .before .before .before .before .before .before .before .before .before .before .before .before .before .before .before .before .before .before .before .before .before in
+    let start = c .before .before .before .before .before .before .before .before .before .before .before .before .before .before .before .before .before .before .before .before .before .before .before .before .before .before in
     let p = start .pre .0 in
     let z = start .pre .1 in (
       swap .ensures .0,
       λ t.
-          let f = held-fails t (p .most) (z .4) (start .args .finished) (start .args .r .0) (start .args .w .0) (start .args .placement .now) (p .placed) (z .0) (z .2) (z .3) (z .1) (omega (arith, if2 .taken)) in
-          stepped-swap t (p .most) (z .4) (start .args .finished) (start .args .r .0) (start .args .w .0) (start .args .placement .now) (p .placed) (z .0) (z .2) (z .3) f (swap .ensures .1 t (met-beside t (p .most) (z .4) (start .args .finished) (start .args .r .0) (start .args .w .0) (start .args .placement .now) (p .placed) (z .0) (z .2) (z .3) f)),
+          let f = held-fails t (p .most) (z .4) (start .args .next .finished) (start .args .next .carrier .0) (start .args .next .to .0) (start .args .placement .now) (p .placed) (z .0) (z .2) (z .3) (z .1) (omega (arith, if2 .taken)) in
+          stepped-swap t (p .most) (z .4) (start .args .next .finished) (start .args .next .carrier .0) (start .args .next .to .0) (start .args .placement .now) (p .placed) (z .0) (z .2) (z .3) f (swap .ensures .1 t (met-beside t (p .most) (z .4) (start .args .next .finished) (start .args .next .carrier .0) (start .args .next .to .0) (start .args .placement .now) (p .placed) (z .0) (z .2) (z .3) f)),
     )
 
 common-requires : tie.Need-common-requires
 common-requires c κs =
-    let start = c .before .before .before .before .before .before .before .before .before .before .before .before .before in
+    let start = c .before .before .before .before .before .before .before .before .before .before .before .before .before .before .before .before in
     let p = start .pre .0 in
     let z = start .pre .1 in
     (omega (arith, p .table-size, z .2), omega (arith, p .empty-size), λ b h i. table-rowed (p .tabled .joins) (p .most) _ (z .2) (p .table-size) b h (and-left _ _ i))
@@ -135,9 +135,9 @@ cast-number c = search needs
 
 step-aside-requires : tie.Need-step-aside-requires
 step-aside-requires c κs =
-    let if1 = c .before .before .before .before .before .before .before .before .before .if1 in
-    let is-in = c .before .before .before .before .before .before .before .before .before .before .is-in in
-    let start = c .before .before .before .before .before .before .before .before .before .before .before .before .before .before .before .before .before .before .before in
+    let if1 = c .before .before .before .before .before .before .before .before .before .before .if1 in
+    let is-in = c .before .before .before .before .before .before .before .before .before .before .before .is-in in
+    let start = c .before .before .before .before .before .before .before .before .before .before .before .before .before .before .before .before .before .before .before .before .before .before in
     let p = start .pre .0 in
     let z = start .pre .1 in
     (p, (z .0, z .1, z .2, z .3, z .4, z .5, omega (arith, c .before .before .before .before .before .before .before .if2 .left), sym (is-in .ensures) ∙ if1 .left, c .before .before .before .before .before .common .ensures, c .before .before .before .before .if3 .taken))

@@ -3,11 +3,10 @@
 use native.Mathlib.Omega.{arith}
 use borrow.Author.Needs.{needs}
 use Rattle.paper.specs.Text.{text}
-use Rattle.survey_lines.proofs.Parts.{named-short, head-done}
+use Rattle.printing.proofs.Lines.{named-short}
+use Rattle.survey_lines.proofs.Parts.{head-done}
 use Rattle.survey_lines.proofs.head.Statement.{statement}
 use Rattle.survey_lines.proofs.head.Tie as tie
-use Rattle.survey_lines.proofs.head.Reads as reads
-use Rattle.survey_lines.proofs.head.Lts as lts
 
 slice-aggregate-put-named : tie.Need-slice-aggregate-put-named
 slice-aggregate-put-named c = search needs

@@ -5,11 +5,10 @@ use Prim.Native.Nat.{_+_}
 use native.Mathlib.Omega.{arith}
 use borrow.Author.Needs.{needs}
 use Rattle.paper.specs.Text.{text}
-use Rattle.survey_lines.proofs.Parts.{named-short, rail-done}
+use Rattle.printing.proofs.Lines.{named-short}
+use Rattle.survey_lines.proofs.Parts.{rail-done}
 use Rattle.survey_lines.proofs.rail.Statement.{statement}
 use Rattle.survey_lines.proofs.rail.Tie as tie
-use Rattle.survey_lines.proofs.rail.Reads as reads
-use Rattle.survey_lines.proofs.rail.Lts as lts
 
 slice-aggregate-put-named : tie.Need-slice-aggregate-put-named
 slice-aggregate-put-named c = search needs

@@ -1,17 +1,13 @@
 -- `survey_lines::rails_from` meets its contract. After k ends their lines are written, and what is left of the ends makes the whole.
 -- Assumes nothing.
 use mathlib.Core.Path.{_≡_}
-use Prim.Native.Nat.{_-_, _+_, _≤_}
+use Prim.Native.Nat.{_-_, _≤_}
 use native.Mathlib.Omega.{arith}
 use lib.ListN.{length}
 use borrow.Author.Needs.{needs}
-use Rattle.stores.proofs.Stores.{wrote-length}
 use Rattle.survey_lines.proofs.Parts.{Written, written-none, written-rail, written-all}
 use Rattle.survey_lines.proofs.rails_from.Statement.{statement}
 use Rattle.survey_lines.proofs.rails_from.Tie as tie
-use Rattle.survey_lines.proofs.rails_from.Reads as reads
-use Rattle.survey_lines.proofs.rails_from.Lts as lts
-use Rattle.survey_lines.proofs.rail.Reads as rail-reads
 
 abbrev Inv-loop : tie.InvT-loop
 Inv-loop out₀ at rails end₀ k₀ out end k = (k ≤ length rails) × ((length out ≡ length out₀) × ((at ≤ 49) × Written rails out₀ at k out end))

@@ -5,10 +5,6 @@ use Rattle.stores.proofs.Stores.{wrote-then}
 use Rattle.survey_lines.proofs.Parts.{file-parts}
 use Rattle.survey_lines.proofs.write.Statement.{statement}
 use Rattle.survey_lines.proofs.write.Tie as tie
-use Rattle.survey_lines.proofs.write.Reads as reads
-use Rattle.survey_lines.proofs.write.Lts as lts
-use Rattle.survey_lines.proofs.head.Reads as head-reads
-use Rattle.survey_lines.proofs.rails_from.Reads as rails-from-reads
 
 head-requires : tie.Need-head-requires
 head-requires c κs = search needs

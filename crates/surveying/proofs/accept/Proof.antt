@@ -5,13 +5,8 @@ use borrow.Author.Needs.{needs}
 use Rattle.docket.specs.Reading.{verdictOf}
 use Rattle.surveying.specs.Says.{testedOf}
 use Rattle.surveying.proofs.Telling.{accept-refused, accept-room, accept-all}
-use Rattle.surveying.proofs.Telling.{accept-refused, accept-room, accept-all}
 use Rattle.surveying.proofs.accept.Statement.{statement}
 use Rattle.surveying.proofs.accept.Tie as tie
-use Rattle.surveying.proofs.accept.Reads as reads
-use Rattle.surveying.proofs.accept.Lts as lts
-use Rattle.surveying.proofs.refused.Reads as refused-reads
-use Rattle.surveying.proofs.test.Reads as test-reads
 
 test-requires : tie.Need-test-requires
 test-requires c κs = search needs

@@ -3,9 +3,6 @@
 use borrow.Author.Needs.{needs}
 use Rattle.surveying.proofs.read.Statement.{statement}
 use Rattle.surveying.proofs.read.Tie as tie
-use Rattle.surveying.proofs.read.Reads as reads
-use Rattle.surveying.proofs.read.Lts as lts
-use Rattle.surveying.proofs.settle.Reads as settle-reads
 
 slice-aggregate-read : tie.Need-slice-aggregate-read
 slice-aggregate-read c = search needs

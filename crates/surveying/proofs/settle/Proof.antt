@@ -4,13 +4,9 @@ use mathlib.Core.Path.{refl, ap}
 use borrow.Author.Needs.{needs}
 use Rattle.docket.specs.Reading.{verdictOf}
 use Rattle.surveying.proofs.Telling.{settle-bad, settle-yard}
-use Rattle.surveying.proofs.Telling.{settle-bad, settle-yard}
 use Rattle.surveying.proofs.settle.Statement.{statement}
 use Rattle.surveying.proofs.settle.Tie as tie
 use Rattle.surveying.proofs.settle.Reads as reads
-use Rattle.surveying.proofs.settle.Lts as lts
-use Rattle.surveying.proofs.refused.Reads as refused-reads
-use Rattle.surveying.proofs.take_over.Reads as take-over-reads
 
 enum-known-found : tie.Need-enum-known-found
 enum-known-found c = search needs

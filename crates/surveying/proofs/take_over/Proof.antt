@@ -5,13 +5,8 @@ use borrow.Author.Needs.{needs}
 use Rattle.docket.specs.Reading.{verdictOf}
 use Rattle.surveying.proofs.Telling.{take-long, take-whole}
 use lib.Seq.{length-take-le}
-use Rattle.surveying.proofs.Telling.{take-long, take-whole}
 use Rattle.surveying.proofs.take_over.Statement.{statement}
 use Rattle.surveying.proofs.take_over.Tie as tie
-use Rattle.surveying.proofs.take_over.Reads as reads
-use Rattle.surveying.proofs.take_over.Lts as lts
-use Rattle.surveying.proofs.accept.Reads as accept-reads
-use Rattle.surveying.proofs.refused.Reads as refused-reads
 
 refused-requires : tie.Need-refused-requires
 refused-requires c κs = search needs

@@ -6,12 +6,8 @@ use borrow.Author.Needs.{needs}
 use Rattle.survey.proofs.Written.{passes}
 use Rattle.surveying.specs.Says.{testedOf}
 use Rattle.surveying.proofs.Telling.{write-refused, write-room, write-all}
-use Rattle.surveying.proofs.Telling.{write-refused, write-room, write-all}
 use Rattle.surveying.proofs.write.Statement.{statement}
 use Rattle.surveying.proofs.write.Tie as tie
-use Rattle.surveying.proofs.write.Reads as reads
-use Rattle.surveying.proofs.write.Lts as lts
-use Rattle.surveying.proofs.test.Reads as test-reads
 
 test-requires : tie.Need-test-requires
 test-requires c κs = search needs

@@ -17,17 +17,17 @@ cast-first c = search needs
 cast-second : tie.Need-cast-second
 cast-second c = search needs
 
-mul-t16 : tie.Need-mul-t16
-mul-t16 c = search needs
+mul-t17 : tie.Need-mul-t17
+mul-t17 c = search needs
 
-slice-read-t18 : tie.Need-slice-read-t18
-slice-read-t18 c = search needs
+slice-read-t19 : tie.Need-slice-read-t19
+slice-read-t19 c = search needs
 
-mul-t16-2 : tie.Need-mul-t16-2
-mul-t16-2 c = search needs
+mul-t17-2 : tie.Need-mul-t17-2
+mul-t17-2 c = search needs
 
-slice-read-t18-2 : tie.Need-slice-read-t18-2
-slice-read-t18-2 c = search needs
+slice-read-t19-2 : tie.Need-slice-read-t19-2
+slice-read-t19-2 c = search needs
 
 spare-bays-requires : tie.Need-spare-bays-requires
 spare-bays-requires c κs =
@@ -97,10 +97,10 @@ swap-spec =
     (tie.spec
     cast-first
     cast-second
-    mul-t16
-    slice-read-t18
-    mul-t16-2
-    slice-read-t18-2
+    mul-t17
+    slice-read-t19
+    mul-t17-2
+    slice-read-t19-2
     spare-bays-requires
     enum-known-spare
     swap-beside-requires

@@ -1,6 +1,5 @@
 -- `timed::hand` meets its contract: what is counted without room is what is written with it.
 -- Assumes nothing.
-use denote.Ref.{now}
 use Rattle.timed.proofs.Printing.{hands-room, hands-whole}
 use borrow.Author.Needs.{needs}
 use Rattle.timed.proofs.hand.Statement.{statement}
@@ -19,7 +18,7 @@ print-answer-requires-2 : tie.Need-print-answer-requires-2
 print-answer-requires-2 c κs = search needs
 
 same-length : tie.Need-same-length
-same-length c = search needs
+same-length c = c .before .before .print-answer2 .kept .1 .1 .1 .0
 
 returns-2 : tie.Need-returns-2
 returns-2 c = hands-whole (c .before .before .before .before .before .before .print-answer .ensures) _ (c .before .before .before .before .if1 .left) (c .before .before .print-answer2 .ensures)

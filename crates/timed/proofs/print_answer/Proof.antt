@@ -1,7 +1,6 @@
 -- `timed::print_answer` meets its contract: the plan's part of the list is slotted and printed, or the refusal is.
 -- Assumes nothing.
-use mathlib.Core.Path.{_≡_, sym, _∙_, ap}
-use Prim.Native.Nat.{_≤_}
+use mathlib.Core.Path.{sym, _∙_}
 use native.Mathlib.Omega.{arith}
 use lib.ListN.{length, take}
 use lib.Seq.{length-take-le}
@@ -45,7 +44,7 @@ refusal-requires : tie.Need-refusal-requires
 refusal-requires c κs = search needs
 
 same-length : tie.Need-same-length
-same-length c = search needs
+same-length c = c .before .before .print .kept .1 .1 .0
 
 returns : tie.Need-returns
 returns c =
@@ -53,7 +52,7 @@ returns c =
     let s = c .before .before .before .before .before .before .before .before .before .before .before .before .before .before .before in let q = answer .given .1 in plan-prints (s .args .edition) _ q (slots-stand (s .args .edition) (s .args .plan .now) _ _ _ (s .pre .within .inside _ q) (c .before .before .before .before .before .before .before .pass .ensures)) (c .before .before .print .ensures)
 
 same-length-2 : tie.Need-same-length-2
-same-length-2 c = search needs
+same-length-2 c = c .before .before .refusal .kept .1 .0
 
 returns-2 : tie.Need-returns-2
 returns-2 c = let s = c .before .before .before .before .before .before .before .before .before in refusal-prints (s .args .edition) _ (c .before .before .before .before .before .answer2 .given .1) (c .before .before .refusal .ensures .0)

@@ -1,9 +1,9 @@
 -- `timed::program` meets its contract: 20 before any file is looked at, then what the files ask for.
 -- Assumes nothing.
 use mathlib.Core.Path.{sym, _∙_}
-use native.Mathlib.Omega.{arith}
 use borrow.Author.Tests.{not-true, not-false}
-use Rattle.timed.proofs.Readying.{refused-ready, edition-says, known-says}
+use Rattle.program.proofs.Readying.{refused-ready}
+use Rattle.timed.proofs.Printing.{edition-says, known-says}
 use borrow.Author.Needs.{needs}
 use Rattle.timed.proofs.program.Statement.{statement}
 use Rattle.timed.proofs.program.Tie as tie
@@ -18,7 +18,7 @@ hand-requires : tie.Need-hand-requires
 hand-requires c κs = refused-ready _ _ (sym (slice-aggregate-hand (c .before))) .slottable
 
 same-length : tie.Need-same-length
-same-length c = search needs
+same-length c = c .before .before .hand .kept .1 .1 .1 .0
 
 returns : tie.Need-returns
 returns c = edition-says _ _ _ (sym (c .before .before .before .before .before .before .known .ensures) ∙ not-true _ (c .before .before .before .before .before .if1 .taken)) (refused-ready _ _ (sym (slice-aggregate-hand (c .before .before .before .before))) .handed) (c .before .before .hand .ensures)
@@ -36,7 +36,7 @@ hand-requires-2 : tie.Need-hand-requires-2
 hand-requires-2 c κs = search needs
 
 same-length-2 : tie.Need-same-length-2
-same-length-2 c = search needs
+same-length-2 c = c .before .before .hand2 .kept .1 .1 .1 .0
 
 returns-2 : tie.Need-returns-2
 returns-2 c =

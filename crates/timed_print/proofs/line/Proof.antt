@@ -1,14 +1,12 @@
 -- `timed_print::line` meets its contract. Each number goes where the one before it ended; a line has at most 100 bytes.
 -- Assumes nothing.
-use mathlib.Core.Path.{ap}
 use native.Mathlib.Omega.{arith}
 use borrow.Author.Needs.{needs}
 use Rattle.paper.specs.Text.{text}
 use Rattle.paper.specs.Print.{decimal}
 use Rattle.docket.specs.Reading.{crossingOf}
-use Rattle.stores.specs.Writing.{Wrote}
 use Rattle.stores.proofs.Stores.{wrote-then}
-use Rattle.printing.proofs.Digits.{decimal-short}
+use Rattle.paper.proofs.Digits.{decimal-short}
 use Rattle.printing.proofs.Lines.{named-short}
 use Rattle.timed_print.proofs.Parts.{line-parts}
 use Rattle.timed_print.proofs.line.Statement.{statement}

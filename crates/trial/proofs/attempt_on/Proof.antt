@@ -20,22 +20,22 @@ enum-told c = c .match .keys2
 same-length : tie.Need-same-length
 same-length c =
     let set-up = c .before .before .before .before .before .before .before .before .before .before .set-up in
-    set-up .kept .1 .1 .1 .1 .1 .0
+    set-up .kept .1 .1 .1 .0
 
 same-length-2 : tie.Need-same-length-2
 same-length-2 c =
     let set-up = c .before .before .before .before .before .before .before .before .before .before .set-up in
-    set-up .kept .1 .1 .1 .1 .1 .1 .0
+    set-up .kept .1 .1 .1 .1 .0
 
 same-length-3 : tie.Need-same-length-3
 same-length-3 c =
     let set-up = c .before .before .before .before .before .before .before .before .before .before .set-up in
-    set-up .kept .1 .1 .1 .1 .1 .1 .1 .0
+    set-up .kept .1 .1 .1 .1 .1 .0
 
 same-length-4 : tie.Need-same-length-4
 same-length-4 c =
     let set-up = c .before .before .before .before .before .before .before .before .before .before .set-up in
-    set-up .kept .1 .1 .1 .1 .1 .1 .1 .1 .0
+    set-up .kept .1 .1 .1 .1 .1 .1 .0
 
 returns : tie.Need-returns
 returns c =
@@ -59,22 +59,22 @@ higher-requires c κs = search needs
 
 exchange-requires : tie.Need-exchange-requires
 exchange-requires c κs =
-    let set-up = c .before .before .before .before .before .before .before .before .before .before .before .before .before .before .before .before .set-up in
-    let start = c .before .before .before .before .before .before .before .before .before .before .before .before .before .before .before .before .before .before .before .before .before .before .before .before .before .before .before in
-    let f = set-up .ensures .0 .few _ _ _ (c .before .before .before .before .before .before .ready .given .1) in
+    let set-up = c .before .before .before .before .before .before .before .before .before .before .before .before .before .before .before .before .before .before .set-up in
+    let start = c .before .before .before .before .before .before .before .before .before .before .before .before .before .before .before .before .before .before .before .before .before .before .before .before .before .before .before .before .before in
+    let f = set-up .ensures .0 .few _ _ _ (c .before .before .before .before .before .before .before .before .ready .given .1) in
     omega (arith, f .0, start .pre .1 .6)
 
 sub-undo : tie.Need-sub-undo
 sub-undo c =
-    let ready = c .before .before .before .before .before .before .before .before .before .before .ready in
-    let set-up = c .before .before .before .before .before .before .before .before .before .before .before .before .before .before .before .before .before .before .before .before .set-up in
+    let ready = c .before .before .before .before .before .before .before .before .before .before .before .before .ready in
+    let set-up = c .before .before .before .before .before .before .before .before .before .before .before .before .before .before .before .before .before .before .before .before .before .before .set-up in
     omega (arith, set-up .ensures .0 .few _ _ _ (ready .given .1) .1)
 
 undo-requires : tie.Need-undo-requires
 undo-requires c κs =
-    let ready = c .before .before .before .before .before .before .before .before .before .before .ready in
-    let set-up = c .before .before .before .before .before .before .before .before .before .before .before .before .before .before .before .before .before .before .before .before .set-up in
-    let start = c .before .before .before .before .before .before .before .before .before .before .before .before .before .before .before .before .before .before .before .before .before .before .before .before .before .before .before .before .before .before .before in
+    let ready = c .before .before .before .before .before .before .before .before .before .before .before .before .ready in
+    let set-up = c .before .before .before .before .before .before .before .before .before .before .before .before .before .before .before .before .before .before .before .before .before .before .set-up in
+    let start = c .before .before .before .before .before .before .before .before .before .before .before .before .before .before .before .before .before .before .before .before .before .before .before .before .before .before .before .before .before .before .before .before .before in
     let z = start .pre .1 in
     let f = set-up .ensures .0 .few _ _ _ (ready .given .1) in
     let e = rw length-exchange at (c .before .before .before .exchange .ensures .counted) in
@@ -82,46 +82,46 @@ undo-requires c κs =
 
 sub-many : tie.Need-sub-many
 sub-many c =
-    let ready = c .before .before .before .before .before .before .before .before .before .before .before .before .before .ready in
-    let set-up = c .before .before .before .before .before .before .before .before .before .before .before .before .before .before .before .before .before .before .before .before .before .before .before .set-up in
+    let ready = c .before .before .before .before .before .before .before .before .before .before .before .before .before .before .before .ready in
+    let set-up = c .before .before .before .before .before .before .before .before .before .before .before .before .before .before .before .before .before .before .before .before .before .before .before .before .before .set-up in
     omega (arith, set-up .ensures .0 .few _ _ _ (ready .given .1) .1)
 
 add-crossings : tie.Need-add-crossings
 add-crossings c =
-    let ready = c .before .before .before .before .before .before .before .before .before .before .before .before .before .ready in
-    let set-up = c .before .before .before .before .before .before .before .before .before .before .before .before .before .before .before .before .before .before .before .before .before .before .before .set-up in
-    let start = c .before .before .before .before .before .before .before .before .before .before .before .before .before .before .before .before .before .before .before .before .before .before .before .before .before .before .before .before .before .before .before .before .before .before in
+    let ready = c .before .before .before .before .before .before .before .before .before .before .before .before .before .before .before .ready in
+    let set-up = c .before .before .before .before .before .before .before .before .before .before .before .before .before .before .before .before .before .before .before .before .before .before .before .before .before .set-up in
+    let start = c .before .before .before .before .before .before .before .before .before .before .before .before .before .before .before .before .before .before .before .before .before .before .before .before .before .before .before .before .before .before .before .before .before .before .before .before in
     let f = set-up .ensures .0 .few _ _ _ (ready .given .1) in
     let e = rw length-exchange at (c .before .before .before .before .before .before .exchange .ensures .counted) in
     omega (arith, e, f .0, start .pre .1 .6)
 
 same-length-5 : tie.Need-same-length-5
 same-length-5 c =
-    let set-up = c .before .before .before .before .before .before .before .before .before .before .before .before .before .before .before .before .before .before .before .before .before .before .before .set-up in
-    set-up .kept .1 .1 .1 .1 .1 .0
+    let set-up = c .before .before .before .before .before .before .before .before .before .before .before .before .before .before .before .before .before .before .before .before .before .before .before .before .before .set-up in
+    set-up .kept .1 .1 .1 .0
 
 same-length-6 : tie.Need-same-length-6
 same-length-6 c =
-    let set-up = c .before .before .before .before .before .before .before .before .before .before .before .before .before .before .before .before .before .before .before .before .before .before .before .set-up in
-    set-up .kept .1 .1 .1 .1 .1 .1 .0
+    let set-up = c .before .before .before .before .before .before .before .before .before .before .before .before .before .before .before .before .before .before .before .before .before .before .before .before .before .set-up in
+    set-up .kept .1 .1 .1 .1 .0
 
 same-length-7 : tie.Need-same-length-7
 same-length-7 c =
-    let set-up = c .before .before .before .before .before .before .before .before .before .before .before .before .before .before .before .before .before .before .before .before .before .before .before .set-up in
-    set-up .kept .1 .1 .1 .1 .1 .1 .1 .0
+    let set-up = c .before .before .before .before .before .before .before .before .before .before .before .before .before .before .before .before .before .before .before .before .before .before .before .before .before .set-up in
+    set-up .kept .1 .1 .1 .1 .1 .0
 
 same-length-8 : tie.Need-same-length-8
 same-length-8 c =
-    let set-up = c .before .before .before .before .before .before .before .before .before .before .before .before .before .before .before .before .before .before .before .before .before .before .before .set-up in
-    c .before .before .undo .kept .0 ∙ c .before .before .before .before .before .before .exchange .kept .0 ∙ set-up .kept .1 .1 .1 .1 .1 .1 .1 .1 .0
+    let set-up = c .before .before .before .before .before .before .before .before .before .before .before .before .before .before .before .before .before .before .before .before .before .before .before .before .before .set-up in
+    c .before .before .undo .kept .0 ∙ c .before .before .before .before .before .before .exchange .kept .0 ∙ set-up .kept .1 .1 .1 .1 .1 .1 .0
 
 returns-2 : tie.Need-returns-2
 returns-2 c =
     let exchange = c .before .before .before .before .before .before .exchange in
     let lower = c .before .before .before .before .before .before .before .before .lower in
-    let ready = c .before .before .before .before .before .before .before .before .before .before .before .before .before .ready in
-    let set-up = c .before .before .before .before .before .before .before .before .before .before .before .before .before .before .before .before .before .before .before .before .before .before .before .set-up in
-    let start = c .before .before .before .before .before .before .before .before .before .before .before .before .before .before .before .before .before .before .before .before .before .before .before .before .before .before .before .before .before .before .before .before .before .before in
+    let ready = c .before .before .before .before .before .before .before .before .before .before .before .before .before .before .before .ready in
+    let set-up = c .before .before .before .before .before .before .before .before .before .before .before .before .before .before .before .before .before .before .before .before .before .before .before .before .before .set-up in
+    let start = c .before .before .before .before .before .before .before .before .before .before .before .before .before .before .before .before .before .before .before .before .before .before .before .before .before .before .before .before .before .before .before .before .before .before .before .before in
     let p = start .pre .0 in
     let z = start .pre .1 in
     let f = set-up .ensures .0 .few _ _ _ (ready .given .1) in

@@ -48,11 +48,11 @@ returns c =
 cast-follower : tie.Need-cast-follower
 cast-follower c = search needs
 
-mul-t23 : tie.Need-mul-t23
-mul-t23 c = search needs
+mul-t21 : tie.Need-mul-t21
+mul-t21 c = search needs
 
-slice-read-t25 : tie.Need-slice-read-t25
-slice-read-t25 c = search needs
+slice-read-t23 : tie.Need-slice-read-t23
+slice-read-t23 c = search needs
 
 clear-two-requires : tie.Need-clear-two-requires
 clear-two-requires c κs =
@@ -64,10 +64,10 @@ clear-two-requires c κs =
     let e : bring .result ≡ Done (brought .given .0 .0) = brought .given .1 in
     let few = rw e at (bring .ensures .0) in
     let d = tried-done (rw e at (bring .ensures .1 (p .tabled))) in
-    let kp : length (bring .last .1 .1 .1 .1 .0) ≡ length (start .args .placement .now) = bring .kept .1 .1 .1 .1 .0 in
-    let kw : length (bring .last .1 .1 .1 .1 .1 .0) ≡ length (start .args .standing .now) = bring .kept .1 .1 .1 .1 .1 .0 in
-    let kf = bring .kept .1 .1 .1 .1 .1 .1 .0 in
-    (ready-again p _ _ _ kw kf (d .2 .placed), (rw kp (z .0), rw kp (z .1), z .2, omega (arith, z .3, kw), rw kw (d .2 .placed .inside (start .args .m .0) (rw kp (z .1))), omega (arith, few, z .5, z .6)))
+    let kp : length (bring .last .1 .1 .1 .0) ≡ length (start .args .placement .now) = bring .kept .1 .1 .1 .0 in
+    let kw : length (bring .last .1 .1 .1 .1 .0) ≡ length (start .args .standing .now) = bring .kept .1 .1 .1 .1 .0 in
+    let kf = bring .kept .1 .1 .1 .1 .1 .0 in
+    (ready-again p _ _ _ kw kf (d .2 .placed), (rw kp (z .0), rw kp (z .1), z .2, omega (arith, z .3, kw), rw kw (d .2 .placed .inside (start .args .lead .couple .follower .0) (rw kp (z .1))), omega (arith, few, z .5, z .6)))
 
 same-length-5 : tie.Need-same-length-5
 same-length-5 c = search needs
@@ -91,7 +91,7 @@ returns-2 c =
     let z = start .pre .1 in
     let e : bring .result ≡ Done (brought .given .0 .0) = brought .given .1 in
     let few = rw e at (bring .ensures .0) in
-    let kw : length (bring .last .1 .1 .1 .1 .1 .0) ≡ length (start .args .standing .now) = bring .kept .1 .1 .1 .1 .1 .0 in
+    let kw : length (bring .last .1 .1 .1 .1 .0) ≡ length (start .args .standing .now) = bring .kept .1 .1 .1 .1 .0 in
     let d = tried-done (rw e at (bring .ensures .1 (p .tabled))) in (
       pair-from bring-most (omega (arith, d .2 .counted)) (omega (arith, few, z .5)) (clear-two .ensures .0),
       λ t led.
@@ -112,8 +112,8 @@ set-up-spec =
     same-length-4
     returns
     cast-follower
-    mul-t23
-    slice-read-t25
+    mul-t21
+    slice-read-t23
     clear-two-requires
     same-length-5
     same-length-6

@@ -13,11 +13,11 @@ use Rattle.trial.proofs.try_along.Tie as tie
 cast-carrier : tie.Need-cast-carrier
 cast-carrier c = search needs
 
-mul-t16 : tie.Need-mul-t16
-mul-t16 c = search needs
+mul-t14 : tie.Need-mul-t14
+mul-t14 c = search needs
 
-shared-slice-read-t18 : tie.Need-shared-slice-read-t18
-shared-slice-read-t18 c = search needs
+shared-slice-read-t16 : tie.Need-shared-slice-read-t16
+shared-slice-read-t16 c = search needs
 
 slice-aggregate-path-between : tie.Need-slice-aggregate-path-between
 slice-aggregate-path-between c = search needs
@@ -30,7 +30,7 @@ path-between-requires c κs =
     let start = c .before .before .before .before .before .before .before .before .before in
     let p = start .pre .0 in
     let z = start .pre .1 in
-    (p .most, p .placed .inside (start .args .r .0) (z .0), z .3, omega (arith, p .table-size), refl, omega (arith, p .most), freeShown (p .tabled))
+    (p .most, p .placed .inside (start .args .trial .carrier .0) (z .0), z .3, omega (arith, p .table-size), refl, omega (arith, p .most), freeShown (p .tabled))
 
 enum-known-k : tie.Need-enum-known-k
 enum-known-k c = c .match .keys1
@@ -69,11 +69,11 @@ try-on-requires c κs =
     let f = rw (k .given .1) at (path-between .ensures (freeShown (p .tabled))) in
     let kept : length (path-between .last .1 .1 .1 .1 .1 .0) ≡ span = path-between .kept .1 .1 .1 .1 .1 .0 in
     let len : length (take (k .given .0 .0) (path-between .last .1 .1 .1 .1 .1 .0)) ≡ k .given .0 .0 = length-take-le _ _ (omega (arith, f .fits, p .most, kept)) in
-    let q = path-found (p .tabled) _ _ _ (p .placed .inside (start .args .r .0) (z .0)) (z .3) (f .same) in
+    let q = path-found (p .tabled) _ _ _ (p .placed .inside (start .args .trial .carrier .0) (z .0)) (z .3) (f .same) in
     (p, (z .0, z .1, z .2, z .3, q .2, omega (arith, len, f .fits, p .most), z .4, q .1))
 
 same-length : tie.Need-same-length
-same-length c = c .before .before .try-on .kept .1 .1 .1 .1 .1 .1 .1 .1 .0
+same-length c = c .before .before .try-on .kept .1 .1 .1 .1 .1 .1 .0
 
 returns-2 : tie.Need-returns-2
 returns-2 c =
@@ -82,7 +82,7 @@ returns-2 c =
     let p = start .pre .0 in
     let z = start .pre .1 in (
       c .before .before .try-on .ensures .0,
-      λ t near. c .before .before .try-on .ensures .1 t near (path-found t _ _ _ (p .placed .inside (start .args .r .0) (z .0)) (z .3) ((rw (c .before .before .before .before .before .before .k .given .1) at (path-between .ensures (freeShown t))) .same) .0),
+      λ t near. c .before .before .try-on .ensures .1 t near (path-found t _ _ _ (p .placed .inside (start .args .trial .carrier .0) (z .0)) (z .3) ((rw (c .before .before .before .before .before .before .k .given .1) at (path-between .ensures (freeShown t))) .same) .0),
     )
 
 pub try-along-spec : {M : Type 1} → statement M
@@ -90,8 +90,8 @@ try-along-spec =
     tie.close
     (tie.spec
     cast-carrier
-    mul-t16
-    shared-slice-read-t18
+    mul-t14
+    shared-slice-read-t16
     slice-aggregate-path-between
     slice-aggregate-path-between-2
     path-between-requires

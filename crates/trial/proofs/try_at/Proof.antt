@@ -23,71 +23,71 @@ slice-aggregate-try-on c = search needs
 
 try-on-requires : tie.Need-try-on-requires
 try-on-requires c κs =
-    let start = c .before .before .before .before .before .before .before .before .before .before .before in
+    let start = c .before .before .before .before .before .before .before .before .before .before .before .before in
     let p = start .pre .0 in
     let z = start .pre .1 in
-    (p, (z .0, z .1, z .2, z .3, alone-inside _ _ (p .placed .inside (start .args .r .0) (z .0)), omega arith, z .4, omega arith))
+    (p, (z .0, z .1, z .2, z .3, alone-inside _ _ (p .placed .inside (start .args .trial .carrier .0) (z .0)), omega arith, z .4, omega arith))
 
 same-length : tie.Need-same-length
-same-length c = c .before .before .try-on .kept .1 .1 .1 .1 .1 .1 .1 .1 .0
+same-length c = c .before .before .try-on .kept .1 .1 .1 .1 .1 .1 .0
 
 returns : tie.Need-returns
 returns c =
-    let start = c .before .before .before .before .before .before .before .before .before .before .before .before .before .before in
+    let start = c .before .before .before .before .before .before .before .before .before .before .before .before .before .before .before in
     let z = start .pre .1 in
-    let own : bayOf (start .args .placement .now) (start .args .r .0) ≡ start .args .v .0 = c .before .before .before .before .before .if1 .taken in
+    let own : bayOf (start .args .placement .now) (start .args .trial .carrier .0) ≡ start .args .trial .junction .0 = c .before .before .before .before .before .if1 .taken in
     (c .before .before .try-on .ensures .0, λ t near. c .before .before .try-on .ensures .1 t near (path-own near (in-bays t (z .3)) own))
 
 cast-is-in : tie.Need-cast-is-in
 cast-is-in c =
-    let s = c .before .before .before .before .before .before .before .before .before in
-    omega (arith, s .pre .0 .placed .inside (s .args .r .0) (s .pre .1 .0), s .pre .0 .most)
+    let s = c .before .before .before .before .before .before .before .before .before .before in
+    omega (arith, s .pre .0 .placed .inside (s .args .trial .carrier .0) (s .pre .1 .0), s .pre .0 .most)
 
 mul-is-in : tie.Need-mul-is-in
 mul-is-in c =
-    let s = c .before .before .before .before .before .before .before .before .before in
-    omega (arith, s .pre .0 .placed .inside (s .args .r .0) (s .pre .1 .0), s .pre .0 .most)
+    let s = c .before .before .before .before .before .before .before .before .before .before in
+    omega (arith, s .pre .0 .placed .inside (s .args .trial .carrier .0) (s .pre .1 .0), s .pre .0 .most)
 
 cast-is-in-2 : tie.Need-cast-is-in-2
 cast-is-in-2 c = search needs
 
 add-is-in : tie.Need-add-is-in
 add-is-in c =
-    let s = c .before .before .before .before .before .before .before .before .before .before in
-    omega (arith, s .pre .0 .placed .inside (s .args .r .0) (s .pre .1 .0), s .pre .0 .most, s .pre .1 .3)
+    let s = c .before .before .before .before .before .before .before .before .before .before .before in
+    omega (arith, s .pre .0 .placed .inside (s .args .trial .carrier .0) (s .pre .1 .0), s .pre .0 .most, s .pre .1 .3)
 
 is-in-requires : tie.Need-is-in-requires
 is-in-requires c κs =
-    let s = c .before .before .before .before .before .before .before .before .before .before in
-    omega (arith, s .pre .0 .placed .inside (s .args .r .0) (s .pre .1 .0), s .pre .0 .most, s .pre .1 .3, s .pre .0 .table-size)
+    let s = c .before .before .before .before .before .before .before .before .before .before .before in
+    omega (arith, s .pre .0 .placed .inside (s .args .trial .carrier .0) (s .pre .1 .0), s .pre .0 .most, s .pre .1 .3, s .pre .0 .table-size)
 
 slice-aggregate-try-on-2 : tie.Need-slice-aggregate-try-on-2
 slice-aggregate-try-on-2 c = search needs
 
 try-on-requires-2 : tie.Need-try-on-requires-2
 try-on-requires-2 c κs =
-    let s = c .before .before .before .before .before .before .before .before .before .before .before .before .before .before in
+    let s = c .before .before .before .before .before .before .before .before .before .before .before .before .before .before .before in
     let p = s .pre .0 in
     let z = s .pre .1 in
-    (p, (z .0, z .1, z .2, z .3, two-inside _ _ _ (p .placed .inside (s .args .r .0) (z .0)) (z .3), omega arith, z .4, omega arith))
+    (p, (z .0, z .1, z .2, z .3, two-inside _ _ _ (p .placed .inside (s .args .trial .carrier .0) (z .0)) (z .3), omega arith, z .4, omega arith))
 
 same-length-2 : tie.Need-same-length-2
-same-length-2 c = c .before .before .try-on2 .kept .1 .1 .1 .1 .1 .1 .1 .1 .0
+same-length-2 c = c .before .before .try-on2 .kept .1 .1 .1 .1 .1 .1 .0
 
 returns-2 : tie.Need-returns-2
 returns-2 c =
     let if1 = c .before .before .before .before .before .before .before .before .if1 in
-    let s = c .before .before .before .before .before .before .before .before .before .before .before .before .before .before .before .before .before in
+    let s = c .before .before .before .before .before .before .before .before .before .before .before .before .before .before .before .before .before .before in
     let p = s .pre .0 in
     let z = s .pre .1 in
     let rail = sym (c .before .before .before .before .before .if2 .taken) ∙ c .before .before .before .before .before .before .is-in .ensures in
-    (c .before .before .try-on2 .ensures .0, λ t near. c .before .before .try-on2 .ensures .1 t near (path-beside t _ _ (p .most) (p .placed .inside (s .args .r .0) (z .0)) (z .3) (if1 .left) rail))
+    (c .before .before .try-on2 .ensures .0, λ t near. c .before .before .try-on2 .ensures .1 t near (path-beside t _ _ (p .most) (p .placed .inside (s .args .trial .carrier .0) (z .0)) (z .3) (if1 .left) rail))
 
 try-along-requires : tie.Need-try-along-requires
 try-along-requires c κs = search needs
 
 same-length-3 : tie.Need-same-length-3
-same-length-3 c = c .before .before .try-along .kept .1 .1 .1 .1 .1 .1 .1 .0
+same-length-3 c = c .before .before .try-along .kept .1 .1 .1 .1 .1 .0
 
 returns-3 : tie.Need-returns-3
 returns-3 c = search needs

@@ -11,11 +11,11 @@ use Rattle.trial.proofs.try_on.Tie as tie
 cast-neighbour : tie.Need-cast-neighbour
 cast-neighbour c = search needs
 
-mul-t13 : tie.Need-mul-t13
-mul-t13 c = search needs
+mul-t16 : tie.Need-mul-t16
+mul-t16 c = search needs
 
-shared-slice-read-t15 : tie.Need-shared-slice-read-t15
-shared-slice-read-t15 c = search needs
+shared-slice-read-t18 : tie.Need-shared-slice-read-t18
+shared-slice-read-t18 c = search needs
 
 second-is-requires : tie.Need-second-is-requires
 second-is-requires c κs = search needs
@@ -34,21 +34,21 @@ part-attempt-end c = search needs
 
 attempt-requires : tie.Need-attempt-requires
 attempt-requires c κs =
-    let start = c .before .before .before .before .before .before .before .before .before .before .before .before .before in
+    let start = c .before .before .before .before .before .before .before .before .before .before .before .before .before .before .before .before in
     let p = start .pre .0 in
     let z = start .pre .1 in
     (p, (z .1, z .0, (λ e. z .2 (sym e)), z .3, part-inside (start .args .path .now) 2 _ (z .4), omega (arith, part-long (start .args .path .now) 2, z .5), z .6))
 
 same-length : tie.Need-same-length
-same-length c = c .before .before .attempt .kept .1 .1 .1 .1 .1 .1 .1 .1 .0
+same-length c = c .before .before .attempt .kept .1 .1 .1 .1 .1 .1 .0
 
 returns-2 : tie.Need-returns-2
 returns-2 c =
-    let start = c .before .before .before .before .before .before .before .before .before .before .before .before .before .before .before .before in
+    let start = c .before .before .before .before .before .before .before .before .before .before .before .before .before .before .before .before .before .before .before in
     let p = start .pre .0 in
     let z = start .pre .1 in
     let h = sym (c .before .before .before .before .before .before .if1 .taken) ∙ c .before .before .before .before .before .before .before .second-is .ensures in
-    (c .before .before .attempt .ensures .0, λ t near short. tried-second near (in-bays t (p .placed .inside (start .args .r .0) (z .0))) (in-bays t (z .3)) short _ (part (start .args .path .now) 2) h (c .before .before .attempt .ensures .1 t (second-leads near (in-bays t (p .placed .inside (start .args .r .0) (z .0))) (in-bays t (z .3)) short h _ (part (start .args .path .now) 2))))
+    (c .before .before .attempt .ensures .0, λ t near short. tried-second near (in-bays t (p .placed .inside (start .args .trial .carrier .0) (z .0))) (in-bays t (z .3)) short _ (part (start .args .path .now) 2) h (c .before .before .attempt .ensures .1 t (second-leads near (in-bays t (p .placed .inside (start .args .trial .carrier .0) (z .0))) (in-bays t (z .3)) short h _ (part (start .args .path .now) 2))))
 
 sub-attempt-2 : tie.Need-sub-attempt-2
 sub-attempt-2 c = search needs
@@ -61,29 +61,29 @@ part-attempt-end-2 c = search needs
 
 attempt-requires-2 : tie.Need-attempt-requires-2
 attempt-requires-2 c κs =
-    let start = c .before .before .before .before .before .before .before .before .before .before .before .before in
+    let start = c .before .before .before .before .before .before .before .before .before .before .before .before .before .before .before in
     let p = start .pre .0 in
     let z = start .pre .1 in
     (p, (z .0, z .1, z .2, z .3, part-inside (start .args .path .now) 1 _ (z .4), omega (arith, part-long (start .args .path .now) 1, z .5), z .6))
 
 same-length-2 : tie.Need-same-length-2
-same-length-2 c = c .before .before .attempt2 .kept .1 .1 .1 .1 .1 .1 .1 .1 .0
+same-length-2 c = c .before .before .attempt2 .kept .1 .1 .1 .1 .1 .1 .0
 
 returns-3 : tie.Need-returns-3
 returns-3 c =
-    let start = c .before .before .before .before .before .before .before .before .before .before .before .before .before .before .before in
+    let start = c .before .before .before .before .before .before .before .before .before .before .before .before .before .before .before .before .before .before in
     let p = start .pre .0 in
     let z = start .pre .1 in
     let h = sym (c .before .before .before .before .before .if1 .left) ∙ c .before .before .before .before .before .before .second-is .ensures in
-    (c .before .before .attempt2 .ensures .0, λ t near short. tried-first near (in-bays t (p .placed .inside (start .args .r .0) (z .0))) (in-bays t (z .3)) short _ (part (start .args .path .now) 1) h (c .before .before .attempt2 .ensures .1 t (first-leads near (in-bays t (p .placed .inside (start .args .r .0) (z .0))) (in-bays t (z .3)) short _ (part (start .args .path .now) 1))))
+    (c .before .before .attempt2 .ensures .0, λ t near short. tried-first near (in-bays t (p .placed .inside (start .args .trial .carrier .0) (z .0))) (in-bays t (z .3)) short _ (part (start .args .path .now) 1) h (c .before .before .attempt2 .ensures .1 t (first-leads near (in-bays t (p .placed .inside (start .args .trial .carrier .0) (z .0))) (in-bays t (z .3)) short _ (part (start .args .path .now) 1))))
 
 pub try-on-spec : {M : Type 1} → statement M
 try-on-spec =
     tie.close
     (tie.spec
     cast-neighbour
-    mul-t13
-    shared-slice-read-t15
+    mul-t16
+    shared-slice-read-t18
     second-is-requires
     returns
     sub-attempt

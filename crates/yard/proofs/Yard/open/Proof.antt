@@ -1,38 +1,18 @@
--- The answer is that of the tests; a refused yard has its table cleared after them.
+-- The table is cleared, and what is empty is opened in.
 use borrow.Author.Needs.{needs}
-use Rattle.yard.proofs.Opening.{opens-cleared, opens-admitted}
 use Rattle.yard.proofs.Yard.open.Statement.{statement}
 use Rattle.yard.proofs.Yard.open.Tie as tie
 
 clear-requires : tie.Need-clear-requires
 clear-requires c κs = search needs
 
-first-six-requires : tie.Need-first-six-requires
-first-six-requires c κs = search needs
-
-enum-known-tested : tie.Need-enum-known-tested
-enum-known-tested c = search needs
-
-clear-requires-2 : tie.Need-clear-requires-2
-clear-requires-2 c κs = search needs
+open-in-requires : tie.Need-open-in-requires
+open-in-requires c κs = search needs
 
 returns : tie.Need-returns
-returns c = opens-cleared _ _ _ _ _ _ (c .before .before .before .before .before .first-six .ensures) (c .before .before .before .tested .given .1) (c .clear2 .ensures)
-
-enum-told : tie.Need-enum-told
-enum-told c = search needs
-
-returns-2 : tie.Need-returns-2
-returns-2 c = opens-admitted _ _ _ _ _ (c .before .before .first-six .ensures) (c .enum-told .given .1)
+returns c = search needs
 
 pub open-spec : {M : Type 1} → statement M
 open-spec =
     tie.close
-    (tie.spec
-    clear-requires
-    first-six-requires
-    enum-known-tested
-    clear-requires-2
-    returns
-    enum-told
-    returns-2)
+    (tie.spec clear-requires open-in-requires returns)
