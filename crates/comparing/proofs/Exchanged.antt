@@ -15,7 +15,7 @@ use Rattle.paper.specs.Docket.{size, start, room, granted}
 use Rattle.paper.specs.Dependence.{countOf}
 use Rattle.paper.proofs.Tests.{by-option, or-none, or-neither, none-both, none-from, none-when, never}
 use Rattle.comparing.specs.Comparing.{firstAbove, no-1, no-5, no-8, refusal, equalLeading, comparison, difference, differences}
-use Rattle.comparing.proofs.Leading.{leading-exchanged}
+use Rattle.leading.proofs.Leading.{leading-exchanged}
 
 -- what a comparison that is granted has passed
 pub record Passed (first second : List ℕ) (lent : ℕ) : Type 0 where
