@@ -1,4 +1,4 @@
--- `shorten::any_done` meets its contract. What is left to look at decides.
+-- `begun::any_done` meets its contract. What is left to look at decides.
 -- Assumes nothing.
 use Rattle.trips.specs.Shortening.{anyDone}
 use Rattle.plans.proofs.Searching.{AnyFrom, any-hit, any-miss, any-end}
@@ -11,8 +11,8 @@ use Prim.Native.Nat.{ℕ, _≤_, _-_}
 use mathlib.Core.Bool.{Bool}
 use mathlib.Core.Path.{refl}
 use borrow.Author.Needs.{needs}
-use Rattle.shorten.proofs.any_done.Statement.{statement}
-use Rattle.shorten.proofs.any_done.Tie as tie
+use Rattle.begun.proofs.any_done.Statement.{statement}
+use Rattle.begun.proofs.any_done.Tie as tie
 
 abbrev is-one : ℕ → Bool
 is-one m = eqb m 1

@@ -1,11 +1,11 @@
--- `shorten::enters_bay` meets its contract. A dropped crossing enters no bay.
+-- `returning::enters_bay` meets its contract. A dropped crossing enters no bay.
 -- Assumes nothing.
-use Rattle.shorten.proofs.Asking.{gone-not, in-so}
+use Rattle.returning.proofs.Asking.{gone-not, in-so}
 use Rattle.trips.specs.Trips.{enters}
 use mathlib.Core.Path.{_∙_, ap}
 use borrow.Author.Needs.{needs}
-use Rattle.shorten.proofs.enters_bay.Statement.{statement}
-use Rattle.shorten.proofs.enters_bay.Tie as tie
+use Rattle.returning.proofs.enters_bay.Statement.{statement}
+use Rattle.returning.proofs.enters_bay.Tie as tie
 
 shared-slice-read-if1 : tie.Need-shared-slice-read-if1
 shared-slice-read-if1 c = search needs

@@ -19,9 +19,9 @@ use Rattle.trips.specs.Trips.{enters, isOf}
 use Rattle.trips.specs.Names.{lastPlace}
 use Rattle.trips.proofs.Naming.{place-past, place-back, place-barred}
 use Rattle.chains.specs.Links.{Passed}
-use Rattle.shorten.specs.Going.{nameAt, lastFrom}
-use Rattle.shorten.proofs.Passing.{passed-fails}
-use Rattle.shorten.proofs.Asking.{in-fails}
+use Rattle.returning.specs.Returns.{nameAt, lastFrom}
+use Rattle.returning.proofs.Passing.{passed-fails}
+use Rattle.returning.proofs.Asking.{in-fails}
 
 name-past : (last m : ℕ) (o : Option ℕ) → nameAt last m (o >>= λ n. some (suc n)) ≡ nameAt last (suc m) o
 name-past last m none = refl

@@ -1,9 +1,9 @@
--- `shorten::last_return` meets its contract. At each turn the answer is what is found from here on, or the last return so far; names that are passed are no return.
+-- `returning::last_return` meets its contract. At each turn the answer is what is found from here on, or the last return so far; names that are passed are no return.
 -- Assumes nothing.
 use borrow.Author.Needs.{needs}
 use borrow.Author.Tests.{not-true, not-false}
-use Rattle.shorten.proofs.Returning.{later-one, returning-past, returning-back, returning-barred, returning-end, returning-over}
-use Rattle.shorten.specs.Going.{lastFrom}
+use Rattle.returning.proofs.Returning.{later-one, returning-past, returning-back, returning-barred, returning-end, returning-over}
+use Rattle.returning.specs.Returns.{lastFrom}
 use Rattle.chains.specs.Links.{own, sought, Linked}
 use Rattle.docket.specs.Reading.{crossingOf}
 use Rattle.paper.specs.Yard.{crossings, named}
@@ -13,8 +13,8 @@ use mathlib.Core.Logic.{⊎-elim}
 use mathlib.Core.Path.{_≡_, refl, sym, _∙_, ap}
 use denote.Ref.{now}
 use native.Mathlib.Omega.{arith}
-use Rattle.shorten.proofs.last_return.Statement.{statement}
-use Rattle.shorten.proofs.last_return.Tie as tie
+use Rattle.returning.proofs.last_return.Statement.{statement}
+use Rattle.returning.proofs.last_return.Tie as tie
 
 abbrev Inv-loop : tie.InvT-loop
 Inv-loop plan gone links₀ name x last₀ m₀ links last m = (name < m) × (m ≤ length plan) × (last < m) × (length links ≡ length links₀) × Linked plan gone links × (lastFrom (crossingOf x) (crossings plan) gone last m ≡ lastFrom (crossingOf x) (crossings plan) gone name (suc name)) × (m < length plan → named (crossings plan) m .to ≡ crossingOf x .from)

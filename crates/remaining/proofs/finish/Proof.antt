@@ -1,10 +1,10 @@
--- `shorten::finish` meets its contract. Both ways out are laws of proofs/Saying.
+-- `remaining::finish` meets its contract. Both ways out are laws of proofs/Saying.
 -- Assumes nothing.
-use Rattle.shorten.proofs.Saying.{room-refused, room-written}
+use Rattle.remaining.proofs.Saying.{room-refused, room-written}
 use denote.Ref.{now}
 use borrow.Author.Needs.{needs}
-use Rattle.shorten.proofs.finish.Statement.{statement}
-use Rattle.shorten.proofs.finish.Tie as tie
+use Rattle.remaining.proofs.finish.Statement.{statement}
+use Rattle.remaining.proofs.finish.Tie as tie
 
 count-left-requires : tie.Need-count-left-requires
 count-left-requires c κs = search needs

@@ -1,15 +1,15 @@
--- `shorten::count_left` meets its contract. What is counted so far and what is left of the rest are the whole.
+-- `remaining::count_left` meets its contract. What is counted so far and what is left of the rest are the whole.
 -- Assumes nothing.
 use lib.ListN.{length, getD}
-use Rattle.shorten.proofs.Writing.{rest, one-small, count-next, count-end}
+use Rattle.remaining.proofs.Writing.{rest, one-small, count-next, count-end}
 use Rattle.trips.specs.Names.{left}
 use denote.Ref.{now}
 use native.Mathlib.Omega.{arith}
 use Prim.Native.Nat.{_≤_, _+_, _-_}
 use mathlib.Core.Path.{_≡_}
 use borrow.Author.Needs.{needs}
-use Rattle.shorten.proofs.count_left.Statement.{statement}
-use Rattle.shorten.proofs.count_left.Tie as tie
+use Rattle.remaining.proofs.count_left.Statement.{statement}
+use Rattle.remaining.proofs.count_left.Tie as tie
 
 abbrev Inv-loop : tie.InvT-loop
 Inv-loop plan gone n₀ m₀ n m = (m ≤ length plan) × (n ≤ m) × (n + length (rest plan gone m) ≡ length (left gone plan))

@@ -1,14 +1,14 @@
--- `shorten::write_left` meets its contract. What is written so far and what is left of the rest are the whole.
+-- `remaining::write_left` meets its contract. What is written so far and what is left of the rest are the whole.
 -- Assumes nothing.
-use Rattle.shorten.proofs.Writing.{Writing, writing-start, writing-room, writing-in, writing-out, writing-end}
+use Rattle.remaining.proofs.Writing.{Writing, writing-start, writing-room, writing-in, writing-out, writing-end}
 use lib.ListN.{length}
 use denote.Ref.{now}
 use native.Mathlib.Omega.{arith}
 use Prim.Native.Nat.{_-_}
 use mathlib.Core.Logic.{⊎-elim}
 use borrow.Author.Needs.{needs}
-use Rattle.shorten.proofs.write_left.Statement.{statement}
-use Rattle.shorten.proofs.write_left.Tie as tie
+use Rattle.remaining.proofs.write_left.Statement.{statement}
+use Rattle.remaining.proofs.write_left.Tie as tie
 
 abbrev Inv-loop : tie.InvT-loop
 Inv-loop plan gone out₀ n₀ m₀ out n m = Writing plan gone out₀ out n m

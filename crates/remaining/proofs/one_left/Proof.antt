@@ -1,10 +1,10 @@
--- `shorten::one_left` meets its contract, case by case.
+-- `remaining::one_left` meets its contract, case by case.
 -- Assumes nothing.
 use Rattle.paper.specs.Basics.{if_then_else_}
 use borrow.Author.Tests.{eq-eqb, ne-eqb}
 use mathlib.Core.Path.{sym, ap}
-use Rattle.shorten.proofs.one_left.Statement.{statement}
-use Rattle.shorten.proofs.one_left.Tie as tie
+use Rattle.remaining.proofs.one_left.Statement.{statement}
+use Rattle.remaining.proofs.one_left.Tie as tie
 
 returns : tie.Need-returns
 returns c = sym (ap (λ b. if b then 1 else 0) (eq-eqb _ _ (c .if1 .taken)))

@@ -1,10 +1,10 @@
--- `shorten::is_of` meets its contract. The crossing read is that of the name.
+-- `returning::is_of` meets its contract. The crossing read is that of the name.
 -- Assumes nothing.
 use Rattle.trips.specs.Trips.{isOf}
 use mathlib.Core.Path.{ap}
 use borrow.Author.Needs.{needs}
-use Rattle.shorten.proofs.is_of.Statement.{statement}
-use Rattle.shorten.proofs.is_of.Tie as tie
+use Rattle.returning.proofs.is_of.Statement.{statement}
+use Rattle.returning.proofs.is_of.Tie as tie
 
 crossing-at-requires : tie.Need-crossing-at-requires
 crossing-at-requires c κs = search needs

@@ -10,7 +10,7 @@ use lib.Seq.{getD-set-same, getD-set-other}
 use borrow.Author.Tests.{eqb-true, eqb-false}
 use Rattle.paper.specs.Basics.{if_then_else_, _and_}
 use Rattle.paper.proofs.Tests.{by-cases}
-use Rattle.shorten.proofs.Asking.{gone-not}
+use Rattle.returning.proofs.Asking.{gone-not}
 
 -- a crossing that is passed fails the test of the search
 pub passed-fails : (g y key : ℕ) → (y ≡ key → g ≡ 1) → eqb g 0 and eqb y key ≡ false
