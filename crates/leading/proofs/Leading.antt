@@ -1,7 +1,6 @@
 -- The equal leading crossings: they are equal, they are no more than either list has, and the next two differ. So two lists are equal exactly if the count
 -- is the length of both; and what is handed back is, with the equal ones before it, the longer list.
 use mathlib.Core.Path.{_≡_, refl, sym, _∙_, ap, ap₂}
-use mathlib.Core.Bool.{true, false}
 use mathlib.Core.List.{List, [], _∷_, _++_}
 use Prim.Native.Nat.{ℕ, suc, _+_, _<_, _≤_}
 use native.Mathlib.Omega.{arith}
