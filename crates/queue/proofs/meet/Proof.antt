@@ -1,15 +1,15 @@
--- `ways::meet` meets its contract. Word after word, the new bays of the words below i have been met.
+-- `queue::meet` meets its contract. Word after word, the new bays of the words below i have been met.
 -- Assumes nothing.
 use mathlib.Core.Path.{_≡_, refl}
 use Prim.Native.Nat.{_-_, _≤_}
 use native.Mathlib.Omega.{arith}
 use lib.ListN.{length}
 use Rattle.words.specs.Sets.{words, span}
-use Rattle.ways.specs.Meeting.{Meets}
-use Rattle.ways.proofs.Words.{newBelow, meeting-none, meeting-room, meeting-more}
+use Rattle.queue.specs.Meeting.{Meets}
+use Rattle.queue.proofs.Words.{newBelow, meeting-none, meeting-room, meeting-more}
 use borrow.Author.Needs.{needs}
-use Rattle.ways.proofs.meet.Statement.{statement}
-use Rattle.ways.proofs.meet.Tie as tie
+use Rattle.queue.proofs.meet.Statement.{statement}
+use Rattle.queue.proofs.meet.Tie as tie
 
 abbrev Inv-loop : tie.InvT-loop
 Inv-loop table a seen₀ met₀ before₀ count c₀ i₀ seen met before c i = (i ≤ words) × (length seen ≡ words) × (length met ≡ length met₀) × (length before ≡ span) × Meets (newBelow table seen₀ a i) a count seen₀ met₀ before₀ seen met before c

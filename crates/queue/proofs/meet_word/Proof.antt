@@ -1,10 +1,10 @@
--- `ways::meet_word` meets its contract. What the row's word has and the seen one has not are the new bays of the word.
+-- `queue::meet_word` meets its contract. What the row's word has and the seen one has not are the new bays of the word.
 -- Assumes nothing.
 use native.Mathlib.Omega.{arith}
-use Rattle.ways.proofs.Words.{word-new, word-met-none, word-met}
+use Rattle.queue.proofs.Words.{word-new, word-met-none, word-met}
 use borrow.Author.Needs.{needs}
-use Rattle.ways.proofs.meet_word.Statement.{statement}
-use Rattle.ways.proofs.meet_word.Tie as tie
+use Rattle.queue.proofs.meet_word.Statement.{statement}
+use Rattle.queue.proofs.meet_word.Tie as tie
 
 mul-word : tie.Need-mul-word
 mul-word c = search needs

@@ -1,4 +1,4 @@
--- `ways::pass` meets its contract. The bays of the ring up to `done` are passed, and what they led to stands at the queue's end.
+-- `queue::pass` meets its contract. The bays of the ring up to `done` are passed, and what they led to stands at the queue's end.
 -- Assumes nothing.
 use mathlib.Core.Path.{_≡_, refl}
 use mathlib.Core.List.{List}
@@ -6,11 +6,11 @@ use Prim.Native.Nat.{ℕ, _-_, _≤_}
 use native.Mathlib.Omega.{arith}
 use lib.ListN.{length, take}
 use Rattle.words.specs.Sets.{words, span}
-use Rattle.ways.specs.Queue.{Met, Passed}
-use Rattle.ways.proofs.Passing.{passed-first, passed-inside, passed-room, passed-more}
+use Rattle.queue.specs.Queue.{Met, Passed}
+use Rattle.queue.proofs.Passing.{passed-first, passed-inside, passed-room, passed-more}
 use borrow.Author.Needs.{needs}
-use Rattle.ways.proofs.pass.Statement.{statement}
-use Rattle.ways.proofs.pass.Tie as tie
+use Rattle.queue.proofs.pass.Statement.{statement}
+use Rattle.queue.proofs.pass.Tie as tie
 
 abbrev Inv-loop : tie.InvT-loop
 Inv-loop table n start count seen₀ met₀ before₀ done₀ c₀ seen met before done c = (done ≤ count) × (length seen ≡ words) × (length met ≡ length met₀) × (length before ≡ span) × ((held : List ℕ) (x : ℕ) → Met n table held x seen₀ (take count met₀) before₀ start → Passed n table held x met₀ count seen met before done c)

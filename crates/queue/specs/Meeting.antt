@@ -4,15 +4,9 @@ use mathlib.Core.Path.{_≡_}
 use mathlib.Core.Bool.{Bool, not}
 use mathlib.Core.List.{List, _∷_, _++_}
 use Prim.Native.Nat.{ℕ, zero, suc, _+_, _-_, _*_, _<_}
-use lib.Dec.{ltb}
 use lib.ListN.{length, getD, take}
 use Rattle.paper.specs.Basics.{_and_, _or_, filter, elem, countFrom, upTo, In, Out}
 use Rattle.words.specs.Sets.{on, mem, memRow, span}
-use Rattle.choice.specs.Taking.{rails}
-
--- where so few rails lead to a bay, a queue is faster than rings
-abbrev pub few : List ℕ → ℕ → Bool
-few table a = ltb (rails table a) 4
 
 -- ## Which bays are new
 

@@ -1,14 +1,14 @@
--- `ways::enqueue` meets its contract. The queue and what is left of the word together are always the queue and the whole word.
+-- `queue::enqueue` meets its contract. The queue and what is left of the word together are always the queue and the whole word.
 -- Assumes nothing.
 use mathlib.Core.Path.{_≡_, refl}
 use native.Mathlib.Omega.{arith}
 use lib.Count.{trailing-le}
 use lib.ListN.{length, length-set}
-use Rattle.ways.specs.Meeting.{inWord}
-use Rattle.ways.proofs.Words.{lowest-low, Filling, filling-first, filling-room, filling-less, filling-more, filling-all}
+use Rattle.queue.specs.Meeting.{inWord}
+use Rattle.queue.proofs.Words.{lowest-low, Filling, filling-first, filling-room, filling-less, filling-more, filling-all}
 use borrow.Author.Needs.{needs}
-use Rattle.ways.proofs.enqueue.Statement.{statement}
-use Rattle.ways.proofs.enqueue.Tie as tie
+use Rattle.queue.proofs.enqueue.Statement.{statement}
+use Rattle.queue.proofs.enqueue.Tie as tie
 
 abbrev Inv-loop : tie.InvT-loop
 Inv-loop i word a met₀ before₀ count left₀ c₀ met before left c = (length met ≡ length met₀) × (length before ≡ length before₀) × Filling i word a count met₀ before₀ met before left c

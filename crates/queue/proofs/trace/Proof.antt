@@ -1,4 +1,4 @@
--- `ways::trace` meets its contract. The whole path is always what is read from u on, before what is in the room behind it.
+-- `queue::trace` meets its contract. The whole path is always what is read from u on, before what is in the room behind it.
 -- Assumes nothing.
 use mathlib.Core.Path.{_≡_, refl, sym, _∙_}
 use mathlib.Core.List.{[]}
@@ -6,11 +6,11 @@ use Prim.Native.Nat.{_+_, _-_, _≤_, _<_}
 use native.Mathlib.Omega.{arith}
 use lib.ListN.{length, take, drop, length-set}
 use Rattle.words.specs.Sets.{span}
-use Rattle.ways.specs.Meeting.{back}
-use Rattle.ways.proofs.Tracing.{read-first, read-more, read-all}
+use Rattle.queue.specs.Meeting.{back}
+use Rattle.queue.proofs.Reading.{read-first, read-more, read-all}
 use borrow.Author.Needs.{needs}
-use Rattle.ways.proofs.trace.Statement.{statement}
-use Rattle.ways.proofs.trace.Tie as tie
+use Rattle.queue.proofs.trace.Statement.{statement}
+use Rattle.queue.proofs.trace.Tie as tie
 
 abbrev Inv-loop : tie.InvT-loop
 Inv-loop before e d path₀ i₀ u₀ path i u = (i ≤ d) × (u < span) × (length path ≡ length path₀) × (back before d e [] ≡ back before i u (take (d - i) (drop (i + 1) path)))

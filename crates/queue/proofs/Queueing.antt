@@ -1,7 +1,7 @@
 -- A bay of the queue is passed: what it leads to and was not seen, rising, goes to the queue's end. So each bay stands behind whatever
 -- an earlier bay leads to, and behind the lower ones of its own.
 -- Assumes nothing.
-use mathlib.Core.Path.{_≡_, refl, sym, ap, _∙_}
+use mathlib.Core.Path.{_≡_, sym, ap, _∙_}
 use mathlib.Core.Bool.{Bool, true, false, not}
 use mathlib.Core.List.{List, _++_}
 use mathlib.Core.Logic.{_⊎_, inl, inr, ⊎-elim}
@@ -12,19 +12,21 @@ use lib.ListN.{length, getD, take, length-append, List·getD-append}
 use lib.Seq.{take-append-le, take-append-add, getD-append-add}
 use borrow.Author.Tests.{not-true}
 use Rattle.paper.specs.Basics.{_or_, elem, upTo, In, Out, NoDup}
-use Rattle.paper.proofs.Tests.{by-cases, not-both, and-left, and-right, and-both, or-cases, or-none}
+use Rattle.paper.proofs.Tests.{by-cases, not-both, and-left, and-right, and-both, or-left, or-right, or-cases, or-none}
 use Rattle.paper.proofs.Members.{In-append, In-append-left, In-append-right, filter-in, filter-passes, in-filter, nodup-append, nodup-filter, nodup-count, count-high, in-count}
 use Rattle.paper.proofs.Playing.{bay-in}
 use Rattle.words.specs.Sets.{mem, memRow, span}
-use Rattle.rings.proofs.Searching.{elem-append}
-use Rattle.ways.specs.Meeting.{isNew, new}
-use Rattle.ways.specs.Queue.{Leads, Parent, Met}
-use Rattle.ways.proofs.Places.{lower-before}
+use Rattle.words.proofs.Besides.{equal-tests}
+use Rattle.queue.specs.Meeting.{isNew, new}
+use Rattle.queue.specs.Queue.{Leads, Parent, Met}
+use Rattle.queue.proofs.Places.{lower-before}
 
-pub or-assoc : (a b c : Bool) → (a or b) or c ≡ a or (b or c)
-unfolding _or_
-or-assoc true b c = refl
-or-assoc false b c = refl
+-- seen, or in one list or the other
+pub seen-both : (a : Bool) (b : ℕ) (xs ys : List ℕ) → (a or elem b xs) or elem b ys ≡ a or elem b (xs ++ ys)
+seen-both a b xs ys =
+    equal-tests _ _
+    (λ i. or-cases _ _ i (λ k. or-cases _ _ k (λ t. or-left _ _ t) (λ t. or-right _ _ (In-append-left b xs ys t))) (λ k. or-right _ _ (In-append-right b xs ys k)))
+    (λ i. or-cases _ _ i (λ t. or-left _ _ (or-left _ _ t)) (λ t. In-append b xs ys t (λ k. or-left _ _ (or-right _ _ k)) (λ k. or-right _ _ k)))
 
 module _ {n : ℕ} {table held : List ℕ} {x : ℕ} {seen queue before : List ℕ} {done : ℕ} (m : Met n table held x seen queue before done) (h : done < length queue) where
   -- the bay that is passed, and the new ones that it leads to
@@ -117,7 +119,7 @@ module _ {n : ℕ} {table held : List ℕ} {x : ℕ} {seen queue before : List �
       inside = more-inside most;
       unheld = λ b i. In-append b queue found i (m .unheld b) (λ k. found-free b k .0);
       once = more-once;
-      seeing = λ b k. sees b k ∙ rw (m .seeing b k, elem-append) (or-assoc (mem held b) (elem b queue) (elem b found));
+      seeing = λ b k. sees b k ∙ rw (m .seeing b k) (seen-both (mem held b) b queue found);
       parent = λ j p k. elim (decLt j (length queue)) [
         | yes l ↦ old-parent j l (m .parent j p l)
         | no l ↦

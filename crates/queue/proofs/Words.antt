@@ -19,9 +19,8 @@ use Rattle.words.specs.Sets.{on, mem, memRow, words, span, lessWord}
 use Rattle.words.proofs.Bits.{later, later-off, later-on, on-lowest, on-below, on-zero, on-or, on-less}
 use Rattle.words.proofs.Sets.{mem-row, count-split, or-false}
 use Rattle.words.proofs.Besides.{equal-tests}
-use Rattle.rings.proofs.Searching.{elem-append}
-use Rattle.ways.proofs.Queueing.{or-assoc}
-use Rattle.ways.specs.Meeting.{places, inWord, isNew, newIn, new, Queued, Meets}
+use Rattle.queue.proofs.Queueing.{seen-both}
+use Rattle.queue.specs.Meeting.{places, inWord, isNew, newIn, new, Queued, Meets}
 
 -- ## Counted numbers that pass
 
@@ -208,7 +207,7 @@ meets-then {f} {g} {count = count} {met = met} p q = record {
         (λ o. q .queued .others y o ∙ p .queued .parents y (In-append y f g k (λ i. i) (λ i. not-both i o)));
     others = λ y o. q .queued .others y (Out-right y f g o) ∙ p .queued .others y (Out-left y f g o);
   };
-  seeing = λ b h. q .seeing b h ∙ rw (p .seeing b h, elem-append) (or-assoc _ (elem b f) (elem b g));
+  seeing = λ b h. q .seeing b h ∙ rw (p .seeing b h) (seen-both _ b f g);
 }
 
 module _ (table seen : List ℕ) (a i : ℕ) (fits : getD seen i 0 < 2 ^ 64) where
