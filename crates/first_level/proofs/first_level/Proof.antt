@@ -1,4 +1,4 @@
--- `lookup::first_level` meets its contract. No level before j has one of the bays, so the first that has one is the first of all.
+-- `first_level::first_level` meets its contract. No level before j has one of the bays, so the first that has one is the first of all.
 -- Assumes nothing.
 use mathlib.Core.Path.{sym, _∙_}
 use Prim.Native.Nat.{_-_, _*_}
@@ -6,9 +6,9 @@ use native.Mathlib.Omega.{arith}
 use lib.ListN.{length}
 use borrow.Author.Needs.{needs}
 use Rattle.words.specs.Sets.{words}
-use Rattle.lookup.proofs.Levelling.{levels-few, Missed, missed-none, missed-more, missed-hit, missed-all}
-use Rattle.lookup.proofs.first_level.Statement.{statement}
-use Rattle.lookup.proofs.first_level.Tie as tie
+use Rattle.first_level.proofs.Missing.{levels-few, Missed, missed-none, missed-more, missed-hit, missed-all}
+use Rattle.first_level.proofs.first_level.Statement.{statement}
+use Rattle.first_level.proofs.first_level.Tie as tie
 
 abbrev Inv-loop : tie.InvT-loop
 Inv-loop table n bays middle j₀ j = Missed n table middle bays j
