@@ -24,7 +24,7 @@ use Rattle.moving.specs.Placed.{Placed, Stored}
 use Rattle.moving.proofs.Playing.{stored-exact, stored-then}
 use Rattle.acting.specs.Acting.{Tallied, Tries}
 use Rattle.acting.specs.declared.Tally.{Tally}
-use Rattle.bring.specs.Turning.{Small, Holds, numbers}
+use Rattle.undo.specs.Turning.{Small, Holds, numbers}
 use Rattle.acting.proofs.Acting.{as-far-then, tried-done}
 use Rattle.clear_on.specs.Going.{Listed, AtJunction, ClearsTwo}
 use Rattle.exchange.specs.Exchanging.{Noted}

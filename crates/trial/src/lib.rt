@@ -109,7 +109,7 @@ fn attempt_on(
     let made = c.crossings;
     let parked = c.parked;
     let d = exchange::exchange(out, made, l, m, lead.junction, b, lower(x, y), higher(x, y));
-    bring::undo(out, from, made - from, d, l, m);
+    undo::undo(out, from, made - from, d, l, m);
     let many = made - from;
     let crossings = d + many;
     Tried::Done(Tally { crossings, parked })

@@ -12,7 +12,7 @@ use native.Mathlib.Decide.{decLt}
 use Rattle.paper.specs.Procedure.{renamed, undo}
 use Rattle.paper.specs.Yard.{Crossing, crossing, turned as exchanged, reverseOf, pack}
 use Rattle.paper.proofs.Packing.{unpack-pack}
-use Rattle.bring.specs.Turning.{turnedBack, turned, Small, Holds, numbers}
+use Rattle.undo.specs.Turning.{turnedBack, turned, Small, Holds, numbers}
 
 getD-reverse : (xs : List Crossing) (j : ℕ) → j < length xs → getD (reverse xs) j (crossing 0 0 0) ≡ getD xs (length xs - 1 - j) (crossing 0 0 0)
 getD-reverse [] j h = absurd (omega arith)

@@ -1,19 +1,19 @@
--- `bring::undo` meets its contract. What is read lies before what is written.
+-- `undo::undo` meets its contract. What is read lies before what is written.
 -- Assumes nothing.
 use mathlib.Core.Path.{_≡_, _∙_, ap}
 use Prim.Native.Nat.{_≤_, _-_}
 use native.Mathlib.Omega.{arith}
 use lib.ListN.{length}
 use borrow.Author.Needs.{needs}
-use Rattle.bring.specs.Turning.{Crossings, turned, Small, Holds}
-use Rattle.bring.proofs.Undoing.{Undoing, undoing-more, undoing-all}
-use Rattle.bring.proofs.undo.Statement.{statement}
-use Rattle.bring.proofs.undo.Tie as tie
-use Rattle.bring.proofs.undo.Reads as reads
-use Rattle.bring.proofs.undo.Lts as lts
-use Rattle.bring.proofs.put.Reads as put-reads
-use Rattle.bring.proofs.stored_at.Reads as stored-at-reads
-use Rattle.bring.proofs.turn.Reads as turn-reads
+use Rattle.undo.specs.Turning.{Crossings, turned, Small, Holds}
+use Rattle.undo.proofs.Undoing.{Undoing, undoing-more, undoing-all}
+use Rattle.undo.proofs.undo.Statement.{statement}
+use Rattle.undo.proofs.undo.Tie as tie
+use Rattle.undo.proofs.undo.Reads as reads
+use Rattle.undo.proofs.undo.Lts as lts
+use Rattle.undo.proofs.put.Reads as put-reads
+use Rattle.undo.proofs.stored_at.Reads as stored-at-reads
+use Rattle.undo.proofs.turn.Reads as turn-reads
 
 abbrev Inv-loop : tie.InvT-loop
 Inv-loop out₀ from many at l m j₀ out j = (j ≤ many) × (length out ≡ length out₀) × ((xs : Crossings) → Small xs → Holds out₀ from xs → length xs ≡ many → Undoing out₀ at (l .0) (m .0) xs j out)

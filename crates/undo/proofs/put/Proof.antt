@@ -1,12 +1,12 @@
--- `bring::put` meets its contract. Setting past the end changes nothing.
+-- `undo::put` meets its contract. Setting past the end changes nothing.
 -- Assumes nothing.
 use mathlib.Core.Path.{sym}
 use lib.Seq.{set-out}
 use borrow.Author.Needs.{needs}
-use Rattle.bring.proofs.put.Statement.{statement}
-use Rattle.bring.proofs.put.Tie as tie
-use Rattle.bring.proofs.put.Reads as reads
-use Rattle.bring.proofs.put.Lts as lts
+use Rattle.undo.proofs.put.Statement.{statement}
+use Rattle.undo.proofs.put.Tie as tie
+use Rattle.undo.proofs.put.Reads as reads
+use Rattle.undo.proofs.put.Lts as lts
 
 mul-out : tie.Need-mul-out
 mul-out c = search needs

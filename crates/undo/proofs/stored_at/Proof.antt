@@ -1,12 +1,12 @@
--- `bring::stored_at` meets its contract. Past the end the list reads as 0.
+-- `undo::stored_at` meets its contract. Past the end the list reads as 0.
 -- Assumes nothing.
 use mathlib.Core.Path.{sym}
 use lib.ListN.{List·getD-eq-default}
 use borrow.Author.Needs.{needs}
-use Rattle.bring.proofs.stored_at.Statement.{statement}
-use Rattle.bring.proofs.stored_at.Tie as tie
-use Rattle.bring.proofs.stored_at.Reads as reads
-use Rattle.bring.proofs.stored_at.Lts as lts
+use Rattle.undo.proofs.stored_at.Statement.{statement}
+use Rattle.undo.proofs.stored_at.Tie as tie
+use Rattle.undo.proofs.stored_at.Reads as reads
+use Rattle.undo.proofs.stored_at.Lts as lts
 
 mul-result : tie.Need-mul-result
 mul-result c = search needs

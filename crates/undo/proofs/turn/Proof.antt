@@ -1,14 +1,14 @@
--- `bring::turn` meets its contract. The number is read, turned and packed again.
+-- `undo::turn` meets its contract. The number is read, turned and packed again.
 -- Assumes nothing.
 use mathlib.Core.Path.{_∙_, ap}
 use borrow.Author.Needs.{needs}
 use Rattle.paper.specs.Yard.{Crossing, pack}
-use Rattle.bring.specs.Turning.{turnedBack}
-use Rattle.bring.proofs.turn.Statement.{statement}
-use Rattle.bring.proofs.turn.Tie as tie
-use Rattle.bring.proofs.turn.Reads as reads
-use Rattle.bring.proofs.turn.Lts as lts
-use Rattle.bring.proofs.traded.Reads as traded-reads
+use Rattle.undo.specs.Turning.{turnedBack}
+use Rattle.undo.proofs.turn.Statement.{statement}
+use Rattle.undo.proofs.turn.Tie as tie
+use Rattle.undo.proofs.turn.Reads as reads
+use Rattle.undo.proofs.turn.Lts as lts
+use Rattle.undo.proofs.traded.Reads as traded-reads
 use Rattle.docket.proofs.pack.Reads as pack-reads
 use Rattle.docket.proofs.unpack.Reads as unpack-reads
 

@@ -1,11 +1,11 @@
--- `bring::traded` meets its contract. The three cases of trading.
+-- `undo::traded` meets its contract. The three cases of trading.
 -- Assumes nothing.
 use borrow.Author.Tests.{eq-eqb, ne-eqb}
 use Rattle.paper.specs.Procedure.{trade}
-use Rattle.bring.proofs.traded.Statement.{statement}
-use Rattle.bring.proofs.traded.Tie as tie
-use Rattle.bring.proofs.traded.Reads as reads
-use Rattle.bring.proofs.traded.Lts as lts
+use Rattle.undo.proofs.traded.Statement.{statement}
+use Rattle.undo.proofs.traded.Tie as tie
+use Rattle.undo.proofs.traded.Reads as reads
+use Rattle.undo.proofs.traded.Lts as lts
 
 returns : tie.Need-returns
 unfolding trade
