@@ -29,6 +29,7 @@ use Rattle.rings.specs.Search.{Shown}
 use Rattle.rings.specs.Ways.{PathFound, pathOf as pathsOf}
 use Rattle.rings.specs.declared.Path.{Path}
 use Rattle.rings.proofs.Searching.{elem-append, elem-one}
+use Rattle.go.proofs.Lending.{RestLent, on-the-rest}
 use Rattle.home.specs.Homing.{Stages}
 use Rattle.paper.proofs.Making.{together-assoc, together-none, none-together}
 use Rattle.moving.specs.Bounds.{swap-most}
@@ -245,9 +246,9 @@ carried-nowhere Y goals r p e = rw (← e)
 
 -- ## Where r has gone
 
-module _ {Y : Yard} {goals : Placement} {r : Carrier} {n : ℕ} {p out : List ℕ} {at : Tally} {p′ standing′ empty′ out′ room : List ℕ} where
+module _ {Y : Yard} {goals : Placement} {r : Carrier} {n : ℕ} {p out p′ standing′ empty′ out′ room : List ℕ} where
   pub went-there : {k : ℕ} {m : Tally} (a : Made) → some (take k room) ≡ pathOf Y goals r p → planOf (go Y goals r (drop 1 (take k room)) p) ≡ some a
-      → Tallied a n p p′ standing′ empty′ out at out′ m → Goes Y goals r n p out at p′ standing′ empty′ out′ room (There k m)
+      → Tallied a n p p′ standing′ empty′ out nothing out′ m → Goes Y goals r n p out p′ standing′ empty′ out′ room (There k m)
   went-there {k} {m} a short e w = record {
     there = λ j b d.
         let same : k ≡ j = cc in
@@ -256,11 +257,11 @@ module _ {Y : Yard} {goals : Placement} {r : Carrier} {n : ℕ} {p out : List �
     nowhere = λ d. never (cc);
   }
 
-  pub went-nowhere : carry Y goals r p ≡ stuck r → Goes Y goals r n p out at p′ standing′ empty′ out′ room Nowhere
+  pub went-nowhere : carry Y goals r p ≡ stuck r → Goes Y goals r n p out p′ standing′ empty′ out′ room Nowhere
   went-nowhere e = record { there = λ j b d. never (cc); nowhere = λ d. e }
 
-module _ {n : ℕ} {r : Carrier} {at : Tally} {p settled : List ℕ} where
-  pub arrives : {k : ℕ} {m : Tally} → k ≤ n → m .crossings ≤ at .crossings + swap-most * k → BaysBelow (r + 1) p settled → Arrives n r at p settled (There k m)
+module _ {n : ℕ} {r : Carrier} {p settled : List ℕ} where
+  pub arrives : {k : ℕ} {m : Tally} → k ≤ n → m .crossings ≤ swap-most * k → BaysBelow (r + 1) p settled → Arrives n r p settled (There k m)
   arrives {k} {m} fits few below = record {
     fits = λ j b d. let same : k ≡ j = cc in rw same at fits;
     few = λ j b d.
@@ -270,7 +271,7 @@ module _ {n : ℕ} {r : Carrier} {at : Tally} {p settled : List ℕ} where
     below = λ j b d. below;
   }
 
-  pub arrives-nowhere : Arrives n r at p settled Nowhere
+  pub arrives-nowhere : Arrives n r p settled Nowhere
   arrives-nowhere = record { fits = λ j b d. never (cc); few = λ j b d. never (cc); below = λ j b d. never (cc) }
 
 -- the path that is found leads to r's goal
@@ -352,21 +353,22 @@ module _ (Y : Yard) (goals : Placement) (r j : ℕ) (p : Placement) where
   unfolding carryFrom _next_ onward
   from-stuck c e = rw e
 
-module _ {Y : Yard} {goals : Placement} {n : ℕ} {p out : List ℕ} {r : ℕ} {p′ standing′ empty′ out′ : List ℕ} {m : Tally} (g : Served Y goals n p out r p′ standing′ empty′ out′ m) (here : r < length goals) where
-  pub served-more : {q standing″ empty″ out″ : List ℕ} {b : Tally} → Stages (carry Y goals r p′) n p′ out′ m q standing″ empty″ out″ (Planned b) → Served Y goals n p out (r + 1) q standing″ empty″ out″ b
-  served-more {b = b} s =
+module _ {Y : Yard} {goals : Placement} {n : ℕ} {p out : List ℕ} {r : ℕ} {p′ standing′ empty′ out′ : List ℕ} {m : Tally} (g : Served Y goals n p out r p′ standing′ empty′ out′ m) (here : r < length goals)
+    {lent rest q standing″ empty″ : List ℕ} where
+  pub served-more : {out″ : List ℕ} {b sum : Tally} → RestLent out′ m rest b out″ sum → Stages (carry Y goals r p′) n p′ lent nothing q standing″ empty″ rest (Planned b) → Served Y goals n p out (r + 1) q standing″ empty″ out″ sum
+  served-more {b = b} l s =
       let w = s .plans b refl in
       let e : length goals - r ≡ suc (length goals - (r + 1)) = omega arith in
       record {
         xs = together (g .xs) (w .0);
-        played = tallied-then (g .played) (w .2);
+        played = tallied-then (g .played) (on-the-rest l (w .2));
         answer =
             g .answer
             ∙ rw (e, from-planned Y goals r (length goals - (r + 1)) p′ (w .0) (w .1), before-twice (g .xs) (w .0) (carryFrom Y goals (suc r) (length goals - (r + 1)) (after p′ (w .0 .moves))), ← (w .2 .moved))
             (let f : suc r ≡ r + 1 = omega arith in rw f);
       }
 
-  pub served-stuck : {q standing″ empty″ out″ : List ℕ} {c : Named} → Stages (carry Y goals r p′) n p′ out′ m q standing″ empty″ out″ (Stuck c) → procedure Y goals p ≡ stuck (c .0)
+  pub served-stuck : {c : Named} → Stages (carry Y goals r p′) n p′ lent nothing q standing″ empty″ rest (Stuck c) → procedure Y goals p ≡ stuck (c .0)
   served-stuck {c = c} s =
       let e : length goals - r ≡ suc (length goals - (r + 1)) = omega arith in
       g .answer ∙ rw (e, from-stuck Y goals r (length goals - (r + 1)) p′ (c .0) (s .stops c refl))

@@ -15,7 +15,7 @@ use Rattle.rings.specs.Search.{Shown}
 use Rattle.rings.specs.Ways.{pathOf, pathLength}
 use Rattle.rings.specs.declared.Path.{Path}
 use Rattle.yard.specs.Table.{Table}
-use Rattle.moving.specs.Bounds.{swap-most, carrier-most, room-carrier}
+use Rattle.moving.specs.Bounds.{swap-most, carrier-most}
 use Rattle.acting.specs.Acting.{Tabled, Tallied, nothing}
 use Rattle.acting.specs.declared.Tally.{Tally}
 use Rattle.step.specs.Asking.{Loopless, BaysBelow}
@@ -83,47 +83,46 @@ procedures Y goals p = procedure Y goals p
 -- a carrier's turn: the set has the finished carriers' bays
 abbrev pub CarryAsks : ToGoal → (table p standing settled : List ℕ) → Type 0
 CarryAsks to table p standing settled =
-    (to .turn .carrier .0 < length p)
+    (to .carrier .0 < length p)
     × Loopless (length standing) table
-    × (to .turn .at .crossings < room-carrier)
-    × BaysBelow (to .turn .carrier .0) p settled
+    × BaysBelow (to .carrier .0) p settled
     × KindTold (length standing) table (to .in_carousel)
 
 -- there are goals of which its own is the one told
 abbrev pub GoalAsks : ToGoal → (p standing : List ℕ) → Type 0
-GoalAsks to p standing = Bound (length standing) p (to .turn .carrier .0) (to .goal .0)
+GoalAsks to p standing = Bound (length standing) p (to .carrier .0) (to .goal .0)
 
 -- and these are their owners
 abbrev pub OwnedAsks : ToGoal → (owner p standing : List ℕ) → Type 0
 OwnedAsks to owner p standing = (b : GoalAsks to p standing) × Owners (length standing) (b .goals) owner
 
 -- carrier r has gone the path that it takes, whose bays are the first k in the room lent; or it is stuck
-pub record Goes (Y : Yard) (goals : Placement) (r : Carrier) (n : ℕ) (p out : List ℕ) (at : Tally) (p′ standing′ empty′ out′ room : List ℕ) (z : Gone) : Type 0 where
+pub record Goes (Y : Yard) (goals : Placement) (r : Carrier) (n : ℕ) (p out p′ standing′ empty′ out′ room : List ℕ) (z : Gone) : Type 0 where
   pub there : (k : ℕ) (m : Tally) → z ≡ There k m
       → (some (take k room) ≡ way Y goals r p)
-      × (made : Made) × (planOf (go Y goals r (drop 1 (take k room)) p) ≡ some made) × Tallied made n p p′ standing′ empty′ out at out′ m
+      × (made : Made) × (planOf (go Y goals r (drop 1 (take k room)) p) ≡ some made) × Tallied made n p p′ standing′ empty′ out nothing out′ m
   pub nowhere : z ≡ Nowhere → carry Y goals r p ≡ stuck r
 
 -- r is finished then, and the path is no longer than there are bays
-pub record Arrives (n : ℕ) (r : Carrier) (at : Tally) (p settled : List ℕ) (z : Gone) : Type 0 where
+pub record Arrives (n : ℕ) (r : Carrier) (p settled : List ℕ) (z : Gone) : Type 0 where
   pub fits : (k : ℕ) (m : Tally) → z ≡ There k m → k ≤ n
-  pub few : (k : ℕ) (m : Tally) → z ≡ There k m → m .crossings ≤ at .crossings + swap-most * k
+  pub few : (k : ℕ) (m : Tally) → z ≡ There k m → m .crossings ≤ swap-most * k
   pub below : (k : ℕ) (m : Tally) → z ≡ There k m → BaysBelow (r + 1) p settled
 
 abbrev pub GoAlongSays : ToGoal → (table p standing out p′ standing′ empty′ settled′ out′ room : List ℕ) → Gone → Type 0
 GoAlongSays to table p standing out p′ standing′ empty′ settled′ out′ room z =
-    Arrives (length standing) (to .turn .carrier .0) (to .turn .at) p′ settled′ z
+    Arrives (length standing) (to .carrier .0) p′ settled′ z
     × ((t : Tabled (length standing) table) (b : GoalAsks to p standing)
-    → Goes (t .yard) (b .goals) (to .turn .carrier .0) (length standing) p out (to .turn .at) p′ standing′ empty′ out′ room z)
+    → Goes (t .yard) (b .goals) (to .carrier .0) (length standing) p out p′ standing′ empty′ out′ room z)
 
 -- the paper's turn of the carrier, for all such goals whose owners these are; where it is planned, the carrier is finished
 abbrev pub CarrySays : ToGoal → (owner table p standing out p′ standing′ empty′ settled′ out′ : List ℕ) → Staged → Type 0
 CarrySays to owner table p standing out p′ standing′ empty′ settled′ out′ z =
-    AtMost (to .turn .at) carrier-most z
+    AtMost carrier-most z
     × ((t : Tabled (length standing) table) (b : GoalAsks to p standing)
     → Owners (length standing) (b .goals) owner
-    → Stages (carry (t .yard) (b .goals) (to .turn .carrier .0) p) (length standing) p out (to .turn .at) p′ standing′ empty′ out′ z)
-    × Settles (to .turn .carrier .0 + 1) p′ settled′ z
+    → Stages (carry (t .yard) (b .goals) (to .carrier .0) p) (length standing) p out nothing p′ standing′ empty′ out′ z)
+    × Settles (to .carrier .0 + 1) p′ settled′ z
 
 -- the paper's procedure, counted from nothing
 abbrev pub CarryAllSays : Placement → (table p standing out p′ standing′ empty′ settled′ out′ : List ℕ) → Staged → Type 0

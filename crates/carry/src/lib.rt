@@ -3,7 +3,6 @@ use acting::Tally;
 use acting::Tried;
 use docket::Bay;
 use docket::Carrier;
-use go::Turn;
 use home::HomeBay;
 use home::Staged;
 use rings::Path;
@@ -17,14 +16,15 @@ ghost use Rattle.step.specs.Asking.{Loopless, BaysBelow};
 ghost use Rattle.home.specs.Homing.{Owners};
 ghost use Rattle.carry.specs.Carrying.{Goals, Reaching, KindTold, PathPast, CarryAsks, GoalAsks, OwnedAsks, GoAlongSays, CarrySays, CarryAllSays};
 
-// A carrier's turn, with its goal, and whether the yard is a carousel, where its path leads past the finished carriers.
+// It is this carrier's turn: those below it are finished. With its goal, and whether the yard is a carousel, where its path leads past the finished
+// carriers.
 struct ToGoal {
-    turn: Turn,
+    carrier: Carrier,
     goal: Bay,
     in_carousel: bool,
 }
 
-// The number of bays on the path that the carrier has gone, and the tally afterwards; or it could not go there.
+// The number of bays on the path that the carrier has gone, and the tally of what was made; or it could not go there.
 enum Gone {
     There(usize, Tally),
     Nowhere,
@@ -81,9 +81,8 @@ fn go_along(
         (now (placement .exit)) (now (standing .exit)) (now (empty .exit)) (now (settled .exit)) (now (out .exit)) (now (path .exit)) z
         ⌝ }
 {
-    let turn = to.turn;
+    let r = to.carrier;
     let v = to.goal;
-    let r = turn.carrier;
     let own = r.0 as usize;
     let n = standing.len();
     let u = Bay(placement[own]);
@@ -96,7 +95,7 @@ fn go_along(
     let gone = go::go(
         table,
         &path[1..k],
-        turn,
+        r,
         placement,
         standing,
         empty,
@@ -106,15 +105,16 @@ fn go_along(
     let Tried::Done(done) = gone else {
         return Gone::Nowhere;
     };
-    let m = Tally {
+    let made = Tally {
         crossings: done.crossings,
         parked: done.parked,
     };
     words::add(settled, placement[own] as usize);
-    Gone::There(k, m)
+    Gone::There(k, made)
 }
 
-// Carrier r goes its path, then those that it displaced go home: at the bays of the path one after the other, the last of them first.
+// Carrier r goes its path, then those that it displaced go home: at the bays of the path one after the other, the last of them first. Each is lent the
+// rest of the list.
 fn carry(
     table: &[u64],
     owner: &[u16],
@@ -134,8 +134,7 @@ fn carry(
         (now (placement .exit)) (now (standing .exit)) (now (empty .exit)) (now (settled .exit)) (now (out .exit)) z
         ⌝ }
 {
-    let turn = to.turn;
-    let r = turn.carrier;
+    let r = to.carrier;
     let mut path = [0u16; words::SPAN];
     let gone = go_along(
         table,
@@ -150,38 +149,39 @@ fn carry(
     let Gone::There(k, done) = gone else {
         return Staged::Stuck(r);
     };
-    let m = Tally {
+    let mut count = Tally {
         crossings: done.crossings,
         parked: done.parked,
     };
     if k < 3 {
-        return Staged::Planned(m);
+        return Staged::Planned(count);
     }
     let finished = r.0 as usize + 1;
-    let mut count = m;
     let mut i = k - 2;
     while 0 < i {
         let bay = Bay(path[i]);
-        let at = HomeBay {
-            finished,
-            bay,
-            at: count,
-        };
-        let homed = home::home_at(table, owner, at, placement, standing, empty, settled, out);
-        let Staged::Planned(done) = homed else {
+        let v = HomeBay { finished, bay };
+        let from = clear_on::place_in(out, count.crossings);
+        let homed = home::home_at(
+            table,
+            owner,
+            v,
+            placement,
+            standing,
+            empty,
+            settled,
+            &mut out[from..],
+        );
+        let Staged::Planned(made) = homed else {
             return homed;
         };
-        let m = Tally {
-            crossings: done.crossings,
-            parked: done.parked,
-        };
-        count = m;
+        count = acting::add(count, made);
         i -= 1;
     }
     Staged::Planned(count)
 }
 
-// All carriers by rising number. What the yard is, is asked once, since in a carousel every bay must tell.
+// All carriers by rising number, each lent the rest of the list. What the yard is, is asked once, since in a carousel every bay must tell.
 pub fn carry_all(
     table: &[u64],
     goals: &[u16],
@@ -214,23 +214,26 @@ pub fn carry_all(
     let mut r = 0;
     while r < goals.len() {
         let number = r as u32;
-        let carrier = Carrier(number);
-        let goal = Bay(goals[r]);
-        let turn = Turn { carrier, at: count };
         let to = ToGoal {
-            turn,
-            goal,
+            carrier: Carrier(number),
+            goal: Bay(goals[r]),
             in_carousel,
         };
-        let carried = carry(table, owner, to, placement, standing, empty, settled, out);
-        let Staged::Planned(done) = carried else {
+        let from = clear_on::place_in(out, count.crossings);
+        let carried = carry(
+            table,
+            owner,
+            to,
+            placement,
+            standing,
+            empty,
+            settled,
+            &mut out[from..],
+        );
+        let Staged::Planned(made) = carried else {
             return carried;
         };
-        let m = Tally {
-            crossings: done.crossings,
-            parked: done.parked,
-        };
-        count = m;
+        count = acting::add(count, made);
         r += 1;
     }
     Staged::Planned(count)

@@ -23,12 +23,12 @@ slice-read-add c = search needs
 
 path-past-requires : tie.Need-path-past-requires
 path-past-requires c κs =
-    let start = c .before .before .before .before .before .before .before .before .before .before .before .before .before .before in
+    let start = c .before .before .before .before .before .before .before .before .before .before .before .before .before in
     let p = start .pre .0 in
     let z = start .pre .1 .0 in
     let b = start .pre .1 .1 .0 in
-    let r = start .args .to .turn .carrier .0 in
-    (p .most, p .placed .inside r (z .0), rw (b .own) at (b .each .inside r (omega (arith, z .0, b .each .many))), omega (arith, p .table-size), z .3 .size, omega (arith, p .most, start .pre .1 .1 .1), settledShown (p .tabled) r _ (z .3), z .4)
+    let r = start .args .to .carrier .0 in
+    (p .most, p .placed .inside r (z .0), rw (b .own) at (b .each .inside r (omega (arith, z .0, b .each .many))), omega (arith, p .table-size), z .2 .size, omega (arith, p .most, start .pre .1 .1 .1), settledShown (p .tabled) r _ (z .2), z .3)
 
 enum-known-k : tie.Need-enum-known-k
 enum-known-k c = c .match .keys1
@@ -45,15 +45,15 @@ same-length-2 c = search needs
 returns : tie.Need-returns
 returns c =
     let path-past = c .before .before .before .before .path-past in
-    let start = c .before .before .before .before .before .before .before .before .before .before .before .before .before .before .before .before .before .before .before in
+    let start = c .before .before .before .before .before .before .before .before .before .before .before .before .before .before .before .before .before .before in
     let p = start .pre .0 in
     let z = start .pre .1 .0 in
     let a = start .args in
-    let r = a .to .turn .carrier .0 in
+    let r = a .to .carrier .0 in
     let e = c .enum-told .given .1 in (
       arrives-nowhere,
       λ t b. went-nowhere (carried-nowhere (t .yard) (b .goals) r (a .placement .now)
-          (way-there t (p .most) (z .1) r (a .placement .now) (p .placed) (z .0) b (z .3) (rw e at (path-past .ensures (settledShown t r _ (z .3)))))),
+          (way-there t (p .most) (z .1) r (a .placement .now) (p .placed) (z .0) b (z .2) (rw e at (path-past .ensures (settledShown t r _ (z .2)))))),
     )
 
 same-length-3 : tie.Need-same-length-3
@@ -66,16 +66,16 @@ returns-2 : tie.Need-returns-2
 returns-2 c =
     let k = c .before .before .k in
     let path-past = c .before .before .before .before .before .before .path-past in
-    let start = c .before .before .before .before .before .before .before .before .before .before .before .before .before .before .before .before .before .before .before .before .before in
+    let start = c .before .before .before .before .before .before .before .before .before .before .before .before .before .before .before .before .before .before .before .before in
     let p = start .pre .0 in
     let z = start .pre .1 .0 in
     let b = start .pre .1 .1 .0 in
     let a = start .args in
-    let r = a .to .turn .carrier .0 in
+    let r = a .to .carrier .0 in
     let room = path-past .last .1 .1 .1 .1 .1 .1 .0 in
-    let f = rw (k .given .1) at (path-past .ensures (settledShown (p .tabled) r _ (z .3))) in
+    let f = rw (k .given .1) at (path-past .ensures (settledShown (p .tabled) r _ (z .2))) in
     let kept : length room ≡ length (a .path .now) = path-past .kept .1 .1 .1 .1 .1 .1 .0 in
-    let short = way-there (p .tabled) (p .most) (z .1) r (a .placement .now) (p .placed) (z .0) b (z .3) f in
+    let short = way-there (p .tabled) (p .most) (z .1) r (a .placement .now) (p .placed) (z .0) b (z .2) f in
     let long = long-of (p .tabled) (p .most) (z .1) r (a .placement .now) (p .placed) (z .0) b room (k .given .0 .0) short in
     let same = length-take-le (k .given .0 .0) room (omega (arith, f .fits, p .most, kept, start .pre .1 .1 .1)) in
     let never-so : ⊥ = omega (arith, long, same, c .if1 .taken) in
@@ -88,10 +88,10 @@ part-go-end : tie.Need-part-go-end
 part-go-end c =
     let k = c .before .before .before .k in
     let path-past = c .before .before .before .before .before .before .before .path-past in
-    let start = c .before .before .before .before .before .before .before .before .before .before .before .before .before .before .before .before .before .before .before .before .before .before in
+    let start = c .before .before .before .before .before .before .before .before .before .before .before .before .before .before .before .before .before .before .before .before .before in
     let p = start .pre .0 in
     let z = start .pre .1 .0 in
-    let f = rw (k .given .1) at (path-past .ensures (settledShown (p .tabled) (start .args .to .turn .carrier .0) _ (z .3))) in
+    let f = rw (k .given .1) at (path-past .ensures (settledShown (p .tabled) (start .args .to .carrier .0) _ (z .2))) in
     let kept : length (path-past .last .1 .1 .1 .1 .1 .1 .0) ≡ length (start .args .path .now) = path-past .kept .1 .1 .1 .1 .1 .1 .0 in
     omega (arith, f .fits, p .most, kept, start .pre .1 .1 .1)
 
@@ -99,20 +99,20 @@ go-requires : tie.Need-go-requires
 go-requires c κs =
     let k = c .before .before .before .before .before .before .before .before .before .k in
     let path-past = c .before .before .before .before .before .before .before .before .before .before .before .before .before .path-past in
-    let start = c .before .before .before .before .before .before .before .before .before .before .before .before .before .before .before .before .before .before .before .before .before .before .before .before .before .before .before .before in
+    let start = c .before .before .before .before .before .before .before .before .before .before .before .before .before .before .before .before .before .before .before .before .before .before .before .before .before .before .before in
     let p = start .pre .0 in
     let z = start .pre .1 .0 in
     let b = start .pre .1 .1 .0 in
     let a = start .args in
-    let r = a .to .turn .carrier .0 in
+    let r = a .to .carrier .0 in
     let room = path-past .last .1 .1 .1 .1 .1 .1 .0 in
-    let f = rw (k .given .1) at (path-past .ensures (settledShown (p .tabled) r _ (z .3))) in
+    let f = rw (k .given .1) at (path-past .ensures (settledShown (p .tabled) r _ (z .2))) in
     let kept : length room ≡ length (a .path .now) = path-past .kept .1 .1 .1 .1 .1 .1 .0 in
-    let short = way-there (p .tabled) (p .most) (z .1) r (a .placement .now) (p .placed) (z .0) b (z .3) f in
+    let short = way-there (p .tabled) (p .most) (z .1) r (a .placement .now) (p .placed) (z .0) b (z .2) f in
     let linked = linked-of (p .tabled) (p .most) (z .1) r (a .placement .now) (p .placed) (z .0) b room (k .given .0 .0) short in
     let ahead = part-ahead (k .given .0 .0) room in
     let long = ap length ahead ∙ ahead-length (k .given .0 .0) room (omega (arith, f .fits, p .most, kept, start .pre .1 .1 .1)) in
-    (p, (z .0, rw ahead linked, z .1, omega (arith, long, z .2, f .fits, p .most), z .3))
+    (p, (z .0, rw ahead linked, z .1, omega (arith, long, f .fits, p .most), z .2))
 
 enum-known-gone : tie.Need-enum-known-gone
 enum-known-gone c = c .match2 .keys1
@@ -121,94 +121,94 @@ enum-told-2 : tie.Need-enum-told-2
 enum-told-2 c = c .match2 .keys2
 
 same-length-5 : tie.Need-same-length-5
-same-length-5 c = search needs
+same-length-5 c = c .before .before .before .before .before .before .before .before .before .before .before .before .go .kept .1 .1 .1 .0
 
 same-length-6 : tie.Need-same-length-6
-same-length-6 c = search needs
+same-length-6 c = c .before .before .before .before .before .before .before .before .before .before .before .before .go .kept .1 .1 .1 .1 .0
 
 same-length-7 : tie.Need-same-length-7
-same-length-7 c = search needs
+same-length-7 c = c .before .before .before .before .before .before .before .before .before .before .before .before .go .kept .1 .1 .1 .1 .1 .0
 
 same-length-8 : tie.Need-same-length-8
-same-length-8 c = search needs
+same-length-8 c = c .before .before .before .before .before .before .before .before .before .before .before .before .go .kept .1 .1 .1 .1 .1 .1 .0
 
 same-length-9 : tie.Need-same-length-9
-same-length-9 c = search needs
+same-length-9 c = c .before .before .before .before .before .before .before .before .before .before .before .before .go .kept .1 .1 .1 .1 .1 .1 .1 .0
 
 same-length-10 : tie.Need-same-length-10
-same-length-10 c = search needs
+same-length-10 c = c .before .before .before .before .before .before .before .before .before .before .before .before .before .before .before .before .before .before .before .before .before .before .before .before .before .before .path-past .kept .1 .1 .1 .1 .1 .1 .0
 
 returns-3 : tie.Need-returns-3
 returns-3 c =
     let go = c .before .before .before .before .before .before .before .before .before .before .before .before .go in
     let k = c .before .before .before .before .before .before .before .before .before .before .before .before .before .before .before .before .before .before .before .before .before .before .k in
     let path-past = c .before .before .before .before .before .before .before .before .before .before .before .before .before .before .before .before .before .before .before .before .before .before .before .before .before .before .path-past in
-    let start = c .before .before .before .before .before .before .before .before .before .before .before .before .before .before .before .before .before .before .before .before .before .before .before .before .before .before .before .before .before .before .before .before .before .before .before .before .before .before .before .before .before in
+    let start = c .before .before .before .before .before .before .before .before .before .before .before .before .before .before .before .before .before .before .before .before .before .before .before .before .before .before .before .before .before .before .before .before .before .before .before .before .before .before .before .before in
     let p = start .pre .0 in
     let z = start .pre .1 .0 in
     let a = start .args in
-    let r = a .to .turn .carrier .0 in
+    let r = a .to .carrier .0 in
     let room = path-past .last .1 .1 .1 .1 .1 .1 .0 in
     let e : go .result ≡ Failed = c .enum-told2 .given .1 in (
       arrives-nowhere,
       λ t b.
-          let f = rw (k .given .1) at (path-past .ensures (settledShown t r _ (z .3))) in
-          let short = way-there t (p .most) (z .1) r (a .placement .now) (p .placed) (z .0) b (z .3) f in
+          let f = rw (k .given .1) at (path-past .ensures (settledShown t r _ (z .2))) in
+          let short = way-there t (p .most) (z .1) r (a .placement .now) (p .placed) (z .0) b (z .2) f in
           went-nowhere (gone-stuck t (p .most) (z .1) r (a .placement .now) (p .placed) (z .0) b room (k .given .0 .0) short (rw (part-ahead (k .given .0 .0) room) at (tried-failed (rw e at (go .ensures .1 t (b .goals)))))),
     )
 
 mul-add-2 : tie.Need-mul-add-2
 mul-add-2 c =
-    let start = c .before .before .before .before .before .before .before .before .before .before .before .before .before .before .before .before .before .before .before .before .before .before .before .before .before .before .before .before .before .before .before .before .before .before .before .before .before .before .before .before .before .before .before in
+    let start = c .before .before .before .before .before .before .before .before .before .before .before .before .before .before .before .before .before .before .before .before .before .before .before .before .before .before .before .before .before .before .before .before .before .before .before .before .before .before .before .before .before .before in
     omega (arith, start .pre .1 .0 .0, start .pre .0 .placed .few, start .pre .0 .most)
 
 slice-read-add-2 : tie.Need-slice-read-add-2
 slice-read-add-2 c =
     let go = c .before .before .before .before .before .before .before .before .before .before .before .before .before .before .before .go in
-    let start = c .before .before .before .before .before .before .before .before .before .before .before .before .before .before .before .before .before .before .before .before .before .before .before .before .before .before .before .before .before .before .before .before .before .before .before .before .before .before .before .before .before .before .before .before in
+    let start = c .before .before .before .before .before .before .before .before .before .before .before .before .before .before .before .before .before .before .before .before .before .before .before .before .before .before .before .before .before .before .before .before .before .before .before .before .before .before .before .before .before .before .before in
     omega (arith, start .pre .1 .0 .0, go .kept .1 .1 .1 .0)
 
 cast-add : tie.Need-cast-add
 cast-add c =
     let gone = c .before .before .before .gone in
     let go = c .before .before .before .before .before .before .before .before .before .before .before .before .before .before .before .go in
-    let start = c .before .before .before .before .before .before .before .before .before .before .before .before .before .before .before .before .before .before .before .before .before .before .before .before .before .before .before .before .before .before .before .before .before .before .before .before .before .before .before .before .before .before .before .before in
+    let start = c .before .before .before .before .before .before .before .before .before .before .before .before .before .before .before .before .before .before .before .before .before .before .before .before .before .before .before .before .before .before .before .before .before .before .before .before .before .before .before .before .before .before .before in
     let p = start .pre .0 in
     let z = start .pre .1 .0 in
     let e : go .result ≡ Done (gone .given .0 .0) = gone .given .1 in
     let d = tried-done (rw e at (go .ensures .1 (p .tabled) (start .pre .1 .1 .0 .goals))) in
     let kp : length (go .last .1 .1 .1 .0) ≡ length (start .args .placement .now) = go .kept .1 .1 .1 .0 in
-    omega (arith, d .2 .placed .inside (start .args .to .turn .carrier .0) (omega (arith, z .0, kp)), p .most)
+    omega (arith, d .2 .placed .inside (start .args .to .carrier .0) (omega (arith, z .0, kp)), p .most)
 
 add-requires : tie.Need-add-requires
 add-requires c κs =
     let gone = c .before .before .before .gone in
     let go = c .before .before .before .before .before .before .before .before .before .before .before .before .before .before .before .go in
-    let start = c .before .before .before .before .before .before .before .before .before .before .before .before .before .before .before .before .before .before .before .before .before .before .before .before .before .before .before .before .before .before .before .before .before .before .before .before .before .before .before .before .before .before .before .before in
+    let start = c .before .before .before .before .before .before .before .before .before .before .before .before .before .before .before .before .before .before .before .before .before .before .before .before .before .before .before .before .before .before .before .before .before .before .before .before .before .before .before .before .before .before .before in
     let p = start .pre .0 in
     let z = start .pre .1 .0 in
     let e : go .result ≡ Done (gone .given .0 .0) = gone .given .1 in
     let d = tried-done (rw e at (go .ensures .1 (p .tabled) (start .pre .1 .1 .0 .goals))) in
     let kp : length (go .last .1 .1 .1 .0) ≡ length (start .args .placement .now) = go .kept .1 .1 .1 .0 in
-    omega (arith, d .2 .placed .inside (start .args .to .turn .carrier .0) (omega (arith, z .0, kp)), p .most, go .ensures .2 .size)
+    omega (arith, d .2 .placed .inside (start .args .to .carrier .0) (omega (arith, z .0, kp)), p .most, go .ensures .2 .size)
 
 same-length-11 : tie.Need-same-length-11
-same-length-11 c = search needs
+same-length-11 c = c .before .before .before .before .before .before .before .before .before .before .before .before .before .before .before .before .before .before .go .kept .1 .1 .1 .0
 
 same-length-12 : tie.Need-same-length-12
-same-length-12 c = search needs
+same-length-12 c = c .before .before .before .before .before .before .before .before .before .before .before .before .before .before .before .before .before .before .go .kept .1 .1 .1 .1 .0
 
 same-length-13 : tie.Need-same-length-13
-same-length-13 c = search needs
+same-length-13 c = c .before .before .before .before .before .before .before .before .before .before .before .before .before .before .before .before .before .before .go .kept .1 .1 .1 .1 .1 .0
 
 same-length-14 : tie.Need-same-length-14
-same-length-14 c = search needs
+same-length-14 c = c .before .before .add .kept .0 ∙ c .before .before .before .before .before .before .before .before .before .before .before .before .before .before .before .before .before .before .go .kept .1 .1 .1 .1 .1 .1 .0
 
 same-length-15 : tie.Need-same-length-15
-same-length-15 c = search needs
+same-length-15 c = c .before .before .before .before .before .before .before .before .before .before .before .before .before .before .before .before .before .before .go .kept .1 .1 .1 .1 .1 .1 .1 .0
 
 same-length-16 : tie.Need-same-length-16
-same-length-16 c = search needs
+same-length-16 c = c .before .before .before .before .before .before .before .before .before .before .before .before .before .before .before .before .before .before .before .before .before .before .before .before .before .before .before .before .before .before .before .before .path-past .kept .1 .1 .1 .1 .1 .1 .0
 
 returns-4 : tie.Need-returns-4
 returns-4 c =
@@ -217,14 +217,14 @@ returns-4 c =
     let go = c .before .before .before .before .before .before .before .before .before .before .before .before .before .before .before .before .before .before .go in
     let k = c .before .before .before .before .before .before .before .before .before .before .before .before .before .before .before .before .before .before .before .before .before .before .before .before .before .before .before .before .k in
     let path-past = c .before .before .before .before .before .before .before .before .before .before .before .before .before .before .before .before .before .before .before .before .before .before .before .before .before .before .before .before .before .before .before .before .path-past in
-    let start = c .before .before .before .before .before .before .before .before .before .before .before .before .before .before .before .before .before .before .before .before .before .before .before .before .before .before .before .before .before .before .before .before .before .before .before .before .before .before .before .before .before .before .before .before .before .before .before in
+    let start = c .before .before .before .before .before .before .before .before .before .before .before .before .before .before .before .before .before .before .before .before .before .before .before .before .before .before .before .before .before .before .before .before .before .before .before .before .before .before .before .before .before .before .before .before .before .before in
     let p = start .pre .0 in
     let z = start .pre .1 .0 in
     let a = start .args in
-    let r = a .to .turn .carrier .0 in
+    let r = a .to .carrier .0 in
     let room = path-past .last .1 .1 .1 .1 .1 .1 .0 in
     let kept : length room ≡ length (a .path .now) = path-past .kept .1 .1 .1 .1 .1 .1 .0 in
-    let fits = (rw (k .given .1) at (path-past .ensures (settledShown (p .tabled) r _ (z .3)))) .fits in
+    let fits = (rw (k .given .1) at (path-past .ensures (settledShown (p .tabled) r _ (z .2)))) .fits in
     let ahead = part-ahead (k .given .0 .0) room in
     let long = ap length ahead ∙ ahead-length (k .given .0 .0) room (omega (arith, fits, p .most, kept, start .pre .1 .1 .1)) in
     let e : go .result ≡ Done (gone .given .0 .0) = gone .given .1 in
@@ -234,8 +234,8 @@ returns-4 c =
     let more = bays-more r (omega (arith, z .0, kp)) (go .ensures .2) (add .kept .0) (add .ensures) in (
       arrives fits (omega (arith, few, long)) more,
       λ t b.
-          let f = rw (k .given .1) at (path-past .ensures (settledShown t r _ (z .3))) in
-          let short = way-there t (p .most) (z .1) r (a .placement .now) (p .placed) (z .0) b (z .3) f in
+          let f = rw (k .given .1) at (path-past .ensures (settledShown t r _ (z .2))) in
+          let short = way-there t (p .most) (z .1) r (a .placement .now) (p .placed) (z .0) b (z .2) f in
           let d = tried-done (rw e at (went t (b .goals))) in
           went-there (d .0) short (d .1) (d .2),
     )
