@@ -31,7 +31,7 @@ replace-requires : tie.Need-replace-requires
 replace-requires c κs = search needs
 
 same-length-2 : tie.Need-same-length-2
-same-length-2 c = search needs
+same-length-2 c = c .before .before .replace .kept .0
 
 returns-2 : tie.Need-returns-2
 returns-2 c =
@@ -45,7 +45,7 @@ replace-requires-2 : tie.Need-replace-requires-2
 replace-requires-2 c κs = search needs
 
 same-length-3 : tie.Need-same-length-3
-same-length-3 c = search needs
+same-length-3 c = c .before .before .replace2 .kept .0
 
 returns-3 : tie.Need-returns-3
 returns-3 c =
