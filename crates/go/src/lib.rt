@@ -4,7 +4,7 @@ use acting::Tried;
 use docket::Bay;
 use docket::Carrier;
 use step::NextStep;
-ghost use Rattle.acting.specs.Acting.{Ready, nothing};
+ghost use Rattle.acting.specs.Acting.{Ready};
 ghost use Rattle.step.specs.Asking.{StepAsks, StepSettles};
 ghost use Rattle.go.specs.Going.{GoAsks, GoSays};
 
@@ -19,24 +19,20 @@ fn advance(
     out: &mut [u64],
 ) -> Tried
     requires { ⌜ Ready (now table) (now placement) (now standing) (now empty) ⌝ }
-    requires { ⌜ StepAsks next (now table) (now placement) (now standing) (now settled) nothing ⌝ }
+    requires { ⌜ StepAsks next (now table) (now placement) (now standing) (now settled) ⌝ }
     ensures { λ z. ⌜
         StepSettles next
-        (now (table .entry)) (now (placement .entry)) (now (standing .entry)) (now (out .entry)) nothing
+        (now (table .entry)) (now (placement .entry)) (now (standing .entry)) (now (out .entry))
         (now (placement .exit)) (now (standing .exit)) (now (empty .exit)) (now (settled .exit)) (now (out .exit)) z
         ⌝ }
 {
     let r = next.carrier;
     let w = next.to;
     let bay = w.0 as usize;
-    let at = Tally {
-        crossings: 0,
-        parked: 0,
-    };
     if words::is_in(empty, bay) {
-        return Tried::Done(step::step_in(r, w, placement, standing, empty, settled, out, at));
+        return Tried::Done(step::step_in(r, w, placement, standing, empty, settled, out));
     }
-    step::step(table, next, placement, standing, empty, settled, out, at)
+    step::step(table, next, placement, standing, empty, settled, out)
 }
 
 // Carrier r steps through the bays ahead; the carriers below r are finished, and their bays are the settled ones. Each step is lent the rest of the list.

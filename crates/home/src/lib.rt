@@ -58,7 +58,7 @@ pub fn home_at(
         carrier: f,
         to: v,
     };
-    let one = step::step(table, next, placement, standing, empty, settled, out, at);
+    let one = step::step(table, next, placement, standing, empty, settled, out);
     let Tried::Done(done) = one else {
         return Staged::Stuck(f);
     };

@@ -19,7 +19,7 @@ step-in-requires c κs =
     let p = start .pre .0 in
     let z = start .pre .1 in
     let free = sym (c .before .before .before .before .before .before .is-in .ensures) ∙ c .before .before .before .before .before .if1 .taken in
-    ((z .0, z .2, free, p .placed), (p .most, p .empty-size, z .6 .size, z .5))
+    ((z .0, z .2, free, p .placed), (p .most, p .empty-size, z .5 .size))
 
 same-length : tie.Need-same-length
 same-length c = c .before .before .before .before .before .before .before .before .before .before .step-in .kept .1 .1 .0
@@ -49,7 +49,7 @@ returns c =
     let stepped = step-in .ensures in (
       omega (arith, stepped .0 .counted),
       λ t. stepped-free t (p .most) (z .4) (a .next .finished) (a .next .carrier .0) (a .next .to .0) (a .placement .now) (p .placed) (z .0) (z .2) (z .3) free (stepped .0),
-      stepped .1 (a .next .finished) (z .6),
+      stepped .1 (a .next .finished) (z .5),
     )
 
 step-requires : tie.Need-step-requires

@@ -79,7 +79,7 @@ advance-requires c κs =
         tabled = rw e (p .tabled);
         levelled = rw e (p .levelled);
       },
-      (omega (arith, z .0, v .2), omega (arith, z .0, v .2), rw e (h .0), h .1, rw e (z .2), omega arith, v .9),
+      (omega (arith, z .0, v .2), omega (arith, z .0, v .2), rw e (h .0), h .1, rw e (z .2), v .9),
     )
 
 enum-known-one : tie.Need-enum-known-one Inv-loop μ-loop

@@ -62,7 +62,7 @@ step-requires c κs =
     let start = c .before .before .before .before .before .before .before .before .before .before .before .before .before .before .before .before .before .before .before in
     let z = start .pre .1 in
     let rail = z .4 .beside (if1 .left) (c .before .before .before .before .before .if2 .left) in
-    (start .pre .0, (omega (arith, if1 .left, z .0), z .0, z .1, rail, z .3, omega arith, z .5))
+    (start .pre .0, (omega (arith, if1 .left, z .0), z .0, z .1, rail, z .3, z .5))
 
 enum-known-one : tie.Need-enum-known-one
 enum-known-one c = c .match .keys1
