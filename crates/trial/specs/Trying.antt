@@ -16,7 +16,7 @@ use Rattle.words.specs.Sets.{span}
 use Rattle.moving.specs.Bounds.{set-up-most, swap-most}
 use Rattle.acting.specs.Acting.{Tabled, nothing, Within}
 use Rattle.clear_on.specs.Going.{Logged, Attempts, PairBy}
-use Rattle.clear_on.specs.declared.Lead.{Lead}
+use Rattle.attempts.specs.declared.Lead.{Lead}
 use Rattle.clear_on.specs.declared.Pair.the-variants.{Both, Missing}
 use Rattle.clear_on.specs.declared.Pair.{Pair}
 use Rattle.acting.specs.declared.Tally.{Tally}

@@ -2,8 +2,8 @@
 // list: its crossings go there as they are made, and undo reads them back. Where that is too short they are only counted.
 use acting::Tally;
 use acting::Tried;
+use attempts::Lead;
 use bring::Couple;
-use clear_on::Lead;
 use clear_on::Pair;
 use docket::Bay;
 use docket::Carrier;
@@ -133,8 +133,8 @@ fn attempt(
     let mut bays = [0u16; words::SPAN];
     let mut carriers = [0u16; words::SPAN];
     let mut unused = [0u64; words::WORDS];
-    clear_on::copy(&mut bays, placement);
-    clear_on::copy(&mut carriers, standing);
+    attempts::copy(&mut bays, placement);
+    attempts::copy(&mut carriers, standing);
     words::keep(&mut unused, 0, empty);
     let k = placement.len();
     let n = standing.len();

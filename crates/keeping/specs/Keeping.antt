@@ -1,4 +1,4 @@
--- Clearing in code: the bays kept, one and then two, with what was played for them.
+-- The bays kept, one and then two, with what was played for them.
 -- Assumes nothing.
 use mathlib.Core.Path.{_≡_}
 use mathlib.Core.Bool.{Bool, true}
@@ -6,20 +6,20 @@ use mathlib.Core.List.{List, [], _∷_}
 use mathlib.Core.Option.{none, some}
 use Prim.Native.Nat.{ℕ, _≤_, _<_, _-_, _+_}
 use lib.ListN.{length}
-use Rattle.paper.specs.Basics.{filter, elem, countFrom, Out}
-use Rattle.paper.specs.Procedure.{Made, only, vacate, Cleared, clearing, clearOnce}
+use Rattle.paper.specs.Basics.{filter, countFrom, Out}
+use Rattle.paper.specs.Procedure.{Made, only, vacate, Cleared, clearing}
 use Rattle.paper.specs.Yard.{Bay, Yard, Placement}
 use Rattle.words.specs.Sets.{mem, span}
 use Rattle.rings.specs.Search.{Shown}
-use Rattle.moving.specs.Bounds.{vacate-most, clear-once-most}
-use Rattle.acting.specs.Acting.{Tabled, Tallied}
+use Rattle.moving.specs.Bounds.{vacate-most}
+use Rattle.acting.specs.Acting.{Tabled, HoldsTwo, Tallied}
 use Rattle.acting.specs.declared.Tally.{Tally}
-use Rattle.clear.specs.declared.Round.{Round}
-use Rattle.clear.specs.declared.First.{First}
-use Rattle.clear.specs.declared.Kept.{Kept}
-use Rattle.clear.specs.declared.Kept.the-variants.{One, Nothing}
-use Rattle.clear.specs.declared.Two.{Two}
-use Rattle.clear.specs.declared.Two.the-variants.{Both, Single, Short}
+use Rattle.keeping.specs.declared.Round.{Round}
+use Rattle.keeping.specs.declared.First.{First}
+use Rattle.keeping.specs.declared.Kept.{Kept}
+use Rattle.keeping.specs.declared.Kept.the-variants.{One, Nothing}
+use Rattle.keeping.specs.declared.Two.{Two}
+use Rattle.keeping.specs.declared.Two.the-variants.{Both, Single, Short}
 use Rattle.docket.specs.declared.Bay.{Bay as Numbered}
 
 -- the members are among the n bays
@@ -80,12 +80,6 @@ pub record Clears (c : Cleared) (n : ℕ) (p out : List ℕ) (at : Tally) (p′ 
 abbrev pub from : (ℕ → Bool) → ℕ → ℕ → List Bay
 from q a n = filter q (countFrom a (n - a))
 
--- two bays are held
-pub record HoldsTwo (held : List ℕ) : Type 0 where
-  pub one : Bay
-  pub two : Bay
-  pub holds : (y : ℕ) → y < span → mem held y ≡ elem y (one ∷ two ∷ [])
-
 -- ## What is said
 
 -- the first of the others in the round that can be vacated is kept
@@ -102,10 +96,3 @@ KeepSecondSays table others held first p standing out p′ standing′ empty′ 
     × ((t : Tabled (length standing) table) (h : HoldsTwo held)
     → Clears (clearing (t .yard) (h .one) (h .two) (first .kept .0 ∷ []) (from (mem others) (first .round .from) (length standing)) p)
     (length standing) p out (first .round .at) p′ standing′ empty′ out′ r)
-
--- the paper's clearing at v, once through its neighbours other than b
-abbrev pub ClearSays : Bay → Bay → (table p standing out : List ℕ) → Tally → (p′ standing′ empty′ out′ : List ℕ) → Two → Type 0
-ClearSays v b table p standing out at p′ standing′ empty′ out′ r =
-    TwoBy at clear-once-most r
-    × ((t : Tabled (length standing) table)
-    → Clears (clearOnce (t .yard) v b p) (length standing) p out at p′ standing′ empty′ out′ r)

@@ -1,16 +1,18 @@
--- `clear_on::vacate_both` meets its contract. The second vacate starts where the first ended, and holds x as well.
+-- `aside::vacate_both` meets its contract. The second vacate starts where the first ended, and holds x as well.
 -- Assumes nothing.
 use mathlib.Core.Path.{_∙_, _≡_}
+use mathlib.Core.List.{[], _∷_}
 use native.Mathlib.Omega.{arith}
 use lib.ListN.{length}
+use Rattle.paper.specs.Procedure.{vacate}
 use Rattle.moving.specs.Bounds.{vacate-most}
 use Rattle.acting.proofs.Acting.{tries-none, acted-done, acted-failed}
-use Rattle.clear.proofs.Clearing.{twoShown, heldShown, holdsTwo, ready-again}
-use Rattle.clear_on.proofs.Attempting.{both-tries, aside-fails, within-from}
+use Rattle.acting.proofs.Holding.{twoShown, heldShown, holdsTwo, ready-again}
+use Rattle.aside.proofs.Emptying.{both-tries, aside-fails, within-from}
 use Rattle.acting.specs.declared.Tried.the-variants.{Done, Failed}
 use borrow.Author.Needs.{needs}
-use Rattle.clear_on.proofs.vacate_both.Statement.{statement}
-use Rattle.clear_on.proofs.vacate_both.Tie as tie
+use Rattle.aside.proofs.vacate_both.Statement.{statement}
+use Rattle.aside.proofs.vacate_both.Tie as tie
 
 slice-aggregate-alone : tie.Need-slice-aggregate-alone
 slice-aggregate-alone c = search needs
@@ -106,7 +108,8 @@ make-room-requires-2 c κs =
     let e : make-room .result ≡ Done (vacated .given .0 .0) = vacated .given .1 in
     let few = rw e at (make-room .ensures .0) in
     let h = holdsTwo (p .tabled) _ _ _ _ (alone .ensures) (join .ensures) in
-    let d = acted-done (rw e at (make-room .ensures .1 (twoShown (p .tabled) h))) in
+    let o = vacate (p .tabled .yard) (h .one ∷ h .two ∷ []) (start .args .x .0) (start .args .placement .now) in
+    let d = acted-done {o = o} (rw e at (make-room .ensures .1 (twoShown (p .tabled) h))) in
     let kw : length (make-room .last .1 .1 .1 .1 .0) ≡ length (start .args .standing .now) = make-room .kept .1 .1 .1 .1 .0 in
     let kf = make-room .kept .1 .1 .1 .1 .1 .0 in
     (ready-again p _ _ _ kw kf (d .2 .placed), (rw kw (z .2), omega (arith, join2 .kept .0, join .kept .0, alone .kept .0), omega (arith, few, z .4), rw kw (heldShown (p .tabled) h _ (join2 .ensures))))

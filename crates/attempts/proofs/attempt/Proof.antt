@@ -1,14 +1,16 @@
--- `clear_on::attempt` meets its contract. The copies are the placement.
+-- `attempts::attempt` meets its contract. The copies are the placement.
 -- Assumes nothing.
+use mathlib.Core.Bool.{true, false}
 use mathlib.Core.Path.{sym, ap}
 use native.Mathlib.Omega.{arith}
 use lib.ListN.{length}
 use Rattle.moving.specs.Bounds.{clear-once-most, attempt-most}
 use Rattle.acting.specs.Acting.{nothing}
-use Rattle.clear_on.proofs.Attempting.{ready-copy, attempted, within-more}
+use Rattle.attempts.specs.Asking.{wayWith}
+use Rattle.attempts.proofs.Attempting.{ready-copy, attempted, within-more}
 use borrow.Author.Needs.{needs}
-use Rattle.clear_on.proofs.attempt.Statement.{statement}
-use Rattle.clear_on.proofs.attempt.Tie as tie
+use Rattle.attempts.proofs.attempt.Statement.{statement}
+use Rattle.attempts.proofs.attempt.Tie as tie
 
 slice-aggregate-copy : tie.Need-slice-aggregate-copy
 slice-aggregate-copy c = search needs
@@ -65,9 +67,11 @@ returns c =
     let if1 = c .before .before .before .before .before .before .before .before .before .before .if1 in
     let copy2 = c .before .before .before .before .before .before .before .before .before .before .before .before .before .before .before .copy2 in
     let copy = c .before .before .before .before .before .before .before .before .before .before .before .before .before .before .before .before .before .before .copy in
+    let start = c .before .before .before .before .before .before .before .before .before .before .before .before .before .before .before .before .before .before .before .before .before .before .before .before .before in
+    let a = start .args in
     let e = copy .ensures in
     let d = copy2 .ensures in
-    (go-round .ensures .0, λ t j. rw (if1 .taken) (attempted (rw (e, d) at (go-round .ensures .1) t j)))
+    (go-round .ensures .0, λ t j. rw (if1 .taken) (attempted {o = wayWith true (t .yard) (a .one) (a .x .0) (a .placement .now)} (rw (e, d) at (go-round .ensures .1) t j)))
 
 array-borrow-prefix-bays-2 : tie.Need-array-borrow-prefix-bays-2
 array-borrow-prefix-bays-2 c = search needs
@@ -106,9 +110,11 @@ returns-2 c =
     let if1 = c .before .before .before .before .before .before .before .before .before .before .before .before .before .if1 in
     let copy2 = c .before .before .before .before .before .before .before .before .before .before .before .before .before .before .before .before .before .before .copy2 in
     let copy = c .before .before .before .before .before .before .before .before .before .before .before .before .before .before .before .before .before .before .before .before .before .copy in
+    let start = c .before .before .before .before .before .before .before .before .before .before .before .before .before .before .before .before .before .before .before .before .before .before .before .before .before .before .before .before in
+    let a = start .args in
     let e = copy .ensures in
     let d = copy2 .ensures in
-    (within-more (vacate-both .result) nothing clear-once-most attempt-most (omega arith) (vacate-both .ensures .0), λ t j. rw (if1 .left) (attempted (rw (e, d) at (vacate-both .ensures .1) t)))
+    (within-more (vacate-both .result) nothing clear-once-most attempt-most (omega arith) (vacate-both .ensures .0), λ t j. rw (if1 .left) (attempted {o = wayWith false (t .yard) (a .one) (a .x .0) (a .placement .now)} (rw (e, d) at (vacate-both .ensures .1) t)))
 
 pub attempt-spec : {M : Type 1} → statement M
 attempt-spec =

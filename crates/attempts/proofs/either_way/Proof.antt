@@ -1,11 +1,11 @@
--- `clear_on::either_way` meets its contract. The second way is tried where the first never works.
+-- `attempts::either_way` meets its contract. The second way is tried where the first never works.
 -- Assumes nothing.
 use mathlib.Core.Path.{_∙_, _≡_}
 use lib.ListN.{length}
-use Rattle.clear_on.proofs.Attempting.{first-way, second-way}
-use Rattle.clear.specs.declared.Kept.the-variants.{One, Nothing}
-use Rattle.clear_on.proofs.either_way.Statement.{statement}
-use Rattle.clear_on.proofs.either_way.Tie as tie
+use Rattle.attempts.proofs.Attempting.{first-way, second-way}
+use Rattle.keeping.specs.declared.Kept.the-variants.{One, Nothing}
+use Rattle.attempts.proofs.either_way.Statement.{statement}
+use Rattle.attempts.proofs.either_way.Tie as tie
 
 first-kept-requires : tie.Need-first-kept-requires
 first-kept-requires c κs =

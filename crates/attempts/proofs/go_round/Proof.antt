@@ -1,15 +1,15 @@
--- `clear_on::go_round` meets its contract. Both carriers go one bay on, and back once the bays are vacated; meanwhile they are held.
+-- `attempts::go_round` meets its contract. Both carriers go one bay on, and back once the bays are vacated; meanwhile they are held.
 -- Assumes nothing.
 use mathlib.Core.Path.{_≡_, sym, _∙_}
 use Prim.Native.Nat.{_+_}
 use native.Mathlib.Omega.{arith}
 use lib.ListN.{length}
 use Rattle.acting.proofs.Acting.{tries-none}
-use Rattle.clear.proofs.Clearing.{ready-again}
-use Rattle.clear_on.proofs.Attempting.{round-ready, round-done, round-fails}
+use Rattle.acting.proofs.Holding.{ready-again}
+use Rattle.attempts.proofs.Attempting.{round-ready, round-done, round-fails}
 use Rattle.acting.specs.declared.Tried.the-variants.{Done, Failed}
-use Rattle.clear_on.proofs.go_round.Statement.{statement}
-use Rattle.clear_on.proofs.go_round.Tie as tie
+use Rattle.attempts.proofs.go_round.Statement.{statement}
+use Rattle.attempts.proofs.go_round.Tie as tie
 
 enter-requires : tie.Need-enter-requires
 enter-requires c κs =

@@ -1,13 +1,13 @@
--- `clear_on::copy` meets its contract. As many as were copied are the same.
+-- `attempts::copy` meets its contract. As many as were copied are the same.
 -- Assumes nothing.
 use mathlib.Core.Path.{_≡_, refl}
 use Prim.Native.Nat.{_≤_, _-_}
 use native.Mathlib.Omega.{arith}
 use lib.ListN.{length, take}
 use borrow.Author.Needs.{needs}
-use Rattle.clear_on.proofs.Attempting.{copy-more, copied}
-use Rattle.clear_on.proofs.copy.Statement.{statement}
-use Rattle.clear_on.proofs.copy.Tie as tie
+use Rattle.attempts.proofs.Attempting.{copy-more, copied}
+use Rattle.attempts.proofs.copy.Statement.{statement}
+use Rattle.attempts.proofs.copy.Tie as tie
 
 abbrev Inv-loop : tie.InvT-loop
 Inv-loop to₀ from i₀ to i =

@@ -1,4 +1,4 @@
--- `clear::keep_one` meets its contract. A failed vacate changes nothing, so the placement is that of the start, and all others before x are stuck.
+-- `keeping::keep_one` meets its contract. A failed vacate changes nothing, so the placement is that of the start, and all others before x are stuck.
 -- Assumes nothing.
 use mathlib.Core.Path.{_∙_, _≡_, refl}
 use mathlib.Core.Bool.{true}
@@ -6,16 +6,18 @@ use Prim.Native.Nat.{_≤_, _<_, _-_}
 use native.Mathlib.Omega.{arith}
 use lib.ListN.{length}
 use borrow.Author.Needs.{needs}
+use Rattle.paper.specs.Procedure.{vacate}
 use Rattle.words.specs.Sets.{mem, span}
 use Rattle.rings.specs.Search.{Shown}
 use Rattle.moving.specs.Placed.{Unchanged}
 use Rattle.acting.proofs.Acting.{acted-done, acted-failed}
-use Rattle.clear.specs.Keeping.{Stuck}
-use Rattle.clear.proofs.Clearing.{same-again, unchanged-played, stuck-none, stuck-more, keeps-here, ready-again}
+use Rattle.keeping.specs.Keeping.{Stuck}
+use Rattle.acting.proofs.Holding.{ready-again}
+use Rattle.keeping.proofs.Keeping.{same-again, unchanged-played, stuck-none, stuck-more, keeps-here}
 use Rattle.acting.specs.declared.Tried.the-variants.{Done}
 use Rattle.acting.specs.declared.Tried.the-variants.{Failed}
-use Rattle.clear.proofs.keep_one.Statement.{statement}
-use Rattle.clear.proofs.keep_one.Tie as tie
+use Rattle.keeping.proofs.keep_one.Statement.{statement}
+use Rattle.keeping.proofs.keep_one.Tie as tie
 
 abbrev Inv-loop : tie.InvT-loop
 Inv-loop table others held round placement₀ standing₀ empty₀ out₀ x₀ placement standing empty out x =
@@ -86,7 +88,8 @@ returns c =
     let e : make-room .result ≡ Done (c .before .vacated .given .0 .0) = c .before .vacated .given .1 in
     let few = rw e at (make-room .ensures .0) in
     let f = rw kw at (make-room .ensures .1) in
-    ((t, few, omega (arith, acted-done (rw e at (f (z .5))) .2 .counted)), λ w. keeps-here (v .1) (z .3 .low _ t (v .2 t)) (v .2 t) (v .8 w) (v .7) (rw e at (f w)))
+    let o = vacate (z .5 .yard) (z .5 .bays) (l .x) (l .placement) in
+    ((t, few, omega (arith, acted-done {o = o} (rw e at (f (z .5))) .2 .counted)), λ w. keeps-here (v .1) (z .3 .low _ t (v .2 t)) (v .2 t) (v .8 w) (v .7) (rw e at (f w)))
 
 enum-told : tie.Need-enum-told Inv-loop μ-loop
 enum-told c = c .match .keys2
@@ -113,15 +116,16 @@ loop-again c =
     let k = make-room .kept in
     let e : make-room .result ≡ Failed = c .before .enum-told .given .1 in
     let f = rw kw at (make-room .ensures .1) in
+    let o = vacate (z .5 .yard) (z .5 .bays) (l .x) (l .placement) in
     let n = c .next-from2 .ensures in (
       n .upto,
       omega (arith, n .from, v .1),
       n .hit,
-      omega (arith, k .1 .1 .1 .0, v .3),
-      omega (arith, k .1 .1 .1 .1 .0, v .4),
-      omega (arith, k .1 .1 .1 .1 .1 .0, v .5),
-      omega (arith, k .1 .1 .1 .1 .1 .1 .0, v .6),
-      same-again (v .7) (rw e at (f (z .5))),
+      k .1 .1 .1 .0 ∙ v .3,
+      k .1 .1 .1 .1 .0 ∙ v .4,
+      k .1 .1 .1 .1 .1 .0 ∙ v .5,
+      k .1 .1 .1 .1 .1 .1 .0 ∙ v .6,
+      same-again {o = o} (v .7) (rw e at (f (z .5))),
       λ w. stuck-more _ _ _ _ _ _ _ (v .8 w) (rw (v .7 .same-placement) at (acted-failed (rw e at (f w)))) n,
     )
 

@@ -1,13 +1,14 @@
--- `clear::keep_second` meets its contract. Holding the bay kept as well, the first that can be vacated is the second.
+-- `keeping::keep_second` meets its contract. Holding the bay kept as well, the first that can be vacated is the second.
 -- Assumes nothing.
 use mathlib.Core.Path.{_≡_}
 use native.Mathlib.Omega.{arith}
 use borrow.Author.Needs.{needs}
-use Rattle.clear.proofs.Clearing.{two-single, two-both, heldShown, second-both, second-single}
-use Rattle.clear.specs.declared.Kept.the-variants.{Nothing}
-use Rattle.clear.specs.declared.Kept.the-variants.{One}
-use Rattle.clear.proofs.keep_second.Statement.{statement}
-use Rattle.clear.proofs.keep_second.Tie as tie
+use Rattle.acting.proofs.Holding.{heldShown}
+use Rattle.keeping.proofs.Keeping.{two-single, two-both, second-both, second-single}
+use Rattle.keeping.specs.declared.Kept.the-variants.{Nothing}
+use Rattle.keeping.specs.declared.Kept.the-variants.{One}
+use Rattle.keeping.proofs.keep_second.Statement.{statement}
+use Rattle.keeping.proofs.keep_second.Tie as tie
 
 cast-join : tie.Need-cast-join
 cast-join c = search needs
