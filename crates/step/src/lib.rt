@@ -8,7 +8,6 @@ ghost use mathlib.Core.Path.{_≡_};
 ghost use mathlib.Core.Bool.{true};
 ghost use Prim.Native.Nat.{ℕ, _≤_, _<_};
 ghost use lib.ListN.{length, getD};
-ghost use Rattle.paper.specs.Procedure.{trade};
 ghost use Rattle.words.specs.Sets.{mem, words, span};
 ghost use Rattle.moving.specs.Placed.{Placed};
 ghost use Rattle.acting.specs.Acting.{nothing, Ready, CrossCounts};
@@ -142,28 +141,6 @@ fn step_to(
     make_way(table, settled, next, placement, standing, empty, out)
 }
 
-// The set after whoever stood at u and at w have traded bays: if one of the two was in it, that one leaves and the other joins.
-fn settle(settled: &mut [u64], u: Bay, w: Bay)
-    requires { ⌜ (length (now settled) ≡ words) × (u .0 < span) × (w .0 < span) ⌝ }
-    ensures { λ _. ⌜
-        ((b : ℕ) → mem (now (settled .exit)) b ≡ mem (now (settled .entry)) (trade (u .0) (w .0) b))
-        ⌝ }
-{
-    let from = u.0 as usize;
-    let to = w.0 as usize;
-    let left = words::is_in(settled, from);
-    if words::is_in(settled, to) {
-        if left {
-            return;
-        }
-        words::replace(settled, to, from);
-        return;
-    }
-    if left {
-        words::replace(settled, from, to);
-    }
-}
-
 // The step of r into an empty bay w, and the bays of the finished carriers after it: nobody but r moves.
 pub fn step_in(
     r: Carrier,
@@ -201,7 +178,7 @@ pub fn step_in(
         parked: 0,
     };
     let m = acting::cross(placement, standing, empty, u, w, out, nothing);
-    settle(settled, u, w);
+    settle::settle(settled, u, w);
     m
 }
 
@@ -235,6 +212,6 @@ pub fn step(
         crossings: done.crossings,
         parked: done.parked,
     };
-    settle(settled, u, w);
+    settle::settle(settled, u, w);
     Tried::Done(m)
 }

@@ -1,13 +1,13 @@
--- A swap in code: which junctions fit, and what is left where the two carriers have traded places.
+-- A swap in code: which junctions fit, and which bays are to spare.
 -- Assumes nothing.
 use mathlib.Core.Path.{_≡_}
 use mathlib.Core.Bool.{Bool, true, false}
 use mathlib.Core.List.{List, [], _∷_}
 use mathlib.Core.Option.{none, some}
 use Prim.Native.Nat.{ℕ, _≤_, _<_}
-use lib.ListN.{length, getD, set}
+use lib.ListN.{length}
 use Rattle.paper.specs.Basics.{_and_}
-use Rattle.paper.specs.Procedure.{Made, only, traded, clearOnce, trial, swap}
+use Rattle.paper.specs.Procedure.{Made, only, clearOnce, trial, swap}
 use Rattle.paper.specs.Yard.{Bay, Carrier, Yard, Placement, bayOf, joined, junction}
 use Rattle.paper.proofs.Playing.{Sound}
 use Rattle.docket.specs.Reading.{isSome}
@@ -22,13 +22,6 @@ use Rattle.clear_on.specs.Going.{Logged, Attempts}
 use Rattle.trial.specs.Trying.{Near}
 use Rattle.swap.specs.declared.Spare.{Spare}
 use Rattle.swap.specs.declared.Spare.the-variants.{Both, Fewer}
-
--- after r and s have traded places
-abbrev pub placementTraded : Carrier → Carrier → Placement → Placement
-placementTraded r s p = traded r s p
-
-abbrev pub standingTraded : Carrier → Carrier → List ℕ → List ℕ → List ℕ
-standingTraded r s p standing = set (set standing (getD p r 0) s) (getD p s 0) r
 
 -- v is a junction whose trial succeeds
 unfoldable pub fitting : Yard → Carrier → Carrier → Placement → Bay → Bool
@@ -83,15 +76,6 @@ SeekSays r s table p standing log z =
     × ((t : Tabled (length standing) table)
     → Beside (t .yard) r s p
     → Attempts (swap (t .yard) r s p) log z)
-
--- r and s stand at bays that are shown
-abbrev pub TradeAsks : (r s : Carrier) (p standing : List ℕ) → Type 0
-TradeAsks r s p standing =
-    (r < length p)
-    × (s < length p)
-    × (length p ≤ span)
-    × (getD p r 0 < length standing)
-    × (getD p s 0 < length standing)
 
 -- r and its neighbour s
 abbrev pub SwapAsks : (r s : Carrier) (table p standing : List ℕ) → Type 0

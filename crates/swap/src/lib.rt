@@ -12,7 +12,8 @@ ghost use lib.ListN.{length};
 ghost use Rattle.words.specs.Sets.{words, span};
 ghost use Rattle.acting.specs.Acting.{Ready};
 ghost use Rattle.exchange.specs.Exchanging.{Noted, exchanges};
-ghost use Rattle.swap.specs.Seeking.{placementTraded, standingTraded, Spares, SurelyFails, TryJunctionSays, SeekSays, TradeAsks, SwapAsks, SwapSays};
+ghost use Rattle.trade.specs.Trading.{placementTraded, standingTraded, TradeAsks};
+ghost use Rattle.swap.specs.Seeking.{Spares, SurelyFails, TryJunctionSays, SeekSays, SwapAsks, SwapSays};
 
 // Two empty bays beside a junction, or that there are fewer.
 pub enum Spare {
@@ -139,26 +140,6 @@ fn seek(
     }
 }
 
-// Carriers r and s trade places.
-fn trade(placement: &mut [u16], standing: &mut [u16], r: Carrier, s: Carrier)
-    requires { ⌜ TradeAsks (r .0) (s .0) (now placement) (now standing) ⌝ }
-    ensures { λ _. ⌜
-        (now (placement .exit) ≡ placementTraded (r .0) (s .0) (now (placement .entry)))
-        × (now (standing .exit) ≡ standingTraded (r .0) (s .0) (now (placement .entry)) (now (standing .entry)))
-        ⌝ }
-{
-    let first = r.0 as usize;
-    let second = s.0 as usize;
-    let u = placement[first];
-    let w = placement[second];
-    placement[first] = w;
-    placement[second] = u;
-    let a = u as usize;
-    let b = w as usize;
-    standing[a] = s.0 as u16;
-    standing[b] = r.0 as u16;
-}
-
 // Swap of r with its neighbour s, by trials at the junctions. They go to the list itself; the one that succeeds stays there.
 fn swap_far(
     table: &[u64],
@@ -185,7 +166,7 @@ fn swap_far(
         crossings: done.crossings,
         parked: done.parked,
     };
-    trade(placement, standing, r, s);
+    trade::trade(placement, standing, r, s);
     Tried::Done(m)
 }
 
@@ -236,7 +217,7 @@ fn swap_beside(
         bays.lower,
         bays.higher,
     );
-    trade(placement, standing, r, s);
+    trade::trade(placement, standing, r, s);
     many
 }
 

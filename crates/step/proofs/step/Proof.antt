@@ -19,7 +19,7 @@ slice-read-t17 : tie.Need-slice-read-t17
 slice-read-t17 c = search needs
 
 step-to-requires : tie.Need-step-to-requires
-step-to-requires c κs = search needs
+step-to-requires c κs = let start = c .before .before .before .before .before .before .before .before .before .before .before .before .before .before .before in (start .pre .0, start .pre .1)
 
 enum-known-stepped : tie.Need-enum-known-stepped
 enum-known-stepped c = c .match .keys1

@@ -154,10 +154,10 @@ same-length-12 : tie.Need-same-length-12
 same-length-12 c = c .before .before .before .before .before .before .before .before .step-aside .kept .1 .1 .1 .1 .1 .1 .0
 
 returns-3 : tie.Need-returns-3
-returns-3 c = search needs
+returns-3 c = c .before .before .before .before .before .before .before .before .step-aside .ensures
 
 make-way-requires : tie.Need-make-way-requires
-make-way-requires c κs = search needs
+make-way-requires c κs = let start = c .before .before .before .before .before .before .before .before .before .before .before .before .before .before .before .before .before .before .before .before .before .before in (start .pre .0, start .pre .1)
 
 same-length-13 : tie.Need-same-length-13
 same-length-13 c = c .before .before .before .before .before .before .before .before .make-way .kept .1 .1 .1 .0
@@ -172,7 +172,7 @@ same-length-16 : tie.Need-same-length-16
 same-length-16 c = c .before .before .before .before .before .before .before .before .make-way .kept .1 .1 .1 .1 .1 .1 .0
 
 returns-4 : tie.Need-returns-4
-returns-4 c = search needs
+returns-4 c = c .before .before .before .before .before .before .before .before .make-way .ensures
 
 pub step-to-spec : {M : Type 1} → statement M
 step-to-spec =

@@ -1,11 +1,11 @@
--- `step::settle` meets its contract. Where both bays are in the set, or neither is, trading them changes nothing.
+-- `settle::settle` meets its contract. Where both bays are in the set, or neither is, trading them changes nothing.
 -- Assumes nothing.
 use mathlib.Core.Path.{_∙_, sym, ap}
 use borrow.Author.Needs.{needs}
 use Rattle.words.specs.Sets.{mem}
-use Rattle.step.proofs.Settling.{traded-alike, traded-one, trade-turned}
-use Rattle.step.proofs.settle.Statement.{statement}
-use Rattle.step.proofs.settle.Tie as tie
+use Rattle.settle.proofs.Settling.{traded-alike, traded-one, trade-turned}
+use Rattle.settle.proofs.settle.Statement.{statement}
+use Rattle.settle.proofs.settle.Tie as tie
 
 cast-from : tie.Need-cast-from
 cast-from c = search needs

@@ -1,10 +1,10 @@
--- `swap::trade` meets its contract. Both entries are written from the old ones.
+-- `trade::trade` meets its contract. Both entries are written from the old ones.
 -- Assumes nothing.
 use mathlib.Core.Path.{refl}
 use borrow.Author.Needs.{needs}
 use Rattle.paper.specs.Procedure.{traded}
-use Rattle.swap.proofs.trade.Statement.{statement}
-use Rattle.swap.proofs.trade.Tie as tie
+use Rattle.trade.proofs.trade.Statement.{statement}
+use Rattle.trade.proofs.trade.Tie as tie
 
 cast-first : tie.Need-cast-first
 cast-first c = search needs
