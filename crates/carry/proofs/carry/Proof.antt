@@ -22,7 +22,7 @@ use Rattle.home.proofs.Settling.{Settled, Homeward}
 use Rattle.carry.proofs.Carrying.{between, between-length, between-get, settles, settles-stuck, gone-homeward, gone-short, gone-home}
 use Rattle.home.specs.declared.Staged.the-variants.{Planned}
 use Rattle.home.specs.declared.Staged.the-variants.{Stuck}
-use Rattle.carry.specs.declared.Gone.the-variants.{There, Nowhere}
+use Rattle.along.specs.declared.Gone.the-variants.{There, Nowhere}
 use Rattle.carry.proofs.carry.Statement.{statement}
 use Rattle.carry.proofs.carry.Tie as tie
 
@@ -118,7 +118,7 @@ add-finished : tie.Need-add-finished Inv-loop μ-loop
 add-finished c = search needs
 
 sub-i : tie.Need-sub-i Inv-loop μ-loop
-sub-i c = search needs
+sub-i c = omega (arith, c .before .if1 .left)
 
 loop-holds : tie.Need-loop-holds Inv-loop μ-loop
 loop-holds c =
@@ -147,16 +147,16 @@ loop-holds c =
       arrived .below k m e,
     )
 
-mul-t37 : tie.Need-mul-t37 Inv-loop μ-loop
-mul-t37 c =
+mul-t38 : tie.Need-mul-t38 Inv-loop μ-loop
+mul-t38 c =
     let l = c .before .loop in
     let gone = c .before .before .before .before .before .gone in
     let go-along = c .before .before .before .before .before .before .before .before .before .before .before .before .before .before .before .before .before .before .go-along in
     let start = c .before .before .before .before .before .before .before .before .before .before .before .before .before .before .before .before .before .before .before .before .before .before .before .before .before .before .before .before .before .before .before .before .before in
     omega (arith, l .inv .0, go-along .ensures .0 .fits (gone .given .0 .0) (gone .given .0 .1 .0) (gone .given .1), start .pre .0 .most)
 
-array-read-t40 : tie.Need-array-read-t40 Inv-loop μ-loop
-array-read-t40 c =
+array-read-t41 : tie.Need-array-read-t41 Inv-loop μ-loop
+array-read-t41 c =
     let l = c .before .loop in
     let gone = c .before .before .before .before .before .gone in
     let go-along = c .before .before .before .before .before .before .before .before .before .before .before .before .before .before .before .before .before .before .go-along in
@@ -166,24 +166,24 @@ array-read-t40 c =
 place-in-requires : tie.Need-place-in-requires Inv-loop μ-loop
 place-in-requires c κs = search needs
 
-mul-home-at : tie.Need-mul-home-at Inv-loop μ-loop
-mul-home-at c =
-    let v = c .before .before .before .before .before .before .before .loop .inv in
-    let arrived = c .before .before .before .before .before .before .before .before .before .before .before .before .before .before .before .before .before .before .before .before .before .before .before .before .go-along .ensures .0 in
-    let k = c .before .before .before .before .before .before .before .before .before .before .before .gone .given .0 .0 in
-    let m = c .before .before .before .before .before .before .before .before .before .before .before .gone .given .0 .1 .0 in
-    let there : c .before .before .before .before .before .before .before .before .before .before .before .before .before .before .before .before .before .before .before .before .before .before .before .before .go-along .result ≡ There k m = c .before .before .before .before .before .before .before .before .before .before .before .gone .given .1 in
-    let start = c .before .before .before .before .before .before .before .before .before .before .before .before .before .before .before .before .before .before .before .before .before .before .before .before .before .before .before .before .before .before .before .before .before .before .before .before .before .before .before in
-    omega (arith, c .before .before .before .before .place-in .ensures, v .0, v .1, arrived .few k m there, arrived .fits k m there, start .pre .0 .most)
+mul-rest : tie.Need-mul-rest Inv-loop μ-loop
+mul-rest c =
+    let v = c .before .before .before .loop .inv in
+    let arrived = c .before .before .before .before .before .before .before .before .before .before .before .before .before .before .before .before .before .before .before .before .go-along .ensures .0 in
+    let k = c .before .before .before .before .before .before .before .gone .given .0 .0 in
+    let m = c .before .before .before .before .before .before .before .gone .given .0 .1 .0 in
+    let there : c .before .before .before .before .before .before .before .before .before .before .before .before .before .before .before .before .before .before .before .before .go-along .result ≡ There k m = c .before .before .before .before .before .before .before .gone .given .1 in
+    let start = c .before .before .before .before .before .before .before .before .before .before .before .before .before .before .before .before .before .before .before .before .before .before .before .before .before .before .before .before .before .before .before .before .before .before .before in
+    omega (arith, c .place-in .ensures, v .0, v .1, arrived .few k m there, arrived .fits k m there, start .pre .0 .most)
 
-sub-home-at : tie.Need-sub-home-at Inv-loop μ-loop
-sub-home-at c = search needs
+sub-rest : tie.Need-sub-rest Inv-loop μ-loop
+sub-rest c = search needs
 
-part-home-at-start : tie.Need-part-home-at-start Inv-loop μ-loop
-part-home-at-start c = search needs
+part-rest-start : tie.Need-part-rest-start Inv-loop μ-loop
+part-rest-start c = search needs
 
-part-home-at-end : tie.Need-part-home-at-end Inv-loop μ-loop
-part-home-at-end c = search needs
+part-rest-end : tie.Need-part-rest-end Inv-loop μ-loop
+part-rest-end c = search needs
 
 home-at-requires : tie.Need-home-at-requires Inv-loop μ-loop
 home-at-requires c κs =
@@ -252,7 +252,7 @@ same-length-14 : tie.Need-same-length-14 Inv-loop μ-loop
 same-length-14 c = c .before .before .before .before .before .before .before .before .before .before .before .before .home-at .kept .1 .1 .1 .1 .1 .1 .0 ∙ c .before .before .before .before .before .before .before .before .before .before .before .before .before .before .before .before .before .before .before .before .before .loop .inv .8 ∙ c .before .before .before .before .before .before .before .before .before .before .before .before .before .before .before .before .before .before .before .before .before .before .before .before .before .before .before .before .before .before .before .before .before .before .before .before .before .before .go-along .kept .1 .1 .1 .1 .1 .0
 
 same-length-15 : tie.Need-same-length-15 Inv-loop μ-loop
-same-length-15 c = c .before .before .before .out2 .given .1 ∙ c .before .before .before .before .before .before .before .before .before .before .before .before .before .before .before .before .before .before .before .before .before .loop .inv .5 ∙ c .before .before .before .before .before .before .before .before .before .before .before .before .before .before .before .before .before .before .before .before .before .before .before .before .before .before .before .before .before .before .before .before .before .before .before .before .before .before .go-along .kept .1 .1 .1 .1 .1 .1 .0
+same-length-15 c = c .before .before .before .before .before .before .before .before .before .before .before .out2 .given .1 ∙ c .before .before .before .before .before .before .before .before .before .before .before .before .before .before .before .before .before .before .before .before .before .loop .inv .5 ∙ c .before .before .before .before .before .before .before .before .before .before .before .before .before .before .before .before .before .before .before .before .before .before .before .before .before .before .before .before .before .before .before .before .before .before .before .before .before .before .go-along .kept .1 .1 .1 .1 .1 .1 .0
 
 returns-3 : tie.Need-returns-3 Inv-loop μ-loop
 returns-3 c =
@@ -304,10 +304,10 @@ add-requires c κs =
     omega (arith, c .before .before .before .before .before .before .before .before .before .before .before .before .before .home-at .ensures .0 .few _ e, v .0, v .1, arrived .few k m there, arrived .fits k m there, start .pre .0 .most)
 
 sub-i-2 : tie.Need-sub-i-2 Inv-loop μ-loop
-sub-i-2 c = search needs
+sub-i-2 c = omega (arith, c .before .before .before .before .before .before .before .before .before .before .before .before .before .before .before .before .before .before .before .before .before .before .loop-test .taken)
 
 loop-less : tie.Need-loop-less Inv-loop μ-loop
-loop-less c = search needs
+loop-less c = omega (arith, c .before .before .before .before .before .before .before .before .before .before .before .before .before .before .before .before .before .before .before .before .before .before .loop-test .taken)
 
 loop-again : tie.Need-loop-again Inv-loop μ-loop
 loop-again c =
@@ -338,14 +338,14 @@ loop-again c =
     let e : home-at .result ≡ Planned (c .before .before .homed .given .0 .0) = c .before .before .homed .given .1 in
     let few = home-at .ensures .0 .few _ e in
     let f = rw (v .3, get) at (home-at .ensures .1) in
-    let out = c .before .before .before .before .before .out2 .given in
+    let out = c .before .before .before .before .before .before .before .before .before .before .before .before .before .out2 .given in
     let t₀ = rw (← kw) at (p .tabled) in (
       omega (arith, loop-test .taken, v .0),
       omega (arith, few, v .1, loop-test .taken, c .add .ensures .crossings),
       n .1 .1 .1 .0 ∙ v .2,
       n .1 .1 .1 .1 .0 ∙ v .3,
       n .1 .1 .1 .1 .1 .0 ∙ v .4,
-      out .1 ∙ v .5,
+      omega (arith, out .1, v .5),
       λ goals h apart many same o.
           turn-homed h apart many i here (l .placement) (v .2 ∙ same) (rw (← one) at (v .6 goals h apart many same o)) t₀ (omega (arith, p .most, kw)) (rw (← kw) at (z .1)) (v .7 t₀ goals many o .played .placed) (rw e at (f t₀ goals many o)),
       λ t goals many o. homed-more (rw (← one) at (v .7 t goals many o)) here (rest-lent _ (c .before .before .before .before .before .before .before .before .before .before .before .before .before .before .before .before .before .before .before .before .place-in .ensures) out (c .add .ensures)) (rw e at (f t goals many o)),
@@ -420,13 +420,13 @@ carry-spec =
     add-finished
     sub-i
     loop-holds
-    mul-t37
-    array-read-t40
+    mul-t38
+    array-read-t41
     place-in-requires
-    mul-home-at
-    sub-home-at
-    part-home-at-start
-    part-home-at-end
+    mul-rest
+    sub-rest
+    part-rest-start
+    part-rest-end
     home-at-requires
     enum-known-homed
     enum-told-2

@@ -11,7 +11,7 @@ use Rattle.moving.specs.Bounds.{carrier-most}
 use Rattle.step.specs.Asking.{BaysBelow}
 use Rattle.go.proofs.Lending.{rest-lent}
 use Rattle.home.proofs.Homing.{stages-stuck}
-use Rattle.carry.specs.Carrying.{Goals, HomeBelow, Bound}
+use Rattle.along.specs.Along.{Goals, HomeBelow, Bound}
 use Rattle.carry.proofs.Carrying.{settles, settles-stuck, Served, served-none, served-more, served-stuck, served-all, home-more}
 use Rattle.home.specs.declared.Staged.the-variants.{Planned}
 use Rattle.home.specs.declared.Staged.the-variants.{Stuck}
@@ -46,26 +46,26 @@ cast-number c =
     let z = start .pre .1 in
     omega (arith, c .loop-test .taken, z .0 .many, p .placed .few, p .most)
 
-mul-t18 : tie.Need-mul-t18 Inv-loop μ-loop
-mul-t18 c = search needs
+mul-t19 : tie.Need-mul-t19 Inv-loop μ-loop
+mul-t19 c = search needs
 
-shared-slice-read-t22 : tie.Need-shared-slice-read-t22 Inv-loop μ-loop
-shared-slice-read-t22 c = search needs
+shared-slice-read-t23 : tie.Need-shared-slice-read-t23 Inv-loop μ-loop
+shared-slice-read-t23 c = search needs
 
 place-in-requires : tie.Need-place-in-requires Inv-loop μ-loop
 place-in-requires c κs = search needs
 
-mul-carry : tie.Need-mul-carry Inv-loop μ-loop
-mul-carry c = search needs
+mul-rest : tie.Need-mul-rest Inv-loop μ-loop
+mul-rest c = search needs
 
-sub-carry : tie.Need-sub-carry Inv-loop μ-loop
-sub-carry c = search needs
+sub-rest : tie.Need-sub-rest Inv-loop μ-loop
+sub-rest c = search needs
 
-part-carry-start : tie.Need-part-carry-start Inv-loop μ-loop
-part-carry-start c = search needs
+part-rest-start : tie.Need-part-rest-start Inv-loop μ-loop
+part-rest-start c = search needs
 
-part-carry-end : tie.Need-part-carry-end Inv-loop μ-loop
-part-carry-end c = search needs
+part-rest-end : tie.Need-part-rest-end Inv-loop μ-loop
+part-rest-end c = search needs
 
 carry-requires : tie.Need-carry-requires Inv-loop μ-loop
 carry-requires c κs =
@@ -110,7 +110,7 @@ same-length-4 : tie.Need-same-length-4 Inv-loop μ-loop
 same-length-4 c = c .before .before .before .before .before .before .before .before .before .before .before .before .carry .kept .1 .1 .1 .1 .1 .1 .0 ∙ c .before .before .before .before .before .before .before .before .before .before .before .before .before .before .before .before .before .before .before .before .before .before .loop .inv .8
 
 same-length-5 : tie.Need-same-length-5 Inv-loop μ-loop
-same-length-5 c = c .before .before .before .out .given .1 ∙ c .before .before .before .before .before .before .before .before .before .before .before .before .before .before .before .before .before .before .before .before .before .before .loop .inv .5
+same-length-5 c = c .before .before .before .before .before .before .before .before .before .before .before .out .given .1 ∙ c .before .before .before .before .before .before .before .before .before .before .before .before .before .before .before .before .before .before .before .before .before .before .loop .inv .5
 
 returns : tie.Need-returns Inv-loop μ-loop
 returns c =
@@ -143,7 +143,7 @@ add-r c =
     omega (arith, loop-test .taken, z .0 .many, p .placed .few, p .most)
 
 loop-less : tie.Need-loop-less Inv-loop μ-loop
-loop-less c = search needs
+loop-less c = omega (arith, c .before .before .before .before .before .before .before .before .before .before .before .before .before .before .before .before .before .before .before .before .before .before .before .loop-test .taken)
 
 loop-again : tie.Need-loop-again Inv-loop μ-loop
 loop-again c =
@@ -160,7 +160,7 @@ loop-again c =
     let e : carry .result ≡ Planned (c .before .before .carried .given .0 .0) = c .before .before .carried .given .1 in
     let few = carry .ensures .0 .few _ e in
     let f = rw kw at (carry .ensures .1) in
-    let out = c .before .before .before .before .before .out .given in
+    let out = c .before .before .before .before .before .before .before .before .before .before .before .before .before .out .given in
     let g : Goals (length (start .args .standing .now)) (start .args .goals .now) (l .placement) = record { many = omega (arith, v .2, z .0 .many); apart = z .0 .apart; inside = z .0 .inside } in
     let bound : Bound (length (start .args .standing .now)) (l .placement) (l .r) (getD (start .args .goals .now) (l .r) 0) = record { goals = start .args .goals .now; each = g; own = refl; below = v .6 } in
     let hr : l .r < length (l .placement) = omega (arith, loop-test .taken, v .2, z .0 .many) in (
@@ -169,7 +169,7 @@ loop-again c =
       k .1 .1 .1 .0 ∙ v .2,
       k .1 .1 .1 .1 .0 ∙ v .3,
       k .1 .1 .1 .1 .1 .0 ∙ v .4,
-      out .1 ∙ v .5,
+      omega (arith, out .1, v .5),
       home-more (p .tabled) (p .most) (z .1) (start .args .goals .now) (l .r) (l .placement) (b .played .placed) g hr (v .6) (rw e at (f (p .tabled) bound (z .3))),
       λ t. served-more (v .7 t) (loop-test .taken) (rest-lent _ (c .before .before .before .before .before .before .before .before .before .before .before .before .before .before .before .before .before .before .before .before .place-in .ensures) out (c .add .ensures)) (rw e at (f t bound (z .3))),
       k .1 .1 .1 .1 .1 .1 .0 ∙ v .8,
@@ -207,13 +207,13 @@ carry-all-spec =
     is-carousel-requires
     loop-holds
     cast-number
-    mul-t18
-    shared-slice-read-t22
+    mul-t19
+    shared-slice-read-t23
     place-in-requires
-    mul-carry
-    sub-carry
-    part-carry-start
-    part-carry-end
+    mul-rest
+    sub-rest
+    part-rest-start
+    part-rest-end
     carry-requires
     enum-known-carried
     enum-told

@@ -1,11 +1,11 @@
--- `carry::path_past` meets its contract. What the yard is decides which bays are held.
+-- `along::path_past` meets its contract. What the yard is decides which bays are held.
 -- Assumes nothing.
-use mathlib.Core.Path.{_≡_, refl, sym, _∙_}
+use mathlib.Core.Path.{refl, sym, _∙_}
 use borrow.Author.Needs.{needs}
 use Rattle.trial.proofs.Copying.{freeShown}
-use Rattle.carry.proofs.Carrying.{past-held, past-none}
-use Rattle.carry.proofs.path_past.Statement.{statement}
-use Rattle.carry.proofs.path_past.Tie as tie
+use Rattle.along.proofs.Along.{past-held, past-none}
+use Rattle.along.proofs.path_past.Statement.{statement}
+use Rattle.along.proofs.path_past.Tie as tie
 
 path-between-requires : tie.Need-path-between-requires
 path-between-requires c κs = search needs

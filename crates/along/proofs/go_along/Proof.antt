@@ -1,16 +1,16 @@
--- `carry::go_along` meets its contract. The path is the paper's; where there is none, or r cannot go it, the paper is stuck too.
+-- `along::go_along` meets its contract. The path is the paper's; where there is none, or r cannot go it, the paper is stuck too.
 -- Assumes nothing.
-use mathlib.Core.Path.{_≡_, _∙_, ap}
+use mathlib.Core.Path.{_≡_, _∙_}
 use native.Mathlib.Omega.{arith}
 use lib.ListN.{length}
 use lib.Seq.{length-take-le}
 use borrow.Author.Needs.{needs}
 use Rattle.acting.proofs.Acting.{tried-done, tried-failed}
-use Rattle.carry.proofs.Carrying.{part-ahead, ahead-length, bays-more, settledShown, carried-nowhere, went-there, went-nowhere, arrives, arrives-nowhere, way-there, linked-of, long-of, gone-stuck}
+use Rattle.along.proofs.Along.{part-length, bays-more, settledShown, carried-nowhere, went-there, went-nowhere, arrives, arrives-nowhere, way-there, linked-of, long-of, gone-stuck}
 use Rattle.acting.specs.declared.Tried.the-variants.{Done}
 use Rattle.acting.specs.declared.Tried.the-variants.{Failed}
-use Rattle.carry.proofs.go_along.Statement.{statement}
-use Rattle.carry.proofs.go_along.Tie as tie
+use Rattle.along.proofs.go_along.Statement.{statement}
+use Rattle.along.proofs.go_along.Tie as tie
 
 cast-own : tie.Need-cast-own
 cast-own c = search needs
@@ -110,9 +110,8 @@ go-requires c κs =
     let kept : length room ≡ length (a .path .now) = path-past .kept .1 .1 .1 .1 .1 .1 .0 in
     let short = way-there (p .tabled) (p .most) (z .1) r (a .placement .now) (p .placed) (z .0) b (z .2) f in
     let linked = linked-of (p .tabled) (p .most) (z .1) r (a .placement .now) (p .placed) (z .0) b room (k .given .0 .0) short in
-    let ahead = part-ahead (k .given .0 .0) room in
-    let long = ap length ahead ∙ ahead-length (k .given .0 .0) room (omega (arith, f .fits, p .most, kept, start .pre .1 .1 .1)) in
-    (p, (z .0, rw ahead linked, z .1, omega (arith, long, f .fits, p .most), z .2))
+    let long = part-length (k .given .0 .0) room (omega (arith, f .fits, p .most, kept, start .pre .1 .1 .1)) in
+    (p, (z .0, linked, z .1, omega (arith, long, f .fits, p .most), z .2))
 
 enum-known-gone : tie.Need-enum-known-gone
 enum-known-gone c = c .match2 .keys1
@@ -154,7 +153,7 @@ returns-3 c =
       λ t b.
           let f = rw (k .given .1) at (path-past .ensures (settledShown t r _ (z .2))) in
           let short = way-there t (p .most) (z .1) r (a .placement .now) (p .placed) (z .0) b (z .2) f in
-          went-nowhere (gone-stuck t (p .most) (z .1) r (a .placement .now) (p .placed) (z .0) b room (k .given .0 .0) short (rw (part-ahead (k .given .0 .0) room) at (tried-failed (rw e at (go .ensures .1 t (b .goals)))))),
+          went-nowhere (gone-stuck t (p .most) (z .1) r (a .placement .now) (p .placed) (z .0) b room (k .given .0 .0) short (tried-failed (rw e at (go .ensures .1 t (b .goals))))),
     )
 
 mul-add-2 : tie.Need-mul-add-2
@@ -225,18 +224,16 @@ returns-4 c =
     let room = path-past .last .1 .1 .1 .1 .1 .1 .0 in
     let kept : length room ≡ length (a .path .now) = path-past .kept .1 .1 .1 .1 .1 .1 .0 in
     let fits = (rw (k .given .1) at (path-past .ensures (settledShown (p .tabled) r _ (z .2)))) .fits in
-    let ahead = part-ahead (k .given .0 .0) room in
-    let long = ap length ahead ∙ ahead-length (k .given .0 .0) room (omega (arith, fits, p .most, kept, start .pre .1 .1 .1)) in
+    let long = part-length (k .given .0 .0) room (omega (arith, fits, p .most, kept, start .pre .1 .1 .1)) in
     let e : go .result ≡ Done (gone .given .0 .0) = gone .given .1 in
     let few = rw e at (go .ensures .0) in
-    let went = rw ahead at (go .ensures .1) in
     let kp : length (go .last .1 .1 .1 .0) ≡ length (a .placement .now) = go .kept .1 .1 .1 .0 in
     let more = bays-more r (omega (arith, z .0, kp)) (go .ensures .2) (add .kept .0) (add .ensures) in (
       arrives fits (omega (arith, few, long)) more,
       λ t b.
           let f = rw (k .given .1) at (path-past .ensures (settledShown t r _ (z .2))) in
           let short = way-there t (p .most) (z .1) r (a .placement .now) (p .placed) (z .0) b (z .2) f in
-          let d = tried-done (rw e at (went t (b .goals))) in
+          let d = tried-done (rw e at (go .ensures .1 t (b .goals))) in
           went-there (d .0) short (d .1) (d .2),
     )
 
