@@ -1,5 +1,5 @@
-// Swap: the first junction, nearest first, whose trial succeeds is used; its crossings stay in the list, and the two carriers trade places. Every
-// function here is lent the rest of the list, and answers what it counted.
+// Swap: the first junction, nearest first, whose trial succeeds is used; its crossings stay in the list, and the two carriers trade places. A
+// swap is lent the rest of the list, and answers what it counted.
 use acting::Tally;
 use acting::Tried;
 use docket::Bay;
