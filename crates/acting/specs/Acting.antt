@@ -6,9 +6,10 @@ use mathlib.Core.List.{List, [], _∷_, map}
 use mathlib.Core.Option.{Option, none, some}
 use Prim.Native.Nat.{ℕ, min, _≤_, _<_, _+_, _*_, _^_}
 use lib.ListN.{length}
+use Rattle.paper.specs.Basics.{elem}
 use Rattle.paper.specs.Procedure.{Made, Action, only, parking, vacate}
 use Rattle.paper.specs.Yard.{Bay, Yard, Crossing, crossing, carrierAt, after, pack, junction}
-use Rattle.words.specs.Sets.{words, span}
+use Rattle.words.specs.Sets.{mem, words, span}
 use Rattle.yard.specs.Table.{Table}
 use Rattle.levels.specs.Levels.{Levelled}
 use Rattle.rings.specs.Search.{Shown}
@@ -33,6 +34,12 @@ pub record Ready (table placement standing empty : List ℕ) : Type 0 where
   pub placed : Placed (length standing) placement standing empty
   pub tabled : Tabled (length standing) table
   pub levelled : Levelled (length standing) table
+
+-- two bays are held
+pub record HoldsTwo (held : List ℕ) : Type 0 where
+  pub one : Bay
+  pub two : Bay
+  pub holds : (y : ℕ) → y < span → mem held y ≡ elem y (one ∷ two ∷ [])
 
 -- ## Counting
 

@@ -20,9 +20,13 @@ pub record Led (plan last : List ℕ) (at at′ : Placement) : Type 0 where
   pub long : length at′ ≡ most-bays
   pub leads : (c : Carrier) → c < most-bays → getD at′ c 0 ≡ ledTo plan (getD last c 0) (getD at c 0)
 
+-- the slot of a name that is in the plan
+abbrev pub SlotOf : List ℕ → ℕ → ℕ → Type 0
+SlotOf plan name slot = name < length plan → slot ≡ getD (slots (crossings plan)) name 0
+
 pub record Billed (plan marks : List ℕ) (name : ℕ) (at at′ : Placement) (billed last : List ℕ) (r : Slots) : Type 0 where
   pub stand : at′ ≡ after at (doneOf (crossings plan) marks)
   pub counts : (c : Carrier) → c < most-bays → getD billed c 0 ≡ countOf c (doneOf (crossings plan) marks)
   pub names : (c : Carrier) → c < most-bays → getD last c 0 ≡ lastDone c untouched 0 (crossings plan) marks
   pub highest : r .highest ≡ highestDone (slots (crossings plan)) marks
-  pub asked : name < length plan → r .asked ≡ getD (slots (crossings plan)) name 0
+  pub asked : SlotOf plan name (r .asked)

@@ -2,7 +2,7 @@
 -- into the bay that the leader left: each turn of the loop is one step of the paper's bring.
 -- Assumes nothing.
 use mathlib.Core.Path.{_≡_, sym, _∙_, ap, refl}
-use mathlib.Core.Bool.{Bool, true, false}
+use mathlib.Core.Bool.{true}
 use mathlib.Core.List.{List, [], _∷_, _++_, append-assoc}
 use mathlib.Core.Option.{Option, none, some}
 use Prim.Native.Nat.{ℕ, suc, _≤_, _<_, _+_}
@@ -11,9 +11,8 @@ use native.Mathlib.Numerals.{add-one}
 use lib.ListN.{length, getD, drop, drop-of-length-le, set, length-set}
 use lib.Seq.{drop-cons, getD-set-same, getD-set-other}
 use native.Mathlib.Decide.{ℕ-discrete}
-use lib.Dec.{eqb}
 use borrow.Author.Tests.{not-true}
-use Rattle.paper.specs.Basics.{if_then_else_, _or_, _>>=_, elem, In, Out}
+use Rattle.paper.specs.Basics.{_>>=_, elem, In, Out}
 use Rattle.paper.specs.Procedure.{Made, only, together, _then_, cross, vacate, bring}
 use Rattle.paper.specs.Yard.{Bay, Carrier, Yard, Placement, bayOf, carrierAt, Crossing, crossing, move, after}
 use Rattle.paper.proofs.Members.{In-head, In-tail, in-count}
@@ -22,7 +21,6 @@ use Rattle.paper.proofs.Tests.{by-option, not-both, never-some}
 use Rattle.paper.proofs.Vacating.{Vacated, vacate-vacates, vacate-empty}
 use Rattle.words.specs.Sets.{mem}
 use Rattle.moving.specs.Placed.{Placed}
-use Rattle.rings.specs.Search.{Shown}
 use Rattle.moving.proofs.Playing.{carrier-is}
 use Rattle.paper.proofs.Making.{same-made, together-assoc, together-none, none-together}
 use Rattle.acting.specs.Acting.{Tabled, Tallied, Acts, Tries}
@@ -39,21 +37,6 @@ ahead a (some b) = some (together a b)
 
 pub bay-low : {n : ℕ} {table : List ℕ} {x : ℕ} (t : Tabled n table) → x < n → x < t .yard .bays
 bay-low t h = rw (t .joins .bays) h
-
--- two held bays
-pub pair-view : {n : ℕ} {table : List ℕ} (t : Tabled n table) (u w : Bay) (h₁ h₂ : List ℕ) → ((y : ℕ) → mem h₁ y ≡ eqb y u)
-    → ((y : ℕ) → mem h₂ y ≡ mem h₁ y or eqb y w) → (b : ℕ) → mem h₂ b ≡ elem b (u ∷ w ∷ [])
-unfolding _or_ elem
-pair-view t u w h₁ h₂ f g b = g b ∙ rw (f b) (sort (eqb b u) (eqb b w))
-  where
-    sort : (s t : Bool) → (s or t) ≡ (if s then true else (if t then true else false))
-    sort true t = refl
-    sort false true = refl
-    sort false false = refl
-
-abbrev pub pairShown : {n : ℕ} {table : List ℕ} (t : Tabled n table) (u w : Bay) (h₁ h₂ : List ℕ) → ((y : ℕ) → mem h₁ y ≡ eqb y u)
-    → ((y : ℕ) → mem h₂ y ≡ mem h₁ y or eqb y w) → Shown n table h₂
-pairShown t u w h₁ h₂ f g = record { yard = t .yard; bays = u ∷ w ∷ []; joins = t .joins; holds = λ b h. pair-view t u w h₁ h₂ f g b }
 
 -- ## Entering an empty bay
 

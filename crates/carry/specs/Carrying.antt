@@ -1,74 +1,27 @@
--- What carrying asks and says: distinct goals among the bays, one for each carrier; the finished ones at home; a path.
+-- What carrying asks and says: every bay is reached, and whose goal each bay is; the paper's turn of a carrier, and the whole procedure.
 -- Assumes nothing.
-use mathlib.Core.Bool.{Bool}
 use mathlib.Core.Path.{_≡_}
-use mathlib.Core.List.{List, [], _∷_}
-use mathlib.Core.Option.{some}
-use Prim.Native.Nat.{ℕ, _+_, _*_, _≤_, _<_}
-use lib.ListN.{length, take, drop}
-use Rattle.paper.specs.Basics.{if_then_else_, In, NoDup}
-use Rattle.paper.specs.Path.{nearestFirst, pathBetween}
-use Rattle.paper.specs.Procedure.{Made, Outcome, stuck, pathOf as way, go, carry, procedure}
-use Rattle.paper.specs.Yard.{Bay, Carrier, Yard, Placement, bayOf, carousel}
-use Rattle.paper.proofs.Playing.{Apart}
-use Rattle.rings.specs.Search.{Shown}
-use Rattle.rings.specs.Ways.{pathOf, pathLength}
-use Rattle.rings.specs.declared.Path.{Path}
-use Rattle.yard.specs.Table.{Table}
-use Rattle.moving.specs.Bounds.{swap-most, carrier-most, room-carrier}
-use Rattle.acting.specs.Acting.{Tabled, Tallied, nothing}
+use mathlib.Core.List.{List, []}
+use Prim.Native.Nat.{ℕ, _+_, _<_}
+use lib.ListN.{length}
+use Rattle.paper.specs.Basics.{In}
+use Rattle.paper.specs.Path.{nearestFirst}
+use Rattle.paper.specs.Procedure.{Outcome, carry, procedure}
+use Rattle.paper.specs.Yard.{Yard, Placement}
+use Rattle.moving.specs.Bounds.{carrier-most}
+use Rattle.acting.specs.Acting.{Tabled, nothing}
 use Rattle.acting.specs.declared.Tally.{Tally}
-use Rattle.step.specs.Asking.{Loopless, BaysBelow}
-use Rattle.go.specs.Going.{planOf, Linked}
+use Rattle.step.specs.Asking.{BaysBelow}
+use Rattle.along.specs.Along.{GoalAsks}
+use Rattle.along.specs.declared.ToGoal.{ToGoal}
 use Rattle.home.specs.Homing.{Owners, AtMost, Stages, StagesAs}
 use Rattle.home.specs.declared.Staged.{Staged}
 use Rattle.home.specs.declared.Staged.the-variants.{Planned}
-use Rattle.carry.specs.declared.ToGoal.{ToGoal}
-use Rattle.carry.specs.declared.Gone.{Gone}
-use Rattle.carry.specs.declared.Gone.the-variants.{There, Nowhere}
-
-pub record Goals (n : ℕ) (goals p : List ℕ) : Type 0 where
-  pub many : length goals ≡ length p
-  pub apart : Apart goals
-  pub inside : (c : ℕ) → c < length goals → bayOf goals c < n
-
--- the carriers below r are at their goals
-pub record HomeBelow (r : ℕ) (goals p : List ℕ) : Type 0 where
-  pub home : (c : ℕ) → c < r → bayOf p c ≡ bayOf goals c
-
--- the goals of all carriers: that of r is v, and the carriers below r are at theirs
-pub record Bound (n : ℕ) (p : List ℕ) (r : Carrier) (v : Bay) : Type 0 where
-  pub goals : Placement
-  pub each : Goals n goals p
-  pub own : bayOf goals r ≡ v
-  pub below : HomeBelow r goals p
-
--- the last of the bays is v, which is u where there are none
-abbrev pub EndsAt : Bay → List Bay → Bay → Type 0
-EndsAt u [] v = u ≡ v
-EndsAt u (x ∷ xs) v = EndsAt x xs v
-
--- the path leads from u over rails to v, and has no bay twice
-pub record OnPath (n : ℕ) (table : List ℕ) (u v : Bay) (path : List Bay) : Type 0 where
-  pub ahead : List Bay
-  pub starts : path ≡ u ∷ ahead
-  pub linked : Linked n table u ahead
-  pub once : NoDup (u ∷ ahead)
-  pub ends : EndsAt u ahead v
 
 -- every bay is reached from every other, in a yard that the table shows
 pub record Reaching (n : ℕ) (table : List ℕ) : Type 0 where
   pub tabled : Tabled n table
   pub reached : (a b : ℕ) → a < n → b < n → In a (nearestFirst (tabled .yard) [] b)
-
--- the answer to whether the yard that the table shows is a carousel
-abbrev pub KindTold : (n : ℕ) (table : List ℕ) → Bool → Type 0
-KindTold n table answer = (Y : Yard) → Table Y n table → answer ≡ carousel Y
-
--- The path past the bays held, if the yard is a carousel; else past none.
-pub record PathPast {n : ℕ} {table held : List ℕ} (s : Shown n table held) (u v : Bay) (room : List ℕ) (r : Path) : Type 0 where
-  pub fits : pathLength r ≤ n
-  pub same : pathOf r room ≡ pathBetween (s .yard) (if carousel (s .yard) then s .bays else []) u v
 
 -- where it is planned the set has the bays of the carriers below `finished`
 pub record Settles (finished : ℕ) (p settled : List ℕ) (z : Staged) : Type 0 where
@@ -80,50 +33,18 @@ procedures Y goals p = procedure Y goals p
 
 -- ## What is asked, what is said
 
--- a carrier's turn: the set has the finished carriers' bays
-abbrev pub CarryAsks : ToGoal → (table p standing settled : List ℕ) → Type 0
-CarryAsks to table p standing settled =
-    (to .turn .carrier .0 < length p)
-    × Loopless (length standing) table
-    × (to .turn .at .crossings < room-carrier)
-    × BaysBelow (to .turn .carrier .0) p settled
-    × KindTold (length standing) table (to .in_carousel)
-
--- there are goals of which its own is the one told
-abbrev pub GoalAsks : ToGoal → (p standing : List ℕ) → Type 0
-GoalAsks to p standing = Bound (length standing) p (to .turn .carrier .0) (to .goal .0)
-
--- and these are their owners
+-- there are goals of which the carrier's own is the one told, and these are their owners
 abbrev pub OwnedAsks : ToGoal → (owner p standing : List ℕ) → Type 0
 OwnedAsks to owner p standing = (b : GoalAsks to p standing) × Owners (length standing) (b .goals) owner
-
--- carrier r has gone the path that it takes, whose bays are the first k in the room lent; or it is stuck
-pub record Goes (Y : Yard) (goals : Placement) (r : Carrier) (n : ℕ) (p out : List ℕ) (at : Tally) (p′ standing′ empty′ out′ room : List ℕ) (z : Gone) : Type 0 where
-  pub there : (k : ℕ) (m : Tally) → z ≡ There k m
-      → (some (take k room) ≡ way Y goals r p)
-      × (made : Made) × (planOf (go Y goals r (drop 1 (take k room)) p) ≡ some made) × Tallied made n p p′ standing′ empty′ out at out′ m
-  pub nowhere : z ≡ Nowhere → carry Y goals r p ≡ stuck r
-
--- r is finished then, and the path is no longer than there are bays
-pub record Arrives (n : ℕ) (r : Carrier) (at : Tally) (p settled : List ℕ) (z : Gone) : Type 0 where
-  pub fits : (k : ℕ) (m : Tally) → z ≡ There k m → k ≤ n
-  pub few : (k : ℕ) (m : Tally) → z ≡ There k m → m .crossings ≤ at .crossings + swap-most * k
-  pub below : (k : ℕ) (m : Tally) → z ≡ There k m → BaysBelow (r + 1) p settled
-
-abbrev pub GoAlongSays : ToGoal → (table p standing out p′ standing′ empty′ settled′ out′ room : List ℕ) → Gone → Type 0
-GoAlongSays to table p standing out p′ standing′ empty′ settled′ out′ room z =
-    Arrives (length standing) (to .turn .carrier .0) (to .turn .at) p′ settled′ z
-    × ((t : Tabled (length standing) table) (b : GoalAsks to p standing)
-    → Goes (t .yard) (b .goals) (to .turn .carrier .0) (length standing) p out (to .turn .at) p′ standing′ empty′ out′ room z)
 
 -- the paper's turn of the carrier, for all such goals whose owners these are; where it is planned, the carrier is finished
 abbrev pub CarrySays : ToGoal → (owner table p standing out p′ standing′ empty′ settled′ out′ : List ℕ) → Staged → Type 0
 CarrySays to owner table p standing out p′ standing′ empty′ settled′ out′ z =
-    AtMost (to .turn .at) carrier-most z
+    AtMost carrier-most z
     × ((t : Tabled (length standing) table) (b : GoalAsks to p standing)
     → Owners (length standing) (b .goals) owner
-    → Stages (carry (t .yard) (b .goals) (to .turn .carrier .0) p) (length standing) p out (to .turn .at) p′ standing′ empty′ out′ z)
-    × Settles (to .turn .carrier .0 + 1) p′ settled′ z
+    → Stages (carry (t .yard) (b .goals) (to .carrier .0) p) (length standing) p out nothing p′ standing′ empty′ out′ z)
+    × Settles (to .carrier .0 + 1) p′ settled′ z
 
 -- the paper's procedure, counted from nothing
 abbrev pub CarryAllSays : Placement → (table p standing out p′ standing′ empty′ settled′ out′ : List ℕ) → Staged → Type 0

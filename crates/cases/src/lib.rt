@@ -1,8 +1,9 @@
 // Numbers written in decimal between blanks, read from bytes: what the programs that run the vectors read their cases with.
 // A list stands as its count and then its numbers.
 ghost use mathlib.Core.Path.{_≡_};
-ghost use Prim.Native.Nat.{_≤_, _<_};
-ghost use lib.ListN.{length, take};
+ghost use Prim.Native.Nat.{_+_, _*_, _%_, _^_, _≤_, _<_};
+ghost use lib.ListN.{length, take, drop};
+ghost use Rattle.cases.specs.Numerals.{isDigit, fromDigit, Reads};
 use std::num::wrapping_add_u64;
 
 // A number that was read, and the place after its last digit.
@@ -17,12 +18,16 @@ pub struct Listed {
     pub next: usize,
 }
 
-fn is_digit(b: u8) -> bool {
+fn is_digit(b: u8) -> bool
+    ensures { λ r. ⌜ r ≡ isDigit b ⌝ }
+{
     b'0' <= b && b <= b'9'
 }
 
 // The place of the first digit from `at` on; the text's length where there is none.
-fn first_digit(text: &[u8], at: usize) -> usize {
+fn first_digit(text: &[u8], at: usize) -> usize
+    ensures { λ r. ⌜ (drop r (now (text .entry)) ≡ fromDigit (drop at (now (text .entry)))) × (r ≤ length (now (text .entry))) ⌝ }
+{
     let mut i = at;
     while i < text.len() {
         if is_digit(text[i]) {
@@ -34,7 +39,9 @@ fn first_digit(text: &[u8], at: usize) -> usize {
 }
 
 // One digit more. What does not fit in 64 bits wraps at its last digit: no case has such a number.
-fn with_digit(value: u64, digit: u8) -> u64 {
+fn with_digit(value: u64, digit: u8) -> u64
+    ensures { λ r. ⌜ (value * 10 + digit % 16 < 2 ^ 64 → r ≡ value * 10 + digit % 16) ⌝ }
+{
     let d = (digit % 16) as u64;
     if value <= 1844674407370955160 {
         wrapping_add_u64(value * 10, d)
@@ -44,7 +51,9 @@ fn with_digit(value: u64, digit: u8) -> u64 {
 }
 
 // The first number from `at` on; 0 where there is none.
-pub fn number(text: &[u8], at: usize) -> Numeral {
+pub fn number(text: &[u8], at: usize) -> Numeral
+    ensures { λ r. ⌜ Reads (now (text .entry)) at r ⌝ }
+{
     let mut i = first_digit(text, at);
     let mut value = 0;
     while i < text.len() {

@@ -1,140 +1,16 @@
 // Clear, once through the neighbours of the junction other than the follower's bay: two of them are kept empty, the empty ones first,
 // then those that can be vacated, in rising order.
 use acting::Tally;
-use acting::Tried;
 use docket::Bay;
-ghost use mathlib.Core.Path.{_≡_};
-ghost use Prim.Native.Nat.{_≤_, _<_};
+use keeping::First;
+use keeping::Kept;
+use keeping::Round;
+use keeping::Two;
+ghost use Prim.Native.Nat.{_<_};
 ghost use lib.ListN.{length};
-ghost use Rattle.paper.specs.Basics.{Out};
-ghost use Rattle.words.specs.Sets.{words, span};
-ghost use Rattle.rings.specs.Search.{Shown};
-ghost use Rattle.moving.specs.Bounds.{room-vacate, room-clear};
+ghost use Rattle.moving.specs.Bounds.{room-clear};
 ghost use Rattle.acting.specs.Acting.{Ready};
-ghost use Rattle.clear.specs.Keeping.{Among, HoldsTwo, KeepSays, KeepSecondSays, ClearSays};
-
-// One more bay that is kept, with the tally afterwards.
-pub enum Kept {
-    One(Bay, Tally),
-    Nothing,
-}
-
-// The two bays that are kept, or the only one, with the tally afterwards; or none is.
-pub enum Two {
-    Both(Bay, Bay, Tally),
-    Single(Bay, Tally),
-    Short,
-}
-
-// A round through the others: from which bay on, and the tally before it.
-struct Round {
-    from: usize,
-    at: Tally,
-}
-
-// The bay that is kept first, and the round in which a second is looked for.
-struct First {
-    kept: Bay,
-    round: Round,
-}
-
-// The first of the others in the round that can be vacated is vacated.
-fn keep_one(
-    table: &[u64],
-    others: &[u64],
-    held: &[u64],
-    round: Round,
-    placement: &mut [u16],
-    standing: &mut [u16],
-    empty: &mut [u64],
-    out: &mut [u64],
-) -> Kept
-    requires { ⌜ Ready (now table) (now placement) (now standing) (now empty) ⌝ }
-    requires { ⌜
-        (length (now others) ≡ words)
-        × (length (now held) ≡ words)
-        × (round .from ≤ span)
-        × Among (length (now standing)) (now others)
-        × (round .at .crossings < room-vacate)
-        × Shown (length (now standing)) (now table) (now held)
-        ⌝ }
-    ensures { λ r. ⌜
-        KeepSays (now (table .entry)) (now (others .entry)) (now (held .entry)) round
-        (now (placement .entry)) (now (standing .entry)) (now (out .entry))
-        (now (placement .exit)) (now (standing .exit)) (now (empty .exit)) (now (out .exit)) r
-        ⌝ }
-{
-    let mut x = words::next_from(others, round.from);
-    while x < words::SPAN {
-        let bay = Bay(x as u16);
-        let vacated = acting::make_room(
-            table,
-            held,
-            bay,
-            placement,
-            standing,
-            empty,
-            out,
-            round.at,
-        );
-        if let Tried::Done(done) = vacated {
-            let m = Tally {
-                crossings: done.crossings,
-                parked: done.parked,
-            };
-            return Kept::One(bay, m);
-        }
-        x = words::next_from(others, x + 1);
-    }
-    Kept::Nothing
-}
-
-// With one bay kept, one of the others is kept too, if one can be vacated.
-fn keep_second(
-    table: &[u64],
-    others: &[u64],
-    held: &mut [u64],
-    first: First,
-    placement: &mut [u16],
-    standing: &mut [u16],
-    empty: &mut [u64],
-    out: &mut [u64],
-) -> Two
-    requires { ⌜ Ready (now table) (now placement) (now standing) (now empty) ⌝ }
-    requires { ⌜
-        (length (now others) ≡ words)
-        × (length (now held) ≡ words)
-        × (first .round .from ≤ length (now standing))
-        × (first .kept .0 < length (now standing))
-        × Among (length (now standing)) (now others)
-        × (first .round .at .crossings < room-vacate)
-        × HoldsTwo (now held)
-        × Out (first .kept .0) (now placement)
-        ⌝ }
-    ensures { λ r. ⌜
-        KeepSecondSays (now (table .entry)) (now (others .entry)) (now (held .entry)) first
-        (now (placement .entry)) (now (standing .entry)) (now (out .entry))
-        (now (placement .exit)) (now (standing .exit)) (now (empty .exit)) (now (out .exit)) r
-        ⌝ }
-{
-    let x = first.kept;
-    words::join(held, x.0 as usize);
-    let second = keep_one(
-        table,
-        others,
-        held,
-        first.round,
-        placement,
-        standing,
-        empty,
-        out,
-    );
-    let Kept::One(y, m) = second else {
-        let at = first.round.at;
-        return Two::Single(x, at);
-    };
-    Two::Both(x, y, m)
-}
+ghost use Rattle.clear.specs.Clearing.{ClearSays};
 
 // Clear, at the junction v with the follower at b.
 pub fn clear(
@@ -170,7 +46,7 @@ pub fn clear(
         }
         let kept = Bay(x as u16);
         let round = Round { from: 0, at };
-        return keep_second(
+        return keeping::keep_second(
             table,
             &others,
             &mut held,
@@ -182,7 +58,7 @@ pub fn clear(
         );
     }
     let all = Round { from: 0, at };
-    let first = keep_one(table, &others, &held, all, placement, standing, empty, out);
+    let first = keeping::keep_one(table, &others, &held, all, placement, standing, empty, out);
     let Kept::One(kept, m) = first else {
         return Two::Short;
     };
@@ -190,7 +66,7 @@ pub fn clear(
         from: kept.0 as usize + 1,
         at: m,
     };
-    keep_second(
+    keeping::keep_second(
         table,
         &others,
         &mut held,

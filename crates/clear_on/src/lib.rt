@@ -1,273 +1,21 @@
-// Clearing goes on where it ended with one kept bay e: another neighbour x of the junction is emptied beside it, in one of two ways. Each
-// attempt is played on copies and logged from the log's start, so that one that fails is forgotten.
+// Clearing goes on where it ended with one kept bay e: another neighbour x of the junction is emptied beside it, by the first attempt that
+// succeeds.
 use acting::Tally;
-use acting::Tried;
-use bring::Couple;
-use clear::Kept;
-use clear::Two;
+use attempts::Lead;
+use attempts::OneKept;
 use docket::Bay;
+use keeping::Kept;
+use keeping::Two;
 ghost use mathlib.Core.Path.{_≡_};
-ghost use Prim.Native.Nat.{min, _≤_, _<_};
-ghost use lib.ListN.{length, take};
-ghost use Rattle.moving.specs.Bounds.{room-clear};
+ghost use Prim.Native.Nat.{min};
+ghost use lib.ListN.{length};
 ghost use Rattle.acting.specs.Acting.{Ready};
-ghost use Rattle.clear_on.specs.Asking.{AsideSays, AroundAsks, AroundSays, AttemptAsks, AttemptSays, OthersAsk, FirstKeptSays, EitherSays, GoOnAsks, GoOnSays, ClearTwoAsks, ClearTwoSays};
+ghost use Rattle.clear_on.specs.Asking.{GoOnAsks, GoOnSays, ClearTwoAsks, ClearTwoSays};
 
 // The two bays that are kept, with the tally afterwards, or that there are not two.
 pub enum Pair {
     Both(Bay, Bay, Tally),
     Missing,
-}
-
-// A leader with its follower, and the junction to which it leads.
-pub struct Lead {
-    pub couple: Couple,
-    pub junction: Bay,
-}
-
-// Where clearing goes on: the leader is at the junction and the follower at the bay behind it; of the other neighbours one is kept.
-pub struct OneKept {
-    pub lead: Lead,
-    pub behind: Bay,
-    pub kept: Bay,
-}
-
-// What an attempt goes by besides x: the junction, the neighbour that is held with it, and the neighbour that is emptied after x.
-struct Aside {
-    junction: Bay,
-    held: Bay,
-    emptied: Bay,
-}
-
-// The first way, on a placement that is used up: x is vacated, holding the junction and a neighbour; then the other one, holding x as well.
-fn vacate_both(
-    table: &[u64],
-    aside: Aside,
-    x: Bay,
-    placement: &mut [u16],
-    standing: &mut [u16],
-    empty: &mut [u64],
-    out: &mut [u64],
-    at: Tally,
-) -> Tried
-    requires { ⌜ Ready (now table) (now placement) (now standing) (now empty) ⌝ }
-    requires { ⌜
-        (aside .junction .0 < length (now standing))
-        × (aside .held .0 < length (now standing))
-        × (aside .emptied .0 < length (now standing))
-        × (x .0 < length (now standing))
-        × (at .crossings < room-clear)
-        ⌝ }
-    ensures { λ r. ⌜
-        AsideSays aside (x .0)
-        (now (table .entry)) (now (placement .entry)) (now (standing .entry)) (now (out .entry)) at
-        (now (placement .exit)) (now (standing .exit)) (now (empty .exit)) (now (out .exit)) r
-        ⌝ }
-{
-    let mut held = [0u64; words::WORDS];
-    words::alone(&mut held, aside.junction.0 as usize);
-    words::join(&mut held, aside.held.0 as usize);
-    let vacated = acting::make_room(table, &held, x, placement, standing, empty, out, at);
-    let Tried::Done(done) = vacated else {
-        return Tried::Failed;
-    };
-    let m = Tally {
-        crossings: done.crossings,
-        parked: done.parked,
-    };
-    words::join(&mut held, x.0 as usize);
-    acting::make_room(
-        table,
-        &held,
-        aside.emptied,
-        placement,
-        standing,
-        empty,
-        out,
-        m,
-    )
-}
-
-// The second way, on a placement that is used up: leader and follower go forth to the kept bay and the junction, what is vacated is as in the
-// first way with the bay behind and the kept bay in each other's place, and the two go back.
-fn go_round(
-    table: &[u64],
-    one: OneKept,
-    x: Bay,
-    placement: &mut [u16],
-    standing: &mut [u16],
-    empty: &mut [u64],
-    out: &mut [u64],
-    at: Tally,
-) -> Tried
-    requires { ⌜ Ready (now table) (now placement) (now standing) (now empty) ⌝ }
-    requires { ⌜ AroundAsks one (x .0) (now placement) (now standing) at ⌝ }
-    ensures { λ r. ⌜
-        AroundSays one (x .0)
-        (now (table .entry)) (now (placement .entry)) (now (standing .entry)) (now (out .entry)) at
-        (now (placement .exit)) (now (standing .exit)) (now (empty .exit)) (now (out .exit)) r
-        ⌝ }
-{
-    let forth = bring::enter(
-        one.lead.couple,
-        one.kept,
-        placement,
-        standing,
-        empty,
-        out,
-        at,
-    );
-    let junction = one.lead.junction;
-    let held = one.kept;
-    let emptied = one.behind;
-    let aside = Aside {
-        junction,
-        held,
-        emptied,
-    };
-    let vacated = vacate_both(table, aside, x, placement, standing, empty, out, forth);
-    let Tried::Done(done) = vacated else {
-        return Tried::Failed;
-    };
-    let c = Tally {
-        crossings: done.crossings,
-        parked: done.parked,
-    };
-    let leader = one.lead.couple.follower;
-    let follower = one.lead.couple.leader;
-    let back = Couple { leader, follower };
-    Tried::Done(bring::enter(back, emptied, placement, standing, empty, out, c))
-}
-
-// The list begins with the other one.
-pub fn copy(to: &mut [u16], from: &[u16])
-    requires { ⌜ length (now from) ≤ length (now to) ⌝ }
-    ensures { λ _. ⌜ take (length (now (from .entry))) (now (to .exit)) ≡ now (from .entry) ⌝ }
-{
-    let mut i = 0;
-    while i < from.len() {
-        to[i] = from[i];
-        i += 1;
-    }
-}
-
-// An attempt with x, the second way or the first, on copies.
-fn attempt(
-    table: &[u64],
-    second: bool,
-    one: OneKept,
-    x: Bay,
-    placement: &[u16],
-    standing: &[u16],
-    empty: &[u64],
-    log: &mut [u64],
-) -> Tried
-    requires { ⌜ Ready (now table) (now placement) (now standing) (now empty) ⌝ }
-    requires { ⌜ AttemptAsks one (x .0) (now placement) (now standing) ⌝ }
-    ensures { λ r. ⌜
-        AttemptSays second one (x .0)
-        (now (table .entry)) (now (placement .entry)) (now (standing .entry)) (now (log .exit)) r
-        ⌝ }
-{
-    let mut bays = [0u16; words::SPAN];
-    let mut carriers = [0u16; words::SPAN];
-    let mut unused = [0u64; words::WORDS];
-    copy(&mut bays, placement);
-    copy(&mut carriers, standing);
-    words::keep(&mut unused, 0, empty);
-    let k = placement.len();
-    let n = standing.len();
-    let from = Tally {
-        crossings: 0,
-        parked: 0,
-    };
-    if second {
-        return go_round(
-            table,
-            one,
-            x,
-            &mut bays[..k],
-            &mut carriers[..n],
-            &mut unused,
-            log,
-            from,
-        );
-    }
-    let junction = one.lead.junction;
-    let held = one.behind;
-    let emptied = one.kept;
-    vacate_both(
-        table,
-        Aside {
-            junction,
-            held,
-            emptied,
-        },
-        x,
-        &mut bays[..k],
-        &mut carriers[..n],
-        &mut unused,
-        log,
-        from,
-    )
-}
-
-// The first of the others whose attempt succeeds; the log is left as that attempt leaves it.
-fn first_kept(
-    table: &[u64],
-    second: bool,
-    others: &[u64],
-    one: OneKept,
-    placement: &[u16],
-    standing: &[u16],
-    empty: &[u64],
-    log: &mut [u64],
-) -> Kept
-    requires { ⌜ Ready (now table) (now placement) (now standing) (now empty) ⌝ }
-    requires { ⌜ OthersAsk (now others) one (now placement) (now standing) ⌝ }
-    ensures { λ r. ⌜
-        FirstKeptSays second (now (others .entry)) one
-        (now (table .entry)) (now (placement .entry)) (now (standing .entry)) (now (log .exit)) r
-        ⌝ }
-{
-    let mut x = words::next_from(others, 0);
-    while x < words::SPAN {
-        let bay = Bay(x as u16);
-        let tried = attempt(table, second, one, bay, placement, standing, empty, log);
-        if let Tried::Done(done) = tried {
-            let c = Tally {
-                crossings: done.crossings,
-                parked: done.parked,
-            };
-            return Kept::One(bay, c);
-        }
-        x = words::next_from(others, x + 1);
-    }
-    Kept::Nothing
-}
-
-// The first way for each of the others; if that never works, the second for each.
-fn either_way(
-    table: &[u64],
-    others: &[u64],
-    one: OneKept,
-    placement: &[u16],
-    standing: &[u16],
-    empty: &[u64],
-    log: &mut [u64],
-) -> Kept
-    requires { ⌜ Ready (now table) (now placement) (now standing) (now empty) ⌝ }
-    requires { ⌜ OthersAsk (now others) one (now placement) (now standing) ⌝ }
-    ensures { λ r. ⌜
-        EitherSays (now (others .entry)) one
-        (now (table .entry)) (now (placement .entry)) (now (standing .entry)) (now (log .exit)) r
-        ⌝ }
-{
-    let first = first_kept(table, false, others, one, placement, standing, empty, log);
-    if let Kept::One(x, c) = first {
-        return Kept::One(x, c);
-    }
-    first_kept(table, true, others, one, placement, standing, empty, log)
 }
 
 // The place where the list goes on, or its end.
@@ -303,7 +51,7 @@ pub fn go_on(
     words::remove(&mut others, one.behind.0 as usize);
     words::remove(&mut others, e.0 as usize);
     let from = place_in(out, at.crossings);
-    let found = either_way(
+    let found = attempts::either_way(
         table,
         &others,
         one,

@@ -7,7 +7,7 @@ use lib.ListN.{length}
 use Rattle.comparing.specs.Comparing.{comparison, longerBy, partBy, differences}
 use Rattle.paper.specs.Docket.{granted}
 use Rattle.comparing.specs.Statements.{CompareSays}
-use Rattle.comparing.proofs.Leading.{EqualExactly, equal-exactly, RestOf, rest-of}
+use Rattle.leading.proofs.Leading.{EqualExactly, equal-exactly, RestOf, rest-of}
 use Rattle.comparing.proofs.Differing.{sumOf, differences-sum}
 use Rattle.comparing.proofs.Exchanged.{granted-passed}
 

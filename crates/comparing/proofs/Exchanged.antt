@@ -1,21 +1,19 @@
 -- The lists exchanged: the same count, and the differences negated. What one order grants the other grants too, since each test is made of both lists.
 use mathlib.Core.Path.{_≡_, refl, sym, _∙_, ap, ap₂}
-use mathlib.Core.Bool.{true, false, not}
 use mathlib.Core.List.{List, [], _∷_, map}
 use mathlib.Core.Option.{none}
 use Prim.Native.Nat.{ℕ, _≤_}
 use borrow.Author.Tests.{ltb-false, le-ltb, not-false, eqb-true, eq-eqb}
-use lib.Dec.{eqb, ltb}
 use lib.IntN.{ℤ, pos, negℤ, _+ℤ_, _-ℤ_, +ℤ-comm, negℤ-+ℤ, negℤ-negℤ}
 use lib.ListN.{length}
-use Rattle.paper.specs.Basics.{_or_, orElse, when, upTo}
+use Rattle.paper.specs.Basics.{orElse, upTo}
 use Rattle.paper.specs.Limits.{most-carriers}
 use Rattle.paper.specs.Yard.{Carrier, crossings, most-crossings}
 use Rattle.paper.specs.Docket.{size, start, room, granted}
 use Rattle.paper.specs.Dependence.{countOf}
 use Rattle.paper.proofs.Tests.{by-option, or-none, or-neither, none-both, none-from, none-when, never}
 use Rattle.comparing.specs.Comparing.{firstAbove, no-1, no-5, no-8, refusal, equalLeading, comparison, difference, differences}
-use Rattle.comparing.proofs.Leading.{leading-exchanged}
+use Rattle.leading.proofs.Leading.{leading-exchanged}
 
 -- what a comparison that is granted has passed
 pub record Passed (first second : List ℕ) (lent : ℕ) : Type 0 where

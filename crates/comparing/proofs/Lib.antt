@@ -1,4 +1,3 @@
-pub mod Leading
 pub mod Differing
 pub mod Exchanged
 pub mod Signed

@@ -6,13 +6,13 @@ use mathlib.Core.Option.{none, some}
 use Prim.Native.Nat.{ℕ, zero, suc, _+_, _≤_, _<_}
 use native.Mathlib.Omega.{arith}
 use borrow.Author.Tests.{lt-ltb, le-ltb, ne-eqb}
-use lib.Dec.{eqb, ltb}
+use lib.Dec.{ltb}
 use lib.IntN.{ℤ, pos, _-ℤ_}
 use lib.ListN.{length, getD, length-map}
 use lib.Seq.{ext-getD}
 use Rattle.paper.specs.Basics.{_or_, orElse, upTo, countFrom}
 use Rattle.paper.specs.Limits.{most-carriers}
-use Rattle.paper.specs.Yard.{crossings, most-crossings}
+use Rattle.paper.specs.Yard.{most-crossings}
 use Rattle.paper.proofs.Tests.{or-left, or-right, or-neither, none-both}
 use Rattle.docket.specs.Reading.{refusalOf}
 use Rattle.docket.specs.declared.Carrier.{Carrier as Carried}

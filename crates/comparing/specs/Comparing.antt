@@ -1,17 +1,18 @@
--- Comparing two lists of crossings: what is refused, the equal leading crossings, the rest of the longer list, and each carrier's difference.
+-- Comparing two lists of crossings: what is refused, the answer, and each carrier's difference.
 -- Assumes nothing.
 use mathlib.Core.Bool.{not}
-use mathlib.Core.List.{List, [], _∷_, map}
+use mathlib.Core.List.{List, map}
 use mathlib.Core.Option.{Option, some, Option·getD}
-use Prim.Native.Nat.{ℕ, zero, suc}
+use Prim.Native.Nat.{ℕ}
 use lib.Dec.{eqb, ltb, leb}
 use lib.IntN.{ℤ, pos, _-ℤ_}
-use lib.ListN.{length, drop}
-use Rattle.paper.specs.Basics.{if_then_else_, _or_, _>>=_, orElse, when, find, upTo}
+use lib.ListN.{length}
+use Rattle.paper.specs.Basics.{_or_, _>>=_, orElse, when, find, upTo}
 use Rattle.paper.specs.Limits.{most-carriers, most-crossings}
 use Rattle.paper.specs.Yard.{Carrier, unpack, crossings}
 use Rattle.paper.specs.Docket.{Refusal, size, start, room, number, carried, Verdict, granted, denied, unlessDenied}
 use Rattle.paper.specs.Dependence.{countOf}
+pub use Rattle.leading.specs.Leading.{equalLeading, longerBy, partBy}
 
 -- ## What is refused
 
@@ -40,30 +41,8 @@ refusal first second lent = orElse (no-1 first second) (orElse (no-5 first secon
 
 -- ## The answer
 
--- "the number of equal leading crossings"
-unfoldable pub equalLeading : List ℕ → List ℕ → ℕ
-equalLeading [] ys = zero
-equalLeading (x ∷ xs) [] = zero
-equalLeading (x ∷ xs) (y ∷ ys) = let rest = equalLeading xs ys in if eqb x y then suc rest else zero
-
 unfoldable pub comparison : List ℕ → List ℕ → ℕ → Verdict
 comparison first second lent = unlessDenied (refusal first second lent) (equalLeading first second)
-
--- "whichever of the two lists is longer", "at equal length .. the first": it is told by 1 or 2, no list by 0
-abbrev pub longerOf : List ℕ → List ℕ → ℕ
-longerOf first second = if ltb (length first) (length second) then 2 else 1
-
-abbrev pub listOf : List ℕ → List ℕ → ℕ → List ℕ
-listOf first second which = if eqb which 2 then second else first
-
-abbrev pub longerBy : List ℕ → List ℕ → Verdict → ℕ
-longerBy first second (granted equal) = longerOf first second
-longerBy first second (denied r) = 0
-
--- "the rest .. from the first difference on", "on refusal, an empty part"
-abbrev pub partBy : List ℕ → List ℕ → Verdict → List ℕ
-partBy first second (granted equal) = drop equal (listOf first second (longerOf first second))
-partBy first second (denied r) = []
 
 -- ## Carrier by carrier
 

@@ -3,13 +3,12 @@
 use mathlib.Core.Path.{_≡_}
 use mathlib.Core.List.{List}
 use mathlib.Core.Option.{Option, none, some}
-use Prim.Native.Nat.{ℕ, _<_, _≤_}
+use Prim.Native.Nat.{ℕ, _<_}
 use lib.IntN.{ℤ, pos, _-ℤ_}
 use lib.ListN.{length, getD}
 use Rattle.paper.specs.Limits.{most-carriers}
 use Rattle.paper.specs.Yard.{Carrier, crossings}
 use Rattle.paper.specs.Dependence.{countOf}
-use Rattle.paper.specs.Docket.{Verdict, granted, denied}
 use Rattle.docket.specs.Reading.{verdictOf}
 use Rattle.docket.specs.declared.Verdict.{Verdict as Held}
 use Rattle.comparing.specs.Comparing.{firstAbove, comparison, partBy, longerBy, differencesBy, numberBy, valueBy}
@@ -33,11 +32,6 @@ pub record CountSays (list : List ℕ) (answer : Counted) (counts : List ℕ) : 
 pub record FillSays (seconds firsts : List ℕ) (filled : List ℤ) : Type 0 where
   pub long : length filled ≡ most-carriers
   pub less : (c : Carrier) → c < most-carriers → getD filled c (pos 0) ≡ pos (getD seconds c 0) -ℤ pos (getD firsts c 0)
-
--- what is handed back begins within both lists
-abbrev pub Within : List ℕ → List ℕ → Verdict → Type 0
-Within first second (granted equal) = (equal ≤ length first) × (equal ≤ length second)
-Within first second (denied r) = Unit {0}
 
 module _ (first second : List ℕ) (lent : List ℤ) where
   pub record DifferSays (answer : Held) (lent′ : List ℤ) : Type 0 where

@@ -1,15 +1,15 @@
 // Two lists of crossings compared: how many leading crossings are equal, the rest of the longer list, and each carrier's difference.
 // All is tested and counted before anything is written, so a refusal leaves the differences as they were.
 ghost use mathlib.Core.Path.{_≡_};
-ghost use Prim.Native.Nat.{_≤_, min};
+ghost use Prim.Native.Nat.{_≤_};
 ghost use lib.IntN.{pos, _-ℤ_};
 ghost use lib.ListN.{length, replicate};
 ghost use Rattle.paper.specs.Basics.{orElse};
 ghost use Rattle.paper.specs.Limits.{most-carriers};
 ghost use Rattle.paper.specs.Yard.{most-crossings};
-ghost use Rattle.comparing.specs.Comparing.{equalLeading, longerBy, partBy, numberBy, valueBy};
+ghost use Rattle.comparing.specs.Comparing.{numberBy, valueBy};
 ghost use Rattle.docket.specs.Reading.{verdictOf};
-ghost use Rattle.comparing.specs.Statements.{countedOf, Within, CountSays, FillSays, DifferSays, CompareSays};
+ghost use Rattle.comparing.specs.Statements.{countedOf, CountSays, FillSays, DifferSays, CompareSays};
 use docket::Carrier;
 use docket::Refusal;
 use docket::Verdict;
@@ -69,27 +69,6 @@ fn fill(firsts: &[u32; Yard::CARRIERS], seconds: &[u32; Yard::CARRIERS], differe
     }
 }
 
-fn lower(a: usize, b: usize) -> usize
-    ensures { λ r. ⌜ r ≡ min a b ⌝ }
-{
-    if a < b { a } else { b }
-}
-
-// How many leading crossings are equal.
-fn equal_leading(first: &[u64], second: &[u64]) -> usize
-    ensures { λ r. ⌜ r ≡ equalLeading (now (first .entry)) (now (second .entry)) ⌝ }
-{
-    let both = lower(first.len(), second.len());
-    let mut equal = 0;
-    while equal < both {
-        if first[equal] != second[equal] {
-            return equal;
-        }
-        equal += 1;
-    }
-    equal
-}
-
 // The number of equal leading crossings, with the differences written, or why there is none.
 fn differ(first: &[u64], second: &[u64], differences: &mut [i64]) -> Verdict
     ensures { λ r. ⌜ DifferSays (now (first .entry)) (now (second .entry)) (now (differences .entry)) r (now (differences .exit)) ⌝ }
@@ -112,7 +91,7 @@ fn differ(first: &[u64], second: &[u64], differences: &mut [i64]) -> Verdict
         return Verdict::Denied(Refusal::Room(Yard::CARRIERS as u64));
     }
     fill(&firsts, &seconds, differences);
-    Verdict::Granted(equal_leading(first, second) as u64)
+    Verdict::Granted(leading::equal_leading(first, second) as u64)
 }
 
 // What C and Rust are told of the answer: its number, its value, and which list's rest is handed back.
@@ -134,32 +113,6 @@ fn value_of(answer: Verdict) -> u64
     }
 }
 
-// Which list's rest is handed back: 1, 2, or 0 for none.
-fn longer_of(first: &[u64], second: &[u64], answer: Verdict) -> u64
-    ensures { λ r. ⌜ r ≡ longerBy (now (first .entry)) (now (second .entry)) (verdictOf answer) ⌝ }
-{
-    match answer {
-        Verdict::Granted(_) => { if first.len() < second.len() { 2 } else { 1 } }
-        Verdict::Denied(_) => 0,
-    }
-}
-
-// The rest of the longer list, from the first difference on.
-fn rest<'a>(first: &'a [u64], second: &'a [u64], answer: Verdict) -> &'a [u64]
-    requires { ⌜ Within (now first) (now second) (verdictOf answer) ⌝ }
-    ensures { λ r. ⌜ now r ≡ partBy (now (first .entry)) (now (second .entry)) (verdictOf answer) ⌝ }
-{
-    let Verdict::Granted(equal) = answer else {
-        return &first[first.len()..];
-    };
-    let from = equal as usize;
-    if first.len() < second.len() {
-        &second[from..]
-    } else {
-        &first[from..]
-    }
-}
-
 // Compares: hands back the rest of the longer list, an empty part on refusal, and stores the answer's number, its value and which list it is.
 pub fn compare<'a>(
     first: &'a [u64],
@@ -177,6 +130,6 @@ pub fn compare<'a>(
     let answer = differ(first, second, differences);
     *number = number_of(answer);
     *value = value_of(answer);
-    *longer = longer_of(first, second, answer);
-    rest(first, second, answer)
+    *longer = leading::longer_of(first, second, answer);
+    leading::rest(first, second, answer)
 }

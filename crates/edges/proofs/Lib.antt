@@ -1,4 +1,3 @@
 pub mod Parts
-pub mod Closing
 pub mod Stepping
 pub mod Storing

@@ -14,12 +14,13 @@ use Rattle.paper.specs.Bytes.{State, failed, going, release, feed, lineClosed, 
 use Rattle.paper.proofs.Tests.{by-cases, never}
 use Rattle.survey.specs.Survey.{Surveyed, surveyEnd}
 use Rattle.survey.specs.Bytes.{Line, fresh, lineByte, Under, beginLine, inLine, closeLine, endLine, surveyStep, surveyFinish}
-use Rattle.edges.specs.Held.{partBy, wordBy, countOf, dueOf, underOf, stateOf, endsAfter, Marked, Closes, Steps, dueRead, readOf, Finishes}
-use Rattle.edges.specs.declared.Due.{Due}
-use Rattle.edges.specs.declared.Due.the-variants.{Head, Rails}
-use Rattle.edges.specs.declared.Part.{Part}
-use Rattle.edges.specs.declared.Reading.{Reading}
-use Rattle.edges.proofs.Closing.{same-ends}
+use Rattle.edge_lines.specs.Lines.{partBy, wordBy, countOf, dueOf, underOf, stateOf, endsAfter, Marked, Closes}
+use Rattle.edges.specs.Held.{Steps, dueRead, readOf, Finishes}
+use Rattle.edge_lines.specs.declared.Due.{Due}
+use Rattle.edge_lines.specs.declared.Due.the-variants.{Head, Rails}
+use Rattle.edge_lines.specs.declared.Part.{Part}
+use Rattle.edge_lines.specs.declared.Reading.{Reading}
+use Rattle.edge_lines.proofs.Closing.{same-ends}
 
 abbrev at : Due → List Bay → Line → Under
 at d ends l = record { due = dueOf d ends; line = l }

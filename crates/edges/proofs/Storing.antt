@@ -18,10 +18,11 @@ use Rattle.survey.specs.Survey.{readSurvey}
 use Rattle.survey.specs.Bytes.{unread, surveyStep, surveyFinish}
 use Rattle.survey.specs.Narrow.{narrow}
 use Rattle.survey.proofs.Stepping.{stepped}
-use Rattle.edges.specs.Held.{countOf, endsAfter, last-line, Steps, Finishes, readOf, dueRead, answerOf, answerBy, dueAnswer, countRead, stored, Came, Reads}
-use Rattle.edges.specs.declared.Due.{Due}
-use Rattle.edges.specs.declared.Due.the-variants.{Head, Rails}
-use Rattle.edges.specs.declared.Reading.{Reading}
+use Rattle.edge_lines.specs.Lines.{countOf, endsAfter, last-line}
+use Rattle.edges.specs.Held.{Steps, Finishes, readOf, dueRead, answerOf, answerBy, dueAnswer, countRead, stored, Came, Reads}
+use Rattle.edge_lines.specs.declared.Due.{Due}
+use Rattle.edge_lines.specs.declared.Due.the-variants.{Head, Rails}
+use Rattle.edge_lines.specs.declared.Reading.{Reading}
 use Rattle.edges.specs.declared.SurveyRead.{SurveyRead}
 
 -- ## One rail

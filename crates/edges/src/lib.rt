@@ -9,37 +9,11 @@ ghost use Rattle.paper.specs.Text.{Text, isDigit};
 ghost use Rattle.paper.specs.Bytes.{tally};
 ghost use Rattle.survey.specs.Bytes.{inFirst, inSecond, wordByte, lineByte};
 ghost use Rattle.survey.specs.Narrow.{narrow as narrowed};
-ghost use Rattle.edges.specs.Held.{partOf, partBy, wordBy, countOf, OneMore, Opened, Broken, Marked, Takes, Closes, Steps, Finishes, answerOf, answerBy, stored, Came, Feeds, Ends, Reads};
-
-// What is due: the `p` line; or, with its bays and rails and how many ends were read since, a rail.
-pub enum Due {
-    Head,
-    Rails(u32, u32, u64),
-}
-
-// The line under way: no byte yet; a comment; broken; how many bytes of the word; the digits and the number so far of the first
-// number; the first number, and the same of the second.
-pub enum Part {
-    Fresh,
-    Comment,
-    Broken,
-    Word(u8),
-    First(u8, u32),
-    Second(u32, u8, u32),
-}
-
-// The file under way: the line's number, whether it broke the layout, whether it has begun, whether a CR is held back, what is due,
-// the last rail, and what is known of the line.
-pub struct Reading {
-    pub line: u64,
-    pub failed: bool,
-    pub begun: bool,
-    pub held: bool,
-    pub due: Due,
-    pub from: u32,
-    pub to: u32,
-    pub part: Part,
-}
+ghost use Rattle.edge_lines.specs.Lines.{partOf, partBy, wordBy, countOf};
+ghost use Rattle.edges.specs.Held.{Steps, Finishes, answerOf, answerBy, stored, Came, Feeds, Ends, Reads};
+use edge_lines::Due;
+use edge_lines::Part;
+use edge_lines::Reading;
 
 // Bays and rail ends of the file, or its first bad line.
 pub enum SurveyRead {
@@ -158,29 +132,6 @@ fn released(due: Due, part: Part, held: bool) -> Part
     if held { on_byte(due, part, 13) } else { part }
 }
 
-// The next line's number.
-fn one_more(n: u64) -> u64
-    ensures { λ r. ⌜ OneMore n r ⌝ }
-{
-    if n < 18446744073709551615 { n + 1 } else { n }
-}
-
-// The next line is due, and the last rail is this one.
-fn opened(s: Reading, due: Due, from: u32, to: u32) -> Reading
-    ensures { λ r. ⌜ Opened s due from to r ⌝ }
-{
-    Reading {
-        line: one_more(s.line),
-        failed: false,
-        begun: false,
-        held: false,
-        due: due,
-        from: from,
-        to: to,
-        part: Part::Fresh,
-    }
-}
-
 // Before the first byte the `p` line is due.
 pub fn start() -> Reading
     ensures { λ r. ⌜ ((room : List ℕ) → Came [] r room room) ⌝ }
@@ -197,77 +148,6 @@ pub fn start() -> Reading
     }
 }
 
-// The line under way breaks the layout.
-fn broken(s: Reading) -> Reading
-    ensures { λ r. ⌜ Broken s r ⌝ }
-{
-    let mut r = s;
-    r.failed = true;
-    r
-}
-
-// The line goes on, and a CR is held back or not.
-fn marked(s: Reading, part: Part, hold: bool) -> Reading
-    ensures { λ r. ⌜ Marked s part hold r ⌝ }
-{
-    let due = s.due;
-    Reading {
-        line: s.line,
-        failed: s.failed,
-        begun: true,
-        held: hold,
-        due: due,
-        from: s.from,
-        to: s.to,
-        part: part,
-    }
-}
-
-// The two numbers of a line: those of the `p` line, or the bays of a rail, from 1.
-fn take(s: Reading, p: u32, n: u32) -> Reading
-    ensures { λ r. ⌜ Takes s p n r ⌝ }
-{
-    let due = s.due;
-    match due {
-        Due::Head => opened(s, Due::Rails(p, n, 0), 0, 0),
-        Due::Rails(bays, rails, ends) => {
-            if ends < 2 * (rails as u64) {
-                if 1 <= p {
-                    if 1 <= n {
-                        return opened(s, Due::Rails(bays, rails, ends + 2), p - 1, n - 1);
-                    }
-                    return broken(s);
-                }
-                return broken(s);
-            }
-            broken(s)
-        }
-    }
-}
-
-// The line under way ends.
-fn closed(s: Reading) -> Reading
-    ensures { λ r. ⌜ Closes s r ⌝ }
-{
-    let part = s.part;
-    match part {
-        Part::Fresh => broken(s),
-        Part::Comment => {
-            let due = s.due;
-            opened(s, due, s.from, s.to)
-        }
-        Part::Broken => broken(s),
-        Part::Word(_) => broken(s),
-        Part::First(_, _) => broken(s),
-        Part::Second(p, k, n) => {
-            if 1 <= k {
-                return take(s, p, n);
-            }
-            broken(s)
-        }
-    }
-}
-
 // One byte of the file.
 fn step(s: Reading, b: u8) -> Reading
     ensures { λ r. ⌜ Steps s b r ⌝ }
@@ -276,15 +156,15 @@ fn step(s: Reading, b: u8) -> Reading
         return s;
     }
     if b == 10 {
-        return closed(s);
+        return edge_lines::closed(s);
     }
     let due = s.due;
     let part = s.part;
     let p = released(due, part, s.held);
     if b == 13 {
-        return marked(s, p, true);
+        return edge_lines::marked(s, p, true);
     }
-    marked(s, on_byte(due, p, b), false)
+    edge_lines::marked(s, on_byte(due, p, b), false)
 }
 
 // The file ends: so does the line under way, if it has begun.
@@ -297,7 +177,7 @@ fn finished(s: Reading) -> Reading
     if s.begun {
         let due = s.due;
         let part = s.part;
-        return closed(marked(s, released(due, part, s.held), false));
+        return edge_lines::closed(edge_lines::marked(s, released(due, part, s.held), false));
     }
     s
 }

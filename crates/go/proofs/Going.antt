@@ -16,10 +16,11 @@ use Rattle.go.specs.Going.{planOf, Linked}
 use Rattle.words.specs.Sets.{span, memRow}
 use Rattle.paper.proofs.Making.{together-assoc, together-none, none-together}
 use Rattle.moving.specs.Placed.{Placed}
-use Rattle.acting.specs.Acting.{Tabled, Tallied, Proceeds, Tries}
+use Rattle.acting.specs.Acting.{Tabled, nothing, Tallied, Proceeds, Tries}
 use Rattle.acting.specs.declared.Tally.{Tally}
 use Rattle.acting.proofs.Acting.{tallied-none, tallied-then, tries-some, tried-done, tried-failed}
 use Rattle.step.specs.Asking.{Loopless}
+use Rattle.go.proofs.Lending.{RestLent, on-the-rest}
 use Rattle.acting.specs.declared.Tried.the-variants.{Done}
 use Rattle.acting.specs.declared.Tried.the-variants.{Failed}
 
@@ -47,16 +48,16 @@ module _ (Y : Yard) (goals : Placement) (r : Carrier) (w : Bay) (ws : List Bay) 
   go-stops e = rw e
 
 -- what is played so far, and what is still to be done
-pub record Going (Y : Yard) (goals : Placement) (r : Carrier) (ahead : List Bay) (n : ℕ) (p : Placement) (out : List ℕ) (at : Tally) (i : ℕ) (p′ standing′ empty′ out′ : List ℕ) (m : Tally) : Type 0 where
+pub record Going (Y : Yard) (goals : Placement) (r : Carrier) (ahead : List Bay) (n : ℕ) (p : Placement) (out : List ℕ) (i : ℕ) (p′ standing′ empty′ out′ : List ℕ) (m : Tally) : Type 0 where
   pub xs : Made
-  pub played : Tallied xs n p p′ standing′ empty′ out at out′ m
+  pub played : Tallied xs n p p′ standing′ empty′ out nothing out′ m
   pub answer : planOf (go Y goals r ahead p) ≡ followedBy xs (planOf (go Y goals r (drop i ahead) p′))
 
-pub going-none : (Y : Yard) (goals : Placement) (r : Carrier) (ahead : List Bay) (n : ℕ) (p standing empty out : List ℕ) (at : Tally) → Placed n p standing empty
-    → Going Y goals r ahead n p out at 0 p standing empty out at
-going-none Y goals r ahead n p standing empty out at k = record {
+pub going-none : (Y : Yard) (goals : Placement) (r : Carrier) (ahead : List Bay) (n : ℕ) (p standing empty out : List ℕ) → Placed n p standing empty
+    → Going Y goals r ahead n p out 0 p standing empty out nothing
+going-none Y goals r ahead n p standing empty out k = record {
   xs = only [];
-  played = tallied-none n p standing empty out at k;
+  played = tallied-none n p standing empty out nothing k;
   answer = plain (planOf (go Y goals r ahead p));
 }
   where
@@ -64,26 +65,26 @@ going-none Y goals r ahead n p standing empty out at k = record {
     plain none = refl
     plain (some m) = ap some (sym (none-together m))
 
-pub going-all : (Y : Yard) (goals : Placement) (r : Carrier) (ahead : List Bay) (n : ℕ) (p out : List ℕ) (at : Tally) (i : ℕ) (p′ standing′ empty′ out′ : List ℕ) (m : Tally)
-    → Going Y goals r ahead n p out at i p′ standing′ empty′ out′ m → length ahead ≤ i → Tries (planOf (go Y goals r ahead p)) n p out at p′ standing′ empty′ out′ (Done m)
-going-all Y goals r ahead n p out at i p′ standing′ empty′ out′ m g h =
+pub going-all : (Y : Yard) (goals : Placement) (r : Carrier) (ahead : List Bay) (n : ℕ) (p out : List ℕ) (i : ℕ) (p′ standing′ empty′ out′ : List ℕ) (m : Tally)
+    → Going Y goals r ahead n p out i p′ standing′ empty′ out′ m → length ahead ≤ i → Tries (planOf (go Y goals r ahead p)) n p out nothing p′ standing′ empty′ out′ (Done m)
+going-all Y goals r ahead n p out i p′ standing′ empty′ out′ m g h =
     let nil : planOf (go Y goals r [] p′) ≡ some (only []) = unfold go in refl in
     let e : planOf (go Y goals r ahead p) ≡ some (g .xs) = g .answer ∙ rw (drop-of-length-le ahead h, nil) (ap some (together-none (g .xs))) in
     tries-some e (g .played)
 
-module _ {Y : Yard} {goals : Placement} {r : Carrier} {ahead : List Bay} {n : ℕ} {p out : List ℕ} {at : Tally} {i : ℕ} {p′ standing′ empty′ out′ : List ℕ} {m : Tally} (g : Going Y goals r ahead n p out at i p′ standing′ empty′ out′ m)
-    (here : i < length ahead) where
-  pub going-more : {q standing″ empty″ out″ : List ℕ} {b : Tally} → Proceeds (step Y r r (getD ahead i 0) p′) n p′ out′ m q standing″ empty″ out″ (Done b)
-      → Going Y goals r ahead n p out at (i + 1) q standing″ empty″ out″ b
-  going-more a =
+module _ {Y : Yard} {goals : Placement} {r : Carrier} {ahead : List Bay} {n : ℕ} {p out : List ℕ} {i : ℕ} {p′ standing′ empty′ out′ : List ℕ} {m : Tally} (g : Going Y goals r ahead n p out i p′ standing′ empty′ out′ m)
+    (here : i < length ahead) {lent rest : List ℕ} {q standing″ empty″ : List ℕ} where
+  pub going-more : {out″ : List ℕ} {b sum : Tally} → RestLent out′ m rest b out″ sum → Proceeds (step Y r r (getD ahead i 0) p′) n p′ lent nothing q standing″ empty″ rest (Done b)
+      → Going Y goals r ahead n p out (i + 1) q standing″ empty″ out″ sum
+  going-more l a =
       let s = tried-done (a .tries) in
       record {
         xs = together (g .xs) (s .0);
-        played = tallied-then (g .played) (s .2);
+        played = tallied-then (g .played) (on-the-rest l (s .2));
         answer = g .answer ∙ rw (drop-cons ahead i 0, go-more Y goals r (getD ahead i 0) (drop (suc i) ahead) p′ (s .0) (s .1), followed-twice, ← add-one, ← (s .2 .moved));
       }
 
-  pub going-stops : {q standing″ empty″ out″ : List ℕ} → Proceeds (step Y r r (getD ahead i 0) p′) n p′ out′ m q standing″ empty″ out″ Failed → planOf (go Y goals r ahead p) ≡ none
+  pub going-stops : Proceeds (step Y r r (getD ahead i 0) p′) n p′ lent nothing q standing″ empty″ rest Failed → planOf (go Y goals r ahead p) ≡ none
   going-stops a = g .answer ∙ rw (drop-cons ahead i 0, go-stops Y goals r (getD ahead i 0) (drop (suc i) ahead) p′ (tried-failed (a .tries)))
 
 -- ## The links

@@ -4,16 +4,15 @@ use mathlib.Core.Path.{_≡_}
 use mathlib.Core.Bool.{true}
 use mathlib.Core.List.{List, [], _∷_}
 use mathlib.Core.Option.{Option, none, some}
-use Prim.Native.Nat.{ℕ, _+_, _*_, _<_}
+use Prim.Native.Nat.{ℕ, _*_, _≤_, _<_}
 use lib.ListN.{length, getD}
 use Rattle.paper.specs.Procedure.{Made, Outcome, planned, stuck, go}
-use Rattle.paper.specs.Yard.{Bay}
-use Rattle.words.specs.Sets.{memRow}
-use Rattle.moving.specs.Bounds.{swap-most, room-step}
-use Rattle.acting.specs.Acting.{Tabled, Within, Tries}
+use Rattle.paper.specs.Yard.{Bay, Carrier}
+use Rattle.words.specs.Sets.{memRow, span}
+use Rattle.moving.specs.Bounds.{swap-most}
+use Rattle.acting.specs.Acting.{Tabled, nothing, Within, Tries}
 use Rattle.acting.specs.declared.Tried.{Tried}
 use Rattle.step.specs.Asking.{Loopless, BaysBelow}
-use Rattle.go.specs.declared.Turn.{Turn}
 
 -- from u a rail leads to the first of the bays, and from each to the next; all of them are among the n
 abbrev pub Linked : ℕ → List ℕ → Bay → List Bay → Type 0
@@ -26,18 +25,18 @@ planOf (planned m) = some m
 planOf (stuck c) = none
 
 -- the bays ahead are linked from the carrier's own on, and the set has the finished carriers' bays
-abbrev pub GoAsks : Turn → List Bay → (table p standing settled : List ℕ) → Type 0
-GoAsks turn ahead table p standing settled =
-    (turn .carrier .0 < length p)
-    × Linked (length standing) table (getD p (turn .carrier .0) 0) ahead
+abbrev pub GoAsks : Carrier → List Bay → (table p standing settled : List ℕ) → Type 0
+GoAsks r ahead table p standing settled =
+    (r < length p)
+    × Linked (length standing) table (getD p r 0) ahead
     × Loopless (length standing) table
-    × (turn .at .crossings + swap-most * length ahead < room-step)
-    × BaysBelow (turn .carrier .0) p settled
+    × (length ahead ≤ span)
+    × BaysBelow r p settled
 
 -- the paper's go, whatever the goals, and the set has the finished carriers' bays after it
-abbrev pub GoSays : Turn → List Bay → (table p standing out p′ standing′ empty′ settled′ out′ : List ℕ) → Tried → Type 0
-GoSays turn ahead table p standing out p′ standing′ empty′ settled′ out′ z =
-    Within (turn .at) (swap-most * length ahead) z
+abbrev pub GoSays : Carrier → List Bay → (table p standing out p′ standing′ empty′ settled′ out′ : List ℕ) → Tried → Type 0
+GoSays r ahead table p standing out p′ standing′ empty′ settled′ out′ z =
+    Within nothing (swap-most * length ahead) z
     × ((t : Tabled (length standing) table) (goals : List ℕ)
-    → Tries (planOf (go (t .yard) goals (turn .carrier .0) ahead p)) (length standing) p out (turn .at) p′ standing′ empty′ out′ z)
-    × BaysBelow (turn .carrier .0) p′ settled′
+    → Tries (planOf (go (t .yard) goals r ahead p)) (length standing) p out nothing p′ standing′ empty′ out′ z)
+    × BaysBelow r p′ settled′

@@ -8,12 +8,6 @@ ghost use Rattle.acting.specs.Acting.{Ready};
 ghost use Rattle.step.specs.Asking.{StepAsks, StepSettles};
 ghost use Rattle.go.specs.Going.{GoAsks, GoSays};
 
-// It is this carrier's turn: those below it are finished, and so much was counted before.
-pub struct Turn {
-    pub carrier: Carrier,
-    pub at: Tally,
-}
-
 // One step of r to w: r crosses at once where w is empty.
 fn advance(
     table: &[u64],
@@ -23,13 +17,12 @@ fn advance(
     empty: &mut [u64],
     settled: &mut [u64],
     out: &mut [u64],
-    at: Tally,
 ) -> Tried
     requires { ⌜ Ready (now table) (now placement) (now standing) (now empty) ⌝ }
-    requires { ⌜ StepAsks next (now table) (now placement) (now standing) (now settled) at ⌝ }
+    requires { ⌜ StepAsks next (now table) (now placement) (now standing) (now settled) ⌝ }
     ensures { λ z. ⌜
         StepSettles next
-        (now (table .entry)) (now (placement .entry)) (now (standing .entry)) (now (out .entry)) at
+        (now (table .entry)) (now (placement .entry)) (now (standing .entry)) (now (out .entry))
         (now (placement .exit)) (now (standing .exit)) (now (empty .exit)) (now (settled .exit)) (now (out .exit)) z
         ⌝ }
 {
@@ -37,16 +30,16 @@ fn advance(
     let w = next.to;
     let bay = w.0 as usize;
     if words::is_in(empty, bay) {
-        return Tried::Done(step::step_in(r, w, placement, standing, empty, settled, out, at));
+        return Tried::Done(step::step_in(r, w, placement, standing, empty, settled, out));
     }
-    step::step(table, next, placement, standing, empty, settled, out, at)
+    step::step(table, next, placement, standing, empty, settled, out)
 }
 
-// Carrier r steps through the bays ahead; the carriers below r are finished, and their bays are the settled ones.
+// Carrier r steps through the bays ahead; the carriers below r are finished, and their bays are the settled ones. Each step is lent the rest of the list.
 pub fn go(
     table: &[u64],
     ahead: &[u16],
-    turn: Turn,
+    r: Carrier,
     placement: &mut [u16],
     standing: &mut [u16],
     empty: &mut [u64],
@@ -54,16 +47,18 @@ pub fn go(
     out: &mut [u64],
 ) -> Tried
     requires { ⌜ Ready (now table) (now placement) (now standing) (now empty) ⌝ }
-    requires { ⌜ GoAsks turn (now ahead) (now table) (now placement) (now standing) (now settled) ⌝ }
+    requires { ⌜ GoAsks (r .0) (now ahead) (now table) (now placement) (now standing) (now settled) ⌝ }
     ensures { λ z. ⌜
-        GoSays turn (now (ahead .entry))
+        GoSays (r .0) (now (ahead .entry))
         (now (table .entry)) (now (placement .entry)) (now (standing .entry)) (now (out .entry))
         (now (placement .exit)) (now (standing .exit)) (now (empty .exit)) (now (settled .exit)) (now (out .exit)) z
         ⌝ }
 {
-    let r = turn.carrier;
     let finished = r.0 as usize;
-    let mut count = turn.at;
+    let mut count = Tally {
+        crossings: 0,
+        parked: 0,
+    };
     let mut i = 0;
     while i < ahead.len() {
         let w = Bay(ahead[i]);
@@ -72,15 +67,20 @@ pub fn go(
             carrier: r,
             to: w,
         };
-        let one = advance(table, next, placement, standing, empty, settled, out, count);
-        let Tried::Done(done) = one else {
+        let from = clear_on::place_in(out, count.crossings);
+        let one = advance(
+            table,
+            next,
+            placement,
+            standing,
+            empty,
+            settled,
+            &mut out[from..],
+        );
+        let Tried::Done(made) = one else {
             return Tried::Failed;
         };
-        let m = Tally {
-            crossings: done.crossings,
-            parked: done.parked,
-        };
-        count = m;
+        count = acting::add(count, made);
         i += 1;
     }
     Tried::Done(count)

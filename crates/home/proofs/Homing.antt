@@ -17,11 +17,12 @@ use Rattle.paper.proofs.Playing.{Apart}
 use Rattle.paper.proofs.Tests.{never, by-cases}
 use Rattle.words.specs.Sets.{span}
 use Rattle.moving.specs.Placed.{Placed}
-use Rattle.acting.specs.Acting.{Tabled, Tallied, Proceeds}
+use Rattle.acting.specs.Acting.{Tabled, nothing, Tallied, Proceeds}
 use Rattle.acting.specs.declared.Tally.{Tally}
 use Rattle.acting.proofs.Acting.{tallied-none, tallied-then, tried-done, tried-failed}
 use Rattle.step.specs.Asking.{Loopless}
 use Rattle.go.specs.Going.{Linked}
+use Rattle.go.proofs.Lending.{RestLent, on-the-rest}
 use Rattle.home.proofs.Settling.{Settled, Homeward, due, homed}
 use Rattle.acting.specs.declared.Tried.the-variants.{Done}
 use Rattle.acting.specs.declared.Tried.the-variants.{Failed}
@@ -140,19 +141,18 @@ module _ (Y : Yard) (goals : Placement) (finished : ℕ) (p : Placement) where
   stuck-whole (v ∷ vs) (suc i) c e = rw (stuck-whole vs i c e)
 
 module _ {Y : Yard} {goals : Placement} {finished : ℕ} {bays : List Bay} {n : ℕ} {p out : List ℕ} {at : Tally} {i : ℕ} {p′ standing′ empty′ out′ : List ℕ} {m : Tally}
-    (g : Homed Y goals finished bays n p out at (i + 1) p′ standing′ empty′ out′ m) (here : i < length bays) where
-  pub homed-more : {q standing″ empty″ out″ : List ℕ} {b : Tally} → Stages (homeAt Y goals finished (getD bays i 0) p′) n p′ out′ m q standing″ empty″ out″ (Planned b)
-      → Homed Y goals finished bays n p out at i q standing″ empty″ out″ b
-  homed-more {b = b} s =
+    (g : Homed Y goals finished bays n p out at (i + 1) p′ standing′ empty′ out′ m) (here : i < length bays) {lent rest q standing″ empty″ : List ℕ} where
+  pub homed-more : {out″ : List ℕ} {b sum : Tally} → RestLent out′ m rest b out″ sum → Stages (homeAt Y goals finished (getD bays i 0) p′) n p′ lent nothing q standing″ empty″ rest (Planned b)
+      → Homed Y goals finished bays n p out at i q standing″ empty″ out″ sum
+  homed-more {b = b} l s =
       let w = s .plans b refl in
       record {
         xs = together (g .xs) (w .0);
         answer = rw (drop-cons bays i 0) (home-cons Y goals finished p (getD bays i 0) (drop (suc i) bays) (g .xs) (w .0) (rw add-one at (g .answer)) (rw (g .played .moved) at (w .1)));
-        played = tallied-then (g .played) (w .2);
+        played = tallied-then (g .played) (on-the-rest l (w .2));
       }
 
-  pub homed-stops : {q standing″ empty″ out″ : List ℕ} {c : Named} → Stages (homeAt Y goals finished (getD bays i 0) p′) n p′ out′ m q standing″ empty″ out″ (Stuck c)
-      → wayHome Y goals finished bays p ≡ stuck (c .0)
+  pub homed-stops : {c : Named} → Stages (homeAt Y goals finished (getD bays i 0) p′) n p′ lent nothing q standing″ empty″ rest (Stuck c) → wayHome Y goals finished bays p ≡ stuck (c .0)
   homed-stops {c = c} s =
       stuck-whole Y goals finished p bays i (c .0)
       (rw (drop-cons bays i 0) (stuck-cons Y goals finished p (getD bays i 0) (drop (suc i) bays) (g .xs) (c .0) (rw add-one at (g .answer)) (rw (g .played .moved) at (s .stops c refl))))
@@ -175,10 +175,10 @@ linked-all n table u (x ∷ xs) l (suc i) h k = linked-all n table x xs l i (ome
 
 -- ## The turns
 
-pub at-most : {at : Tally} {k : ℕ} {m : Tally} → m .crossings ≤ at .crossings + k → AtMost at k (Planned m)
+pub at-most : {k : ℕ} {m : Tally} → m .crossings ≤ k → AtMost k (Planned m)
 at-most {m = m} h = record { few = λ b e. let same : m ≡ b = cc in rw same at h }
 
-pub at-most-stuck : {at : Tally} {k : ℕ} {c : Named} → AtMost at k (Stuck c)
+pub at-most-stuck : {k : ℕ} {c : Named} → AtMost k (Stuck c)
 at-most-stuck = record { few = λ b e. never (cc) }
 
 module _ {n : ℕ} {table goals : List ℕ} {finished : ℕ} {bays p₀ : List ℕ} (h : Homeward n table goals finished bays p₀) (goals-apart : Apart goals) (hf : finished ≤ length goals)

@@ -3,13 +3,13 @@
 use mathlib.Core.Path.{_≡_}
 use mathlib.Core.Bool.{true}
 use mathlib.Core.List.{List}
-use Prim.Native.Nat.{ℕ, _≤_, _<_, _+_}
+use Prim.Native.Nat.{ℕ, _≤_, _<_}
 use lib.ListN.{length, getD}
 use Rattle.paper.specs.Procedure.{Made, Outcome, planned, stuck, homeAt}
 use Rattle.paper.specs.Yard.{Bay, Yard, Placement, bayOf, carrierAt}
 use Rattle.words.specs.Sets.{memRow}
-use Rattle.moving.specs.Bounds.{swap-most, room-step}
-use Rattle.acting.specs.Acting.{Tabled, Tallied}
+use Rattle.moving.specs.Bounds.{swap-most}
+use Rattle.acting.specs.Acting.{Tabled, nothing, Tallied}
 use Rattle.acting.specs.declared.Tally.{Tally}
 use Rattle.step.specs.Asking.{Loopless, BaysBelow}
 use Rattle.home.specs.declared.HomeBay.{HomeBay}
@@ -22,9 +22,9 @@ pub record Owners (n : ℕ) (goals owner : List ℕ) : Type 0 where
   pub many : n ≤ length owner
   pub whose : (b : ℕ) → b < n → getD owner b 0 ≡ carrierAt goals b
 
--- at most k crossings were counted
-pub record AtMost (at : Tally) (k : ℕ) (z : Staged) : Type 0 where
-  pub few : (m : Tally) → z ≡ Planned m → m .crossings ≤ at .crossings + k
+-- at most k crossings were made
+pub record AtMost (k : ℕ) (z : Staged) : Type 0 where
+  pub few : (m : Tally) → z ≡ Planned m → m .crossings ≤ k
 
 -- as the paper's stage: what it makes was played, or the carrier that it names could not step
 pub record Stages (o : Outcome) (n : ℕ) (p out : List ℕ) (at : Tally) (p′ standing′ empty′ out′ : List ℕ) (z : Staged) : Type 0 where
@@ -49,16 +49,15 @@ HomeAsks home owner table p standing settled =
     × (home .bay .0 < length standing)
     × (length standing ≤ length owner)
     × Loopless (length standing) table
-    × (home .at .crossings < room-step)
     × Due table (getD owner (home .bay .0) 0) (home .finished) (home .bay .0) p
     × BaysBelow (home .finished) p settled
 
 -- the paper's stage at the bay, for all goals whose owners these are, and the set has the finished carriers' bays after it
 abbrev pub HomeSays : HomeBay → (owner table p standing out p′ standing′ empty′ settled′ out′ : List ℕ) → Staged → Type 0
 HomeSays home owner table p standing out p′ standing′ empty′ settled′ out′ z =
-    AtMost (home .at) swap-most z
+    AtMost swap-most z
     × ((t : Tabled (length standing) table) (goals : Placement)
     → home .finished ≤ length goals
     → Owners (length standing) goals owner
-    → Stages (homeAt (t .yard) goals (home .finished) (home .bay .0) p) (length standing) p out (home .at) p′ standing′ empty′ out′ z)
+    → Stages (homeAt (t .yard) goals (home .finished) (home .bay .0) p) (length standing) p out nothing p′ standing′ empty′ out′ z)
     × BaysBelow (home .finished) p′ settled′

@@ -7,17 +7,16 @@ use step::NextStep;
 ghost use Rattle.acting.specs.Acting.{Ready};
 ghost use Rattle.home.specs.Homing.{HomeAsks, HomeSays};
 
-// The tally afterwards, or the carrier that could not step.
+// The tally of what was made, or the carrier that could not step.
 pub enum Staged {
     Planned(Tally),
     Stuck(Carrier),
 }
 
-// The way home has come to this bay. The carriers below `finished` are finished, and so much was counted before.
+// The way home has come to this bay. The carriers below `finished` are finished.
 pub struct HomeBay {
     pub finished: usize,
     pub bay: Bay,
-    pub at: Tally,
 }
 
 // The finished carrier whose goal is v, if it is not there, steps to it. The table of whose goal each bay is tells which one that is.
@@ -39,9 +38,12 @@ pub fn home_at(
         (now (placement .exit)) (now (standing .exit)) (now (empty .exit)) (now (settled .exit)) (now (out .exit)) z
         ⌝ }
 {
-    let at = home.at;
     let v = home.bay;
     let finished = home.finished;
+    let at = Tally {
+        crossings: 0,
+        parked: 0,
+    };
     let bay = v.0 as usize;
     let c = owner[bay] as usize;
     if finished <= c {
@@ -56,13 +58,13 @@ pub fn home_at(
         carrier: f,
         to: v,
     };
-    let one = step::step(table, next, placement, standing, empty, settled, out, at);
+    let one = step::step(table, next, placement, standing, empty, settled, out);
     let Tried::Done(done) = one else {
         return Staged::Stuck(f);
     };
-    let m = Tally {
+    let made = Tally {
         crossings: done.crossings,
         parked: done.parked,
     };
-    Staged::Planned(m)
+    Staged::Planned(made)
 }

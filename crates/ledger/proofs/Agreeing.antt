@@ -1,6 +1,6 @@
--- Whether record and lines agree, and the agreement test, way out by way out. What agrees has small numbers, so the step has room.
+-- The agreement test, way out by way out. What agrees has small numbers, so the step has room.
 use mathlib.Core.Path.{_≡_, sym, _∙_, ap}
-use mathlib.Core.Bool.{Bool, true, false}
+use mathlib.Core.Bool.{true, false}
 use mathlib.Core.List.{List, [], _∷_}
 use mathlib.Core.Option.{none, some}
 use Prim.Native.Nat.{ℕ, _<_, _≤_}
@@ -8,8 +8,6 @@ use native.Mathlib.Omega.{arith}
 use lib.Dec.{eqb}
 use lib.ListN.{length, getD, length-map, length-take}
 use lib.Seq.{getD-take}
-use Rattle.paper.specs.Basics.{_and_}
-use Rattle.paper.specs.Limits.{most-bays}
 use Rattle.paper.specs.Yard.{Carrier, Placement, Crossing, crossings, named}
 use Rattle.paper.specs.Order.{Order}
 use Rattle.paper.specs.Dependence.{done, doneOf, countOf}
@@ -17,19 +15,19 @@ use Rattle.paper.proofs.Tests.{by-cases}
 use Rattle.paper.proofs.Packing.{named-is}
 use Rattle.docket.specs.Reading.{refusalOf}
 use Rattle.docket.specs.declared.Refusal.{Refusal}
-use Rattle.bills.specs.Billing.{recordOf, linesOf, lineOf, noLine}
-use Rattle.bills.specs.Answering.{sameRecord, sameLines, agrees, differs, refused, upToEleven, agreement, agree}
+use Rattle.bills.specs.Billing.{lineOf, noLine}
+use Rattle.bills.specs.Answering.{agrees, differs, refused, upToEleven, agreement, agree}
 use Rattle.bills.specs.declared.Line.{Line}
 use Rattle.bills.specs.declared.Record.{Record}
 use Rattle.bills.proofs.Stepping.{line-at, lines-long}
 use Rattle.bills.proofs.Same.{Afresh}
 use Rattle.bills.proofs.Keeping.{agrees-exactly}
-use Rattle.ledger.specs.Lines.{gathered, lineAt, linesHeld}
-use Rattle.ledger.specs.Statements.{Fit, allSame, SettleAsks}
-use Rattle.ledger.specs.declared.Held.{Held}
-use Rattle.ledger.proofs.Laid.{held-taken}
-use Rattle.ledger.proofs.Refusing.{fit-of}
-use Rattle.ledger.proofs.Standing.{fits-all}
+use Rattle.held_lines.specs.Lines.{lineAt, linesHeld}
+use Rattle.held_lines.specs.declared.HeldLines.{HeldLines}
+use Rattle.settling.specs.Statements.{SettleAsks}
+use Rattle.agreeing.specs.Statements.{Fit, allSame}
+use Rattle.agreeing.proofs.Refusing.{fit-of}
+use Rattle.agreeing.proofs.Standing.{fits-all}
 
 -- no more are done than there are, nor billed than are done
 done-few : (xs : List Crossing) (ms : List ℕ) → length (doneOf xs ms) ≤ length xs
@@ -43,25 +41,7 @@ unfolding countOf
 count-few c [] = omega arith
 count-few c (x ∷ xs) = let ih = count-few c xs in by-cases (eqb (x .carrier) c) (λ e. rw e (omega arith)) (λ e. rw e (omega arith))
 
-module _ (starts : Placement) (plan marks : List ℕ) (fit : Fit starts plan marks) (rec : Record) (held : Held) where
-  abbrev afresh : List Line
-  afresh = linesOf (length starts) (crossings plan) marks
-
-  afresh-few : length afresh < most-bays
-  afresh-few = rw lines-long (fit .few)
-
-  pub fresh-few : (fresh : Held) → fresh ≡ gathered afresh → fresh .count < most-bays
-  fresh-few fresh e = rw (ap (λ (h : Held). h .count) e) afresh-few
-
-  pub agree-not : sameRecord rec (recordOf starts (crossings plan) marks) ≡ false → false ≡ allSame starts plan marks rec held
-  unfolding _and_
-  agree-not d = sym (rw d)
-
-  pub agree-lines : sameRecord rec (recordOf starts (crossings plan) marks) ≡ true → (fresh : Held) → fresh ≡ gathered afresh
-      → (r : Bool) → r ≡ sameLines (linesHeld held) (linesHeld fresh) → r ≡ allSame starts plan marks rec held
-  unfolding _and_
-  agree-lines t fresh e r s = s ∙ ap (sameLines (linesHeld held)) (ap linesHeld e ∙ held-taken afresh (omega (arith, afresh-few))) ∙ sym (rw t)
-
+module _ (starts : Placement) (plan marks : List ℕ) (fit : Fit starts plan marks) (rec : Record) (held : HeldLines) where
   -- where they agree, record and lines have room for one more
   pub room-to-settle : Afresh starts plan marks rec (linesHeld held) → SettleAsks plan marks rec held
   room-to-settle f =
@@ -85,7 +65,7 @@ module _ (starts : Placement) (plan marks : List ℕ) (fit : Fit starts plan mar
           sym (getD-take (held .count) (held .lines) c noLine (omega (arith, long, h))) ∙ ap (λ (ls : List Line). getD ls c noLine) (f .1)
           ∙ line-at (length starts) (crossings plan) marks c noLine h
 
-module _ (o : Order) (plan marks : List ℕ) (rec : Record) (held : Held) where
+module _ (o : Order) (plan marks : List ℕ) (rec : Record) (held : HeldLines) where
   pub compare-refused : (r : Refusal) → some (refusalOf r) ≡ upToEleven o plan marks
       → refused (refusalOf r) ≡ agreement o plan marks rec (linesHeld held)
   unfolding agreement

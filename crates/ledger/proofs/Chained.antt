@@ -12,12 +12,12 @@ use Rattle.bills.specs.Answering.{agrees, upToEleven, opening, agreement}
 use Rattle.bills.specs.declared.Record.{Record}
 use Rattle.bills.proofs.Same.{Afresh}
 use Rattle.bills.proofs.Keeping.{eleven-exactly, agrees-exactly, billing-told, reported-afresh}
-use Rattle.ledger.specs.Lines.{linesHeld}
+use Rattle.held_lines.specs.Lines.{linesHeld}
 use Rattle.ledger.specs.Statements.{agreementOf, OpenSays, BillingSays}
-use Rattle.ledger.specs.declared.Held.{Held}
+use Rattle.held_lines.specs.declared.HeldLines.{HeldLines}
 use Rattle.ledger.specs.declared.Agreement.{Agreement}
 use Rattle.ledger.specs.declared.Opening.{Opening}
-use Rattle.ledger.specs.declared.Told.{Told}
+use Rattle.settling.specs.declared.Settlement.{Settlement}
 use Rattle.ledger.proofs.Opened.{opened-afresh}
 use Rattle.ledger.proofs.Lent.{settled-held}
 
@@ -30,8 +30,8 @@ module _ (given : Order) (plan marks : List ℕ) where
       h ∙ agrees-exactly given plan marks (o .running) (linesHeld (o .held)) .1
       (none-both (upToEleven given plan marks) _ u .0, opened-afresh given plan marks rec count o s u)
 
-  module _ (passes : upToEleven given plan marks ≡ none) (rec : Record) (held : Held) (f : Afresh (given .starts) plan marks rec (linesHeld held)) where
-    module _ (name : ℕ) (r : Told) (marks′ : List ℕ) (s : BillingSays given plan marks name rec held r marks′) where
+  module _ (passes : upToEleven given plan marks ≡ none) (rec : Record) (held : HeldLines) (f : Afresh (given .starts) plan marks rec (linesHeld held)) where
+    module _ (name : ℕ) (r : Settlement) (marks′ : List ℕ) (s : BillingSays given plan marks name rec held r marks′) where
       -- a report on it is never 19: it answers what the report without a record does,
       pub told-as-report : reportOf (r .answer) ≡ report given plan marks name
       told-as-report =

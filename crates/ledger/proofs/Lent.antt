@@ -25,12 +25,12 @@ use Rattle.bills.specs.declared.Record.{Record}
 use Rattle.bills.proofs.Stepping.{lines-long}
 use Rattle.bills.proofs.Same.{agree-exactly, other-length}
 use Rattle.bills.proofs.Keeping.{accepts-accept, accepts-exactly}
-use Rattle.ledger.specs.Lines.{gathered, linesHeld}
+use Rattle.held_lines.specs.Lines.{gathered, linesHeld}
 use Rattle.ledger.specs.Statements.{BillingSays}
-use Rattle.ledger.specs.declared.Held.{Held}
-use Rattle.ledger.specs.declared.Told.{Told}
-use Rattle.ledger.proofs.Laid.{held-at, held-long, held-taken}
-use Rattle.ledger.proofs.Refusing.{fit-of}
+use Rattle.held_lines.specs.declared.HeldLines.{HeldLines}
+use Rattle.settling.specs.declared.Settlement.{Settlement}
+use Rattle.held_lines.proofs.Laid.{held-at, held-long, held-taken}
+use Rattle.agreeing.proofs.Refusing.{fit-of}
 
 module _ (o : Order) (plan marks : List ℕ) (rec : Record) (lines : List Line) where
   agree-lent : none ≡ upToEleven o plan marks
@@ -66,14 +66,14 @@ module _ (o : Order) (plan marks : List ℕ) (rec : Record) (lines : List Line) 
       )
 
   -- what a report says of lines that are lent
-  pub record Settled (name : ℕ) (r : Told) (marks′ : List ℕ) : Type 0 where
+  pub record ReportOnLent (name : ℕ) (r : Settlement) (marks′ : List ℕ) : Type 0 where
     pub answers : reportOf (r .answer) ≡ billing o plan marks rec lines name
     pub marks-then : marks′ ≡ marksThen o plan marks rec lines name
     pub leaves : r .running ≡ recordThen o plan marks rec lines name
     pub lines-then : set lines (r .at) (r .line) ≡ linesThen o plan marks rec lines name
 
-  module _ (name : ℕ) (r : Told) (marks′ : List ℕ) where
-    pub settled-lent : BillingSays o plan marks name rec (gathered lines) r marks′ → Settled name r marks′
+  module _ (name : ℕ) (r : Settlement) (marks′ : List ℕ) where
+    pub settled-lent : BillingSays o plan marks name rec (gathered lines) r marks′ → ReportOnLent name r marks′
     unfolding marksThen recordThen linesThen
     settled-lent s =
         let b = billing-lent name in
@@ -94,16 +94,16 @@ module _ (o : Order) (plan marks : List ℕ) (rec : Record) (lines : List Line) 
         }
 
   -- the same where what is held is known to be these lines
-  pub agreement-of-lent : (held : Held) → held ≡ gathered lines → {a : Agreement} → a ≡ agreement o plan marks rec (linesHeld held)
+  pub agreement-of-lent : (held : HeldLines) → held ≡ gathered lines → {a : Agreement} → a ≡ agreement o plan marks rec (linesHeld held)
       → a ≡ agreement o plan marks rec lines
-  agreement-of-lent held e h = h ∙ ap (λ (g : Held). agreement o plan marks rec (linesHeld g)) e ∙ agreement-lent
+  agreement-of-lent held e h = h ∙ ap (λ (g : HeldLines). agreement o plan marks rec (linesHeld g)) e ∙ agreement-lent
 
-  pub settled-of-lent : (held : Held) → held ≡ gathered lines → (name : ℕ) (r : Told) (marks′ : List ℕ)
-      → BillingSays o plan marks name rec held r marks′ → Settled name r marks′
-  settled-of-lent held e name r marks′ s = settled-lent name r marks′ (subst (λ (g : Held). BillingSays o plan marks name rec g r marks′) e s)
+  pub settled-of-lent : (held : HeldLines) → held ≡ gathered lines → (name : ℕ) (r : Settlement) (marks′ : List ℕ)
+      → BillingSays o plan marks name rec held r marks′ → ReportOnLent name r marks′
+  settled-of-lent held e name r marks′ s = settled-lent name r marks′ (subst (λ (g : HeldLines). BillingSays o plan marks name rec g r marks′) e s)
 
 -- The same by value: what is held, with the one line set, is what the report leaves.
-module _ (o : Order) (plan marks : List ℕ) (rec : Record) (held : Held) (name : ℕ) (r : Told) (marks′ : List ℕ) where
+module _ (o : Order) (plan marks : List ℕ) (rec : Record) (held : HeldLines) (name : ℕ) (r : Settlement) (marks′ : List ℕ) where
   pub settled-held : BillingSays o plan marks name rec held r marks′
       → set (linesHeld held) (r .at) (r .line) ≡ linesThen o plan marks rec (linesHeld held) name
   unfolding linesThen

@@ -1,11 +1,6 @@
-pub mod Laid
-pub mod Standing
-pub mod Listing
-pub mod Worked
-pub mod Refusing
-pub mod Agreeing
+mod Agreeing
 pub mod Opened
-pub mod Settling
+mod Reporting
 pub mod Lent
 pub mod Chained
 pub mod Determined

@@ -5,7 +5,7 @@ use mathlib.Core.Option.{none, some}
 use Prim.Native.Nat.{ℕ, _≤_, _<_}
 use native.Mathlib.Omega.{arith}
 use borrow.Author.Tests.{not-false, eqb-true, eq-eqb, ne-eqb}
-use lib.ListN.{length, take, drop, drop-of-length-le}
+use lib.ListN.{length, drop, drop-of-length-le}
 use Rattle.paper.specs.Limits.{most-bays}
 use Rattle.paper.specs.Yard.{crossings}
 use Rattle.paper.specs.Order.{Order}
@@ -22,15 +22,15 @@ use Rattle.bills.specs.declared.Line.{Line}
 use Rattle.bills.specs.declared.Record.{Record}
 use Rattle.bills.proofs.Stepping.{lines-long}
 use Rattle.bills.proofs.Same.{Afresh}
-use Rattle.ledger.specs.Lines.{noLines, heldOf, laid, gathered, linesHeld}
+use Rattle.held_lines.specs.Lines.{noLines, heldOf, laid, gathered, linesHeld}
 use Rattle.ledger.specs.Statements.{OpenSays}
-use Rattle.ledger.specs.declared.Held.{Held}
+use Rattle.held_lines.specs.declared.HeldLines.{HeldLines}
 use Rattle.ledger.specs.declared.Opening.{Opening}
-use Rattle.ledger.proofs.Laid.{held-long, held-taken}
-use Rattle.ledger.proofs.Refusing.{fit-of}
+use Rattle.held_lines.proofs.Laid.{held-long, held-taken}
+use Rattle.agreeing.proofs.Refusing.{fit-of}
 
 module _ (o : Order) (plan marks : List ℕ) (rec : Record) (count : ℕ) where
-  pub open-refused : (r : Refusal) (held : Held) → held ≡ heldOf 0 noLines → some (refusalOf r) ≡ opening o plan marks count
+  pub open-refused : (r : Refusal) (held : HeldLines) → held ≡ heldOf 0 noLines → some (refusalOf r) ≡ opening o plan marks count
       → OpenSays o plan marks rec count (record { answer = checked.Refused r; running = rec; held = held })
   unfolding openedRecord laid
   open-refused r held e h = record { answers = h; leaves = rw (← h); holds = e ∙ rw (← h) }
@@ -45,7 +45,7 @@ module _ (o : Order) (plan marks : List ℕ) (rec : Record) (count : ℕ) where
     then-room d = rw (← passes, ne-eqb count (length (o .starts)) d)
 
     pub open-written : count ≡ length (o .starts) → (running : Record) → running ≡ recordOf (o .starts) (crossings plan) marks
-        → (held : Held) → held ≡ gathered (linesOf count (crossings plan) marks)
+        → (held : HeldLines) → held ≡ gathered (linesOf count (crossings plan) marks)
         → OpenSays o plan marks rec count (record { answer = checked.Passed; running = running; held = held })
     unfolding opening openedRecord
     open-written k running er held eh =
@@ -84,26 +84,26 @@ module _ (o : Order) (plan marks : List ℕ) (rec : Record) (count : ℕ) where
     pub held-few : r .held .count ≤ most-bays
     held-few =
         by-opening
-        (λ x u e. omega (arith, ap (λ (h : Held). h .count) e))
-        (λ u k few e. omega (arith, ap (λ (h : Held). h .count) e, lines-long (length (o .starts)) (crossings plan) marks, few))
+        (λ x u e. omega (arith, ap (λ (h : HeldLines). h .count) e))
+        (λ u k few e. omega (arith, ap (λ (h : HeldLines). h .count) e, lines-long (length (o .starts)) (crossings plan) marks, few))
 
     pub held-room : r .held .count ≤ count
     held-room =
         by-opening
-        (λ x u e. omega (arith, ap (λ (h : Held). h .count) e))
-        (λ u k few e. omega (arith, ap (λ (h : Held). h .count) e, lines-long (length (o .starts)) (crossings plan) marks, k))
+        (λ x u e. omega (arith, ap (λ (h : HeldLines). h .count) e))
+        (λ u k few e. omega (arith, ap (λ (h : HeldLines). h .count) e, lines-long (length (o .starts)) (crossings plan) marks, k))
 
     pub held-whole : length (r .held .lines) ≡ most-bays
-    held-whole = by-opening (λ x u e. ap (λ (h : Held). length (h .lines)) e ∙ held-long []) (λ u k few e. ap (λ (h : Held). length (h .lines)) e ∙ held-long fresh)
+    held-whole = by-opening (λ x u e. ap (λ (h : HeldLines). length (h .lines)) e ∙ held-long []) (λ u k few e. ap (λ (h : HeldLines). length (h .lines)) e ∙ held-long fresh)
 
     pub lines-filled : (lines : List Line) → length lines ≡ count
         → linesHeld (r .held) ++ drop (r .held .count) lines ≡ openedLines o plan marks lines
     unfolding openedLines laid
     lines-filled lines l =
         by-opening
-        (λ x u e. ap (λ (h : Held). linesHeld h ++ drop (h .count) lines) e ∙ rw (l, u))
+        (λ x u e. ap (λ (h : HeldLines). linesHeld h ++ drop (h .count) lines) e ∙ rw (l, u))
         (λ u k few e.
         let many : length fresh ≡ length (o .starts) = lines-long (length (o .starts)) (crossings plan) marks in
         let rest : drop (length fresh) lines ≡ [] = drop-of-length-le lines {i = length fresh} (omega (arith, l, many, k)) in
-        ap (λ (h : Held). linesHeld h ++ drop (h .count) lines) e
+        ap (λ (h : HeldLines). linesHeld h ++ drop (h .count) lines) e
         ∙ ap₂ (λ (a b : List Line). a ++ b) (held-taken fresh (omega (arith, many, few))) rest ∙ append-nil fresh ∙ rw (l, u))

@@ -12,7 +12,7 @@ use Rattle.paper.specs.Yard.{Bay}
 use Rattle.paper.specs.Text.{Text, Read, good, badLine}
 use Rattle.paper.specs.Map.{Grid, readMap, cells, bayCount}
 use Rattle.paper.specs.Bytes.{State, Under}
-use Rattle.paper.proofs.Tests.{never, not-both}
+use Rattle.paper.proofs.Tests.{never, not-both, by-read}
 use Rattle.docket.specs.declared.Refusal.the-variants as docket
 use Rattle.stores.proofs.Stores.{wrote-stands}
 use Rattle.gridmap.specs.declared.Grid.{Grid as Held}
@@ -26,7 +26,7 @@ use Rattle.scenario.specs.Under.{stateOf, startsOf, goalsOf, dueOf, readOf, ans
 use Rattle.scenario.proofs.Ending.{answer-is, read-good}
 use Rattle.docket.specs.declared.Verdict.the-variants as verdict
 use Rattle.paper.specs.Docket.{granted}
-use Rattle.readers.proofs.Whole.{by-read, map-bad}
+use Rattle.readers.proofs.Whole.{map-bad}
 use Rattle.link.specs.declared.Kept.{Kept}
 use Rattle.link.specs.declared.Link.{Link}
 use Rattle.link.specs.declared.Said.the-variants as said

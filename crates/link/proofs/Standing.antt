@@ -8,6 +8,7 @@ use lib.Dec.{eqb}
 use lib.ListN.{length, take, drop, take-append-drop}
 use lib.Seq.{sets, sets-eq, length-take-le}
 use borrow.Author.Tests.{ne-eqb}
+use Rattle.lists.proofs.Lists.{no-length}
 use Rattle.paper.specs.Limits.{most-carriers}
 use Rattle.paper.specs.Yard.{Bay}
 use Rattle.paper.specs.Bytes.{State, failed, going, Under, inVersion, inCarrier}
@@ -79,10 +80,6 @@ stored-in l a b =
     }
 
 -- ## What a reading leaves
-no-length : {A : Type 0} (l : List A) → length l ≡ 0 → l ≡ []
-no-length [] h = refl
-no-length (x ∷ l) h = absurd (omega arith)
-
 module _ (r : Reading) (o : Sound r) (cs : List (Bay × Bay)) where
   -- it is what the state asks for,
   pub kept-state : length cs ≡ r .count → keptOf r ≡ keptBy (stateOf r cs)

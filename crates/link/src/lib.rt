@@ -1,20 +1,15 @@
-// A scenario over the serial link, in pieces of at most PIECE bytes: its state by value, and the three calls, begin, piece and end. The
-// state is plain numbers, so that any bytes which a caller lends are some state.
-use docket::Refusal;
+// A scenario over the serial link, in pieces of at most PIECE bytes: its state by value. It is plain numbers, so that any bytes which a
+// caller lends are some state.
 use docket::Verdict;
 use fields::FieldSeen;
 use fields::FieldsPast;
 use fields::TextSeen;
-use gridmap::Grid;
-use gridmap::MapRead;
 use scenario::Reading;
-use scenario::ScenarioRead;
 ghost use mathlib.Core.Path.{_≡_};
-ghost use Rattle.paper.specs.Map.{readMap};
-ghost use Rattle.link.specs.Link.{yesOf, bitOf, readingIn, keptOf, FedSays, OverSays, BeginSays, PieceSays, EndSays};
+ghost use Rattle.link.specs.Link.{yesOf, bitOf, readingIn, keptOf};
 
 // The bytes of the longest piece.
-const PIECE: usize = 256;
+pub const PIECE: usize = 256;
 
 // What is known of the line under way. A number that says yes or no says no where it is 0. The spare byte is 0: with it the struct has no gaps,
 // so that a caller may compare two states byte by byte.
@@ -80,7 +75,7 @@ fn bit(b: bool) -> u8
 }
 
 // The reading that the numbers stand for.
-fn reading(k: Kept) -> Reading
+pub fn reading(k: Kept) -> Reading
     ensures { λ r. ⌜ r ≡ readingIn k ⌝ }
 {
     let version = yes(k.version);
@@ -116,7 +111,7 @@ fn reading(k: Kept) -> Reading
 }
 
 // The numbers of a reading, 0 where nothing of it is read any more.
-fn keep(r: Reading) -> Kept
+pub fn keep(r: Reading) -> Kept
     ensures { λ k. ⌜ k ≡ keptOf r ⌝ }
 {
     let mut k = Kept {
@@ -164,132 +159,4 @@ fn keep(r: Reading) -> Kept
     k.plain = bit(r.field.plain);
     k.figure = bit(r.field.figure);
     k
-}
-
-// The scenario is due, on this map. A map that breaks its layout leaves the link as it was.
-pub fn begin(link: Link, map: &[u8]) -> Turn
-    ensures { λ r. ⌜ BeginSays (readMap (now (map .entry))) link r ⌝ }
-{
-    let mut cells = [0u16; 4096];
-    let found = gridmap::read(map, &mut cells);
-    match found {
-        MapRead::Grid(grid) => {
-            let start = [0u16; paper::CARRIERS];
-            let goal = [0u16; paper::CARRIERS];
-            Turn {
-                said: Said::Told(Verdict::Granted(0)),
-                link: Link {
-                    start: start,
-                    goal: goal,
-                    cells: cells,
-                    kept: keep(scenario::start()),
-                    phase: 1,
-                    height: grid.height,
-                    width: grid.width,
-                },
-            }
-        }
-        MapRead::Bad(line) => Turn {
-            said: Said::Told(Verdict::Denied(Refusal::BadMap(line))),
-            link: link,
-        },
-    }
-}
-
-// The bytes of a piece are read on. Once the layout is broken no carrier is stored any more.
-fn fed(link: Link, bytes: &[u8]) -> Link
-    ensures { λ r. ⌜ FedSays link (now (bytes .entry)) r ⌝ }
-{
-    let mut starts = link.start;
-    let mut goals = link.goal;
-    let cells = link.cells;
-    let grid = Grid {
-        height: link.height,
-        width: link.width,
-        bays: 0,
-    };
-    let r = scenario::feed(
-        reading(link.kept),
-        bytes,
-        grid,
-        &cells,
-        &mut starts,
-        &mut goals,
-    );
-    let k = keep(r);
-    let mut next = link;
-    next.kept = k;
-    if r.failed {
-        return next;
-    }
-    next.start = starts;
-    next.goal = goals;
-    next
-}
-
-// A piece: 17, then 18, then it is read and more is due.
-pub fn piece(link: Link, bytes: &[u8]) -> Turn
-    ensures { λ r. ⌜ PieceSays link (now (bytes .entry)) r ⌝ }
-{
-    if link.phase == 1 {
-        if bytes.len() <= PIECE {
-            return Turn {
-                said: Said::More,
-                link: fed(link, bytes),
-            };
-        }
-        return Turn {
-            said: Said::Told(Verdict::Denied(Refusal::LongPiece)),
-            link: link,
-        };
-    }
-    Turn {
-        said: Said::Told(Verdict::Denied(Refusal::Ended)),
-        link: link,
-    }
-}
-
-// The scenario is over: what the whole file gives.
-fn over(link: Link) -> Turn
-    ensures { λ r. ⌜ OverSays link r ⌝ }
-{
-    let mut starts = link.start;
-    let mut goals = link.goal;
-    let cells = link.cells;
-    let grid = Grid {
-        height: link.height,
-        width: link.width,
-        bays: 0,
-    };
-    let r = scenario::finish(reading(link.kept), grid, &cells, &mut starts, &mut goals);
-    let found = scenario::answer(r);
-    let mut next = link;
-    next.phase = 2;
-    match found {
-        ScenarioRead::Carriers(carriers) => {
-            next.start = starts;
-            next.goal = goals;
-            Turn {
-                said: Said::Told(Verdict::Granted(carriers as u64)),
-                link: next,
-            }
-        }
-        ScenarioRead::Bad(line) => Turn {
-            said: Said::Told(Verdict::Denied(Refusal::BadScenario(line))),
-            link: next,
-        },
-    }
-}
-
-// The end: 17, or what the whole file gives.
-pub fn end(link: Link) -> Turn
-    ensures { λ r. ⌜ EndSays link r ⌝ }
-{
-    if link.phase == 1 {
-        return over(link);
-    }
-    Turn {
-        said: Said::Told(Verdict::Denied(Refusal::Ended)),
-        link: link,
-    }
 }

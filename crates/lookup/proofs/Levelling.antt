@@ -3,11 +3,11 @@
 -- them.
 -- Assumes nothing.
 use mathlib.Core.Path.{_≡_, refl, sym, ap, _∙_}
-use mathlib.Core.Bool.{Bool, true, false, not}
+use mathlib.Core.Bool.{true, false, not}
 use mathlib.Core.List.{List, [], _∷_}
 use Prim.Native.Nat.{ℕ, zero, suc, _+_, _*_, _≤_, _<_}
-use native.Mathlib.Decide.{ℕ-discrete, decLt}
-use native.Mathlib.Nat.{add-mul, mul-le-mul-left, mul-le-mul-right}
+use native.Mathlib.Decide.{decLt}
+use native.Mathlib.Nat.{add-mul, mul-le-mul-right}
 use native.Mathlib.Numerals.{add-one}
 use native.Mathlib.Omega.{arith}
 use lib.ListN.{length}
@@ -26,7 +26,6 @@ use Rattle.words.proofs.Besides.{anyBelow-some, anyBelow-of}
 use Rattle.yard.specs.Table.{Table}
 use Rattle.rings.specs.Search.{around}
 use Rattle.levels.specs.Levels.{Levelled}
-use Rattle.lookup.specs.Told.{FirstLevel}
 
 -- ## Rows
 
@@ -40,10 +39,6 @@ row-fits k n j x h l hx =
 -- fewer levels are in it too
 pub fewer-fit : (k n j : ℕ) {size : ℕ} → k * n * words ≤ size → j ≤ k → j * n * words ≤ size
 fewer-fit k n j h l = let m : j * n ≤ k * n = mul-le-mul-right n l in omega arith
-
--- there are no more of them than words
-pub levels-few : (k n : ℕ) {size : ℕ} → 0 < n → k * n * words ≤ size → k ≤ size
-levels-few k n h l = let m : k * 1 ≤ k * n = mul-le-mul-left k (omega arith) in omega arith
 
 -- ## Walks
 
@@ -183,30 +178,3 @@ module _ {Y : Yard} {n : ℕ} {table : List ℕ} (t : Table Y n table) (most : n
               | yes m ↦ not-both (and-both _ _ one (and-both _ _ two three)) (low .before (s .bay) (omega arith) m)
               | no m ↦ omega arith
             ]
-
--- ## The first level that has one of the bays
-
-module _ (n : ℕ) (table : List ℕ) (x : Bay) (bays : List ℕ) where
-  -- level j has one
-  abbrev meetsAt : ℕ → Bool
-  meetsAt j = anyBelow (λ b. memRow table (j * n + x) b and memRow bays 0 b) span
-
-  -- there are j levels, and none of them has one
-  pub record Missed (j : ℕ) : Type 0 where
-    pub fits : j * n * words ≤ length table
-    pub before : (i : ℕ) → i < j → meetsAt i ≡ false
-
-  pub missed-none : Missed 0
-  missed-none = record { fits = omega arith; before = λ i h. absurd (omega arith) }
-
-  pub missed-more : (j : ℕ) → Missed j → (j + 1) * n * words ≤ length table → meetsAt j ≡ false → Missed (j + 1)
-  missed-more j m h miss = record {
-    fits = h;
-    before = λ i k. elim (ℕ-discrete i j) [ yes q ↦ rw q miss | no q ↦ m .before i (omega arith) ];
-  }
-
-  pub missed-hit : (j : ℕ) → Missed j → meetsAt j ≡ true → FirstLevel n table x bays j
-  missed-hit j m h = record { fits = m .fits; hit = λ k. h; before = m .before }
-
-  pub missed-all : (j : ℕ) → Missed j → length table < (j + 1) * n * words → FirstLevel n table x bays j
-  missed-all j m h = record { fits = m .fits; hit = λ k. absurd (omega arith); before = m .before }

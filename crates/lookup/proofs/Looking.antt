@@ -28,7 +28,8 @@ use Rattle.rings.specs.declared.Way.the-variants as way
 use Rattle.rings.proofs.Between.{start-far, shortest-far}
 use Rattle.docket.specs.declared.Bay.{Bay as Held}
 use Rattle.levels.specs.Levels.{Levelled}
-use Rattle.lookup.specs.Told.{FirstLevel, Distant, Led, Told}
+use Rattle.first_level.specs.Reading.{FirstLevel}
+use Rattle.lookup.specs.Told.{Distant, Led, Told}
 use Rattle.lookup.specs.declared.Known.the-variants.{To, Unknown}
 use Rattle.lookup.proofs.Levelling.{fewer-fit, walk-first, walk-plain, free-inside, inside, level-walk, walk-level, Far, far-short, far-ring}
 

@@ -1,14 +1,13 @@
 -- What the levels of a table tell: the nearest of some bays and the shortest path to it, where the held bays make it no longer.
 -- Assumes nothing.
 use mathlib.Core.Path.{_≡_}
-use mathlib.Core.Bool.{Bool, true, false}
+use mathlib.Core.Bool.{Bool}
 use mathlib.Core.List.{List, []}
-use Prim.Native.Nat.{ℕ, _+_, _*_, _≤_, _<_}
-use lib.ListN.{length, take}
-use Rattle.paper.specs.Basics.{_and_, In}
+use Prim.Native.Nat.{ℕ, _+_, _<_}
+use lib.ListN.{take}
+use Rattle.paper.specs.Basics.{In}
 use Rattle.paper.specs.Yard.{Bay}
 use Rattle.paper.specs.Path.{rings, inward}
-use Rattle.words.specs.Sets.{memRow, words, span, anyBelow}
 use Rattle.rings.specs.Search.{Shown, around}
 use Rattle.rings.specs.Ways.{WayFound}
 use Rattle.rings.specs.declared.Way.the-variants as way
@@ -16,12 +15,6 @@ use Rattle.levels.specs.Levels.{Levelled}
 use Rattle.docket.specs.declared.Bay.{Bay as Held}
 use Rattle.lookup.specs.declared.Known.{Known}
 use Rattle.lookup.specs.declared.Known.the-variants.{To}
-
--- level j is the first whose row for x has one of the bays, or there is no level j
-pub record FirstLevel (n : ℕ) (table : List ℕ) (x : Bay) (bays : List ℕ) (j : ℕ) : Type 0 where
-  pub fits : j * n * words ≤ length table
-  pub hit : (j + 1) * n * words ≤ length table → anyBelow (λ b. memRow table (j * n + x) b and memRow bays 0 b) span ≡ true
-  pub before : (i : ℕ) → i < j → anyBelow (λ b. memRow table (i * n + x) b and memRow bays 0 b) span ≡ false
 
 -- with no bay held, x is d rails from e
 pub record Distant (n : ℕ) (table held : List ℕ) (x e d : ℕ) : Type 0 where

@@ -8,28 +8,12 @@ ghost use lib.ListN.{length};
 ghost use Rattle.words.specs.Sets.{mem, words, span};
 ghost use Rattle.rings.specs.Search.{Shown};
 ghost use Rattle.levels.specs.Levels.{Levelled};
-ghost use Rattle.lookup.specs.Told.{FirstLevel, Distant, Led, Told};
+ghost use Rattle.lookup.specs.Told.{Distant, Led, Told};
 
 // What the levels tell: the bay to which a way leads and the number of its bays; or nothing, and then it has to be searched for.
 pub enum Known {
     To(Bay, usize),
     Unknown,
-}
-
-// The first level whose row for x has one of the bays; the number of levels where none has.
-fn first_level(table: &[u64], n: usize, x: Bay, bays: &[u64]) -> usize
-    requires { ⌜ (n ≤ span) × (x .0 < n) × (length (now bays) ≡ words) ⌝ }
-    ensures { λ r. ⌜ FirstLevel n (now (table .entry)) (x .0) (now (bays .entry)) r ⌝ }
-{
-    let middle = x.0 as usize;
-    let mut j = 0;
-    while (j + 1) * n * words::WORDS <= table.len() {
-        if words::meets(table, j * n + middle, bays, 0) {
-            return j;
-        }
-        j += 1;
-    }
-    j
 }
 
 // The path from x to e, d rails away with no bay held: each next bay is the lowest neighbour not held that is one rail nearer to e. Answers whether
@@ -86,7 +70,7 @@ pub fn way(table: &[u64], n: usize, held: &[u64], x: Bay, wanted: &[u64], path: 
     let mut free = [0u64; words::WORDS];
     words::keep(&mut free, 0, wanted);
     words::minus(&mut free, held);
-    let j = first_level(table, n, x, &free);
+    let j = first_level::first_level(table, n, x, &free);
     if table.len() < (j + 1) * n * words::WORDS {
         return Known::Unknown;
     }

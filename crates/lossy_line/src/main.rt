@@ -8,12 +8,13 @@ use cases::first16;
 use cases::first64;
 use docket::Crossing;
 use docket::Refusal;
+use held_lines::HeldLines;
+use ledger::Accounts;
 use ledger::Agreement;
-use ledger::Held;
-use ledger::Told;
 use libc::STDOUT_FILENO;
 use marks::Reported;
 use plans::Named;
+use settling::Settlement;
 use std::num::wrapping_add_u64;
 use yard::Yard;
 
@@ -37,7 +38,7 @@ struct Line {
 // Record and account lines, and how often they were not those worked out afresh.
 struct Books {
     running: Record,
-    held: Held,
+    held: HeldLines,
     differed: u64,
 }
 
@@ -165,7 +166,7 @@ fn is_agreed(answer: Agreement) -> bool {
 }
 
 // The lines with the one that a report changed; none, where its place is past the last.
-fn entered(held: Held, told: Told) -> Held {
+fn entered(held: HeldLines, told: Settlement) -> HeldLines {
     let at = told.at;
     if held.count <= at {
         return held;
@@ -176,7 +177,7 @@ fn entered(held: Held, told: Told) -> Held {
     let line = told.line;
     let mut lines = held.lines;
     lines[at] = line;
-    ledger::hold(held.count, lines)
+    held_lines::hold(held.count, lines)
 }
 
 fn counted(differed: u64, answer: Agreement) -> u64 {
@@ -196,12 +197,13 @@ fn keep_books(
     plan: &[u64],
     marks: &[u8],
     books: Books,
-    told: Told,
+    told: Settlement,
 ) -> Books {
     let running = told.running;
     let before = books.held;
     let held = entered(before, told);
-    let agreed = ledger::compare(bays, rails, start, goal, plan, marks, running, held);
+    let accounts = Accounts { running, held };
+    let agreed = ledger::compare(bays, rails, start, goal, plan, marks, accounts);
     Books {
         running,
         held,
@@ -231,17 +233,8 @@ fn send(
     let name = pick(line);
     let running = books.running;
     let held = books.held;
-    let told = ledger::report(
-        bays,
-        rails,
-        start,
-        goal,
-        plan,
-        marks,
-        name as u64,
-        running,
-        held,
-    );
+    let accounts = Accounts { running, held };
+    let told = ledger::report(bays, rails, start, goal, plan, marks, name as u64, accounts);
     let answer = told.answer;
     hear(known, name, answer, line.dice);
     Day {
@@ -312,22 +305,20 @@ fn tamper(
 ) {
     let running = books.running;
     let held = books.held;
-    let told = ledger::report(
-        bays,
-        rails,
-        start,
-        goal,
-        plan,
-        marks,
-        0,
-        tampered(running, 1),
+    let accounts = Accounts {
+        running: tampered(running, 1),
         held,
-    );
+    };
+    let told = ledger::report(bays, rails, start, goal, plan, marks, 0, accounts);
     let answer = told.answer;
     let then = told.running;
     let left = entered(held, told);
     let mended = tampered(then, 0);
-    let agreed = ledger::compare(bays, rails, start, goal, plan, marks, mended, left);
+    let accounts = Accounts {
+        running: mended,
+        held: left,
+    };
+    let agreed = ledger::compare(bays, rails, start, goal, plan, marks, accounts);
     show_tampered(answer, then.done, agreed);
 }
 
@@ -554,11 +545,11 @@ fn run_marked(
 }
 
 // A carrier's line, and how many crossings are billed to it.
-fn show_line(held: Held, c: usize) -> u64 {
+fn show_line(held: HeldLines, c: usize) -> u64 {
     if Yard::BAYS <= c {
         return 0;
     }
-    let line = ledger::line_at(held, c);
+    let line = held_lines::line_at(held, c);
     put(b"carrier ", line.carrier as u64);
     put(b" billed ", line.billed as u64);
     say(b" last name ", line.last as u64);
@@ -566,7 +557,7 @@ fn show_line(held: Held, c: usize) -> u64 {
 }
 
 // Each carrier's line, and how many crossings are billed in all.
-fn show_lines(held: Held) -> u64 {
+fn show_lines(held: HeldLines) -> u64 {
     let mut sum = 0;
     let mut c = 0;
     while c < held.count {

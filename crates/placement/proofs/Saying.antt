@@ -6,12 +6,11 @@ use mathlib.Core.Option.{none, some}
 use Prim.Native.Nat.{ℕ, _+_, _<_, _≤_}
 use native.Mathlib.Omega.{arith}
 use borrow.Author.Tests.{lt-ltb, le-ltb}
-use lib.Dec.{ltb}
 use lib.ListN.{length, getD, drop, length-map, length-append}
 use Rattle.paper.specs.Limits.{most-bays}
 use Rattle.paper.specs.Yard.{Bay, crossings, named, after, unpack}
 use Rattle.paper.specs.Order.{Order}
-use Rattle.paper.specs.Docket.{badMarks, room}
+use Rattle.paper.specs.Docket.{badMarks}
 use Rattle.paper.specs.Dependence.{doneOf, placementBy}
 use Rattle.paper.specs.OnePass.{Fits}
 use Rattle.paper.specs.Answers.{check}

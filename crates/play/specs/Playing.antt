@@ -12,7 +12,8 @@ use Rattle.moving.specs.Placed.{Stored}
 use Rattle.acting.specs.Acting.{AsFar}
 use Rattle.acting.specs.declared.Tally.{Tally}
 use Rattle.step.specs.Asking.{Loopless}
-use Rattle.carry.specs.Carrying.{Goals, Reaching}
+use Rattle.along.specs.Along.{Goals}
+use Rattle.carry.specs.Carrying.{Reaching}
 use Rattle.docket.specs.declared.Carrier.{Carrier as Named}
 use Rattle.home.specs.declared.Staged.the-variants.{Planned, Stuck}
 use Rattle.home.specs.declared.Staged.{Staged}

@@ -194,10 +194,7 @@ pub fn play(
     if ends / GRID * 2 < n {
         return play_by_rails(table, n, start, goal, out);
     }
-    let yard = Yard {
-        bays: n,
-        rails: ends / 2,
-    };
+    let yard = Yard { bays: n };
     if n / CROWDED < yard.empty_bays(start) {
         if n <= ends / DENSE {
             return play_by_rails(table, n, start, goal, out);

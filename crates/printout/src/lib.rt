@@ -2,9 +2,9 @@
 ghost use Prim.Native.Nat.{_≤_};
 ghost use Rattle.stores.specs.Writing.{Wrote};
 ghost use Rattle.filing.specs.Filing.{fileOf};
-ghost use Rattle.program.specs.Printout.{print-room};
+ghost use Rattle.print_room.specs.Printout.{print-room};
 ghost use Rattle.handing.specs.Handing.{Hands};
-ghost use Rattle.printout.specs.Whole.{printFor};
+ghost use Rattle.print_room.specs.Whole.{printFor};
 
 // All that is printed, as far as there is room; answers how many bytes that takes, which are never more than 180,250.
 pub fn print(
@@ -39,7 +39,7 @@ pub fn program(
         Hands (printFor short (fileOf mapped (now (map .entry))) (fileOf listed (now (scenario .entry)))) (now (out .entry)) (now (out .exit)) r
         ⌝ }
 {
-    let mut room = [0u8; program::PRINT_BYTES];
+    let mut room = [0u8; print_room::PRINT_BYTES];
     let n = print(short, map, mapped, scenario, listed, &mut room);
     handing::text(&room[..n], out)
 }

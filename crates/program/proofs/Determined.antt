@@ -6,7 +6,7 @@ use Prim.Native.Nat.{ℕ}
 use Rattle.paper.specs.Text.{Text}
 use Rattle.paper.specs.Program.{program}
 use Rattle.stores.specs.Writing.{Wrote}
-use Rattle.program.specs.Short.{programShort}
+use Rattle.print_room.specs.Short.{programShort}
 
 wrote-determined : {text before out out′ : List ℕ} {n n′ : ℕ} → Wrote before 0 text out n → Wrote before 0 text out′ n′ → (n ≡ n′) × (out ≡ out′)
 wrote-determined a b = (a .counted ∙ sym (b .counted), a .left ∙ sym (b .left))

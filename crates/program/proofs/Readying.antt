@@ -8,7 +8,8 @@ use lib.ListN.{length, take, getD, length-map}
 use Rattle.paper.specs.Limits.{most-bays}
 use Rattle.paper.specs.Yard.{pack, unpack, crossings, named}
 use Rattle.paper.specs.Order.{Order}
-use Rattle.paper.specs.Answers.{refused, plan}
+use Rattle.paper.specs.Docket.{granted}
+use Rattle.paper.specs.Answers.{refused, told, plan}
 use Rattle.paper.specs.OnePass.{Fits}
 use Rattle.paper.specs.Program.{program-room}
 use Rattle.paper.proofs.Tests.{never}
@@ -16,14 +17,14 @@ use Rattle.paper.proofs.Packing.{named-is}
 use Rattle.paper.proofs.Handing.{handed-passes, check-fits}
 use Rattle.docket.specs.declared.Refusal.{Refusal}
 use Rattle.docket.specs.Reading.{refusalOf}
-use Rattle.planner.specs.declared.Planned.{Planned}
-use Rattle.planner.specs.declared.Planned.the-variants.{Accepted, Refused}
-use Rattle.planner.specs.Statement.{long, told}
+use Rattle.docket.specs.declared.Verdict.{Verdict}
+use Rattle.docket.specs.declared.Verdict.the-variants.{Granted, Denied}
 use Rattle.trips.specs.Trips.{shorten}
 use Rattle.trips.proofs.Shortened.{shortened-passes}
-use Rattle.program.specs.Short.{shortAnswer, shortOr, PlannedIn, ShortIn}
-use Rattle.program.specs.Ready.{Ready}
-use Rattle.program.proofs.Telling.{by-answer}
+use Rattle.print_room.specs.Short.{shortAnswer, shortOr}
+use Rattle.print_room.specs.Ready.{Ready}
+use Rattle.print_room.proofs.Telling.{by-answer}
+use Rattle.program.specs.Planning.{PlannedIn, ShortIn}
 
 -- lists that read as the same crossings fit the same tables
 fits-same : (a b : List ℕ) → crossings a ≡ crossings b → Fits most-bays most-bays b → Fits most-bays most-bays a
@@ -35,7 +36,7 @@ fits-same a b e f i h =
     rw same (f i (omega arith))
 
 -- a refusal has no plan to fit
-pub refused-ready : (d : Refusal) (list : List ℕ) → length list ≡ program-room → Ready (refused (refusalOf d)) (Refused d) list
+pub refused-ready : (d : Refusal) (list : List ℕ) → length list ≡ program-room → Ready (refused (refusalOf d)) (Denied d) list
 refused-ready d list h = record {
   handed = record { tells = refl; stands = λ xs q. never (cc) };
   slottable = record {
@@ -45,7 +46,7 @@ refused-ready d list h = record {
   };
 }
 
-module _ {o : Order} {r : Planned} {list : List ℕ} where
+module _ {o : Order} {r : Verdict} {list : List ℕ} where
   pub plain-ready : PlannedIn o r list → Ready (plan o program-room) r list
   plain-ready p = record {
     handed = p .handed;
@@ -56,7 +57,7 @@ module _ {o : Order} {r : Planned} {list : List ℕ} where
     };
   }
 
-  short-fits : ShortIn o r list → (m : ℕ) → r ≡ Accepted m → Fits most-bays most-bays (take m list)
+  short-fits : ShortIn o r list → (m : ℕ) → r ≡ Granted m → Fits most-bays most-bays (take m list)
   short-fits p m e =
       by-answer (plan o program-room)
       (λ xs q.
@@ -64,12 +65,12 @@ module _ {o : Order} {r : Planned} {list : List ℕ} where
       let left = shortened-passes o (map pack xs) (passes .0) in
       let ys = shorten (crossings (map pack xs)) in
       let is : ys ≡ shorten xs = ap shorten (passes .1) in
-      let y : long m ≡ long (length (shorten xs)) = rw (e, q) at (p .handed .tells) in
+      let y : granted m ≡ granted (length (shorten xs)) = rw (e, q) at (p .handed .tells) in
       let same : m ≡ length (shorten xs) = cc in
       let reads : crossings (take m list) ≡ crossings (map pack ys) =
       ap (λ j. crossings (take j list)) same ∙ p .handed .stands (shorten xs) (ap shortAnswer q) ∙ sym is ∙ sym (left .1) in
       fits-same (take m list) (map pack ys) reads (check-fits o (map pack ys) (left .0)))
-      (λ d q. let y : long m ≡ told (refused d) = rw (e, q) at (p .handed .tells) in never (cc))
+      (λ d q. let y : granted m ≡ told (refused d) = rw (e, q) at (p .handed .tells) in never (cc))
 
   pub short-ready : ShortIn o r list → length list ≤ program-room → Ready (shortAnswer (plan o program-room)) r list
   short-ready p h = record { handed = p .handed; slottable = record { within = p .within; sized = h; fits = short-fits p } }
@@ -81,6 +82,6 @@ module _ {o : Order} {r : Planned} {list : List ℕ} where
   pub plain-or-ready : {b : Bool} → b ≡ false → PlannedIn o r list → Ready (shortOr b (plan o program-room)) r list
   plain-or-ready e p = rw e (plain-ready p)
 
-pub refused-or-ready : (b : Bool) (d : Refusal) (list : List ℕ) → length list ≡ program-room → Ready (shortOr b (refused (refusalOf d))) (Refused d) list
+pub refused-or-ready : (b : Bool) (d : Refusal) (list : List ℕ) → length list ≡ program-room → Ready (shortOr b (refused (refusalOf d))) (Denied d) list
 refused-or-ready true d list h = refused-ready d list h
 refused-or-ready false d list h = refused-ready d list h

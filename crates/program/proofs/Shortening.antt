@@ -20,19 +20,16 @@ use Rattle.paper.proofs.Tests.{never, or-neither}
 use Rattle.paper.proofs.Checking.{check-passed}
 use Rattle.paper.proofs.Logging.{fine, kept-from-fresh}
 use Rattle.docket.specs.declared.Refusal.{Refusal}
-use Rattle.planner.specs.declared.Planned.{Planned}
-use Rattle.planner.specs.declared.Planned.the-variants as planner
-use Rattle.planner.specs.Statement.{long, told as toldLong, plannedOf, PlanSays}
 use Rattle.docket.specs.Reading.{verdictOf}
 use Rattle.docket.specs.declared.Verdict.{Verdict}
-use Rattle.docket.specs.declared.Verdict.the-variants as short
+use Rattle.docket.specs.declared.Verdict.the-variants.{Granted, Denied}
 use Rattle.shorten.specs.Statements.{ShortenSays}
 use Rattle.shorten.proofs.Looking.{take-fresh}
 use Rattle.trips.specs.Trips.{shorten}
 use Rattle.trips.specs.Shortening.{anyDone, shortenRefusal, shortening}
 use Rattle.trips.proofs.Shortened.{shorten-shortens, shortened-passes}
-use Rattle.program.specs.Short.{PlannedIn, ShortIn}
-use Rattle.program.proofs.Telling.{by-answer, handed-in, within-by}
+use Rattle.print_room.proofs.Telling.{by-answer, by-verdict}
+use Rattle.program.specs.Planning.{PlannedIn, ShortIn}
 
 fresh-begins-nothing : (k : ℕ) → anyDone (replicate k 0) ≡ false
 unfolding anyDone any
@@ -61,29 +58,24 @@ module _ (o : Order) (crossed : List ℕ) (passes : check o crossed ≡ none) wh
 pub enough : (k : ℕ) → k ≤ 8192 → length {A = ℕ} (take k (replicate 8192 0)) ≡ k
 enough k h = ap length (take-fresh 0 k 8192 h) ∙ length-replicate {A = ℕ} k 0
 
--- the planner's promise
-pub planned-in : {o : Order} {lent : List ℕ} {r : Planned} {lent′ : List ℕ} → PlanSays o lent r lent′ → program-room ≡ length lent
-    → program-room ≡ length lent′ → PlannedIn o r lent′
-planned-in says e h = record { handed = handed-in says e; within = within-by says (omega arith); passes = says .passes; sized = sym h }
-
 -- what the planner answers, and the list that it left
-module _ {o : Order} {r : Planned} {list : List ℕ} (p : PlannedIn o r list) where
+module _ {o : Order} {r : Verdict} {list : List ℕ} (p : PlannedIn o r list) where
   -- a refusal stays
-  pub refusal-stays : (f : Refusal) → r ≡ planner.Refused f → {lent : List ℕ} → length lent ≡ program-room → ShortIn o (planner.Refused f) lent
+  pub refusal-stays : (f : Refusal) → r ≡ Denied f → {lent : List ℕ} → length lent ≡ program-room → ShortIn o (Denied f) lent
   refusal-stays f e {lent} h =
       by-answer (plan o program-room)
-      (λ xs q. let y : plannedOf (planner.Refused f) ≡ toldLong (accepted xs) = rw (e, q) at (p .handed .tells) in never (cc))
+      (λ xs q. let y : verdictOf (Denied f) ≡ told (accepted xs) = rw (e, q) at (p .handed .tells) in never (cc))
       (λ d q. record {
         handed = record { tells = rw q (rw (e, q) at (p .handed .tells)); stands = λ zs z. let y : refused d ≡ accepted zs = rw q at z in never (cc) };
         within = record { inside = λ m y. never (cc); few = omega arith };
       })
 
-  pub marked : (m : ℕ) → r ≡ planner.Accepted m → take {A = ℕ} m (replicate 8192 0) ≡ replicate (length (take m list)) 0
+  pub marked : (m : ℕ) → r ≡ Granted m → take {A = ℕ} m (replicate 8192 0) ≡ replicate (length (take m list)) 0
   marked m e =
       let h = p .within .inside m e in
       take-fresh 0 m 8192 (omega (arith, p .sized)) ∙ ap (λ k. replicate k 0) (sym (length-take-le m list h))
 
-  module _ (m : ℕ) (e : r ≡ planner.Accepted m) (marks : List ℕ) (fresh : marks ≡ replicate (length (take m list)) 0) (lent : List ℕ) (room : length lent ≡ program-room) where
+  module _ (m : ℕ) (e : r ≡ Granted m) (marks : List ℕ) (fresh : marks ≡ replicate (length (take m list)) 0) (lent : List ℕ) (room : length lent ≡ program-room) where
     inside : length (take m list) ≤ length lent
     inside = omega (arith, length-take-le m list (p .within .inside m e), p .within .inside m e, p .sized)
 
@@ -94,14 +86,14 @@ module _ {o : Order} {r : Planned} {list : List ℕ} (p : PlannedIn o r list) wh
       told-short : verdictOf a ≡ granted (length (shorten (crossings (take m list))))
       told-short = says .answers ∙ ap told whole
 
-      pub not-refused : {P : Type 0} (f : Refusal) → a ≡ short.Denied f → P
-      not-refused f q = let y : verdictOf (short.Denied f) ≡ granted (length (shorten (crossings (take m list)))) = rw q at told-short in never (cc)
+      not-refused : {P : Type 0} (f : Refusal) → a ≡ Denied f → P
+      not-refused f q = let y : verdictOf (Denied f) ≡ granted (length (shorten (crossings (take m list)))) = rw q at told-short in never (cc)
 
       ended-short : after ≡ map pack (shorten (crossings (take m list))) ++ drop (length (shorten (crossings (take m list)))) lent
       unfolding written
       ended-short = says .ends-as ∙ ap (λ z. written z lent) whole
 
-      pub written-short : (left : ℕ) → a ≡ short.Granted left → ShortIn o (planner.Accepted left) after
+      written-short : (left : ℕ) → a ≡ Granted left → ShortIn o (Granted left) after
       written-short left q =
           let ys = shorten (crossings (take m list)) in
           let y : granted left ≡ granted (length ys) = rw q at told-short in
@@ -114,12 +106,12 @@ module _ {o : Order} {r : Planned} {list : List ℕ} (p : PlannedIn o r list) wh
           ∙ shortened-passes o (take m list) (p .passes m e) .1 in
           by-answer (plan o program-room)
           (λ xs z.
-          let w : long m ≡ long (length xs) = rw (e, z) at (p .handed .tells) in
+          let w : granted m ≡ granted (length xs) = rw (e, z) at (p .handed .tells) in
           let same : m ≡ length xs = cc in
           let is : crossings (take m list) ≡ xs = ap (λ j. crossings (take j list)) same ∙ p .handed .stands xs z in
           record {
             handed = record {
-              tells = rw (z, ← is) (ap long k);
+              tells = rw (z, ← is) (ap granted k);
               stands = λ zs v.
                   let u : accepted (shorten xs) ≡ accepted zs = rw z at v in
                   let t : ys ≡ zs = ap shorten is ∙ cc in
@@ -130,4 +122,7 @@ module _ {o : Order} {r : Planned} {list : List ℕ} (p : PlannedIn o r list) wh
               few = omega (arith, size, length-map ys pack, length-drop (length ys) lent, inside, fewer);
             };
           })
-          (λ f z. let w : long m ≡ toldLong (refused f) = rw (e, z) at (p .handed .tells) in never (cc))
+          (λ f z. let w : granted m ≡ told (refused f) = rw (e, z) at (p .handed .tells) in never (cc))
+
+      pub left-short : ShortIn o a after
+      left-short = by-verdict a (λ left q. rw q (written-short left q)) (λ f q. not-refused f q)

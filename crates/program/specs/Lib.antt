@@ -1,3 +1,1 @@
-pub mod Printout
-pub mod Short
-pub mod Ready
+pub mod Planning

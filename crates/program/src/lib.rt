@@ -3,6 +3,7 @@ use docket::Verdict;
 use filing::Order;
 use filing::Ordered;
 use planner::Planned;
+use print_room::CROSSINGS;
 use yard::Yard;
 ghost use mathlib.Core.Path.{_≡_};
 ghost use Prim.Native.Nat.{_≤_};
@@ -13,69 +14,44 @@ ghost use Rattle.paper.specs.Print.{printed};
 ghost use Rattle.paper.specs.Program.{program as printedFor, programAnswer, program-room};
 ghost use Rattle.stores.specs.Writing.{Wrote};
 ghost use Rattle.filing.specs.Filing.{fileOf, orderIn};
-ghost use Rattle.program.specs.Printout.{print-room, Within, Prints};
-ghost use Rattle.program.specs.Short.{shortOr, programShort, PlannedIn, ShortIn};
-ghost use Rattle.program.specs.Ready.{Ready};
+ghost use Rattle.print_room.specs.Printout.{print-room};
+ghost use Rattle.print_room.specs.Short.{shortOr, programShort};
+ghost use Rattle.print_room.specs.Ready.{Ready};
+ghost use Rattle.program.specs.Planning.{verdictIn, PlannedIn, ShortIn};
 
-// Room for every print, and for every order's rails and carriers.
-pub const PRINT_BYTES: usize = 22 * CROSSINGS + 26;
-
+// Room for every order's rails.
 const ENDS: usize = 16384;
 
-const CROSSINGS: usize = 8192;
-
-// The numbers are the theorem's and the paper's: this function does nothing, its statement says it.
-pub fn limits()
-    ensures print { λ _. do ⌜ (← ⟦PRINT_BYTES⟧ .entry) ≡ print-room ⌝ }
-    ensures crossings { λ _. do ⌜ (← ⟦CROSSINGS⟧ .entry) ≡ program-room ⌝ }
-{}
-
-// The planner's answer, with the plan in the list where there is one.
-fn print_planned(answer: Planned, plan: &[u64], out: &mut [u8]) -> usize
-    requires { ⌜ Within answer (now plan) ⌝ }
-    ensures { λ r. ⌜ Prints answer (now (plan .entry)) (now (out .entry)) (now (out .exit)) r ⌝ }
+// The planner's answer as a verdict.
+fn verdict(found: Planned) -> Verdict
+    ensures { λ r. ⌜ r ≡ verdictIn found ⌝ }
 {
-    match answer {
-        Planned::Accepted(m) => {
-            let n = m as usize;
-            printing::plan(&plan[..n], out)
-        }
-        Planned::Refused(r) => printing::refusal(r, out),
+    match found {
+        Planned::Accepted(m) => Verdict::Granted(m),
+        Planned::Refused(r) => Verdict::Denied(r),
     }
 }
 
 // The plan without its there-and-back trips, in the other list. None of it is done, and there is room for all of it, so that it is never refused.
 fn shorten_planned(
-    answer: Planned,
+    answer: Verdict,
     bays: u64,
     ends: &[u16],
     starts: &[u16],
     goals: &[u16],
     plan: &[u64],
     short: &mut [u64],
-) -> Planned
+) -> Verdict
     requires { ⌜ PlannedIn (orderOf bays (now ends) (now starts) (now goals)) answer (now plan) × (length (now short) ≡ program-room) ⌝ }
     ensures { λ r. ⌜ ShortIn (orderOf bays (now (ends .entry)) (now (starts .entry)) (now (goals .entry))) r (now (short .exit)) ⌝ }
 {
     match answer {
-        Planned::Accepted(m) => {
+        Verdict::Granted(m) => {
             let n = m as usize;
             let marks = [0u8; CROSSINGS];
-            let shorter = shorten::shorten(
-                bays,
-                ends,
-                starts,
-                goals,
-                &plan[..n],
-                &marks[..n],
-                short,
-            );
-            match shorter {
-                Verdict::Granted(left) => Planned::Accepted(left),
-                Verdict::Denied(r) => Planned::Refused(r),
-            }
+            shorten::shorten(bays, ends, starts, goals, &plan[..n], &marks[..n], short)
         }
-        Planned::Refused(r) => Planned::Refused(r),
+        Verdict::Denied(r) => Verdict::Denied(r),
     }
 }
 
@@ -87,7 +63,7 @@ fn plan_order(
     starts: &[u16],
     goals: &[u16],
     plan: &mut [u64],
-) -> Planned
+) -> Verdict
     requires { ⌜
         (order .ends ≤ length (now ends))
         × (order .carriers ≤ length (now starts))
@@ -105,7 +81,7 @@ fn plan_order(
         let mut long = [0u64; CROSSINGS];
         let found = planner::plan(order.bays, &ends[..n], &starts[..k], &goals[..k], &mut long);
         return shorten_planned(
-            found,
+            verdict(found),
             order.bays,
             &ends[..n],
             &starts[..k],
@@ -114,7 +90,7 @@ fn plan_order(
             plan,
         );
     }
-    planner::plan(order.bays, &ends[..n], &starts[..k], &goals[..k], plan)
+    verdict(planner::plan(order.bays, &ends[..n], &starts[..k], &goals[..k], plan))
 }
 
 // What the two files ask for, each with whether it could be read: the plan in the list, or why there is none.
@@ -125,7 +101,7 @@ pub fn answer_for(
     scenario: &[u8],
     listed: bool,
     plan: &mut [u64],
-) -> Planned
+) -> Verdict
     requires { ⌜ length (now plan) ≡ program-room ⌝ }
     ensures { λ r. ⌜ Ready (shortOr shorten (programAnswer (fileOf mapped (now (map .entry))) (fileOf listed (now (scenario .entry))))) r (now (plan .exit)) ⌝ }
 {
@@ -143,7 +119,7 @@ pub fn answer_for(
     );
     match ordered {
         Ordered::Order(order) => plan_order(shorten, order, &ends, &starts, &goals, plan),
-        Ordered::Refused(r) => Planned::Refused(r),
+        Ordered::Refused(r) => Verdict::Denied(r),
     }
 }
 
@@ -164,7 +140,7 @@ fn print_for(
 {
     let mut plan = [0u64; CROSSINGS];
     let answer = answer_for(shorten, map, mapped, scenario, listed, &mut plan);
-    print_planned(answer, &plan, out)
+    print_room::print(answer, &plan, out)
 }
 
 // All that is printed for two files, each with whether it could be read; answers how many bytes

@@ -12,10 +12,11 @@ use Rattle.paper.proofs.Tests.{not-both}
 use Rattle.stores.specs.Writing.{Wrote}
 use Rattle.stores.proofs.Stores.{wrote-none, wrote-then, wrote-length}
 use Rattle.lines.specs.Lines.{part, TextAt}
-use Rattle.readback.specs.Entries.{entryIn, behind, entryLine, readEntries}
+use Rattle.line_entries.specs.Entries.{entryIn}
+use Rattle.readback.specs.Entries.{behind, entryLine, readEntries}
 use Rattle.readback.specs.Steps.{numbersOf, isBroken, countIn, Folds}
-use Rattle.readback.specs.declared.Entry.{Entry}
-use Rattle.readback.specs.declared.Entry.the-variants.{Number, Comment, Broken}
+use Rattle.line_entries.specs.declared.Entry.{Entry}
+use Rattle.line_entries.specs.declared.Entry.the-variants.{Number, Comment, Broken}
 use Rattle.readback.specs.declared.Found.the-variants.{Numbers, Bad}
 
 -- a line adds one number at most

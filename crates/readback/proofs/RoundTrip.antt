@@ -15,7 +15,8 @@ use Rattle.paper.specs.Print.{printPlan, readAction, readPlan}
 use Rattle.paper.proofs.Tests.{by-cases, by-option, never-some}
 use Rattle.paper.proofs.Packing.{unpack-small, packed-back}
 use Rattle.paper.proofs.Printing.{print-back}
-use Rattle.readback.specs.Entries.{fits, entryOf, planEntry, entryLine, readEntries}
+use Rattle.line_entries.specs.Entries.{fits, entryOf, planEntry}
+use Rattle.readback.specs.Entries.{entryLine, readEntries}
 
 abbrev AllFit : List Crossing → Type 0
 AllFit [] = Unit {0}

@@ -9,8 +9,7 @@ use lib.Seq.{sets}
 use Rattle.paper.specs.Text.{Text, Read, good, badLine}
 use Rattle.paper.specs.Map.{Grid, readMap, cells, bayCount, bayIn, railEnds}
 use Rattle.paper.specs.Scenario.{readScenario}
-use Rattle.paper.proofs.Tests.{never}
-pub use Rattle.paper.proofs.Tests.{by-read}
+use Rattle.paper.proofs.Tests.{never, by-read}
 use Rattle.gridmap.specs.declared.Grid.{Grid as Held}
 use Rattle.gridmap.specs.declared.MapRead.{MapRead}
 use Rattle.gridmap.specs.declared.MapRead.the-variants as map-read

@@ -3,6 +3,7 @@ mod Saying
 pub mod Opened
 pub mod Billing
 pub mod Passing
+mod Lifetimes
 pub mod Shared
 pub mod Billed
 pub mod Compared

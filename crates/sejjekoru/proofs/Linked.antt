@@ -6,16 +6,15 @@ use mathlib.Core.List.{List, [], _∷_}
 use Prim.Native.Nat.{ℕ, _≤_}
 use lib.ListN.{length}
 use Rattle.paper.specs.Basics.{concat}
-use Rattle.paper.specs.Text.{Text, Read, good, badLine}
+use Rattle.paper.specs.Text.{Text, Read}
 use Rattle.paper.specs.Map.{Grid, readMap}
-use Rattle.paper.proofs.Tests.{never}
+use Rattle.paper.proofs.Tests.{never, by-read}
 use Rattle.numbers.specs.Numbers.{verdictNumber, verdictValue}
 use Rattle.numbers.specs.Tells.{Tells}
 use Rattle.readers.specs.Reading.{Laid, Listing, listing}
-use Rattle.readers.proofs.Whole.{by-read}
 use Rattle.link.specs.declared.Link.{Link}
 use Rattle.link.specs.Link.{piece-bytes, isOpen, finishIn, endSaying, Holds}
-use Rattle.link.proofs.Linked.{Run, none, fed, Whole, wholeVerdict, carriersListed, pieces-whole}
+use Rattle.link.proofs.Linked.{Run, none, fed, wholeVerdict, carriersListed, pieces-whole}
 use Rattle.sejjekoru.specs.Files.{MapTells, ScenarioTells}
 use Rattle.sejjekoru.specs.Serial.{BeginTells, PieceTells, EndTells, sayingNumber, sayingValue}
 

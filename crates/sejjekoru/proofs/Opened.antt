@@ -8,15 +8,15 @@ use Rattle.paper.specs.Limits.{most-bays}
 use Rattle.paper.specs.Order.{Order}
 use Rattle.bills.specs.declared.Line.{Line}
 use Rattle.bills.specs.declared.Record.{Record}
-use Rattle.ledger.specs.declared.Held.{Held}
-use Rattle.sejjekoru.specs.declared.Opening.{Opening}
+use Rattle.held_lines.specs.declared.HeldLines.{HeldLines}
+use Rattle.sejjekoru.specs.declared.ToldOpening.{ToldOpening}
 use Rattle.sejjekoru.specs.Bills.{OpenOn, OpenTells}
 
 -- the held lines over the first of the lent ones, as `fill` leaves them
-abbrev pub filled : Held → List Line → List Line
+abbrev pub filled : HeldLines → List Line → List Line
 filled held lines = take (held .count) (held .lines) ++ drop (held .count) lines
 
-module _ (o : Order) (plan marks : List ℕ) (rec : Record) (lines : List Line) (r : Opening) (value : ℕ) where
+module _ (o : Order) (plan marks : List ℕ) (rec : Record) (lines : List Line) (r : ToldOpening) (value : ℕ) where
   abbrev pub On : Type 0
   On = OpenOn o plan marks rec (length lines) r value
 

@@ -9,13 +9,13 @@ use Rattle.paper.specs.Order.{Order}
 use Rattle.bills.specs.Answering.{opening, openedRecord, openedLines, agreement, billing, marksThen, recordThen, linesThen}
 use Rattle.bills.specs.declared.Line.{Line}
 use Rattle.bills.specs.declared.Record.{Record}
-use Rattle.ledger.specs.Lines.{gathered}
-use Rattle.ledger.specs.declared.Held.{Held}
+use Rattle.held_lines.specs.Lines.{gathered}
+use Rattle.held_lines.specs.declared.HeldLines.{HeldLines}
 use Rattle.numbers.specs.Numbers.{numberOf, valueOf, reportNumber, reportValue}
 use Rattle.log_numbers.specs.Agreeing.{agreementNumber, agreementValue}
 use Rattle.numbers.specs.Tells.{Tells}
-use Rattle.sejjekoru.specs.declared.Opening.{Opening}
-use Rattle.sejjekoru.specs.declared.Told.{Told}
+use Rattle.sejjekoru.specs.declared.ToldOpening.{ToldOpening}
+use Rattle.sejjekoru.specs.declared.ToldReport.{ToldReport}
 
 module _ (o : Order) (plan marks : List ℕ) where
   -- ## Lent
@@ -38,7 +38,7 @@ module _ (o : Order) (plan marks : List ℕ) where
 
   -- ## By value: the same of every list of lines that is held so
 
-  pub record OpenOn (rec : Record) (count : ℕ) (r : Opening) (value : ℕ) : Type 0 where
+  pub record OpenOn (rec : Record) (count : ℕ) (r : ToldOpening) (value : ℕ) : Type 0 where
     pub tells : Tells (numberOf (opening o plan marks count)) (valueOf 0 (opening o plan marks count)) (r .number) value
     pub record-then : r .record ≡ openedRecord o plan marks rec count
     pub few : r .held .count ≤ most-bays
@@ -47,9 +47,9 @@ module _ (o : Order) (plan marks : List ℕ) where
     pub lines-then : (lines : List Line) → length lines ≡ count
         → take (r .held .count) (r .held .lines) ++ drop (r .held .count) lines ≡ openedLines o plan marks lines
 
-  abbrev pub AgreesOn : Record → Held → ℕ → ℕ → Type 0
+  abbrev pub AgreesOn : Record → HeldLines → ℕ → ℕ → Type 0
   AgreesOn rec held number value = (lines : List Line) → held ≡ gathered lines → AgreesTells rec lines number value
 
-  abbrev pub ReportOn : ℕ → Record → Held → Told → ℕ → List ℕ → Type 0
+  abbrev pub ReportOn : ℕ → Record → HeldLines → ToldReport → ℕ → List ℕ → Type 0
   ReportOn name rec held r value marks′ =
       (lines : List Line) → held ≡ gathered lines → ReportBilledTells name rec lines (r .number) value marks′ (r .record) (set lines (r .at) (r .line))

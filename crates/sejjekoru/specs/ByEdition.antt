@@ -13,7 +13,7 @@ use Rattle.paper.specs.Docket.{granted, denied, room}
 use Rattle.paper.specs.Text.{Text}
 use Rattle.numbers.specs.Numbers.{verdictNumber, verdictValue}
 use Rattle.editions.specs.Editions.{slotsOf, slotsOfEnd}
-use Rattle.timed.specs.Timed.{programTimed}
+use Rattle.timed_handing.specs.Timed.{programTimed}
 use Rattle.sejjekoru.specs.Statements.{TellsAndLeaves}
 
 abbrev pub SlotsOfTell : Order → List ℕ → ℕ → List ℕ → ℕ → ℕ → List ℕ → Type 0

@@ -10,7 +10,7 @@ use Rattle.paper.specs.Text.{Text}
 use Rattle.filing.specs.Filing.{fileOf}
 use Rattle.handing.specs.Handing.{fitted, handed}
 use Rattle.handing.specs.Plans.{planPrinted, planPrintEnd}
-use Rattle.printout.specs.Whole.{printFor}
+use Rattle.print_room.specs.Whole.{printFor}
 use Rattle.readback.specs.Entries.{readEntries}
 use Rattle.readback.specs.Files.{planVerdict, planEnd, reportsVerdict, reportsEnd}
 use Rattle.numbers.specs.Numbers.{verdictNumber, verdictValue}

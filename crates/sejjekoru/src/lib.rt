@@ -15,7 +15,8 @@ ghost use Rattle.sejjekoru.specs.Statements.{PlanTells, CheckTells, Slot
 ghost use Rattle.sejjekoru.specs.Bills.{OpenOn, AgreesOn, ReportOn, OpenTells, AgreesTells, ReportBilledTells};
 use bills::Line;
 use bills::Record;
-use ledger::Held;
+use held_lines::HeldLines;
+use ledger::Accounts;
 
 #[no_mangle]
 pub extern "C" fn sejjekoru_plan(
@@ -66,8 +67,7 @@ pub extern "C" fn sejjekoru_slots(
         (now (plan .entry)) (now (slots .entry)) r (now (value .exit)) (now (slots .exit))
         ⌝ }
 {
-    let answer = reports::slots(bays, rails, start, goal, plan, slots);
-    log_numbers::told_checked(answer, plan.len() as u64, value)
+    slot_numbers::slots(bays, rails, start, goal, plan, slots, value)
 }
 
 #[no_mangle]
@@ -111,13 +111,13 @@ pub extern "C" fn sejjekoru_shorten(
 }
 
 // What opening answers and leaves.
-struct Opening {
+struct ToldOpening {
     number: u64,
     record: Record,
-    held: Held,
+    held: HeldLines,
 }
 
-// Opening by value, for a list of so many lines.
+// ToldOpening by value, for a list of so many lines.
 fn open_on(
     bays: u64,
     rails: &[u16],
@@ -128,7 +128,7 @@ fn open_on(
     record: Record,
     count: usize,
     value: &mut u64,
-) -> Opening
+) -> ToldOpening
     ensures { λ r. ⌜
         OpenOn (order bays (now (rails .entry)) (now (start .entry)) (now (goal .entry)))
         (now (plan .entry)) (now (marks .entry)) «record» count r (now (value .exit))
@@ -138,7 +138,7 @@ fn open_on(
     let answer = opening.answer;
     let running = opening.running;
     let held = opening.held;
-    Opening {
+    ToldOpening {
         number: log_numbers::told_checked(answer, 0, value),
         record: running,
         held: held,
@@ -187,7 +187,7 @@ fn agrees_on(
     plan: &[u64],
     marks: &[u8],
     record: Record,
-    held: Held,
+    held: HeldLines,
     value: &mut u64,
 ) -> u64
     ensures { λ r. ⌜
@@ -195,7 +195,11 @@ fn agrees_on(
         (now (plan .entry)) (now (marks .entry)) «record» held r (now (value .exit))
         ⌝ }
 {
-    let answer = ledger::compare(bays, rails, start, goal, plan, marks, record, held);
+    let accounts = Accounts {
+        running: record,
+        held: held,
+    };
+    let answer = ledger::compare(bays, rails, start, goal, plan, marks, accounts);
     log_numbers::told_agreement(answer, value)
 }
 
@@ -221,7 +225,7 @@ pub extern "C" fn sejjekoru_agrees(
 }
 
 // What a report leaves and answers: the record, and one line with its place, which is past the last where none changes.
-struct Told {
+struct ToldReport {
     number: u64,
     record: Record,
     at: usize,
@@ -238,20 +242,24 @@ fn report_on(
     marks: &mut [u8],
     name: u64,
     record: Record,
-    held: Held,
+    held: HeldLines,
     value: &mut u64,
-) -> Told
+) -> ToldReport
     ensures { λ r. ⌜
         ReportOn (order bays (now (rails .entry)) (now (start .entry)) (now (goal .entry)))
         (now (plan .entry)) (now (marks .entry)) name «record» held r (now (value .exit)) (now (marks .exit))
         ⌝ }
 {
-    let told = ledger::report(bays, rails, start, goal, plan, marks, name, record, held);
+    let accounts = Accounts {
+        running: record,
+        held: held,
+    };
+    let told = ledger::report(bays, rails, start, goal, plan, marks, name, accounts);
     let answer = told.answer;
     let running = told.running;
     let at = told.at;
     let line = told.line;
-    Told {
+    ToldReport {
         number: log_numbers::told_reported(answer, value),
         record: running,
         at: at,

@@ -30,7 +30,7 @@ fn told(said: Said, value: &mut u64) -> u64
 fn begin_on(map: &[u8], state: Link, value: &mut u64) -> Spoken
     ensures { λ r. ⌜ BeginTells (readMap (now (map .entry))) state (r .number) (now (value .exit)) (r .link) ⌝ }
 {
-    let turn = link::begin(state, map);
+    let turn = link_calls::begin(state, map);
     let said = turn.said;
     let next = turn.link;
     Spoken {
@@ -42,7 +42,7 @@ fn begin_on(map: &[u8], state: Link, value: &mut u64) -> Spoken
 fn piece_on(state: Link, piece: &[u8], value: &mut u64) -> Spoken
     ensures { λ r. ⌜ PieceTells state (now (piece .entry)) (r .number) (now (value .exit)) (r .link) ⌝ }
 {
-    let turn = link::piece(state, piece);
+    let turn = link_calls::piece(state, piece);
     let said = turn.said;
     let next = turn.link;
     Spoken {
@@ -54,7 +54,7 @@ fn piece_on(state: Link, piece: &[u8], value: &mut u64) -> Spoken
 fn end_on(state: Link, value: &mut u64) -> Spoken
     ensures { λ r. ⌜ EndTells state (r .number) (now (value .exit)) (r .link) ⌝ }
 {
-    let turn = link::end(state);
+    let turn = link_calls::end(state);
     let said = turn.said;
     let next = turn.link;
     Spoken {

@@ -5,34 +5,34 @@ ghost use mathlib.Core.List.{_++_};
 ghost use Prim.Native.Nat.{_≤_};
 ghost use lib.ListN.{length, take, drop, set};
 ghost use Rattle.paper.specs.Limits.{most-bays};
-ghost use Rattle.ledger.specs.Lines.{gathered};
+ghost use Rattle.held_lines.specs.Lines.{gathered};
 use bills::Line;
-use ledger::Held;
+use held_lines::HeldLines;
 
 // The lent lines by value.
-pub fn gather(lines: &[Line]) -> Held
+pub fn gather(lines: &[Line]) -> HeldLines
     ensures { λ r. ⌜ r ≡ gathered (now (lines .entry)) ⌝ }
 {
     let count = lines.len();
-    let top = ledger::top(count);
-    let mut kept = ledger::no_lines();
+    let top = held_lines::top(count);
+    let mut kept = held_lines::no_lines();
     let mut i = 0;
     while i < top {
         kept[i] = lines[i];
         i += 1;
     }
-    ledger::hold(count, kept)
+    held_lines::hold(count, kept)
 }
 
 // The held lines into the first places of the lent ones.
-pub fn fill(lines: &mut [Line], held: Held)
+pub fn fill(lines: &mut [Line], held: HeldLines)
     requires { ⌜ (held .count ≤ most-bays) × (held .count ≤ length (now lines)) × (length (held .lines) ≡ most-bays) ⌝ }
     ensures { λ _. ⌜ now (lines .exit) ≡ take (held .count) (held .lines) ++ drop (held .count) (now (lines .entry)) ⌝ }
 {
     let top = held.count;
     let mut i = 0;
     while i < top {
-        lines[i] = ledger::line_at(held, i);
+        lines[i] = held_lines::line_at(held, i);
         i += 1;
     }
 }

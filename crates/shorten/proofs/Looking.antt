@@ -17,7 +17,8 @@ use Rattle.trips.proofs.Dropping.{cut-legal}
 use Rattle.trips.proofs.Shortened.{cut-shorter, cuts-done, shorten-cut}
 use Rattle.trips.proofs.Naming.{NoTrip, cut-at, cut-ends, left-all}
 use Rattle.trips.proofs.Freeing.{Noted, freed, trip-fewer, trip-length}
-use Rattle.shorten.specs.Going.{Lawful, Going, nameAt, lastFrom, rank}
+use Rattle.returning.specs.Returns.{nameAt, lastFrom}
+use Rattle.shorten.specs.Going.{Lawful, Going, rank}
 
 same-length : (plan gone : List ℕ) → length gone ≡ length plan → length gone ≡ length (crossings plan)
 same-length plan gone h = h ∙ sym (length-map plan unpack)

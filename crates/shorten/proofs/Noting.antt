@@ -13,8 +13,8 @@ use Rattle.paper.specs.Yard.{Bay, Carrier, Crossing, crossings, named}
 use Rattle.paper.proofs.Tests.{by-cases, not-both, and-left, and-right}
 use Rattle.trips.proofs.Freeing.{LastLeaving, Noted}
 use Rattle.chains.specs.Links.{Passed}
-use Rattle.shorten.proofs.Asking.{in-fails}
-use Rattle.shorten.proofs.Passing.{passed-fails}
+use Rattle.returning.proofs.Asking.{in-fails}
+use Rattle.returning.proofs.Passing.{passed-fails}
 
 -- ## The last leaving, looked for downwards
 

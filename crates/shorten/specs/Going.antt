@@ -3,13 +3,12 @@
 use mathlib.Core.Path.{_≡_}
 use mathlib.Core.Bool.{true}
 use mathlib.Core.List.{List}
-use mathlib.Core.Option.{Option, none, some}
 use Prim.Native.Nat.{ℕ, suc, _≤_, _<_, _+_, _*_, _-_}
-use lib.ListN.{length, getD, drop}
+use lib.ListN.{length, getD}
 use Rattle.paper.specs.Yard.{Yard, Placement, Crossing, crossings, legalPlan}
 use Rattle.paper.proofs.Playing.{Apart}
 use Rattle.trips.specs.Trips.{shorten}
-use Rattle.trips.specs.Names.{left, lastPlace}
+use Rattle.trips.specs.Names.{left}
 use Rattle.trips.proofs.Naming.{NoTrip}
 
 -- legal in some yard, from a placement with one carrier to a bay
@@ -18,15 +17,6 @@ pub record Lawful (xs : List Crossing) : Type 0 where
   pub start : Placement
   pub apart : Apart start
   pub lawful : legalPlan yard start xs ≡ true
-
--- the name of the last return, where it is looked for from the name m on and `last` is the last one before it
-abbrev pub nameAt : ℕ → ℕ → Option ℕ → ℕ
-nameAt last m none = last
-nameAt last m (some d) = m + d
-
--- the same for a trip that begins with the crossing x
-abbrev pub lastFrom : Crossing → List Crossing → List ℕ → ℕ → ℕ → ℕ
-lastFrom x xs gone last m = nameAt last m (lastPlace (x .carrier) (x .from) (drop m gone) (drop m xs))
 
 pub record Going (plan gone todo : List ℕ) (i : ℕ) : Type 0 where
   pub long-gone : length gone ≡ length plan

@@ -4,18 +4,11 @@ use mathlib.Core.Path.{_≡_}
 use mathlib.Core.List.{List}
 use Prim.Native.Nat.{ℕ}
 use lib.ListN.{length}
-use Rattle.paper.specs.Yard.{crossings}
 use Rattle.paper.specs.Order.{Order}
-use Rattle.paper.specs.Answers.{told, written}
+use Rattle.paper.specs.Answers.{told}
 use Rattle.docket.specs.Reading.{verdictOf}
 use Rattle.docket.specs.declared.Verdict.{Verdict}
-use Rattle.trips.specs.Trips.{shorten}
-use Rattle.trips.specs.Shortening.{shortening, shorteningEnd, intoRoom}
-
--- once 25 has passed
-pub record RoomSays (plan out : List ℕ) (answer : Verdict) (out′ : List ℕ) : Type 0 where
-  pub answers : verdictOf answer ≡ told (intoRoom (length out) (shorten (crossings plan)))
-  pub ends : out′ ≡ written (intoRoom (length out) (shorten (crossings plan))) out
+use Rattle.trips.specs.Shortening.{shortening, shorteningEnd}
 
 module _ (o : Order) (plan marks : List ℕ) where
   pub record ShortenSays (out : List ℕ) (answer : Verdict) (out′ : List ℕ) : Type 0 where

@@ -2,23 +2,22 @@
 // a trip may begin there. A cut drops one carrier's crossings, so only leavings whose next entering was dropped are looked at again.
 // A search by bay or carrier goes by links, past the crossings that cannot be what it looks for.
 ghost use mathlib.Core.Path.{_≡_};
-ghost use mathlib.Core.Bool.{true, false};
-ghost use mathlib.Core.List.{_++_};
+ghost use mathlib.Core.Bool.{true};
 ghost use Prim.Native.Nat.{ℕ, suc, _≤_, _<_, _*_, _-_};
 ghost use lib.Dec.{eqb};
-ghost use lib.ListN.{length, getD, drop, replicate};
+ghost use lib.ListN.{length, getD, replicate};
 ghost use Rattle.paper.specs.Basics.{_and_, if_then_else_};
 ghost use Rattle.paper.specs.Yard.{crossings, named, most-crossings};
 ghost use Rattle.paper.specs.Limits.{most-bays};
 ghost use Rattle.paper.specs.OnePass.{Fits};
 ghost use Rattle.paper.specs.Order.{order};
-ghost use Rattle.trips.specs.Trips.{enters, isOf, shorten as shortenOf};
+ghost use Rattle.trips.specs.Trips.{isOf, shorten as shortenOf};
 ghost use Rattle.trips.specs.Names.{left, dropTrip};
-ghost use Rattle.trips.specs.Shortening.{anyDone};
 ghost use Rattle.trips.proofs.Freeing.{LastLeaving, Noted};
 ghost use Rattle.chains.specs.Links.{links-each, Passed, Linked};
-ghost use Rattle.shorten.specs.Going.{few-crossings, Lawful, Going, lastFrom, rank};
-ghost use Rattle.shorten.specs.Statements.{RoomSays, ShortenSays};
+ghost use Rattle.remaining.specs.Statements.{RoomSays};
+ghost use Rattle.shorten.specs.Going.{few-crossings, Lawful, Going, rank};
+ghost use Rattle.shorten.specs.Statements.{ShortenSays};
 use checker::Checked;
 use docket::Bay;
 use docket::Carrier;
@@ -34,18 +33,6 @@ const FEW: usize = 4096;
 
 const FEW_LINKS: usize = chains::LINKS * FEW;
 
-// The crossing is still in the plan and leads to the bay.
-fn enters_bay(plan: &[u64], gone: &[u8], name: usize, bay: Bay) -> bool
-    requires { ⌜ (name < length (now plan)) × (length (now gone) ≡ length (now plan)) ⌝ }
-    ensures { λ r. ⌜ r ≡ eqb (getD (now (gone .entry)) name 0) 0 and enters (bay .0) (named (crossings (now (plan .entry))) name) ⌝ }
-{
-    if gone[name] != 0 {
-        return false;
-    }
-    let x = plans::crossing_at(plan, name);
-    x.to.0 == bay.0
-}
-
 // The crossing is still in the plan and leaves the bay.
 fn leaves_bay(plan: &[u64], gone: &[u8], name: usize, bay: Bay) -> bool
     requires { ⌜ (name < length (now plan)) × (length (now gone) ≡ length (now plan)) ⌝ }
@@ -56,46 +43,6 @@ fn leaves_bay(plan: &[u64], gone: &[u8], name: usize, bay: Bay) -> bool
     }
     let x = plans::crossing_at(plan, name);
     x.from.0 == bay.0
-}
-
-// The crossing is the carrier's.
-fn is_of(plan: &[u64], name: usize, carrier: Carrier) -> bool
-    requires { ⌜ name < length (now plan) ⌝ }
-    ensures { λ r. ⌜ r ≡ isOf (carrier .0) (named (crossings (now (plan .entry))) name) ⌝ }
-{
-    let x = plans::crossing_at(plan, name);
-    x.carrier.0 == carrier.0
-}
-
-// One of two names.
-fn chosen(test: bool, name: usize, other: usize) -> usize
-    ensures { λ r. ⌜ r ≡ if test then name else other ⌝ }
-{
-    if test { name } else { other }
-}
-
-// The name of the last return of the carrier that crosses at `name`, or `name` itself where it does not return.
-fn last_return(plan: &[u64], gone: &[u8], links: &mut [u16], name: usize) -> usize
-    requires { ⌜ (name < length (now plan)) × (length (now gone) ≡ length (now plan)) × Linked (now plan) (now gone) (now links) ⌝ }
-    ensures { λ r. ⌜
-        (r < length (now (plan .entry)))
-        × (r ≡ lastFrom (named (crossings (now (plan .entry))) name) (crossings (now (plan .entry))) (now (gone .entry)) name (suc name))
-        × Linked (now (plan .entry)) (now (gone .entry)) (now (links .exit))
-        ⌝ }
-{
-    let x = plans::crossing_at(plan, name);
-    let mut last = name;
-    let mut m = chains::ahead(plan, gone, links, name, 0, 1);
-    while m < plan.len() {
-        if enters_bay(plan, gone, m, x.from) {
-            if !is_of(plan, m, x.carrier) {
-                return last;
-            }
-            last = chosen(last < m, m, last);
-        }
-        m = chains::ahead(plan, gone, links, m, 1, 1);
-    }
-    last
 }
 
 // The last crossing before `name` that leaves the bay that the crossing enters, or `name` itself where none does. The links lead to it at once.
@@ -237,7 +184,7 @@ fn drop_trip(
     let mut m = next_own(plan, gone, links, name, last);
     gone[name] = 1;
     while m <= last {
-        gone[m] = byte_after(gone[m], is_of(plan, m, carrier));
+        gone[m] = byte_after(gone[m], returning::is_of(plan, m, carrier));
         m = next_own(plan, gone, links, m, last);
     }
 }
@@ -257,7 +204,7 @@ fn look(plan: &[u64], gone: &mut [u8], todo: &mut [u8], links: &mut [u16], name:
     if todo[name] == 0 {
         return name + 1;
     }
-    let last = last_return(plan, gone, links, name);
+    let last = returning::last_return(plan, gone, links, name);
     if last == name {
         todo[name] = 0;
         return name + 1;
@@ -282,62 +229,6 @@ fn drop_trips(plan: &[u64], gone: &mut [u8], todo: &mut [u8], links: &mut [u16])
     }
 }
 
-// 1 for a crossing that is still in the plan, else 0.
-fn one_left(byte: u8) -> usize
-    ensures { λ r. ⌜ r ≡ if eqb byte 0 then 1 else 0 ⌝ }
-{
-    if byte == 0 { 1 } else { 0 }
-}
-
-// How many crossings are still in the plan.
-fn count_left(plan: &[u64], gone: &[u8]) -> usize
-    requires { ⌜ length (now gone) ≡ length (now plan) ⌝ }
-    ensures { λ r. ⌜ r ≡ length (left (now (gone .entry)) (now (plan .entry))) ⌝ }
-{
-    let mut n = 0;
-    let mut m = 0;
-    while m < plan.len() {
-        n += one_left(gone[m]);
-        m += 1;
-    }
-    n
-}
-
-// What is still in the plan, into the first places of `out`; what stands beyond stays.
-fn write_left(plan: &[u64], gone: &[u8], out: &mut [u64])
-    requires { ⌜ (length (now gone) ≡ length (now plan)) × (length (left (now gone) (now plan)) ≤ length (now out)) ⌝ }
-    ensures { λ _. ⌜
-        now (out .exit) ≡ left (now (gone .entry)) (now (plan .entry)) ++ drop (length (left (now (gone .entry)) (now (plan .entry)))) (now (out .entry))
-        ⌝ }
-{
-    let mut n = 0;
-    let mut m = 0;
-    while m < plan.len() {
-        if gone[m] == 0 {
-            out[n] = plan[m];
-            n += 1;
-        }
-        m += 1;
-    }
-}
-
-// 8 where the shorter plan is longer than the lent list; else it is written.
-fn finish(plan: &[u64], gone: &[u8], out: &mut [u64]) -> Verdict
-    requires { ⌜
-        (length (now gone) ≡ length (now plan))
-        × (left (now gone) (crossings (now plan)) ≡ shortenOf (crossings (now plan)))
-        × (length (now plan) ≤ most-crossings)
-        ⌝ }
-    ensures { λ r. ⌜ RoomSays (now (plan .entry)) (now (out .entry)) r (now (out .exit)) ⌝ }
-{
-    let count = count_left(plan, gone);
-    if out.len() < count {
-        return Verdict::Denied(Refusal::Room(count as u64));
-    }
-    write_left(plan, gone, out);
-    Verdict::Granted(count as u64)
-}
-
 // The whole work, in lists that are lent: nothing is dropped yet, and every name is to be looked at.
 fn shorten_in(
     plan: &[u64],
@@ -358,7 +249,7 @@ fn shorten_in(
 {
     chains::fill(plan, links);
     drop_trips(plan, gone, todo, links);
-    finish(plan, gone, out)
+    remaining::finish(plan, gone, out)
 }
 
 // The same, with working room for the longest plan.
@@ -410,20 +301,6 @@ fn shorten_checked(plan: &[u64], out: &mut [u64]) -> Verdict
     shorten_most(plan, out)
 }
 
-// Whether any mark is 1.
-fn any_done(marks: &[u8]) -> bool
-    ensures { λ r. ⌜ r ≡ anyDone (now (marks .entry)) ⌝ }
-{
-    let mut i = 0;
-    while i < marks.len() {
-        if marks[i] == 1 {
-            return true;
-        }
-        i += 1;
-    }
-    false
-}
-
 // A plan that passes the check, shortened into the first places of `out`, as long as no crossing of it is done. A refusal changes nothing.
 pub fn shorten(
     bays: u64,
@@ -446,7 +323,7 @@ pub fn shorten(
     if marks::bad_marks(plan, marks) {
         return Verdict::Denied(Refusal::Mismarked);
     }
-    if any_done(marks) {
+    if begun::any_done(marks) {
         return Verdict::Denied(Refusal::Begun);
     }
     shorten_checked(plan, out)

@@ -2,7 +2,7 @@
 -- bays afterwards is the set before with u and w traded.
 -- Assumes nothing.
 use mathlib.Core.Path.{_≡_, sym, ap, _∙_, refl}
-use mathlib.Core.Bool.{Bool, true, false, not}
+use mathlib.Core.Bool.{true, false}
 use mathlib.Core.List.{List, [], _∷_}
 use mathlib.Core.Logic.{_⊎_, inl, ⊎-elim}
 use mathlib.Core.Option.{some}
@@ -11,14 +11,14 @@ use native.Mathlib.Omega.{arith}
 use lib.Dec.{eqb}
 use lib.ListN.{length, take, set, length-take, length-set}
 use lib.Seq.{getD-take, getD-set-same, getD-set-other}
-use borrow.Author.Tests.{eqb-true, eqb-false, eq-eqb, ne-eqb}
-use Rattle.paper.specs.Basics.{_and_, _or_, elem, In}
+use borrow.Author.Tests.{eqb-true, eqb-false, ne-eqb}
+use Rattle.paper.specs.Basics.{elem, In}
 use Rattle.paper.specs.Procedure.{Made, only, trade, step}
 use Rattle.paper.specs.Yard.{Bay, Carrier, Placement, bayOf, carrierAt, crossing, after}
 use Rattle.paper.proofs.Carrying.{Stepped, step-steps}
 use Rattle.paper.proofs.Playing.{Apart, Good, after-length, placeOf-bay, placeOf-there, bay-in}
-use Rattle.paper.proofs.Tests.{by-cases, not-both}
-use Rattle.paper.proofs.Trading.{trade-first, trade-second, trade-other, trade-twice, which}
+use Rattle.paper.proofs.Tests.{by-cases}
+use Rattle.paper.proofs.Trading.{trade-first, trade-second, trade-other, trade-twice}
 use Rattle.words.specs.Sets.{mem, memRow, span}
 use Rattle.words.proofs.Besides.{equal-tests}
 use Rattle.moving.specs.Placed.{Placed}
@@ -30,37 +30,6 @@ use Rattle.acting.specs.declared.Tried.the-variants.{Done}
 use Rattle.acting.proofs.Acting.{tried-done}
 use Rattle.step.specs.Asking.{Loopless, BaysBelow}
 use Rattle.step.proofs.Stepping.{sound-of, railed}
-
--- ## Two bays traded in a set
-
-module _ (f : ℕ → Bool) (u w : Bay) where
-  -- both are in it, or neither is
-  pub traded-alike : f u ≡ f w → (b : Bay) → f b ≡ f (trade u w b)
-  traded-alike e b =
-      which u w b
-      (λ q. rw (q, trade-first u w) e)
-      (λ q. rw (q, trade-second u w) (sym e))
-      (λ n m. rw (trade-other u w b n m))
-
-  -- u is in it and w is not: u leaves and w joins
-  pub traded-one : f u ≡ true → f w ≡ false → (b : Bay) → (f b and not (eqb b u)) or eqb b w ≡ f (trade u w b)
-  unfolding _and_ _or_
-  traded-one hu hw b =
-      which u w b
-      (λ q. rw (q, trade-first u w, hu, eq-eqb u u refl, hw) (ne-eqb u w (λ e. not-both hu (rw (← e) at hw))))
-      (λ q. rw (q, trade-second u w, hu, hw, eq-eqb w w refl))
-      (λ n m. rw (trade-other u w b n m, n, m) (plain (f b)))
-    where
-      plain : (a : Bool) → (a and true) or false ≡ a
-      plain true = refl
-      plain false = refl
-
-pub trade-turned : (u w b : Bay) → trade u w b ≡ trade w u b
-trade-turned u w b =
-    which u w b
-    (λ q. rw (q, trade-first u w, trade-second w u))
-    (λ q. rw (q, trade-second u w, trade-first w u))
-    (λ n m. rw (trade-other u w b n m, trade-other w u b m n))
 
 -- ## The bays of the carriers below
 

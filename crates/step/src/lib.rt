@@ -1,4 +1,5 @@
-// One step of a carrier: the next bay is vacated and the carrier crosses, or else it is swapped with the carrier there.
+// One step of a carrier: the next bay is vacated and the carrier crosses, or else it is swapped with the carrier there. A step is lent the rest of
+// the list, and answers what it counted.
 use acting::Tally;
 use acting::Tried;
 use docket::Bay;
@@ -7,11 +8,9 @@ ghost use mathlib.Core.Path.{_≡_};
 ghost use mathlib.Core.Bool.{true};
 ghost use Prim.Native.Nat.{ℕ, _≤_, _<_};
 ghost use lib.ListN.{length, getD};
-ghost use Rattle.paper.specs.Procedure.{trade};
 ghost use Rattle.words.specs.Sets.{mem, words, span};
-ghost use Rattle.moving.specs.Bounds.{room-step};
 ghost use Rattle.moving.specs.Placed.{Placed};
-ghost use Rattle.acting.specs.Acting.{Ready, CrossCounts};
+ghost use Rattle.acting.specs.Acting.{nothing, Ready, CrossCounts};
 ghost use Rattle.step.specs.Asking.{BaysBelow, StepAsks, AsideAsks, StepSays, StepSettles};
 
 // One step: the carrier r that steps and the next bay w on its way. The carriers below `finished` are finished.
@@ -31,13 +30,12 @@ fn make_way(
     standing: &mut [u16],
     empty: &mut [u64],
     out: &mut [u64],
-    at: Tally,
 ) -> Tried
     requires { ⌜ Ready (now table) (now placement) (now standing) (now empty) ⌝ }
-    requires { ⌜ StepAsks next (now table) (now placement) (now standing) (now settled) at ⌝ }
+    requires { ⌜ StepAsks next (now table) (now placement) (now standing) (now settled) ⌝ }
     ensures { λ z. ⌜
         StepSays next
-        (now (table .entry)) (now (placement .entry)) (now (standing .entry)) (now (out .entry)) at
+        (now (table .entry)) (now (placement .entry)) (now (standing .entry)) (now (out .entry))
         (now (placement .exit)) (now (standing .exit)) (now (empty .exit)) (now (out .exit)) z
         ⌝ }
 {
@@ -47,11 +45,15 @@ fn make_way(
     let mut held = [0u64; words::WORDS];
     words::keep(&mut held, 0, settled);
     words::add(&mut held, placement[own] as usize);
-    let vacated = acting::make_room(table, &held, w, placement, standing, empty, out, at);
+    let nothing = Tally {
+        crossings: 0,
+        parked: 0,
+    };
+    let vacated = acting::make_room(table, &held, w, placement, standing, empty, out, nothing);
     let Tried::Done(done) = vacated else {
         let bay = w.0 as usize;
         let s = Carrier(standing[bay] as u32);
-        return swap::swap(table, r, s, placement, standing, empty, out, at);
+        return swap::swap(table, r, s, placement, standing, empty, out);
     };
     let a = Tally {
         crossings: done.crossings,
@@ -71,19 +73,22 @@ fn step_aside(
     standing: &mut [u16],
     empty: &mut [u64],
     out: &mut [u64],
-    at: Tally,
 ) -> Tried
     requires { ⌜ Ready (now table) (now placement) (now standing) (now empty) ⌝ }
-    requires { ⌜ AsideAsks next (e .0) (now table) (now placement) (now standing) (now empty) at ⌝ }
+    requires { ⌜ AsideAsks next (e .0) (now table) (now placement) (now standing) (now empty) ⌝ }
     ensures { λ z. ⌜
         StepSays next
-        (now (table .entry)) (now (placement .entry)) (now (standing .entry)) (now (out .entry)) at
+        (now (table .entry)) (now (placement .entry)) (now (standing .entry)) (now (out .entry))
         (now (placement .exit)) (now (standing .exit)) (now (empty .exit)) (now (out .exit)) z
         ⌝ }
 {
     let r = next.carrier;
     let w = next.to;
-    let a = acting::fill(table, placement, standing, empty, w, e, out, at);
+    let nothing = Tally {
+        crossings: 0,
+        parked: 0,
+    };
+    let a = acting::fill(table, placement, standing, empty, w, e, out, nothing);
     let own = r.0 as usize;
     let u = Bay(placement[own]);
     Tried::Done(acting::cross(placement, standing, empty, u, w, out, a))
@@ -99,13 +104,12 @@ fn step_to(
     standing: &mut [u16],
     empty: &mut [u64],
     out: &mut [u64],
-    at: Tally,
 ) -> Tried
     requires { ⌜ Ready (now table) (now placement) (now standing) (now empty) ⌝ }
-    requires { ⌜ StepAsks next (now table) (now placement) (now standing) (now settled) at ⌝ }
+    requires { ⌜ StepAsks next (now table) (now placement) (now standing) (now settled) ⌝ }
     ensures { λ z. ⌜
         StepSays next
-        (now (table .entry)) (now (placement .entry)) (now (standing .entry)) (now (out .entry)) at
+        (now (table .entry)) (now (placement .entry)) (now (standing .entry)) (now (out .entry))
         (now (placement .exit)) (now (standing .exit)) (now (empty .exit)) (now (out .exit)) z
         ⌝ }
 {
@@ -116,52 +120,25 @@ fn step_to(
         let own = r.0 as usize;
         let here = placement[own];
         let u = Bay(here);
-        return Tried::Done(acting::cross(placement, standing, empty, u, w, out, at));
+        let nothing = Tally {
+            crossings: 0,
+            parked: 0,
+        };
+        return Tried::Done(acting::cross(placement, standing, empty, u, w, out, nothing));
     }
     let s = standing[bay];
     let there = s as usize;
     if there < next.finished {
         let carrier = s as u32;
-        return swap::swap(
-            table,
-            r,
-            Carrier(carrier),
-            placement,
-            standing,
-            empty,
-            out,
-            at,
-        );
+        return swap::swap(table, r, Carrier(carrier), placement, standing, empty, out);
     }
     let beside = choice::common(table, table, bay, empty, 0);
     if beside < words::SPAN {
         let number = beside as u16;
         let e = Bay(number);
-        return step_aside(table, next, e, placement, standing, empty, out, at);
+        return step_aside(table, next, e, placement, standing, empty, out);
     }
-    make_way(table, settled, next, placement, standing, empty, out, at)
-}
-
-// The set after whoever stood at u and at w have traded bays: if one of the two was in it, that one leaves and the other joins.
-fn settle(settled: &mut [u64], u: Bay, w: Bay)
-    requires { ⌜ (length (now settled) ≡ words) × (u .0 < span) × (w .0 < span) ⌝ }
-    ensures { λ _. ⌜
-        ((b : ℕ) → mem (now (settled .exit)) b ≡ mem (now (settled .entry)) (trade (u .0) (w .0) b))
-        ⌝ }
-{
-    let from = u.0 as usize;
-    let to = w.0 as usize;
-    let left = words::is_in(settled, from);
-    if words::is_in(settled, to) {
-        if left {
-            return;
-        }
-        words::replace(settled, to, from);
-        return;
-    }
-    if left {
-        words::replace(settled, from, to);
-    }
+    make_way(table, settled, next, placement, standing, empty, out)
 }
 
 // The step of r into an empty bay w, and the bays of the finished carriers after it: nobody but r moves.
@@ -173,7 +150,6 @@ pub fn step_in(
     empty: &mut [u64],
     settled: &mut [u64],
     out: &mut [u64],
-    at: Tally,
 ) -> Tally
     requires { ⌜
         (r .0 < length (now placement))
@@ -185,11 +161,10 @@ pub fn step_in(
         (length (now standing) ≤ span)
         × (length (now empty) ≡ words)
         × (length (now settled) ≡ words)
-        × (at .crossings < room-step)
         ⌝ }
     ensures { λ m. ⌜
         CrossCounts (getD (now (placement .entry)) (r .0) 0) (w .0)
-        (now (placement .entry)) (now (standing .entry)) (now (out .entry)) at
+        (now (placement .entry)) (now (standing .entry)) (now (out .entry)) nothing
         (now (placement .exit)) (now (standing .exit)) (now (empty .exit)) (now (out .exit)) m
         × ((f : ℕ)
         → BaysBelow f (now (placement .entry)) (now (settled .entry))
@@ -198,8 +173,12 @@ pub fn step_in(
 {
     let own = r.0 as usize;
     let u = Bay(placement[own]);
-    let m = acting::cross(placement, standing, empty, u, w, out, at);
-    settle(settled, u, w);
+    let nothing = Tally {
+        crossings: 0,
+        parked: 0,
+    };
+    let m = acting::cross(placement, standing, empty, u, w, out, nothing);
+    settle::settle(settled, u, w);
     m
 }
 
@@ -212,13 +191,12 @@ pub fn step(
     empty: &mut [u64],
     settled: &mut [u64],
     out: &mut [u64],
-    at: Tally,
 ) -> Tried
     requires { ⌜ Ready (now table) (now placement) (now standing) (now empty) ⌝ }
-    requires { ⌜ StepAsks next (now table) (now placement) (now standing) (now settled) at ⌝ }
+    requires { ⌜ StepAsks next (now table) (now placement) (now standing) (now settled) ⌝ }
     ensures { λ z. ⌜
         StepSettles next
-        (now (table .entry)) (now (placement .entry)) (now (standing .entry)) (now (out .entry)) at
+        (now (table .entry)) (now (placement .entry)) (now (standing .entry)) (now (out .entry))
         (now (placement .exit)) (now (standing .exit)) (now (empty .exit)) (now (settled .exit)) (now (out .exit)) z
         ⌝ }
 {
@@ -226,7 +204,7 @@ pub fn step(
     let w = next.to;
     let own = r.0 as usize;
     let u = Bay(placement[own]);
-    let stepped = step_to(table, settled, next, placement, standing, empty, out, at);
+    let stepped = step_to(table, settled, next, placement, standing, empty, out);
     let Tried::Done(done) = stepped else {
         return Tried::Failed;
     };
@@ -234,6 +212,6 @@ pub fn step(
         crossings: done.crossings,
         parked: done.parked,
     };
-    settle(settled, u, w);
+    settle::settle(settled, u, w);
     Tried::Done(m)
 }

@@ -12,7 +12,7 @@ use lib.Dec.{eqb}
 use lib.ListN.{length}
 use borrow.Author.Tests.{eqb-false, le-leb, not-true}
 use Rattle.paper.specs.Basics.{_and_, _or_, placeOf, upTo, In, Out}
-use Rattle.paper.specs.Procedure.{Made, only, exchange, undo, bring, clearOnce, goneOn, clear, finish, trialLed, trial, swap}
+use Rattle.paper.specs.Procedure.{only, exchange, undo, bring, clearOnce, goneOn, clear, finish, trialLed, trial, swap}
 use Rattle.paper.specs.Yard.{Bay, Carrier, bayOf, reverseOf, after, joined, neighbours, junction}
 use Rattle.paper.proofs.Members.{In-head, In-tail, in-filter}
 use Rattle.paper.proofs.Playing.{placeOf-bay, placeOf-there, bay-in}

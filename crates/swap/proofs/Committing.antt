@@ -1,37 +1,35 @@
 -- The winner's trial trades the two carriers and leaves all others in place, so the end state is written by trading the two entries.
 -- Assumes nothing.
 use mathlib.Core.Path.{_≡_, refl, sym, _∙_, ap}
-use mathlib.Core.Bool.{true, false, not}
-use mathlib.Core.List.{List, [], _++_, map}
-use mathlib.Core.Option.{none, some}
-use Prim.Native.Nat.{ℕ, min, _+_, _-_, _≤_, _<_}
+use mathlib.Core.Bool.{false, not}
+use mathlib.Core.List.{List, map}
+use mathlib.Core.Option.{some}
+use Prim.Native.Nat.{ℕ, _+_, _≤_, _<_}
 use native.Mathlib.Omega.{arith}
-use lib.ListN.{length, getD, set, take, drop, length-set, length-take, length-drop, length-map}
+use lib.ListN.{length, getD, set, length-set, length-map}
 use native.Mathlib.Decide.{ℕ-discrete}
 use lib.Dec.{eqb}
-use lib.Seq.{getD-set-same, getD-set-other, length-take-le, take-append-le, take-append-add}
+use lib.Seq.{getD-set-same, getD-set-other}
 use borrow.Author.Tests.{ne-eqb}
-use Rattle.paper.specs.Basics.{find, elem, placeOf, upTo, In}
-use Rattle.paper.specs.Path.{nearestFirst}
-use Rattle.paper.specs.Procedure.{Made, trade, traded, trial, swap}
+use Rattle.paper.specs.Basics.{elem, placeOf, upTo, In}
+use Rattle.paper.specs.Procedure.{Made, only, trade, traded, swap}
 use Rattle.paper.specs.Yard.{Bay, Carrier, Crossing, bayOf, pack}
-use Rattle.paper.proofs.Members.{find-passes, in-count}
+use Rattle.paper.proofs.Members.{in-count}
 use Rattle.paper.proofs.Playing.{Apart, placeOf-bay, placeOf-there, bay-in}
 use Rattle.paper.proofs.Swapping.{swap-trades}
-use Rattle.paper.proofs.Tests.{by-cases, by-option, not-both, and-right}
+use Rattle.paper.proofs.Tests.{by-cases}
 use Rattle.paper.proofs.Trading.{traded-length, trade-first, trade-second, trade-other, trade-twice, trade-there, traded-bay}
 use Rattle.paper.proofs.Vacating.{plan-apart}
-use Rattle.docket.specs.Reading.{isSome}
-use Rattle.swap.specs.Seeking.{Beside, standingTraded, fitting}
+use Rattle.trade.specs.Trading.{standingTraded}
+use Rattle.swap.specs.Seeking.{Beside}
 use Rattle.words.proofs.Besides.{equal-tests}
 use Rattle.moving.specs.Placed.{Placed, Stored}
-use Rattle.moving.proofs.Playing.{carrier-is, carrier-none}
-use Rattle.acting.specs.Acting.{Tabled, Added, Proceeds}
+use Rattle.moving.proofs.Playing.{carrier-is, carrier-none, stored-exact}
+use Rattle.exchange.specs.Exchanging.{Noted}
+use Rattle.acting.specs.Acting.{Tabled, nothing, Proceeds}
 use Rattle.acting.specs.declared.Tally.{Tally}
 use Rattle.acting.proofs.Acting.{proceeds-none, proceeds-some}
-use Rattle.clear_on.specs.Going.{Logged, Listed}
-use Rattle.clear_on.proofs.Attempting.{log-stored}
-use Rattle.swap.proofs.Seeking.{swap-found}
+use Rattle.clear_on.specs.Going.{Logged, Attempts}
 use Rattle.acting.specs.declared.Tried.the-variants.{Done}
 use Rattle.acting.specs.declared.Tried.the-variants.{Failed}
 
@@ -80,40 +78,37 @@ module _ {n : ℕ} {p standing empty : List ℕ} (k : Placed n p standing empty)
     empties = λ b h. k .empties b h ∙ ap not (sym (in-traded b));
   }
 
+-- an exchange that was noted from the start of the list
+pub noted-logged : {xs : List Crossing} {out log : List ℕ} {m : ℕ} → Noted xs out 0 log m → Logged (only xs) log (record { crossings = m; parked = 0 })
+noted-logged {xs} {out} {log} {m} w =
+    let k : Stored (map pack xs) out 0 log = stored-exact (w .stored) in
+    let many : 0 + length (map pack xs) ≡ m = omega (arith, w .counted, length-map xs pack) in
+    record { counted = omega (arith, w .counted); stored = λ h. rw many at (k .front (omega (arith, many, h, k .long))); parks = refl; few = omega arith }
+
 module _ {n : ℕ} {table : List ℕ} (t : Tabled n table) {p standing empty : List ℕ} (k : Placed n p standing empty) (long : length standing ≡ n) (r s : Carrier) (hr : r < length p) (hs : s < length p) (differ : s ≡ r → ⊥) (b : Beside (t .yard) r s p) where
   home : In (bayOf p r) (upTo (t .yard .bays))
   home = in-count 0 (t .yard .bays) (bayOf p r) (omega arith) (omega (arith, t .joins .bays, k .inside r hr))
 
-  -- the crossings of the swap were noted, and the two have traded places
-  pub traded-proceeds : {xs : Made} {out : List ℕ} {at : Tally} {out′ : List ℕ} {m : Tally} (p′ standing′ : List ℕ) → swap (t .yard) r s p ≡ some xs
-      → p′ ≡ traded r s p → standing′ ≡ standingTraded r s p standing → Listed xs out at out′ m → Proceeds (swap (t .yard) r s p) n p out at p′ standing′ empty out′ (Done m)
-  traded-proceeds {xs = xs} p′ standing′ made e d w =
+  -- the crossings of the swap are in the list, and the two have traded places
+  pub traded-proceeds : {xs : Made} {out out′ : List ℕ} {m : Tally} (p′ standing′ : List ℕ) → swap (t .yard) r s p ≡ some xs
+      → p′ ≡ traded r s p → standing′ ≡ standingTraded r s p standing → length out′ ≡ length out → Logged xs out′ m → Proceeds (swap (t .yard) r s p) n p out nothing p′ standing′ empty out′ (Done m)
+  traded-proceeds {xs = xs} {out} {out′} {m} p′ standing′ made e d size l =
       let tr = swap-trades (t .yard) (b .sound) r s (ne-eqb r s (λ y. differ (sym y))) p (k .apart) hr hs (b .beside) xs home made in
       let apart : Apart (traded r s p) = rw (tr .1) at (plan-apart (t .yard) p (xs .moves) (k .apart) (tr .0)) in
-      proceeds-some made (record { moved = e ∙ sym (tr .1); placed = rw (e, d) (placed-traded k r s hr hs differ apart (omega arith)); stored = w .stored; counted = w .counted; parks = w .parks; few = w .few })
+      let many : 0 + length (map pack (xs .moves)) ≡ m .crossings = omega (arith, l .counted, length-map (xs .moves) pack) in
+      proceeds-some made (record {
+        moved = e ∙ sym (tr .1);
+        placed = rw (e, d) (placed-traded k r s hr hs differ apart (omega arith));
+        stored = record { long = size; front = λ h. rw many (l .stored (omega (arith, many, h, size))) };
+        counted = omega (arith, l .counted);
+        parks = omega (arith, l .parks);
+        few = λ h. l .few;
+      })
 
-  module _ (v : Bay) (found : some v ≡ find (fitting (t .yard) r s p) (nearestFirst (t .yard) [] (bayOf p r))) where
-    is-trial : swap (t .yard) r s p ≡ trial (t .yard) r s v p
-    is-trial = swap-found (t .yard) r s p ∙ rw (← found)
+  -- the trial that was sought is the swap
+  pub committed : {out log : List ℕ} {m : Tally} (p′ standing′ : List ℕ) → p′ ≡ traded r s p → standing′ ≡ standingTraded r s p standing → length log ≡ length out
+      → Attempts (swap (t .yard) r s p) log (Done m) → Proceeds (swap (t .yard) r s p) n p out nothing p′ standing′ empty log (Done m)
+  committed {m = m} p′ standing′ e d size a = let q = a .done m refl in traded-proceeds p′ standing′ (q .1) e d size (q .2)
 
-    some-trial : isSome (trial (t .yard) r s v p) ≡ true
-    unfolding fitting
-    some-trial = and-right _ _ (find-passes (fitting (t .yard) r s p) (nearestFirst (t .yard) [] (bayOf p r)) (sym found))
-
-    pub committed : {out log : List ℕ} {at : Tally} {from : ℕ} {m sum : Tally} (rest p′ standing′ : List ℕ) → p′ ≡ traded r s p → standing′ ≡ standingTraded r s p standing
-        → from ≡ min (at .crossings) (length out) → (length log ≡ length (take (length out - from) (drop from out))) × (length (take from out ++ (log ++ rest)) ≡ length out)
-        → ((xs : Made) → trial (t .yard) r s v p ≡ some xs → Logged xs log m) → Added at m sum
-        → Proceeds (swap (t .yard) r s p) n p out at p′ standing′ empty (take from out ++ (log ++ rest)) (Done sum)
-    committed {at = at} {m = m} {sum = sum} rest p′ standing′ e d at-end size l add =
-        by-option (trial (t .yard) r s v p)
-        (λ f. not-both some-trial (rw f))
-        (λ xs f. traded-proceeds p′ standing′ (is-trial ∙ f) e d (record {
-          stored = log-stored rest xs at-end (size .0) (size .1) (l xs f);
-          counted = omega (arith, add .crossings, l xs f .counted);
-          parks = omega (arith, add .parks, l xs f .parks);
-          few = λ h. omega (arith, h, add .few, add .crossings, l xs f .few);
-        }))
-
-  pub not-found : {out out′ : List ℕ} {at : Tally} → none ≡ find (fitting (t .yard) r s p) (nearestFirst (t .yard) [] (bayOf p r))
-      → Proceeds (swap (t .yard) r s p) n p out at p standing empty out′ Failed
-  not-found f = proceeds-none (swap-found (t .yard) r s p ∙ rw (← f)) refl
+  pub not-found : {out log : List ℕ} → Attempts (swap (t .yard) r s p) log Failed → Proceeds (swap (t .yard) r s p) n p out nothing p standing empty log Failed
+  not-found a = proceeds-none (a .fails refl) refl

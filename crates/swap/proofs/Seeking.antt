@@ -3,33 +3,33 @@
 -- Assumes nothing.
 use mathlib.Core.Path.{_≡_, sym, _∙_, ap, refl}
 use mathlib.Core.Bool.{Bool, true, false}
-use mathlib.Core.List.{List, [], _∷_, _++_, map}
-use mathlib.Core.Option.{Option, none, some}
-use Prim.Native.Nat.{ℕ, suc, _≤_, _<_, _-_, _+_, zero}
+use mathlib.Core.List.{List, [], _∷_}
+use mathlib.Core.Option.{none, some}
+use Prim.Native.Nat.{ℕ, suc, _≤_, _<_, _+_, zero}
 use native.Mathlib.Omega.{arith}
-use lib.ListN.{length, getD, length-map}
-use lib.Dec.{leb, ltb}
+use lib.ListN.{getD}
 use native.Mathlib.Decide.{ℕ-discrete, decLt}
 use Rattle.paper.specs.Basics.{_and_, _>>=_, filter, find, concat, firstOf, elem, In}
 use Rattle.paper.specs.Path.{rings, nearestFirst, ringOf}
 use Rattle.paper.specs.Procedure.{Made, trial, swap}
-use Rattle.paper.specs.Yard.{Bay, Carrier, Yard, Placement, bayOf, Crossing, pack, joined, junction}
+use Rattle.paper.specs.Yard.{Bay, Carrier, Yard, Placement, bayOf, junction}
 use Rattle.paper.proofs.Members.{find-passes, In-nil, find-in, find-some, nothing-in-nil, in-count, none-find}
 use Rattle.paper.proofs.Nearest.{find-here, find-later}
 use Rattle.paper.proofs.Rings.{distance-in, in-concat, reached-sym}
 use Rattle.paper.proofs.Shortest.{Rising, find-lowest, rings-rise}
 use Rattle.paper.proofs.Tests.{by-cases, by-option, not-both, and-right, and-both, never}
 use Rattle.docket.specs.Reading.{isSome}
-use Rattle.words.specs.Sets.{mem, span, memRow, Lowest}
+use Rattle.words.specs.Sets.{mem, span, Lowest}
 use Rattle.swap.specs.Seeking.{Beside, fitting, TriedAt}
 use Rattle.rings.proofs.Searching.{in-yard, ring-none}
-use Rattle.acting.specs.Acting.{Tabled, nothing}
+use Rattle.acting.specs.Acting.{Tabled}
 use Rattle.acting.specs.declared.Tally.{Tally}
 use Rattle.acting.specs.declared.Tried.{Tried}
-use Rattle.trial.specs.Trying.{Wrote, Near}
+use Rattle.clear_on.specs.Going.{Logged, Attempts}
+use Rattle.trial.proofs.Attempting.{attempts-none, attempts-some}
+use Rattle.trial.specs.Trying.{Near}
 use Rattle.trial.proofs.Copying.{freeShown}
-use Rattle.acting.specs.declared.Tried.the-variants.{Done}
-use Rattle.acting.specs.declared.Tried.the-variants.{Failed}
+use Rattle.acting.specs.declared.Tried.the-variants.{Done, Failed}
 
 first-found : (Y : Yard) (r s : Carrier) (p : Placement) (l : List Bay)
     → firstOf (λ v. trial Y r s v p) (filter (junction Y) l) ≡ (find (fitting Y r s p) l >>= λ v. trial Y r s v p)
@@ -47,45 +47,34 @@ pub swap-found : (Y : Yard) (r s : Carrier) (p : Placement) → swap Y r s p ≡
 unfolding swap
 swap-found Y r s p = first-found Y r s p (nearestFirst Y [] (bayOf p r))
 
+module _ (Y : Yard) (r s : Carrier) (p : Placement) where
+  pub swap-none : {log : List ℕ} → none ≡ find (fitting Y r s p) (nearestFirst Y [] (bayOf p r)) → Attempts (swap Y r s p) log Failed
+  swap-none f = attempts-none (swap-found Y r s p ∙ rw (← f))
+
+  pub swap-some : {v : Bay} {log : List ℕ} {m : Tally} → some v ≡ find (fitting Y r s p) (nearestFirst Y [] (bayOf p r)) → (made : Made) × (trial Y r s v p ≡ some made) × Logged made log m
+      → Attempts (swap Y r s p) log (Done m)
+  swap-some f q = attempts-some (swap-found Y r s p ∙ rw (← f) (q .1)) (q .2)
+
 fitting-not : (Y : Yard) (r s : Carrier) (p : Placement) (v : Bay) → junction Y v ≡ false → fitting Y r s p v ≡ false
 unfolding fitting _and_
 fitting-not Y r s p v e = rw e
 
-is-some : {o : Option Made} {out : List ℕ} {at : Tally} {out′ : List ℕ} {m : Tally} → Wrote o out at out′ (Done m) → isSome o ≡ true
-is-some {o} w = by-option o (λ e. let z = w .fails e in never (cc)) (λ xs e. rw e)
-
-is-none : {o : Option Made} {out : List ℕ} {at : Tally} {out′ : List ℕ} → Wrote o out at out′ Failed → isSome o ≡ false
-is-none {o} w = by-option o (λ e. rw e) (λ xs e. let z = w .succeeds xs e .1 in never (cc))
-
-fitting-tried : (Y : Yard) (r s : Carrier) (v : Bay) (p : List ℕ) {out : List ℕ} {at : Tally} {out′ : List ℕ} {m : Tally} → junction Y v ≡ true → Wrote (trial Y r s v p) out at out′ (Done m) → fitting Y r s p v ≡ true
+fitting-tried : (Y : Yard) (r s : Carrier) (v : Bay) (p : Placement) {made : Made} → junction Y v ≡ true → trial Y r s v p ≡ some made → fitting Y r s p v ≡ true
 unfolding fitting
-fitting-tried Y r s v p j w = and-both _ _ j (is-some w)
+fitting-tried Y r s v p j e = and-both _ _ j (rw e)
 
-fitting-failed : (Y : Yard) (r s : Carrier) (v : Bay) (p : List ℕ) {out : List ℕ} {at : Tally} {out′ : List ℕ} → Wrote (trial Y r s v p) out at out′ Failed → fitting Y r s p v ≡ false
+fitting-failed : (Y : Yard) (r s : Carrier) (v : Bay) (p : Placement) → trial Y r s v p ≡ none → fitting Y r s p v ≡ false
 unfolding fitting
-fitting-failed Y r s v p w = by-cases (junction Y v and isSome (trial Y r s v p)) (λ e. not-both (and-right _ _ e) (is-none w)) (λ e. e)
+fitting-failed Y r s v p e = by-cases (junction Y v and isSome (trial Y r s v p)) (λ f. not-both (rw e at (and-right _ _ f)) refl) (λ f. f)
 
 -- ## The log
 
 -- what the trial leaves in the log that it was lent
-pub tried-at : (Y : Yard) (r s : Carrier) (v : Bay) (p : List ℕ) {log log′ : List ℕ} {z : Tried} → junction Y v ≡ true → Wrote (trial Y r s v p) log nothing log′ z → TriedAt Y r s v p log′ z
-tried-at Y r s v p {log} {log′} j w = record {
-  fails = λ e. fitting-failed Y r s v p (rw e at w);
-  fits = λ m e. fitting-tried Y r s v p j (rw e at w);
-  logged = λ m e xs h.
-      let q = w .succeeds xs h in
-      let same : q .0 ≡ m = let y = q .1 in cc in
-      let k = rw same at (q .2) in
-      let long : m .crossings ≡ length (map pack (xs .moves)) = omega (arith, k .counted, length-map (xs .moves) pack) in
-      record {
-        counted = omega (arith, k .counted);
-        stored = λ l.
-            let room : 0 + length (map pack (xs .moves)) ≤ length log = omega (arith, k .stored .long) in
-            let all : 0 + length (map pack (xs .moves)) ≡ m .crossings = omega arith in
-            rw all at (k .stored .front room);
-        parks = omega (arith, k .parks);
-        few = k .few (omega arith);
-      };
+pub tried-at : (Y : Yard) (r s : Carrier) (v : Bay) (p log : List ℕ) {z : Tried} → junction Y v ≡ true → Attempts (trial Y r s v p) log z → TriedAt Y r s v p log z
+tried-at Y r s v p log j w = record {
+  fails = λ e. fitting-failed Y r s v p (w .fails e);
+  fits = λ m e. fitting-tried Y r s v p j (w .done m e .1);
+  logged = w .done;
 }
 
 pub tried-not : (Y : Yard) (r s : Carrier) (v : Bay) (p log : List ℕ) → junction Y v ≡ false → TriedAt Y r s v p log Failed
@@ -93,12 +82,7 @@ tried-not Y r s v p log j = record { fails = λ e. fitting-not Y r s p v j; fits
 
 -- a trial that is bound to fail is not made
 pub tried-never : (Y : Yard) (r s : Carrier) (v : Bay) (p log : List ℕ) → trial Y r s v p ≡ none → TriedAt Y r s v p log Failed
-unfolding fitting
-tried-never Y r s v p log h = record {
-  fails = λ e. by-cases (junction Y v and isSome (trial Y r s v p)) (λ f. not-both (rw h at (and-right _ _ f)) refl) (λ f. f);
-  fits = λ m e. never (cc);
-  logged = λ m e. never (cc);
-}
+tried-never Y r s v p log h = record { fails = λ e. fitting-failed Y r s v p h; fits = λ m e. never (cc); logged = λ m e. never (cc) }
 
 -- ## Ring by ring
 

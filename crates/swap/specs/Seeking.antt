@@ -1,45 +1,27 @@
--- A swap in code: which junctions fit, how the answer reads, and what is left where the two carriers have traded places.
+-- A swap in code: which junctions fit, and which bays are to spare.
 -- Assumes nothing.
 use mathlib.Core.Path.{_≡_}
 use mathlib.Core.Bool.{Bool, true, false}
 use mathlib.Core.List.{List, [], _∷_}
-use mathlib.Core.Option.{Option, none, some}
+use mathlib.Core.Option.{none, some}
 use Prim.Native.Nat.{ℕ, _≤_, _<_}
-use lib.ListN.{length, getD, set}
-use Rattle.paper.specs.Basics.{_and_, find}
-use Rattle.paper.specs.Path.{nearestFirst}
-use Rattle.paper.specs.Procedure.{Made, only, traded, clearOnce, trial, swap}
+use lib.ListN.{length}
+use Rattle.paper.specs.Basics.{_and_}
+use Rattle.paper.specs.Procedure.{Made, only, clearOnce, trial, swap}
 use Rattle.paper.specs.Yard.{Bay, Carrier, Yard, Placement, bayOf, joined, junction}
 use Rattle.paper.proofs.Playing.{Sound}
 use Rattle.docket.specs.Reading.{isSome}
 use Rattle.words.specs.Sets.{span}
-use Rattle.moving.specs.Bounds.{swap-most, room-step}
+use Rattle.moving.specs.Bounds.{swap-most}
 use Rattle.moving.specs.Placed.{Placed}
 use Rattle.acting.specs.Acting.{Tabled, nothing, Within, Proceeds}
 use Rattle.acting.specs.declared.Tally.{Tally}
 use Rattle.acting.specs.declared.Tried.{Tried}
 use Rattle.acting.specs.declared.Tried.the-variants.{Done, Failed}
-use Rattle.clear_on.specs.Going.{Logged}
+use Rattle.clear_on.specs.Going.{Logged, Attempts}
 use Rattle.trial.specs.Trying.{Near}
-use Rattle.swap.specs.declared.Junction.{Junction}
-use Rattle.swap.specs.declared.Junction.the-variants.{At, Missing}
 use Rattle.swap.specs.declared.Spare.{Spare}
 use Rattle.swap.specs.declared.Spare.the-variants.{Both, Fewer}
-
--- after r and s have traded places
-abbrev pub placementTraded : Carrier → Carrier → Placement → Placement
-placementTraded r s p = traded r s p
-
-abbrev pub standingTraded : Carrier → Carrier → List ℕ → List ℕ → List ℕ
-standingTraded r s p standing = set (set standing (getD p r 0) s) (getD p s 0) r
-
-abbrev pub junctionAt : Junction → Option ℕ
-junctionAt (At v m) = some (v .0)
-junctionAt Missing = none
-
-abbrev pub Counted : Junction → Type 0
-Counted (At v m) = m .crossings ≤ swap-most
-Counted Missing = Unit {0}
 
 -- v is a junction whose trial succeeds
 unfoldable pub fitting : Yard → Carrier → Carrier → Placement → Bay → Bool
@@ -49,11 +31,7 @@ fitting Y r s p v = junction Y v and isSome (trial Y r s v p)
 pub record TriedAt (Y : Yard) (r s : Carrier) (v : Bay) (p : Placement) (log : List ℕ) (z : Tried) : Type 0 where
   pub fails : z ≡ Failed → fitting Y r s p v ≡ false
   pub fits : (m : Tally) → z ≡ Done m → fitting Y r s p v ≡ true
-  pub logged : (m : Tally) → z ≡ Done m → (made : Made) → trial Y r s v p ≡ some made → Logged made log m
-
-abbrev pub LoggedAt : Yard → Carrier → Carrier → Placement → List ℕ → Junction → Type 0
-LoggedAt Y r s p log (At v m) = (made : Made) → trial Y r s (v .0) p ≡ some made → Logged made log m
-LoggedAt Y r s p log Missing = Unit {0}
+  pub logged : (m : Tally) → z ≡ Done m → (made : Made) × (trial Y r s v p ≡ some made) × Logged made log m
 
 -- r and s stand side by side in a sound yard
 pub record Beside (Y : Yard) (r s : Carrier) (p : Placement) : Type 0 where
@@ -84,43 +62,33 @@ abbrev pub SurelyFails : (r s : Carrier) (v : Bay) (table p standing : List ℕ)
 SurelyFails r s v table p standing = (t : Tabled (length standing) table) → Near (t .yard) r s v p → trial (t .yard) r s v p ≡ none
 
 -- the trial at v, if v is a junction
-abbrev pub TryJunctionSays : (r s : Carrier) (v : Bay) (table p standing log′ : List ℕ) → Tried → Type 0
-TryJunctionSays r s v table p standing log′ z =
+abbrev pub TryJunctionSays : (r s : Carrier) (v : Bay) (table p standing log : List ℕ) → Tried → Type 0
+TryJunctionSays r s v table p standing log z =
     Within nothing swap-most z
     × ((t : Tabled (length standing) table)
     → Near (t .yard) r s v p
-    → TriedAt (t .yard) r s v p log′ z)
+    → TriedAt (t .yard) r s v p log z)
 
--- the first junction that fits, nearest to r first
-abbrev pub SeekSays : (r s : Carrier) (table p standing log′ : List ℕ) → Junction → Type 0
-SeekSays r s table p standing log′ z =
-    Counted z
+-- the trial that is the paper's swap
+abbrev pub SeekSays : (r s : Carrier) (table p standing log : List ℕ) → Tried → Type 0
+SeekSays r s table p standing log z =
+    Within nothing swap-most z
     × ((t : Tabled (length standing) table)
     → Beside (t .yard) r s p
-    → (junctionAt z ≡ find (fitting (t .yard) r s p) (nearestFirst (t .yard) [] (bayOf p r))) × LoggedAt (t .yard) r s p log′ z)
-
--- r and s stand at bays that are shown
-abbrev pub TradeAsks : (r s : Carrier) (p standing : List ℕ) → Type 0
-TradeAsks r s p standing =
-    (r < length p)
-    × (s < length p)
-    × (length p ≤ span)
-    × (getD p r 0 < length standing)
-    × (getD p s 0 < length standing)
+    → Attempts (swap (t .yard) r s p) log z)
 
 -- r and its neighbour s
-abbrev pub SwapAsks : (r s : Carrier) (table p standing : List ℕ) → Tally → Type 0
-SwapAsks r s table p standing at =
+abbrev pub SwapAsks : (r s : Carrier) (table p standing : List ℕ) → Type 0
+SwapAsks r s table p standing =
     (r < length p)
     × (s < length p)
     × (s ≡ r → ⊥)
-    × (at .crossings < room-step)
     × SideBySide (length standing) table r s p
 
 -- the paper's swap
-abbrev pub SwapSays : (r s : Carrier) (table p standing out : List ℕ) → Tally → (p′ standing′ empty′ out′ : List ℕ) → Tried → Type 0
-SwapSays r s table p standing out at p′ standing′ empty′ out′ z =
-    Within at swap-most z
+abbrev pub SwapSays : (r s : Carrier) (table p standing out p′ standing′ empty′ out′ : List ℕ) → Tried → Type 0
+SwapSays r s table p standing out p′ standing′ empty′ out′ z =
+    Within nothing swap-most z
     × ((t : Tabled (length standing) table)
     → Beside (t .yard) r s p
-    → Proceeds (swap (t .yard) r s p) (length standing) p out at p′ standing′ empty′ out′ z)
+    → Proceeds (swap (t .yard) r s p) (length standing) p out nothing p′ standing′ empty′ out′ z)

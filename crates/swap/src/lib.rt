@@ -1,4 +1,5 @@
-// Swap: the first junction, nearest first, whose trial succeeds is used; its crossings stay in the list, and the two carriers trade places.
+// Swap: the first junction, nearest first, whose trial succeeds is used; its crossings stay in the list, and the two carriers trade places. A
+// swap is lent the rest of the list, and answers what it counted.
 use acting::Tally;
 use acting::Tried;
 use docket::Bay;
@@ -7,18 +8,12 @@ use trial::Trial;
 ghost use mathlib.Core.Path.{_≡_};
 ghost use mathlib.Core.Bool.{true};
 ghost use Prim.Native.Nat.{_+_, _*_, _≤_, _<_};
-ghost use lib.ListN.{length, getD};
+ghost use lib.ListN.{length};
 ghost use Rattle.words.specs.Sets.{words, span};
-ghost use Rattle.moving.specs.Bounds.{room-step};
 ghost use Rattle.acting.specs.Acting.{Ready};
 ghost use Rattle.exchange.specs.Exchanging.{Noted, exchanges};
-ghost use Rattle.swap.specs.Seeking.{placementTraded, standingTraded, Spares, SurelyFails, TryJunctionSays, SeekSays, TradeAsks, SwapAsks, SwapSays};
-
-// The junction of a swap and the tally of its trial, or that there is none.
-pub enum Junction {
-    At(Bay, Tally),
-    Missing,
-}
+ghost use Rattle.trade.specs.Trading.{placementTraded, standingTraded, TradeAsks};
+ghost use Rattle.swap.specs.Seeking.{Spares, SurelyFails, TryJunctionSays, SeekSays, SwapAsks, SwapSays};
 
 // Two empty bays beside a junction, or that there are fewer.
 pub enum Spare {
@@ -65,7 +60,7 @@ fn surely_fails(
     outlook::is_blocked(table, standing.len(), v, u, w, empty)
 }
 
-// The trial at v, if v is a junction. Its crossings go to the log, which is the rest of the list, as far as that is so long.
+// The trial at v, if v is a junction.
 fn try_junction(
     table: &[u64],
     v: Bay,
@@ -74,7 +69,7 @@ fn try_junction(
     placement: &[u16],
     standing: &[u16],
     empty: &[u64],
-    log: &mut [u64],
+    out: &mut [u64],
 ) -> Tried
     requires { ⌜ Ready (now table) (now placement) (now standing) (now empty) ⌝ }
     requires { ⌜
@@ -85,7 +80,7 @@ fn try_junction(
         ⌝ }
     ensures { λ z. ⌜
         TryJunctionSays (r .0) (s .0) (v .0)
-        (now (table .entry)) (now (placement .entry)) (now (standing .entry)) (now (log .exit)) z
+        (now (table .entry)) (now (placement .entry)) (now (standing .entry)) (now (out .exit)) z
         ⌝ }
 {
     let n = standing.len();
@@ -93,21 +88,17 @@ fn try_junction(
         if surely_fails(table, v, r, s, placement, standing, empty) {
             return Tried::Failed;
         }
-        let from = Tally {
-            crossings: 0,
-            parked: 0,
-        };
         let here = Trial {
             carrier: r,
             neighbour: s,
             junction: v,
         };
-        return trial::try_at(table, here, placement, standing, empty, log, from);
+        return trial::try_at(table, here, placement, standing, empty, out);
     }
     Tried::Failed
 }
 
-// The first junction, nearest to r first and ties lowest, whose trial succeeds; the log is left as that trial leaves it.
+// The trial at the first junction, nearest to r first and ties lowest, where it succeeds; the list is left as that trial leaves it.
 fn seek(
     table: &[u64],
     r: Carrier,
@@ -115,12 +106,12 @@ fn seek(
     placement: &[u16],
     standing: &[u16],
     empty: &[u64],
-    log: &mut [u64],
-) -> Junction
+    out: &mut [u64],
+) -> Tried
     requires { ⌜ Ready (now table) (now placement) (now standing) (now empty) ⌝ }
     requires { ⌜ (r .0 < length (now placement)) × (s .0 < length (now placement)) × (s .0 ≡ r .0 → ⊥) ⌝ }
     ensures { λ z. ⌜
-        SeekSays (r .0) (s .0) (now (table .entry)) (now (placement .entry)) (now (standing .entry)) (now (log .exit)) z
+        SeekSays (r .0) (s .0) (now (table .entry)) (now (placement .entry)) (now (standing .entry)) (now (out .exit)) z
         ⌝ }
 {
     let carrier = r.0 as usize;
@@ -133,14 +124,14 @@ fn seek(
     let mut d = 0;
     'nearest: loop {
         if n <= d {
-            break 'nearest Junction::Missing;
+            break 'nearest Tried::Failed;
         }
         let mut v = words::next_from(&ring, 0);
         while v < words::SPAN {
             let bay = Bay(v as u16);
-            let tried = try_junction(table, bay, r, s, placement, standing, empty, log);
+            let tried = try_junction(table, bay, r, s, placement, standing, empty, out);
             if let Tried::Done(m) = tried {
-                break 'nearest Junction::At(bay, m);
+                break 'nearest Tried::Done(m);
             }
             v = words::next_from(&ring, v + 1);
         }
@@ -149,27 +140,7 @@ fn seek(
     }
 }
 
-// Carriers r and s trade places.
-fn trade(placement: &mut [u16], standing: &mut [u16], r: Carrier, s: Carrier)
-    requires { ⌜ TradeAsks (r .0) (s .0) (now placement) (now standing) ⌝ }
-    ensures { λ _. ⌜
-        (now (placement .exit) ≡ placementTraded (r .0) (s .0) (now (placement .entry)))
-        × (now (standing .exit) ≡ standingTraded (r .0) (s .0) (now (placement .entry)) (now (standing .entry)))
-        ⌝ }
-{
-    let first = r.0 as usize;
-    let second = s.0 as usize;
-    let u = placement[first];
-    let w = placement[second];
-    placement[first] = w;
-    placement[second] = u;
-    let a = u as usize;
-    let b = w as usize;
-    standing[a] = s.0 as u16;
-    standing[b] = r.0 as u16;
-}
-
-// Swap of r with its neighbour s, by trials at the junctions. They go to the list itself, from where it goes on; the one that succeeds stays there.
+// Swap of r with its neighbour s, by trials at the junctions. They go to the list itself; the one that succeeds stays there.
 fn swap_far(
     table: &[u64],
     r: Carrier,
@@ -178,23 +149,25 @@ fn swap_far(
     standing: &mut [u16],
     empty: &[u64],
     out: &mut [u64],
-    at: Tally,
 ) -> Tried
     requires { ⌜ Ready (now table) (now placement) (now standing) (now empty) ⌝ }
-    requires { ⌜ SwapAsks (r .0) (s .0) (now table) (now placement) (now standing) at ⌝ }
+    requires { ⌜ SwapAsks (r .0) (s .0) (now table) (now placement) (now standing) ⌝ }
     ensures { λ z. ⌜
         SwapSays (r .0) (s .0)
-        (now (table .entry)) (now (placement .entry)) (now (standing .entry)) (now (out .entry)) at
+        (now (table .entry)) (now (placement .entry)) (now (standing .entry)) (now (out .entry))
         (now (placement .exit)) (now (standing .exit)) (now (empty .entry)) (now (out .exit)) z
         ⌝ }
 {
-    let from = clear_on::place_in(out, at.crossings);
-    let found = seek(table, r, s, placement, standing, empty, &mut out[from..]);
-    let Junction::At(_, m) = found else {
+    let found = seek(table, r, s, placement, standing, empty, out);
+    let Tried::Done(done) = found else {
         return Tried::Failed;
     };
-    trade(placement, standing, r, s);
-    Tried::Done(acting::add(at, m))
+    let m = Tally {
+        crossings: done.crossings,
+        parked: done.parked,
+    };
+    trade::trade(placement, standing, r, s);
+    Tried::Done(m)
 }
 
 // The two lowest empty neighbours of bay u other than w, if there are two.
@@ -225,29 +198,18 @@ fn swap_beside(
     placement: &mut [u16],
     standing: &mut [u16],
     out: &mut [u64],
-    at: Tally,
-) -> Tally
-    requires { ⌜
-        (r .0 < length (now placement))
-        × (s .0 < length (now placement))
-        × (length (now placement) ≤ span)
-        × (getD (now placement) (r .0) 0 < length (now standing))
-        × (getD (now placement) (s .0) 0 < length (now standing))
-        × (at .crossings < room-step)
-        ⌝ }
+) -> usize
+    requires { ⌜ TradeAsks (r .0) (s .0) (now placement) (now standing) ⌝ }
     ensures { λ m. ⌜
         (now (placement .exit) ≡ placementTraded (r .0) (s .0) (now (placement .entry)))
         × (now (standing .exit) ≡ standingTraded (r .0) (s .0) (now (placement .entry)) (now (standing .entry)))
         × Noted (exchanges (r .0) (s .0) (bays .junction .0) (bays .behind .0) (bays .lower .0) (bays .higher .0))
-        (now (out .entry)) (at .crossings) (now (out .exit)) (m .crossings)
-        × (m .parked ≡ at .parked)
+        (now (out .entry)) 0 (now (out .exit)) m
         ⌝ }
 {
-    let before = at.crossings;
-    let parked = at.parked;
-    let crossings = exchange::exchange(
+    let many = exchange::exchange(
         out,
-        before,
+        0,
         r,
         s,
         bays.junction,
@@ -255,8 +217,8 @@ fn swap_beside(
         bays.lower,
         bays.higher,
     );
-    trade(placement, standing, r, s);
-    Tally { crossings, parked }
+    trade::trade(placement, standing, r, s);
+    many
 }
 
 // Swap of r with its neighbour s. Where two neighbours of r's bay other than s's are empty, that bay is the nearest junction, its trial
@@ -269,13 +231,12 @@ pub fn swap(
     standing: &mut [u16],
     empty: &[u64],
     out: &mut [u64],
-    at: Tally,
 ) -> Tried
     requires { ⌜ Ready (now table) (now placement) (now standing) (now empty) ⌝ }
-    requires { ⌜ SwapAsks (r .0) (s .0) (now table) (now placement) (now standing) at ⌝ }
+    requires { ⌜ SwapAsks (r .0) (s .0) (now table) (now placement) (now standing) ⌝ }
     ensures { λ z. ⌜
         SwapSays (r .0) (s .0)
-        (now (table .entry)) (now (placement .entry)) (now (standing .entry)) (now (out .entry)) at
+        (now (table .entry)) (now (placement .entry)) (now (standing .entry)) (now (out .entry))
         (now (placement .exit)) (now (standing .exit)) (now (empty .entry)) (now (out .exit)) z
         ⌝ }
 {
@@ -291,7 +252,11 @@ pub fn swap(
             lower: x,
             higher: y,
         };
-        return Tried::Done(swap_beside(r, s, bays, placement, standing, out, at));
+        let crossings = swap_beside(r, s, bays, placement, standing, out);
+        return Tried::Done(Tally {
+            crossings,
+            parked: 0,
+        });
     }
-    swap_far(table, r, s, placement, standing, empty, out, at)
+    swap_far(table, r, s, placement, standing, empty, out)
 }

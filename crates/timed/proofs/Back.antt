@@ -12,7 +12,7 @@ use Rattle.trains.specs.Slots.{withSlots}
 use Rattle.trains.specs.Print.{readTimed}
 use Rattle.trains.proofs.Printing.{FromOne, timed-back, first-from-one, trains-from-one}
 use Rattle.editions.specs.Editions.{slotsBy}
-use Rattle.timed.specs.Timed.{printedTimed}
+use Rattle.timed_handing.specs.Timed.{printedTimed}
 
 by-from-one : (e : ℕ) (xs : List Crossing) → FromOne (slotsBy e xs)
 unfolding slotsBy

@@ -10,7 +10,7 @@ use Rattle.paper.specs.Text.{Text}
 use Rattle.paper.proofs.Determined.{Determined, determined-by}
 use Rattle.docket.specs.Reading.{verdictOf}
 use Rattle.docket.proofs.Telling.{verdict-tells}
-use Rattle.timed.specs.Handing.{TimedSays}
+use Rattle.timed_handing.specs.Handing.{TimedSays}
 
 pub timed-determined : (t : Text) (out : List ℕ) → Determined (TimedSays t out)
 timed-determined t out a a′ l l′ s u =

@@ -4,30 +4,29 @@ use mathlib.Core.Path.{_≡_, sym, _∙_, ap, refl}
 use mathlib.Core.Bool.{Bool, true, false}
 use mathlib.Core.List.{List, [], _∷_}
 use mathlib.Core.Option.{none, some}
-use Prim.Native.Nat.{ℕ, suc, _≤_, _<_, _-_, _+_, zero, _*_}
+use Prim.Native.Nat.{ℕ, suc, _≤_, _<_, _-_, _+_, zero}
 use native.Mathlib.Omega.{arith}
-use native.Mathlib.Numerals.{add-one}
-use lib.ListN.{length, getD, drop, set, take, length-drop}
+use lib.ListN.{length, getD, drop, take, length-drop}
 use lib.Dec.{eqb, ltb}
-use lib.Seq.{take-all, take-suc-set, take-suc, getD-drop}
+use lib.Seq.{take-all, getD-drop}
 use borrow.Author.Tests.{eqb-true, le-ltb}
 use Rattle.paper.specs.Basics.{_and_, elem, upTo, In}
 use Rattle.paper.specs.Path.{Free, Route, Way, nearestFirst, shortestPath, pathBetween}
 use Rattle.paper.specs.Procedure.{trialLed, trial}
 use Rattle.paper.specs.Yard.{Bay, Carrier, Yard, Placement, bayOf}
-use Rattle.paper.proofs.Members.{nothing-in-nil, count-high, in-count, In-head, out-cons}
-use Rattle.acting.specs.Acting.{Ready, Tabled}
+use Rattle.paper.proofs.Members.{nothing-in-nil, count-high, In-head, out-cons}
+use Rattle.acting.specs.Acting.{Tabled}
 use Rattle.paper.proofs.Rings.{joined-sym}
 use Rattle.paper.proofs.Shortest.{shortest-path}
 use Rattle.paper.proofs.Swapping.{Chain, way-tail}
 use Rattle.paper.proofs.Tests.{not-both, never-some, and-left, and-right, some-when}
-use Rattle.words.specs.Sets.{mem, words, span, memRow}
+use Rattle.words.specs.Sets.{words, span, memRow}
 use Rattle.words.proofs.Sets.{zeros, mem-zeros}
 use Rattle.rings.specs.Search.{Shown}
 use Rattle.vacate.proofs.Beside.{beside-path}
 use Rattle.clear_on.proofs.Attempting.{in-bays}
-use Rattle.trial.specs.Trying.{Wrote, Led, Near}
-use Rattle.acting.specs.declared.Tally.{Tally}
+use Rattle.clear_on.specs.Going.{Attempts}
+use Rattle.trial.specs.Trying.{Led, Near}
 use Rattle.acting.specs.declared.Tried.{Tried}
 
 -- the code's part of a list from i on
@@ -118,10 +117,10 @@ module _ {Y : Yard} {r s : Carrier} {v : Bay} {p path : List ℕ} (near : Near Y
   unfolding trial
   trial-first h = rw (← short, ← h)
 
-  pub tried-second : {out out′ : List ℕ} {at : Tally} {z : Tried} (q : List ℕ) → q ≡ drop 2 path → true ≡ ltb 1 (length path) and eqb (getD path 1 0) (bayOf p s) → Wrote (trialLed Y s r v q p) out at out′ z → Wrote (trial Y r s v p) out at out′ z
+  pub tried-second : {log : List ℕ} {z : Tried} (q : List ℕ) → q ≡ drop 2 path → true ≡ ltb 1 (length path) and eqb (getD path 1 0) (bayOf p s) → Attempts (trialLed Y s r v q p) log z → Attempts (trial Y r s v p) log z
   tried-second q e h w = rw (trial-second h, ← e) w
 
-  pub tried-first : {out out′ : List ℕ} {at : Tally} {z : Tried} (q : List ℕ) → q ≡ drop 1 path → false ≡ ltb 1 (length path) and eqb (getD path 1 0) (bayOf p s) → Wrote (trialLed Y r s v q p) out at out′ z → Wrote (trial Y r s v p) out at out′ z
+  pub tried-first : {log : List ℕ} {z : Tried} (q : List ℕ) → q ≡ drop 1 path → false ≡ ltb 1 (length path) and eqb (getD path 1 0) (bayOf p s) → Attempts (trialLed Y r s v q p) log z → Attempts (trial Y r s v p) log z
   tried-first q e h w = rw (trial-first h, ← e) w
 
 -- the code's link, with nothing held

@@ -13,38 +13,32 @@ use Rattle.paper.specs.Yard.{Bay, Carrier, Yard, Placement, bayOf, after, joine
 use Rattle.paper.proofs.Playing.{Sound}
 use Rattle.paper.proofs.Swapping.{Chain}
 use Rattle.words.specs.Sets.{span}
-use Rattle.moving.specs.Bounds.{set-up-most, swap-most, room-step}
-use Rattle.acting.specs.Acting.{Tabled, Within}
-use Rattle.clear_on.specs.Going.{Listed, PairBy}
-use Rattle.clear_on.specs.declared.Lead.{Lead}
+use Rattle.moving.specs.Bounds.{set-up-most, swap-most}
+use Rattle.acting.specs.Acting.{Tabled, nothing, Within}
+use Rattle.clear_on.specs.Going.{Logged, Attempts, PairBy}
+use Rattle.attempts.specs.declared.Lead.{Lead}
 use Rattle.clear_on.specs.declared.Pair.the-variants.{Both, Missing}
 use Rattle.clear_on.specs.declared.Pair.{Pair}
 use Rattle.acting.specs.declared.Tally.{Tally}
 use Rattle.acting.specs.declared.Tried.{Tried}
-use Rattle.acting.specs.declared.Tried.the-variants.{Done, Failed}
 use Rattle.docket.specs.declared.Bay.{Bay as Numbered}
 use Rattle.trial.specs.declared.Trial.{Trial}
 
 -- ## Bring and clear
 
--- both succeeded: the bays x and y are kept, all crossings were listed, and the placement is that at which clearing once ended
-pub record Prepared (Y : Yard) (L M : Carrier) (v : Bay) (path : List Bay) (p out : List ℕ) (at : Tally) (p′ out′ : List ℕ) (x y : ℕ) (m : Tally) : Type 0 where
+-- both succeeded: the bays x and y are kept, all crossings were logged, and the placement is that at which clearing once ended
+pub record Prepared (Y : Yard) (L M : Carrier) (v : Bay) (path : List Bay) (p p′ log : List ℕ) (x y : ℕ) (m : Tally) : Type 0 where
   pub brought : Made
   pub made : bring Y L M path p ≡ some brought
   pub kept : clear Y L M v (bayOf (after p (brought .moves)) M) (after p (brought .moves)) .kept ≡ x ∷ y ∷ []
-  pub listed : Listed (together brought (clear Y L M v (bayOf (after p (brought .moves)) M) (after p (brought .moves)) .made)) out at out′ m
+  pub logged : Logged (together brought (clear Y L M v (bayOf (after p (brought .moves)) M) (after p (brought .moves)) .made)) log m
   pub moved : p′ ≡ after (after p (brought .moves)) (clearOnce Y v (bayOf (after p (brought .moves)) M) (after p (brought .moves)) .made .moves)
 
-pub record SetsUp (Y : Yard) (L M : Carrier) (v : Bay) (path : List Bay) (p out : List ℕ) (at : Tally) (p′ out′ : List ℕ) (r : Pair) : Type 0 where
-  pub both : (x y : Numbered) (m : Tally) → r ≡ Both x y m → Prepared Y L M v path p out at p′ out′ (x .0) (y .0) m
+pub record SetsUp (Y : Yard) (L M : Carrier) (v : Bay) (path : List Bay) (p p′ log : List ℕ) (r : Pair) : Type 0 where
+  pub both : (x y : Numbered) (m : Tally) → r ≡ Both x y m → Prepared Y L M v path p p′ log (x .0) (y .0) m
   pub missing : r ≡ Missing → trialLed Y L M v path p ≡ none
 
--- ## The whole trial
-
--- as the paper's trial: counted and stored, or failed with nothing said of the list
-pub record Wrote (o : Option Made) (out : List ℕ) (at : Tally) (out′ : List ℕ) (r : Tried) : Type 0 where
-  pub fails : o ≡ none → r ≡ Failed
-  pub succeeds : (made : Made) → o ≡ some made → (m : Tally) × (r ≡ Done m) × Listed made out at out′ m
+-- ## The whole trial: logged as an attempt is
 
 -- the path leads the leader to v, and the follower is beside it
 pub record Led (Y : Yard) (L M : Carrier) (v : Bay) (path : List Bay) (p : Placement) : Type 0 where
@@ -61,35 +55,34 @@ pub record Near (Y : Yard) (r s : Carrier) (v : Bay) (p : Placement) : Type 0 wh
 -- ## What is asked, what is said
 
 -- leader and follower are two, and the path's bays are in the yard
-abbrev pub LedAsks : Lead → (path : List Bay) (p standing : List ℕ) → Tally → Type 0
-LedAsks lead path p standing at =
+abbrev pub LedAsks : Lead → (path : List Bay) (p standing : List ℕ) → Type 0
+LedAsks lead path p standing =
     (lead .couple .leader .0 < length p)
     × (lead .couple .follower .0 < length p)
     × (lead .couple .follower .0 ≡ lead .couple .leader .0 → ⊥)
     × (lead .junction .0 < length standing)
     × ((k : ℕ) → k < length path → getD path k 0 < length standing)
     × (length path ≤ span)
-    × (at .crossings < room-step)
 
 -- the path leads the leader to the junction
 abbrev pub Leads : Yard → Lead → (path : List Bay) → Placement → Type 0
 Leads Y lead path p = Led Y (lead .couple .leader .0) (lead .couple .follower .0) (lead .junction .0) path p
 
 -- bring and clear
-abbrev pub SetUpSays : Lead → (path : List Bay) (table p standing out : List ℕ) → Tally → (p′ out′ : List ℕ) → Pair → Type 0
-SetUpSays lead path table p standing out at p′ out′ r =
-    PairBy at set-up-most r
+abbrev pub SetUpSays : Lead → (path : List Bay) (table p standing p′ log : List ℕ) → Pair → Type 0
+SetUpSays lead path table p standing p′ log r =
+    PairBy nothing set-up-most r
     × ((t : Tabled (length standing) table)
     → Leads (t .yard) lead path p
-    → SetsUp (t .yard) (lead .couple .leader .0) (lead .couple .follower .0) (lead .junction .0) path p out at p′ out′ r)
+    → SetsUp (t .yard) (lead .couple .leader .0) (lead .couple .follower .0) (lead .junction .0) path p p′ log r)
 
 -- the whole trial, where leader and follower are known
-abbrev pub LedSays : Lead → (path : List Bay) (table p standing out : List ℕ) → Tally → (out′ : List ℕ) → Tried → Type 0
-LedSays lead path table p standing out at out′ r =
-    Within at swap-most r
+abbrev pub LedSays : Lead → (path : List Bay) (table p standing log : List ℕ) → Tried → Type 0
+LedSays lead path table p standing log r =
+    Within nothing swap-most r
     × ((t : Tabled (length standing) table)
     → Leads (t .yard) lead path p
-    → Wrote (trialLed (t .yard) (lead .couple .leader .0) (lead .couple .follower .0) (lead .junction .0) path p) out at out′ r)
+    → Attempts (trialLed (t .yard) (lead .couple .leader .0) (lead .couple .follower .0) (lead .junction .0) path p) log r)
 
 -- the junction is reached from the carrier's bay, and the neighbour is beside it
 abbrev pub Nears : Yard → Trial → Placement → Type 0
@@ -100,38 +93,36 @@ abbrev pub tries : Yard → Trial → Placement → Option Made
 tries Y x p = trial Y (x .carrier .0) (x .neighbour .0) (x .junction .0) p
 
 -- carrier and neighbour are two
-abbrev pub TrialAsks : Trial → (p standing : List ℕ) → Tally → Type 0
-TrialAsks x p standing at =
+abbrev pub TrialAsks : Trial → (p standing : List ℕ) → Type 0
+TrialAsks x p standing =
     (x .carrier .0 < length p)
     × (x .neighbour .0 < length p)
     × (x .neighbour .0 ≡ x .carrier .0 → ⊥)
     × (x .junction .0 < length standing)
-    × (at .crossings < room-step)
 
 -- the path from the carrier's bay to the junction is known
-abbrev pub TrialOnAsks : Trial → (path : List Bay) (p standing : List ℕ) → Tally → Type 0
-TrialOnAsks x path p standing at =
+abbrev pub TrialOnAsks : Trial → (path : List Bay) (p standing : List ℕ) → Type 0
+TrialOnAsks x path p standing =
     (x .carrier .0 < length p)
     × (x .neighbour .0 < length p)
     × (x .neighbour .0 ≡ x .carrier .0 → ⊥)
     × (x .junction .0 < length standing)
     × ((k : ℕ) → k < length path → getD path k 0 < length standing)
     × (length path ≤ span)
-    × (at .crossings < room-step)
     × (1 ≤ length path)
 
-abbrev pub TrialOnSays : Trial → (path : List Bay) (table p standing out : List ℕ) → Tally → (out′ : List ℕ) → Tried → Type 0
-TrialOnSays x path table p standing out at out′ z =
-    Within at swap-most z
+abbrev pub TrialOnSays : Trial → (path : List Bay) (table p standing log : List ℕ) → Tried → Type 0
+TrialOnSays x path table p standing log z =
+    Within nothing swap-most z
     × ((t : Tabled (length standing) table)
     → Nears (t .yard) x p
     → path ≡ shortestPath (t .yard) [] (bayOf p (x .carrier .0)) (x .junction .0)
-    → Wrote (tries (t .yard) x p) out at out′ z)
+    → Attempts (tries (t .yard) x p) log z)
 
 -- the paper's trial
-abbrev pub TrialSays : Trial → (table p standing out : List ℕ) → Tally → (out′ : List ℕ) → Tried → Type 0
-TrialSays x table p standing out at out′ z =
-    Within at swap-most z
+abbrev pub TrialSays : Trial → (table p standing log : List ℕ) → Tried → Type 0
+TrialSays x table p standing log z =
+    Within nothing swap-most z
     × ((t : Tabled (length standing) table)
     → Nears (t .yard) x p
-    → Wrote (tries (t .yard) x p) out at out′ z)
+    → Attempts (tries (t .yard) x p) log z)

@@ -1,9 +1,9 @@
-// A trial at a junction: bring, clear, exchange, undo. It is played on copies, so that nobody has moved if it fails. Its crossings go to the
-// lent list as they are made, and undo reads them back from there. An empty list only counts.
+// A trial at a junction: bring, clear, exchange, undo. It is played on copies, so that nobody has moved if it fails. It is lent the rest of the
+// list: its crossings go there as they are made, and undo reads them back. Where that is too short they are only counted.
 use acting::Tally;
 use acting::Tried;
+use attempts::Lead;
 use bring::Couple;
-use clear_on::Lead;
 use clear_on::Pair;
 use docket::Bay;
 use docket::Carrier;
@@ -32,14 +32,12 @@ fn set_up(
     standing: &mut [u16],
     empty: &mut [u64],
     out: &mut [u64],
-    at: Tally,
 ) -> Pair
     requires { ⌜ Ready (now table) (now placement) (now standing) (now empty) ⌝ }
-    requires { ⌜ LedAsks lead (now path) (now placement) (now standing) at ⌝ }
+    requires { ⌜ LedAsks lead (now path) (now placement) (now standing) ⌝ }
     ensures { λ r. ⌜
         SetUpSays lead (now (path .entry))
-        (now (table .entry)) (now (placement .entry)) (now (standing .entry)) (now (out .entry)) at
-        (now (placement .exit)) (now (out .exit)) r
+        (now (table .entry)) (now (placement .entry)) (now (standing .entry)) (now (placement .exit)) (now (out .exit)) r
         ⌝ }
 {
     let brought = bring::bring(
@@ -50,7 +48,10 @@ fn set_up(
         standing,
         empty,
         out,
-        at,
+        Tally {
+            crossings: 0,
+            parked: 0,
+        },
     );
     let Tried::Done(a) = brought else {
         return Pair::Missing;
@@ -87,16 +88,15 @@ fn attempt_on(
     standing: &mut [u16],
     empty: &mut [u64],
     out: &mut [u64],
-    at: Tally,
 ) -> Tried
     requires { ⌜ Ready (now table) (now placement) (now standing) (now empty) ⌝ }
-    requires { ⌜ LedAsks lead (now path) (now placement) (now standing) at ⌝ }
+    requires { ⌜ LedAsks lead (now path) (now placement) (now standing) ⌝ }
     ensures { λ r. ⌜
         LedSays lead (now (path .entry))
-        (now (table .entry)) (now (placement .entry)) (now (standing .entry)) (now (out .entry)) at (now (out .exit)) r
+        (now (table .entry)) (now (placement .entry)) (now (standing .entry)) (now (out .exit)) r
         ⌝ }
 {
-    let ready = set_up(table, path, lead, placement, standing, empty, out, at);
+    let ready = set_up(table, path, lead, placement, standing, empty, out);
     let Pair::Both(x, y, c) = ready else {
         return Tried::Failed;
     };
@@ -105,13 +105,11 @@ fn attempt_on(
     let follower = m.0 as usize;
     let behind = placement[follower];
     let b = Bay(behind);
-    let from = at.crossings;
     let made = c.crossings;
     let parked = c.parked;
     let d = exchange::exchange(out, made, l, m, lead.junction, b, lower(x, y), higher(x, y));
-    bring::undo(out, from, made - from, d, l, m);
-    let many = made - from;
-    let crossings = d + many;
+    undo::undo(out, 0, made, d, l, m);
+    let crossings = d + made;
     Tried::Done(Tally { crossings, parked })
 }
 
@@ -124,20 +122,19 @@ fn attempt(
     standing: &[u16],
     empty: &[u64],
     out: &mut [u64],
-    at: Tally,
 ) -> Tried
     requires { ⌜ Ready (now table) (now placement) (now standing) (now empty) ⌝ }
-    requires { ⌜ LedAsks lead (now path) (now placement) (now standing) at ⌝ }
+    requires { ⌜ LedAsks lead (now path) (now placement) (now standing) ⌝ }
     ensures { λ r. ⌜
         LedSays lead (now (path .entry))
-        (now (table .entry)) (now (placement .entry)) (now (standing .entry)) (now (out .entry)) at (now (out .exit)) r
+        (now (table .entry)) (now (placement .entry)) (now (standing .entry)) (now (out .exit)) r
         ⌝ }
 {
     let mut bays = [0u16; words::SPAN];
     let mut carriers = [0u16; words::SPAN];
     let mut unused = [0u64; words::WORDS];
-    clear_on::copy(&mut bays, placement);
-    clear_on::copy(&mut carriers, standing);
+    attempts::copy(&mut bays, placement);
+    attempts::copy(&mut carriers, standing);
     words::keep(&mut unused, 0, empty);
     let k = placement.len();
     let n = standing.len();
@@ -149,7 +146,6 @@ fn attempt(
         &mut carriers[..n],
         &mut unused,
         out,
-        at,
     )
 }
 
@@ -173,13 +169,12 @@ fn try_on(
     standing: &[u16],
     empty: &[u64],
     out: &mut [u64],
-    at: Tally,
 ) -> Tried
     requires { ⌜ Ready (now table) (now placement) (now standing) (now empty) ⌝ }
-    requires { ⌜ TrialOnAsks trial (now path) (now placement) (now standing) at ⌝ }
+    requires { ⌜ TrialOnAsks trial (now path) (now placement) (now standing) ⌝ }
     ensures { λ z. ⌜
         TrialOnSays trial (now (path .entry))
-        (now (table .entry)) (now (placement .entry)) (now (standing .entry)) (now (out .entry)) at (now (out .exit)) z
+        (now (table .entry)) (now (placement .entry)) (now (standing .entry)) (now (out .exit)) z
         ⌝ }
 {
     let r = trial.carrier;
@@ -203,7 +198,6 @@ fn try_on(
             standing,
             empty,
             out,
-            at,
         );
     }
     let couple = Couple {
@@ -218,7 +212,6 @@ fn try_on(
         standing,
         empty,
         out,
-        at,
     )
 }
 
@@ -230,13 +223,12 @@ fn try_along(
     standing: &[u16],
     empty: &[u64],
     out: &mut [u64],
-    at: Tally,
 ) -> Tried
     requires { ⌜ Ready (now table) (now placement) (now standing) (now empty) ⌝ }
-    requires { ⌜ TrialAsks trial (now placement) (now standing) at ⌝ }
+    requires { ⌜ TrialAsks trial (now placement) (now standing) ⌝ }
     ensures { λ z. ⌜
         TrialSays trial
-        (now (table .entry)) (now (placement .entry)) (now (standing .entry)) (now (out .entry)) at (now (out .exit)) z
+        (now (table .entry)) (now (placement .entry)) (now (standing .entry)) (now (out .exit)) z
         ⌝ }
 {
     let carrier = trial.carrier.0 as usize;
@@ -247,16 +239,7 @@ fn try_along(
     let Path::First(k) = ways::path_between(table, n, &none, u, trial.junction, &mut path) else {
         return Tried::Failed;
     };
-    try_on(
-        table,
-        &path[..k],
-        trial,
-        placement,
-        standing,
-        empty,
-        out,
-        at,
-    )
+    try_on(table, &path[..k], trial, placement, standing, empty, out)
 }
 
 // A trial. From the carrier's own bay, the nearest junction, the path is that bay alone; to a junction beside it, those two bays.
@@ -267,13 +250,12 @@ pub fn try_at(
     standing: &[u16],
     empty: &[u64],
     out: &mut [u64],
-    at: Tally,
 ) -> Tried
     requires { ⌜ Ready (now table) (now placement) (now standing) (now empty) ⌝ }
-    requires { ⌜ TrialAsks trial (now placement) (now standing) at ⌝ }
+    requires { ⌜ TrialAsks trial (now placement) (now standing) ⌝ }
     ensures { λ z. ⌜
         TrialSays trial
-        (now (table .entry)) (now (placement .entry)) (now (standing .entry)) (now (out .entry)) at (now (out .exit)) z
+        (now (table .entry)) (now (placement .entry)) (now (standing .entry)) (now (out .exit)) z
         ⌝ }
 {
     let v = trial.junction;
@@ -281,11 +263,11 @@ pub fn try_at(
     let u = placement[carrier];
     if u == v.0 {
         let path = [u];
-        return try_on(table, &path, trial, placement, standing, empty, out, at);
+        return try_on(table, &path, trial, placement, standing, empty, out);
     }
     if words::is_in(table, u as usize * words::SPAN + v.0 as usize) {
         let path = [u, v.0];
-        return try_on(table, &path, trial, placement, standing, empty, out, at);
+        return try_on(table, &path, trial, placement, standing, empty, out);
     }
-    try_along(table, trial, placement, standing, empty, out, at)
+    try_along(table, trial, placement, standing, empty, out)
 }

@@ -2,7 +2,7 @@
 -- carriers can be shifted since every bay before the nearest empty one is occupied.
 -- Assumes nothing.
 use mathlib.Core.Path.{_≡_, sym, ap, _∙_}
-use mathlib.Core.Bool.{true, false, not}
+use mathlib.Core.Bool.{Bool, true, false, not}
 use mathlib.Core.List.{List, [], _∷_}
 use mathlib.Core.Option.{Option, none, some}
 use Prim.Native.Nat.{ℕ, _+_, _≤_, _<_}
@@ -22,6 +22,8 @@ use Rattle.words.specs.Sets.{mem, memRow, span}
 use Rattle.choice.specs.Taking.{Taken}
 use Rattle.choice.proofs.Taking.{rather-paper}
 use Rattle.rings.specs.Search.{Shown}
+use Rattle.rings.specs.Ways.{WayFound}
+use Rattle.rings.specs.declared.Way.{Way}
 use Rattle.moving.specs.Placed.{Placed, Played, Acted, CanShift}
 use Rattle.vacate.specs.Answer.{Vacates, vacating, bayFilled, countAfter, filled}
 use Rattle.vacate.specs.declared.Vacated.{Vacated}
@@ -29,6 +31,10 @@ use Rattle.vacate.specs.declared.Vacated.the-variants.{Empty, Failed}
 use Rattle.moving.proofs.Playing.{played-none, unchanged}
 use Rattle.moving.proofs.Shifting.{shift-length, shift-some, two-bays}
 use Rattle.vacate.proofs.Beside.{beside-nearest, beside-path}
+
+-- the way that was found, by what was answered
+pub way-told : {n : ℕ} {table held : List ℕ} {s : Shown n table held} {x : Bay} {q : Bay → Bool} {room : List ℕ} {r r′ : Way} → r ≡ r′ → WayFound s x q room r → WayFound s x q room r′
+way-told e f = rw e at f
 
 acted-none : {o : Option (List Crossing)} {n : ℕ} {p standing empty out : List ℕ} {at : ℕ} → o ≡ none → Acted o n p standing empty out at p standing empty out
 acted-none {p = p} {standing = standing} {empty = empty} {out = out} e = record {

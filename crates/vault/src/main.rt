@@ -8,8 +8,8 @@ ghost use lib.ListN.{length};
 ghost use Rattle.paper.specs.Text.{text, same};
 ghost use Rattle.stores.specs.Writing.{Wrote};
 ghost use Rattle.filing.specs.Filing.{fileOf};
-ghost use Rattle.program.specs.Printout.{print-room};
-ghost use Rattle.printout.specs.Whole.{printFor};
+ghost use Rattle.print_room.specs.Printout.{print-room};
+ghost use Rattle.print_room.specs.Whole.{printFor};
 
 // How many of a file's first bytes are in the buffer, and whether it could be read. No contract says which bytes these are: what a call of the
 // operating system puts into a buffer is not known to the proof. So the promises begin with the bytes read, in `print`, and end with the bytes
@@ -70,13 +70,6 @@ fn load(path: &[u8], buffer: &mut [u8]) -> Loaded
     loaded
 }
 
-// True exactly for the word `--shorten`. Any other word is a file's name.
-fn is_flag(word: &[u8]) -> bool
-    ensures { λ r. ⌜ r ≡ same (now (word .entry)) (text "--shorten") ⌝ }
-{
-    lines::is_word(word, b"--shorten")
-}
-
 // All that is printed for two files, each with whether it could be read: what the paper prints; with the flag as first word, with the plan shortened.
 fn print(
     word: &[u8],
@@ -93,7 +86,7 @@ fn print(
         × (r ≤ print-room)
         ⌝ }
 {
-    let short = is_flag(word);
+    let short = flag::is_shorten(word);
     printout::print(short, map, mapped, scenario, listed, out)
 }
 
@@ -102,7 +95,7 @@ fn print(
 fn answer(word: &[u8], map_path: &[u8], scenario_path: &[u8]) {
     let mut map = [0u8; filing::MAP_BYTES];
     let mut scenario = [0u8; filing::SCENARIO_BYTES];
-    let mut out = [0u8; program::PRINT_BYTES];
+    let mut out = [0u8; print_room::PRINT_BYTES];
     let first = load(map_path, &mut map);
     let second = load(scenario_path, &mut scenario);
     let m = first.bytes;
@@ -138,7 +131,7 @@ fn answer_from(word: &[u8], first: usize)
 fn main() {
     let mut word = io::buffer();
     let w = os::arg(1, &mut word);
-    if is_flag(&word[..w]) {
+    if flag::is_shorten(&word[..w]) {
         answer_from(&word[..w], 2);
     } else {
         answer_from(&word[..w], 1);

@@ -34,8 +34,8 @@ use Rattle.rings.specs.declared.Path.the-variants.{First, NoPath}
 use Rattle.rings.proofs.Searching.{elem-one, ring-first, in-yard}
 use Rattle.rings.proofs.Reading.{way-none}
 use Rattle.rings.proofs.Between.{shortest-far}
-use Rattle.ways.specs.Meeting.{back}
-use Rattle.ways.specs.Queue.{Low, Met, Passed}
+use Rattle.queue.specs.Meeting.{back}
+use Rattle.queue.specs.Queue.{Low, Met, Passed}
 use Rattle.ways.proofs.Passing.{Within, next-holds, next-within}
 use Rattle.ways.proofs.Tracing.{free-of, path-back}
 

@@ -1,6 +1,3 @@
-pub mod Places
-pub mod Queueing
 pub mod Tracing
 pub mod Passing
 pub mod Finding
-pub mod Words

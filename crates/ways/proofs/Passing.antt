@@ -1,31 +1,25 @@
 -- Once all bays of a ring are passed, the queue holds the next ring too: whatever they lead to is in it, and what stands behind them was
 -- met from one that was passed.
 -- Assumes nothing.
-use mathlib.Core.Path.{_≡_, refl, sym, _∙_}
+use mathlib.Core.Path.{_≡_, sym, _∙_}
 use mathlib.Core.Bool.{true}
-use mathlib.Core.List.{List, [], _∷_, _++_}
+use mathlib.Core.List.{List, [], _∷_}
 use Prim.Native.Nat.{ℕ, suc, _+_, _≤_, _<_}
 use native.Mathlib.Decide.{decLt}
-use native.Mathlib.Numerals.{add-one}
 use native.Mathlib.Omega.{arith}
-use lib.ListN.{length, getD, take, length-append}
-use lib.Seq.{take-take, take-append-le, getD-take, length-take-le}
+use lib.ListN.{length, getD, take}
 use Rattle.paper.specs.Basics.{elem, placeOf, In, Out}
 use Rattle.paper.specs.Yard.{Bay, joined}
 use Rattle.paper.proofs.Tests.{by-cases, not-both}
 use Rattle.paper.proofs.Members.{take-in}
-use Rattle.paper.proofs.Playing.{bay-in, placeOf-bay, placeOf-there}
+use Rattle.paper.proofs.Playing.{placeOf-bay, placeOf-there}
 use Rattle.paper.proofs.Rings.{joined-sym, on, ring-step, ring-free, ring-walk, walk-ring}
 use Rattle.words.specs.Sets.{memRow, span}
 use Rattle.rings.specs.Search.{Shown, ringOn}
 use Rattle.rings.proofs.Searching.{in-yard}
-use Rattle.ways.specs.Meeting.{new, Meets}
-use Rattle.ways.specs.Queue.{Met, Passed}
-use Rattle.ways.proofs.Places.{before-in, in-before, few-below}
-use Rattle.ways.proofs.Queueing.{found, more-once, more-inside, met-more}
+use Rattle.queue.specs.Queue.{Met}
+use Rattle.queue.proofs.Places.{before-in, in-before}
 use Rattle.ways.proofs.Tracing.{free-of}
-
--- ## The next ring
 
 -- the queue holds the bays up to d rails from x, and no others
 pub record Within {n : ℕ} {table held : List ℕ} (s : Shown n table held) (x : Bay) (d : ℕ) (queue : List ℕ) : Type 0 where
@@ -85,43 +79,3 @@ module _ {n : ℕ} {table held : List ℕ} (s : Shown n table held) (most : n �
 
   pub next-within : d + 1 < n → Within s x (d + 1) queue′
   next-within far = record { holds = next-holds; only = next-only far }
-
--- ## The bays of the ring, one after the other
-
-pub passed-first : {n : ℕ} {table held : List ℕ} {x : ℕ} {seen met before : List ℕ} {done count : ℕ} → count ≤ n → Met n table held x seen (take count met) before done
-    → Passed n table held x met count seen met before done count
-passed-first h m = record { queue = m; kept = refl; more = omega arith; most = h }
-
-module _ {n : ℕ} {table held : List ℕ} {x : ℕ} {met₀ : List ℕ} {count : ℕ} {seen met before : List ℕ} {done c : ℕ} (p : Passed n table held x met₀ count seen met before done c)
-    (most : n ≤ span) (room : n ≤ length met) (h : done < c) where
-  size : length (take c met) ≡ c
-  size = length-take-le c met (omega (arith, p .most))
-
-  same : getD (take c met) done 0 ≡ getD met done 0
-  same = getD-take c met done 0 h
-
-  there : done < length (take c met)
-  there = omega (arith, size)
-
-  pub passed-inside : getD met done 0 < n
-  passed-inside = rw same at (p .queue .inside _ (bay-in (take c met) done there))
-
-  -- there is room for what is new
-  pub passed-room : c + length (new table seen (getD met done 0)) ≤ n
-  passed-room =
-      let k = few-below n (take c met ++ found (p .queue) there) (more-once (p .queue) there) (more-inside (p .queue) there most) in
-      omega (arith, size, rw same at k, length-append (take c met) (new table seen (getD met done 0)))
-
-  pub passed-more : (seen′ met′ before′ : List ℕ) (r : ℕ) → Meets (new table seen (getD met done 0)) (getD met done 0) c seen met before seen′ met′ before′ r
-      → Passed n table held x met₀ count seen′ met′ before′ (done + 1) r
-  passed-more seen′ met′ before′ r w =
-      let f : List ℕ = new table seen (getD met done 0) in
-      let q = w .queued in
-      record {
-        queue = rw (add-one, q .queue, ← same)
-            (met-more (p .queue) there seen′ before′ most (λ b i. rw same (w .seeing b i)) (λ y i. rw same (q .parents y (rw same at i))) (λ y o. q .others y (rw same at o)));
-        kept = sym (take-take count r met′ (omega (arith, q .size, p .more))) ∙ rw (q .queue) (take-append-le count (take c met) f (omega (arith, size, p .more)))
-            ∙ take-take count c met (p .more) ∙ p .kept;
-        more = omega (arith, q .size, p .more);
-        most = omega (arith, q .size, passed-room);
-      }

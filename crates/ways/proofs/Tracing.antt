@@ -1,16 +1,14 @@
 -- The path back from e is the paper's path to e. Going back, u is always the first bay of the queue that is so few rails from e:
 -- so the bay from which it was met is one rail further, is the first of those, and has no lower neighbour as near to e as u is.
 -- Assumes nothing.
-use mathlib.Core.Path.{_≡_, refl, sym, ap, _∙_}
+use mathlib.Core.Path.{_≡_, refl, sym, _∙_}
 use mathlib.Core.Bool.{true, false}
 use mathlib.Core.List.{List, [], _∷_}
 use mathlib.Core.Logic.{_⊎_, inl, inr, ⊎-elim}
-use Prim.Native.Nat.{ℕ, zero, suc, _+_, _-_, _≤_, _<_}
+use Prim.Native.Nat.{ℕ, zero, suc, _+_, _≤_, _<_}
 use native.Mathlib.Decide.{ℕ-discrete, decLt}
-use native.Mathlib.Numerals.{add-one}
 use native.Mathlib.Omega.{arith}
-use lib.ListN.{length, getD, set, take, drop, length-set}
-use lib.Seq.{drop-cons, drop-set-lt, getD-set-same}
+use lib.ListN.{length, getD, take}
 use Rattle.paper.specs.Basics.{elem, placeOf, In, Out}
 use Rattle.paper.specs.Yard.{Bay, joined}
 use Rattle.paper.specs.Path.{Free, rings, inward, shortestPath}
@@ -23,9 +21,9 @@ use Rattle.words.specs.Sets.{mem, span}
 use Rattle.rings.specs.Search.{Shown, around, ringOn}
 use Rattle.rings.proofs.Searching.{ring-first}
 use Rattle.rings.proofs.Between.{start-far, shortest-far}
-use Rattle.ways.specs.Meeting.{back}
-use Rattle.ways.specs.Queue.{Leads, Parent, Met}
-use Rattle.ways.proofs.Places.{before-in, in-before, once-before}
+use Rattle.queue.specs.Meeting.{back}
+use Rattle.queue.specs.Queue.{Leads, Parent, Met}
+use Rattle.queue.proofs.Places.{before-in, in-before, once-before}
 
 module _ {n : ℕ} {table held : List ℕ} (s : Shown n table held) (most : n ≤ span) where
   pub free-of : (b : Bay) → b < n → mem held b ≡ false → Free (s .yard) (s .bays) b
@@ -165,36 +163,3 @@ module _ {n : ℕ} {table held : List ℕ} (s : Shown n table held) (most : n �
         (λ l. l) in
         rw at-e at (traced d 0 j [] (omega arith) hj first (rw at-e e-near) (rw at-e (sym (inward-zero Y (rings Y (s .bays) e) e))))
         ∙ sym (shortest-far Y (s .bays) x e d free-x there)
-
--- ## Read from its end
-
-module _ (before path : List ℕ) (d i u : ℕ) where
-  -- the path's bays behind place i are in the room, and u is the bay at place i
-  abbrev behind : List ℕ
-  behind = take (d - i) (drop (i + 1) path)
-
-  pub read-first : i ≡ d → back before d u [] ≡ back before i u behind
-  read-first e = let z : d - i ≡ 0 = omega arith in rw (z, e)
-
-  module _ (far : d < length path) (low : i ≤ d) where
-    -- u goes to its place
-    kept : take (suc (d - i)) (drop i (set path i u)) ≡ u ∷ behind
-    kept =
-        let there : i < length path = omega arith in
-        let size : i < length (set path i u) = simp length-set there in
-        rw (drop-cons (set path i u) i 0 size, getD-set-same path i u 0 there, drop-set-lt (suc i) path i u (omega arith), add-one)
-
-    pub read-more : 0 < i → back before i u behind ≡ back before (i - 1) (getD before u 0) (take (d - (i - 1)) (drop (i - 1 + 1) (set path i u)))
-    unfolding back
-    read-more h =
-        let e : i ≡ suc (i - 1) = omega arith in
-        let f : d - (i - 1) ≡ suc (d - i) = omega arith in
-        let g : i - 1 + 1 ≡ i = omega arith in
-        rw (f, g, kept) (ap (λ (k : ℕ). back before k u behind) e)
-
-    pub read-all : i ≡ 0 → take (d + 1) (set path 0 u) ≡ back before i u behind
-    unfolding back
-    read-all e =
-        let z : d + 1 ≡ suc (d - i) = omega arith in
-        let all : take (d + 1) (set path 0 u) ≡ take (suc (d - i)) (drop i (set path i u)) = rw (z, e) in
-        all ∙ kept ∙ sym (ap (λ (k : ℕ). back before k u behind) e)

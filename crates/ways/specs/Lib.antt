@@ -1,2 +1,1 @@
-pub mod Meeting
-pub mod Queue
+pub mod Few

@@ -5,15 +5,13 @@ use rings::Path;
 use rings::Way;
 ghost use mathlib.Core.Path.{_≡_};
 ghost use mathlib.Core.Bool.{false, not};
-ghost use mathlib.Core.List.{List, []};
-ghost use Prim.Native.Nat.{ℕ, _+_, _*_, _≤_, _<_};
-ghost use lib.ListN.{length, take};
+ghost use Prim.Native.Nat.{_+_, _*_, _≤_, _<_};
+ghost use lib.ListN.{length};
 ghost use Rattle.paper.specs.Basics.{_and_};
 ghost use Rattle.words.specs.Sets.{mem, words, span};
 ghost use Rattle.rings.specs.Search.{Shown};
 ghost use Rattle.rings.specs.Ways.{PathAsks, PathSays, WayAsks, WaySays};
-ghost use Rattle.ways.specs.Meeting.{few, inWord, newIn, new, Queued, Meets, back};
-ghost use Rattle.ways.specs.Queue.{Low, Met, Standing, Passed};
+ghost use Rattle.ways.specs.Few.{few};
 
 // Whether fewer than four rails lead to the bay: then a queue is faster than rings.
 fn few_rails(table: &[u64], a: usize) -> bool
@@ -21,132 +19,6 @@ fn few_rails(table: &[u64], a: usize) -> bool
     ensures { λ r. ⌜ r ≡ few (now (table .entry)) a ⌝ }
 {
     choice::count_rails(table, a) < 4
-}
-
-// The bays of word i go to the queue's end, rising, as met from a.
-fn enqueue(i: usize, word: u64, a: u16, met: &mut [u16], before: &mut [u16], count: usize) -> usize
-    requires { ⌜ (i < words) × (length (now before) ≡ span) × (count + length (inWord i word) ≤ length (now met)) ⌝ }
-    ensures { λ r. ⌜ Queued (inWord i word) a count (now (met .entry)) (now (before .entry)) (now (met .exit)) (now (before .exit)) r ⌝ }
-{
-    let mut left = word;
-    let mut c = count;
-    while left != 0 {
-        let y = i * 64 + u64::trailing_zeros(left) as usize;
-        left = left & (left - 1);
-        before[y] = a;
-        met[c] = y as u16;
-        c += 1;
-    }
-    c
-}
-
-// The new bays of word i that a leads to.
-fn meet_word(
-    table: &[u64],
-    a: u16,
-    i: usize,
-    seen: &mut [u64],
-    met: &mut [u16],
-    before: &mut [u16],
-    count: usize,
-) -> usize
-    requires { ⌜
-        (i < words)
-        × (a * words + words ≤ length (now table))
-        × (length (now seen) ≡ words)
-        × (length (now before) ≡ span)
-        × (count + length (newIn (now table) (now seen) a i) ≤ length (now met))
-        ⌝ }
-    ensures { λ r. ⌜
-        Meets (newIn (now (table .entry)) (now (seen .entry)) a i) a count (now (seen .entry)) (now (met .entry)) (now (before .entry))
-        (now (seen .exit)) (now (met .exit)) (now (before .exit)) r
-        ⌝ }
-{
-    let word = table[a as usize * words::WORDS + i] & !seen[i];
-    if word == 0 {
-        return count;
-    }
-    seen[i] = seen[i] | word;
-    enqueue(i, word, a, met, before, count)
-}
-
-// All new bays that a leads to.
-fn meet(
-    table: &[u64],
-    a: u16,
-    seen: &mut [u64],
-    met: &mut [u16],
-    before: &mut [u16],
-    count: usize,
-) -> usize
-    requires { ⌜
-        (a * words + words ≤ length (now table))
-        × (length (now seen) ≡ words)
-        × (length (now before) ≡ span)
-        × (count + length (new (now table) (now seen) a) ≤ length (now met))
-        ⌝ }
-    ensures { λ r. ⌜
-        Meets (new (now (table .entry)) (now (seen .entry)) a) a count (now (seen .entry)) (now (met .entry)) (now (before .entry))
-        (now (seen .exit)) (now (met .exit)) (now (before .exit)) r
-        ⌝ }
-{
-    let mut c = count;
-    let mut i = 0;
-    while i < words::WORDS {
-        c = meet_word(table, a, i, seen, met, before, c);
-        i += 1;
-    }
-    c
-}
-
-// The bays of the queue from `start` to `count` are passed: what they lead to, the next ring, goes to its end.
-fn pass(
-    table: &[u64],
-    n: usize,
-    start: usize,
-    count: usize,
-    seen: &mut [u64],
-    met: &mut [u16],
-    before: &mut [u16],
-) -> usize
-    requires { ⌜
-        (n ≤ span)
-        × (n * words ≤ length (now table))
-        × (start < count)
-        × (count ≤ n)
-        × (length (now seen) ≡ words)
-        × (n ≤ length (now met))
-        × (length (now before) ≡ span)
-        × Standing n (now table) (now seen) (now met) (now before) start count
-        ⌝ }
-    ensures { λ r. ⌜
-        ((held : List ℕ) (x : ℕ)
-        → Met n (now (table .entry)) held x (now (seen .entry)) (take count (now (met .entry))) (now (before .entry)) start
-        → Passed n (now (table .entry)) held x (now (met .entry)) count (now (seen .exit)) (now (met .exit)) (now (before .exit)) count r)
-        ⌝ }
-{
-    let mut done = start;
-    let mut c = count;
-    while done < count {
-        c = meet(table, met[done], seen, met, before, c);
-        done += 1;
-    }
-    c
-}
-
-// The path to e, d rails long, is read from its end.
-fn trace(before: &[u16], e: usize, d: usize, path: &mut [u16])
-    requires { ⌜ (length (now before) ≡ span) × (e < span) × (d < length (now path)) × Low (now before) ⌝ }
-    ensures { λ _. ⌜ take (d + 1) (now (path .exit)) ≡ back (now (before .entry)) d e [] ⌝ }
-{
-    let mut i = d;
-    let mut u = e;
-    while 0 < i {
-        path[i] = u as u16;
-        u = before[u] as usize;
-        i -= 1;
-    }
-    path[0] = u as u16;
 }
 
 // The shortest path from x to the nearest wanted bay, through bays not held, by a queue. The queue stands in the room for the path, which is
@@ -180,7 +52,7 @@ fn one_by_one(
     let mut d = 0;
     loop {
         let end = count;
-        count = pass(table, n, done, end, &mut seen, path, &mut before);
+        count = queue::pass(table, n, done, end, &mut seen, path, &mut before);
         if count == end {
             return Way::NoWay;
         }
@@ -188,7 +60,7 @@ fn one_by_one(
         d += 1;
         let e = choice::common(table, &seen, 0, &free, 0);
         if e < words::SPAN {
-            trace(&before, e, d, path);
+            queue::trace(&before, e, d, path);
             return Way::To(Bay(e as u16), d + 1);
         }
     }

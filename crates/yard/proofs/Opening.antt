@@ -3,7 +3,7 @@ use mathlib.Core.Path.{_≡_, sym, ap, _∙_}
 use mathlib.Core.Bool.{Bool, true, false}
 use mathlib.Core.List.{List, []}
 use mathlib.Core.Option.{none, some}
-use Prim.Native.Nat.{ℕ, _+_, _-_, _/_, _≤_, _<_}
+use Prim.Native.Nat.{ℕ, _+_, _-_, _≤_, _<_}
 use native.Mathlib.Omega.{arith}
 use lib.ListN.{length}
 use borrow.Author.Tests.{lt-ltb, le-ltb}
@@ -17,13 +17,14 @@ use Rattle.paper.proofs.Admitted.{Sizes, sizes-of}
 use Rattle.docket.specs.Reading.{refusalOf}
 use Rattle.docket.specs.declared.Refusal.{Refusal}
 use Rattle.words.specs.Sets.{mem}
+use Rattle.first_bad.specs.Finding.{foundOf, Finds, Lays, Laid}
+use Rattle.first_bad.specs.declared.Found.{Found}
+use Rattle.first_bad.specs.declared.Found.the-variants.{At, Nothing}
+use Rattle.first_bad.proofs.Rails.{table-of, empty-beyond}
 use Rattle.yard.specs.declared.Yard.{Yard as Numbers}
 use Rattle.yard.specs.declared.Opened.{Opened}
 use Rattle.yard.specs.declared.Opened.the-variants.{Open, Refused}
-use Rattle.yard.specs.declared.Found.{Found}
-use Rattle.yard.specs.declared.Found.the-variants.{At, Nothing}
-use Rattle.yard.specs.Opening.{foundOf, openedOf, Finds, Lays, Admits, Tests, Opens, Laid}
-use Rattle.yard.proofs.Rails.{table-of, empty-beyond}
+use Rattle.yard.specs.Opening.{openedOf, Admits, Tests, Opens}
 
 module _ (o : Order) (lent : ℕ) where
   pub first-1 : (r : Bool) → r ≡ badSize o lent → r ≡ true → firstSix o lent ≡ some size
@@ -109,14 +110,14 @@ module _ (o : Order) (lent : ℕ) where
   pub tests-refused : (r : Refusal) (table : List ℕ) → firstSix o lent ≡ some (refusalOf r) → Tests o lent (Refused r) table
   tests-refused r table h = record { answer = sym h; admitted = λ y e. never (cc) }
 
-  pub tests-admitted : (y : Numbers) (table : List ℕ) → firstSix o lent ≡ none → y .bays ≡ o .bays → y .rails ≡ length (o .ends) / 2
+  pub tests-admitted : (y : Numbers) (table : List ℕ) → firstSix o lent ≡ none → y .bays ≡ o .bays
       → Laid (o .bays) (railsOf (o .ends)) table → Tests o lent (Open y) table
-  tests-admitted y table h b r l = record {
+  tests-admitted y table h b l = record {
     answer = sym h;
     admitted = λ z e.
         let same : y ≡ z = cc in
         let admits : Admits o y table =
-        record { bays = b; rails = r; rows = table-of (o .bays) (o .ends) table l; beyond = empty-beyond (o .bays) (railsOf (o .ends)) table l } in
+        record { bays = b; rows = table-of (o .bays) (o .ends) table l; beyond = empty-beyond (o .bays) (railsOf (o .ends)) table l } in
         rw same at admits;
   }
 

@@ -7,7 +7,8 @@ use lib.ListN.{length}
 use mathlib.Core.List.{[]}
 use borrow.Author.Needs.{needs}
 use Rattle.acting.proofs.Acting.{tries-none, acted-failed}
-use Rattle.bring.proofs.Bringing.{bay-low, pairShown, led, brought-one, free, acts-free, brought-not}
+use Rattle.acting.proofs.Holding.{pairShown}
+use Rattle.bring.proofs.Bringing.{bay-low, led, brought-one, free, acts-free, brought-not}
 use Rattle.acting.specs.declared.Tried.the-variants.{Done}
 use Rattle.acting.specs.declared.Tried.the-variants.{Failed}
 use Rattle.bring.proofs.bring_one.Statement.{statement}

@@ -15,18 +15,19 @@ use Rattle.moving.specs.Bounds.{swap-most}
 use Rattle.acting.specs.Acting.{Tabled}
 use Rattle.clear.proofs.Clearing.{ready-again}
 use Rattle.step.specs.Asking.{BaysBelow}
+use Rattle.go.proofs.Lending.{rest-lent}
 use Rattle.home.specs.Homing.{Owners}
 use Rattle.home.proofs.Homing.{stages-stuck, Homed, homed-none, homed-more, homed-stops, homed-all, at-most, at-most-stuck, turn-due, turn-low, turn-homed}
 use Rattle.home.proofs.Settling.{Settled, Homeward}
 use Rattle.carry.proofs.Carrying.{between, between-length, between-get, settles, settles-stuck, gone-homeward, gone-short, gone-home}
 use Rattle.home.specs.declared.Staged.the-variants.{Planned}
 use Rattle.home.specs.declared.Staged.the-variants.{Stuck}
-use Rattle.carry.specs.declared.Gone.the-variants.{There, Nowhere}
+use Rattle.along.specs.declared.Gone.the-variants.{There, Nowhere}
 use Rattle.carry.proofs.carry.Statement.{statement}
 use Rattle.carry.proofs.carry.Tie as tie
 
 abbrev Inv-loop : tie.InvT-loop
-Inv-loop table owner placement₀ standing₀ empty₀ settled₀ out₀ path k finished at i₀ placement standing empty settled out count i =
+Inv-loop table owner placement₀ standing₀ empty₀ settled₀ out₀ path k at finished i₀ placement standing empty settled out count i =
     (i ≤ i₀) × (count .crossings + swap-most * i ≤ at .crossings + swap-most * i₀) × (length placement ≡ length placement₀) × (length standing ≡ length standing₀) × (length empty ≡ length empty₀) × (length out ≡ length out₀)
     × ((goals : List ℕ) (h : Homeward (length standing₀) table goals finished (between k path) placement₀) → Apart goals → finished ≤ length goals → length placement₀ ≡ length goals → Owners (length standing₀) goals owner
     → Settled goals finished (h .first) (between k path ++ (h .last ∷ [])) (drop i (between k path) ++ (h .last ∷ [])) placement)
@@ -34,7 +35,7 @@ Inv-loop table owner placement₀ standing₀ empty₀ settled₀ out₀ path k 
     × (length settled ≡ length settled₀) × BaysBelow finished placement settled
 
 abbrev μ-loop : tie.MeasureT-loop
-μ-loop table owner placement₀ standing₀ empty₀ settled₀ out₀ path k finished at i₀ placement standing empty settled out count i =
+μ-loop table owner placement₀ standing₀ empty₀ settled₀ out₀ path k at finished i₀ placement standing empty settled out count i =
     i
 
 slice-aggregate-go-along : tie.Need-slice-aggregate-go-along Inv-loop μ-loop
@@ -42,7 +43,7 @@ slice-aggregate-go-along c = search needs
 
 go-along-requires : tie.Need-go-along-requires Inv-loop μ-loop
 go-along-requires c κs =
-    let start = c .before .before .before .before .before .before .before .before .before .before .before .before .before .before .before in
+    let start = c .before .before .before .before .before .before .before .before .before .before .before .before .before .before in
     (start .pre .0, (start .pre .1 .0, (start .pre .1 .1 .0, refl)))
 
 enum-known-gone : tie.Need-enum-known-gone Inv-loop μ-loop
@@ -52,19 +53,19 @@ enum-told : tie.Need-enum-told Inv-loop μ-loop
 enum-told c = c .match .keys2
 
 same-length : tie.Need-same-length Inv-loop μ-loop
-same-length c = search needs
+same-length c = c .before .before .before .before .before .before .before .before .before .before .before .before .before .go-along .kept .1 .1 .0
 
 same-length-2 : tie.Need-same-length-2 Inv-loop μ-loop
-same-length-2 c = search needs
+same-length-2 c = c .before .before .before .before .before .before .before .before .before .before .before .before .before .go-along .kept .1 .1 .1 .0
 
 same-length-3 : tie.Need-same-length-3 Inv-loop μ-loop
-same-length-3 c = search needs
+same-length-3 c = c .before .before .before .before .before .before .before .before .before .before .before .before .before .go-along .kept .1 .1 .1 .1 .0
 
 same-length-4 : tie.Need-same-length-4 Inv-loop μ-loop
-same-length-4 c = search needs
+same-length-4 c = c .before .before .before .before .before .before .before .before .before .before .before .before .before .go-along .kept .1 .1 .1 .1 .1 .0
 
 same-length-5 : tie.Need-same-length-5 Inv-loop μ-loop
-same-length-5 c = search needs
+same-length-5 c = c .before .before .before .before .before .before .before .before .before .before .before .before .before .go-along .kept .1 .1 .1 .1 .1 .1 .0
 
 returns : tie.Need-returns Inv-loop μ-loop
 returns c =
@@ -73,29 +74,29 @@ returns c =
     (at-most-stuck, λ t b o. stages-stuck ((go-along .ensures .1 t b) .nowhere e), settles-stuck)
 
 same-length-6 : tie.Need-same-length-6 Inv-loop μ-loop
-same-length-6 c = search needs
+same-length-6 c = c .before .before .before .before .before .before .before .before .before .before .before .before .before .before .before .go-along .kept .1 .1 .0
 
 same-length-7 : tie.Need-same-length-7 Inv-loop μ-loop
-same-length-7 c = search needs
+same-length-7 c = c .before .before .before .before .before .before .before .before .before .before .before .before .before .before .before .go-along .kept .1 .1 .1 .0
 
 same-length-8 : tie.Need-same-length-8 Inv-loop μ-loop
-same-length-8 c = search needs
+same-length-8 c = c .before .before .before .before .before .before .before .before .before .before .before .before .before .before .before .go-along .kept .1 .1 .1 .1 .0
 
 same-length-9 : tie.Need-same-length-9 Inv-loop μ-loop
-same-length-9 c = search needs
+same-length-9 c = c .before .before .before .before .before .before .before .before .before .before .before .before .before .before .before .go-along .kept .1 .1 .1 .1 .1 .0
 
 same-length-10 : tie.Need-same-length-10 Inv-loop μ-loop
-same-length-10 c = search needs
+same-length-10 c = c .before .before .before .before .before .before .before .before .before .before .before .before .before .before .before .go-along .kept .1 .1 .1 .1 .1 .1 .0
 
 returns-2 : tie.Need-returns-2 Inv-loop μ-loop
 returns-2 c =
     let gone = c .before .before .gone in
     let go-along = c .before .before .before .before .before .before .before .before .before .before .before .before .before .before .before .go-along in
-    let start = c .before .before .before .before .before .before .before .before .before .before .before .before .before .before .before .before .before .before .before .before .before .before .before .before .before .before .before .before .before .before .before in
+    let start = c .before .before .before .before .before .before .before .before .before .before .before .before .before .before .before .before .before .before .before .before .before .before .before .before .before .before .before .before .before .before in
     let p = start .pre .0 in
     let z = start .pre .1 .0 in
     let a = start .args in
-    let r = a .to .turn .carrier .0 in
+    let r = a .to .carrier .0 in
     let room = go-along .last .1 .1 .1 .1 .1 .1 .1 .0 in
     let k = gone .given .0 .0 in
     let m = gone .given .0 .1 .0 in
@@ -117,13 +118,13 @@ add-finished : tie.Need-add-finished Inv-loop μ-loop
 add-finished c = search needs
 
 sub-i : tie.Need-sub-i Inv-loop μ-loop
-sub-i c = search needs
+sub-i c = omega (arith, c .before .if1 .left)
 
 loop-holds : tie.Need-loop-holds Inv-loop μ-loop
 loop-holds c =
     let gone = c .before .before .before .gone in
     let go-along = c .before .before .before .before .before .before .before .before .before .before .before .before .before .before .before .before .go-along in
-    let start = c .before .before .before .before .before .before .before .before .before .before .before .before .before .before .before .before .before .before .before .before .before .before .before .before .before .before .before .before .before .before .before .before in
+    let start = c .before .before .before .before .before .before .before .before .before .before .before .before .before .before .before .before .before .before .before .before .before .before .before .before .before .before .before .before .before .before .before in
     let p = start .pre .0 in
     let room = go-along .last .1 .1 .1 .1 .1 .1 .1 .0 in
     let k = gone .given .0 .0 in
@@ -146,35 +147,57 @@ loop-holds c =
       arrived .below k m e,
     )
 
-mul-t39 : tie.Need-mul-t39 Inv-loop μ-loop
-mul-t39 c =
+mul-t38 : tie.Need-mul-t38 Inv-loop μ-loop
+mul-t38 c =
     let l = c .before .loop in
     let gone = c .before .before .before .before .before .gone in
     let go-along = c .before .before .before .before .before .before .before .before .before .before .before .before .before .before .before .before .before .before .go-along in
-    let start = c .before .before .before .before .before .before .before .before .before .before .before .before .before .before .before .before .before .before .before .before .before .before .before .before .before .before .before .before .before .before .before .before .before .before in
+    let start = c .before .before .before .before .before .before .before .before .before .before .before .before .before .before .before .before .before .before .before .before .before .before .before .before .before .before .before .before .before .before .before .before .before in
     omega (arith, l .inv .0, go-along .ensures .0 .fits (gone .given .0 .0) (gone .given .0 .1 .0) (gone .given .1), start .pre .0 .most)
 
-array-read-t42 : tie.Need-array-read-t42 Inv-loop μ-loop
-array-read-t42 c =
+array-read-t41 : tie.Need-array-read-t41 Inv-loop μ-loop
+array-read-t41 c =
     let l = c .before .loop in
     let gone = c .before .before .before .before .before .gone in
     let go-along = c .before .before .before .before .before .before .before .before .before .before .before .before .before .before .before .before .before .before .go-along in
-    let start = c .before .before .before .before .before .before .before .before .before .before .before .before .before .before .before .before .before .before .before .before .before .before .before .before .before .before .before .before .before .before .before .before .before .before in
+    let start = c .before .before .before .before .before .before .before .before .before .before .before .before .before .before .before .before .before .before .before .before .before .before .before .before .before .before .before .before .before .before .before .before .before in
     omega (arith, l .inv .0, go-along .ensures .0 .fits (gone .given .0 .0) (gone .given .0 .1 .0) (gone .given .1), start .pre .0 .most)
+
+place-in-requires : tie.Need-place-in-requires Inv-loop μ-loop
+place-in-requires c κs = search needs
+
+mul-rest : tie.Need-mul-rest Inv-loop μ-loop
+mul-rest c =
+    let v = c .before .before .before .loop .inv in
+    let arrived = c .before .before .before .before .before .before .before .before .before .before .before .before .before .before .before .before .before .before .before .before .go-along .ensures .0 in
+    let k = c .before .before .before .before .before .before .before .gone .given .0 .0 in
+    let m = c .before .before .before .before .before .before .before .gone .given .0 .1 .0 in
+    let there : c .before .before .before .before .before .before .before .before .before .before .before .before .before .before .before .before .before .before .before .before .go-along .result ≡ There k m = c .before .before .before .before .before .before .before .gone .given .1 in
+    let start = c .before .before .before .before .before .before .before .before .before .before .before .before .before .before .before .before .before .before .before .before .before .before .before .before .before .before .before .before .before .before .before .before .before .before .before in
+    omega (arith, c .place-in .ensures, v .0, v .1, arrived .few k m there, arrived .fits k m there, start .pre .0 .most)
+
+sub-rest : tie.Need-sub-rest Inv-loop μ-loop
+sub-rest c = search needs
+
+part-rest-start : tie.Need-part-rest-start Inv-loop μ-loop
+part-rest-start c = search needs
+
+part-rest-end : tie.Need-part-rest-end Inv-loop μ-loop
+part-rest-end c = search needs
 
 home-at-requires : tie.Need-home-at-requires Inv-loop μ-loop
 home-at-requires c κs =
-    let loop-test = c .before .before .before .before .before .loop-test in
-    let l = c .before .before .before .before .before .before .loop in
-    let gone = c .before .before .before .before .before .before .before .before .before .before .gone in
-    let go-along = c .before .before .before .before .before .before .before .before .before .before .before .before .before .before .before .before .before .before .before .before .before .before .before .go-along in
-    let start = c .before .before .before .before .before .before .before .before .before .before .before .before .before .before .before .before .before .before .before .before .before .before .before .before .before .before .before .before .before .before .before .before .before .before .before .before .before .before .before in
+    let loop-test = c .before .before .before .before .before .before .before .loop-test in
+    let l = c .before .before .before .before .before .before .before .before .loop in
+    let gone = c .before .before .before .before .before .before .before .before .before .before .before .before .gone in
+    let go-along = c .before .before .before .before .before .before .before .before .before .before .before .before .before .before .before .before .before .before .before .before .before .before .before .before .before .go-along in
+    let start = c .before .before .before .before .before .before .before .before .before .before .before .before .before .before .before .before .before .before .before .before .before .before .before .before .before .before .before .before .before .before .before .before .before .before .before .before .before .before .before .before in
     let p = start .pre .0 in
     let z = start .pre .1 .0 in
     let b = start .pre .1 .1 .0 in
     let o = start .pre .1 .1 .1 in
     let a = start .args in
-    let r = a .to .turn .carrier .0 in
+    let r = a .to .carrier .0 in
     let room = go-along .last .1 .1 .1 .1 .1 .1 .1 .0 in
     let k = gone .given .0 .0 in
     let m = gone .given .0 .1 .0 in
@@ -186,7 +209,7 @@ home-at-requires c κs =
     let kp : length q ≡ length (a .placement .now) = go-along .kept .1 .1 .0 in
     let kw : length (go-along .last .1 .1 .1 .0) ≡ length (a .standing .now) = go-along .kept .1 .1 .1 .0 in
     let fits : k ≤ length room = omega (arith, arrived .fits k m e, p .most, kept) in
-    let h = gone-homeward (p .tabled) (p .most) (z .1) r (a .placement .now) (p .placed) (z .0) b room k (g .0) (g .1) (g .2) q (g .3 .moved) (omega (arith, length-take-le k room fits, c .before .before .before .before .before .before .before .before .if1 .left)) in
+    let h = gone-homeward (p .tabled) (p .most) (z .1) r (a .placement .now) (p .placed) (z .0) b room k (g .0) (g .1) (g .2) q (g .3 .moved) (omega (arith, length-take-le k room fits, c .before .before .before .before .before .before .before .before .before .before .if1 .left)) in
     let v = l .inv in
     let w : length (l .standing) ≡ length (a .standing .now) = v .3 ∙ kw in
     let i = l .i - 1 in
@@ -205,7 +228,6 @@ home-at-requires c κs =
         rw (w, get) low,
         omega (arith, w, o .many),
         rw w (z .1),
-        omega (arith, v .1, arrived .few k m e, z .2, loop-test .taken, arrived .fits k m e, p .most),
         rw get due,
         v .9,
       ),
@@ -218,32 +240,32 @@ enum-told-2 : tie.Need-enum-told-2 Inv-loop μ-loop
 enum-told-2 c = c .match2 .keys2
 
 same-length-11 : tie.Need-same-length-11 Inv-loop μ-loop
-same-length-11 c = search needs
+same-length-11 c = c .before .before .before .before .before .before .before .before .before .before .before .before .home-at .kept .1 .1 .1 .0 ∙ c .before .before .before .before .before .before .before .before .before .before .before .before .before .before .before .before .before .before .before .before .before .loop .inv .2 ∙ c .before .before .before .before .before .before .before .before .before .before .before .before .before .before .before .before .before .before .before .before .before .before .before .before .before .before .before .before .before .before .before .before .before .before .before .before .before .before .go-along .kept .1 .1 .0
 
 same-length-12 : tie.Need-same-length-12 Inv-loop μ-loop
-same-length-12 c = search needs
+same-length-12 c = c .before .before .before .before .before .before .before .before .before .before .before .before .home-at .kept .1 .1 .1 .1 .0 ∙ c .before .before .before .before .before .before .before .before .before .before .before .before .before .before .before .before .before .before .before .before .before .loop .inv .3 ∙ c .before .before .before .before .before .before .before .before .before .before .before .before .before .before .before .before .before .before .before .before .before .before .before .before .before .before .before .before .before .before .before .before .before .before .before .before .before .before .go-along .kept .1 .1 .1 .0
 
 same-length-13 : tie.Need-same-length-13 Inv-loop μ-loop
-same-length-13 c = search needs
+same-length-13 c = c .before .before .before .before .before .before .before .before .before .before .before .before .home-at .kept .1 .1 .1 .1 .1 .0 ∙ c .before .before .before .before .before .before .before .before .before .before .before .before .before .before .before .before .before .before .before .before .before .loop .inv .4 ∙ c .before .before .before .before .before .before .before .before .before .before .before .before .before .before .before .before .before .before .before .before .before .before .before .before .before .before .before .before .before .before .before .before .before .before .before .before .before .before .go-along .kept .1 .1 .1 .1 .0
 
 same-length-14 : tie.Need-same-length-14 Inv-loop μ-loop
-same-length-14 c = search needs
+same-length-14 c = c .before .before .before .before .before .before .before .before .before .before .before .before .home-at .kept .1 .1 .1 .1 .1 .1 .0 ∙ c .before .before .before .before .before .before .before .before .before .before .before .before .before .before .before .before .before .before .before .before .before .loop .inv .8 ∙ c .before .before .before .before .before .before .before .before .before .before .before .before .before .before .before .before .before .before .before .before .before .before .before .before .before .before .before .before .before .before .before .before .before .before .before .before .before .before .go-along .kept .1 .1 .1 .1 .1 .0
 
 same-length-15 : tie.Need-same-length-15 Inv-loop μ-loop
-same-length-15 c = search needs
+same-length-15 c = c .before .before .before .before .before .before .before .before .before .before .before .out2 .given .1 ∙ c .before .before .before .before .before .before .before .before .before .before .before .before .before .before .before .before .before .before .before .before .before .loop .inv .5 ∙ c .before .before .before .before .before .before .before .before .before .before .before .before .before .before .before .before .before .before .before .before .before .before .before .before .before .before .before .before .before .before .before .before .before .before .before .before .before .before .go-along .kept .1 .1 .1 .1 .1 .1 .0
 
 returns-3 : tie.Need-returns-3 Inv-loop μ-loop
 returns-3 c =
     let home-at = c .before .before .before .before .before .before .before .before .before .before .before .before .home-at in
-    let loop-test = c .before .before .before .before .before .before .before .before .before .before .before .before .before .before .before .before .before .before .loop-test in
-    let l = c .before .before .before .before .before .before .before .before .before .before .before .before .before .before .before .before .before .before .before .loop in
-    let gone = c .before .before .before .before .before .before .before .before .before .before .before .before .before .before .before .before .before .before .before .before .before .before .before .gone in
-    let go-along = c .before .before .before .before .before .before .before .before .before .before .before .before .before .before .before .before .before .before .before .before .before .before .before .before .before .before .before .before .before .before .before .before .before .before .before .before .go-along in
-    let start = c .before .before .before .before .before .before .before .before .before .before .before .before .before .before .before .before .before .before .before .before .before .before .before .before .before .before .before .before .before .before .before .before .before .before .before .before .before .before .before .before .before .before .before .before .before .before .before .before .before .before .before .before in
+    let loop-test = c .before .before .before .before .before .before .before .before .before .before .before .before .before .before .before .before .before .before .before .before .loop-test in
+    let l = c .before .before .before .before .before .before .before .before .before .before .before .before .before .before .before .before .before .before .before .before .before .loop in
+    let gone = c .before .before .before .before .before .before .before .before .before .before .before .before .before .before .before .before .before .before .before .before .before .before .before .before .before .gone in
+    let go-along = c .before .before .before .before .before .before .before .before .before .before .before .before .before .before .before .before .before .before .before .before .before .before .before .before .before .before .before .before .before .before .before .before .before .before .before .before .before .before .go-along in
+    let start = c .before .before .before .before .before .before .before .before .before .before .before .before .before .before .before .before .before .before .before .before .before .before .before .before .before .before .before .before .before .before .before .before .before .before .before .before .before .before .before .before .before .before .before .before .before .before .before .before .before .before .before .before .before in
     let p = start .pre .0 in
     let z = start .pre .1 .0 in
     let a = start .args in
-    let r = a .to .turn .carrier .0 in
+    let r = a .to .carrier .0 in
     let room = go-along .last .1 .1 .1 .1 .1 .1 .1 .0 in
     let k = gone .given .0 .0 in
     let m = gone .given .0 .1 .0 in
@@ -270,24 +292,35 @@ returns-3 c =
       settles-stuck,
     )
 
+add-requires : tie.Need-add-requires Inv-loop μ-loop
+add-requires c κs =
+    let start = c .before .before .before .before .before .before .before .before .before .before .before .before .before .before .before .before .before .before .before .before .before .before .before .before .before .before .before .before .before .before .before .before .before .before .before .before .before .before .before .before .before .before .before .before .before .before .before .before .before .before .before .before .before .before in
+    let v = c .before .before .before .before .before .before .before .before .before .before .before .before .before .before .before .before .before .before .before .before .before .before .loop .inv in
+    let arrived = c .before .before .before .before .before .before .before .before .before .before .before .before .before .before .before .before .before .before .before .before .before .before .before .before .before .before .before .before .before .before .before .before .before .before .before .before .before .before .before .go-along .ensures .0 in
+    let k = c .before .before .before .before .before .before .before .before .before .before .before .before .before .before .before .before .before .before .before .before .before .before .before .before .before .before .gone .given .0 .0 in
+    let m = c .before .before .before .before .before .before .before .before .before .before .before .before .before .before .before .before .before .before .before .before .before .before .before .before .before .before .gone .given .0 .1 .0 in
+    let there : c .before .before .before .before .before .before .before .before .before .before .before .before .before .before .before .before .before .before .before .before .before .before .before .before .before .before .before .before .before .before .before .before .before .before .before .before .before .before .before .go-along .result ≡ There k m = c .before .before .before .before .before .before .before .before .before .before .before .before .before .before .before .before .before .before .before .before .before .before .before .before .before .before .gone .given .1 in
+    let e : c .before .before .before .before .before .before .before .before .before .before .before .before .before .home-at .result ≡ Planned (c .before .homed .given .0 .0) = c .before .homed .given .1 in
+    omega (arith, c .before .before .before .before .before .before .before .before .before .before .before .before .before .home-at .ensures .0 .few _ e, v .0, v .1, arrived .few k m there, arrived .fits k m there, start .pre .0 .most)
+
 sub-i-2 : tie.Need-sub-i-2 Inv-loop μ-loop
-sub-i-2 c = search needs
+sub-i-2 c = omega (arith, c .before .before .before .before .before .before .before .before .before .before .before .before .before .before .before .before .before .before .before .before .before .before .loop-test .taken)
 
 loop-less : tie.Need-loop-less Inv-loop μ-loop
-loop-less c = search needs
+loop-less c = omega (arith, c .before .before .before .before .before .before .before .before .before .before .before .before .before .before .before .before .before .before .before .before .before .before .loop-test .taken)
 
 loop-again : tie.Need-loop-again Inv-loop μ-loop
 loop-again c =
-    let home-at = c .before .before .before .before .before .before .before .before .before .before .before .before .before .home-at in
-    let loop-test = c .before .before .before .before .before .before .before .before .before .before .before .before .before .before .before .before .before .before .before .loop-test in
-    let l = c .before .before .before .before .before .before .before .before .before .before .before .before .before .before .before .before .before .before .before .before .loop in
-    let gone = c .before .before .before .before .before .before .before .before .before .before .before .before .before .before .before .before .before .before .before .before .before .before .before .before .gone in
-    let go-along = c .before .before .before .before .before .before .before .before .before .before .before .before .before .before .before .before .before .before .before .before .before .before .before .before .before .before .before .before .before .before .before .before .before .before .before .before .before .go-along in
-    let start = c .before .before .before .before .before .before .before .before .before .before .before .before .before .before .before .before .before .before .before .before .before .before .before .before .before .before .before .before .before .before .before .before .before .before .before .before .before .before .before .before .before .before .before .before .before .before .before .before .before .before .before .before .before in
+    let home-at = c .before .before .before .before .before .before .before .before .before .before .before .before .before .before .home-at in
+    let loop-test = c .before .before .before .before .before .before .before .before .before .before .before .before .before .before .before .before .before .before .before .before .before .before .loop-test in
+    let l = c .before .before .before .before .before .before .before .before .before .before .before .before .before .before .before .before .before .before .before .before .before .before .before .loop in
+    let gone = c .before .before .before .before .before .before .before .before .before .before .before .before .before .before .before .before .before .before .before .before .before .before .before .before .before .before .before .gone in
+    let go-along = c .before .before .before .before .before .before .before .before .before .before .before .before .before .before .before .before .before .before .before .before .before .before .before .before .before .before .before .before .before .before .before .before .before .before .before .before .before .before .before .before .go-along in
+    let start = c .before .before .before .before .before .before .before .before .before .before .before .before .before .before .before .before .before .before .before .before .before .before .before .before .before .before .before .before .before .before .before .before .before .before .before .before .before .before .before .before .before .before .before .before .before .before .before .before .before .before .before .before .before .before .before in
     let p = start .pre .0 in
     let z = start .pre .1 .0 in
     let a = start .args in
-    let r = a .to .turn .carrier .0 in
+    let r = a .to .carrier .0 in
     let room = go-along .last .1 .1 .1 .1 .1 .1 .1 .0 in
     let k = gone .given .0 .0 in
     let m = gone .given .0 .1 .0 in
@@ -302,48 +335,49 @@ loop-again c =
     let one : l .i - 1 + 1 ≡ l .i = omega (arith, loop-test .taken) in
     let here : i < length (between k room) = omega (arith, loop-test .taken, v .0, between-length k room fits) in
     let get : getD room (l .i) 0 ≡ getD (between k room) i 0 = rw one at (between-get k room fits i here) in
-    let e : home-at .result ≡ Planned (c .before .homed .given .0 .0) = c .before .homed .given .1 in
+    let e : home-at .result ≡ Planned (c .before .before .homed .given .0 .0) = c .before .before .homed .given .1 in
     let few = home-at .ensures .0 .few _ e in
     let f = rw (v .3, get) at (home-at .ensures .1) in
+    let out = c .before .before .before .before .before .before .before .before .before .before .before .before .before .out2 .given in
     let t₀ = rw (← kw) at (p .tabled) in (
       omega (arith, loop-test .taken, v .0),
-      omega (arith, few, v .1, loop-test .taken),
+      omega (arith, few, v .1, loop-test .taken, c .add .ensures .crossings),
       n .1 .1 .1 .0 ∙ v .2,
       n .1 .1 .1 .1 .0 ∙ v .3,
       n .1 .1 .1 .1 .1 .0 ∙ v .4,
-      n .1 .1 .1 .1 .1 .1 .1 .0 ∙ v .5,
+      omega (arith, out .1, v .5),
       λ goals h apart many same o.
           turn-homed h apart many i here (l .placement) (v .2 ∙ same) (rw (← one) at (v .6 goals h apart many same o)) t₀ (omega (arith, p .most, kw)) (rw (← kw) at (z .1)) (v .7 t₀ goals many o .played .placed) (rw e at (f t₀ goals many o)),
-      λ t goals many o. homed-more (rw (← one) at (v .7 t goals many o)) here (rw e at (f t goals many o)),
+      λ t goals many o. homed-more (rw (← one) at (v .7 t goals many o)) here (rest-lent _ (c .before .before .before .before .before .before .before .before .before .before .before .before .before .before .before .before .before .before .before .before .place-in .ensures) out (c .add .ensures)) (rw e at (f t goals many o)),
       n .1 .1 .1 .1 .1 .1 .0 ∙ v .8,
       home-at .ensures .2,
     )
 
 same-length-16 : tie.Need-same-length-16 Inv-loop μ-loop
-same-length-16 c = search needs
+same-length-16 c = c .before .loop .inv .2 ∙ c .before .before .before .before .before .before .before .before .before .before .before .before .before .before .before .before .before .before .go-along .kept .1 .1 .0
 
 same-length-17 : tie.Need-same-length-17 Inv-loop μ-loop
-same-length-17 c = search needs
+same-length-17 c = c .before .loop .inv .3 ∙ c .before .before .before .before .before .before .before .before .before .before .before .before .before .before .before .before .before .before .go-along .kept .1 .1 .1 .0
 
 same-length-18 : tie.Need-same-length-18 Inv-loop μ-loop
-same-length-18 c = search needs
+same-length-18 c = c .before .loop .inv .4 ∙ c .before .before .before .before .before .before .before .before .before .before .before .before .before .before .before .before .before .before .go-along .kept .1 .1 .1 .1 .0
 
 same-length-19 : tie.Need-same-length-19 Inv-loop μ-loop
-same-length-19 c = search needs
+same-length-19 c = c .before .loop .inv .8 ∙ c .before .before .before .before .before .before .before .before .before .before .before .before .before .before .before .before .before .before .go-along .kept .1 .1 .1 .1 .1 .0
 
 same-length-20 : tie.Need-same-length-20 Inv-loop μ-loop
-same-length-20 c = search needs
+same-length-20 c = c .before .loop .inv .5 ∙ c .before .before .before .before .before .before .before .before .before .before .before .before .before .before .before .before .before .before .go-along .kept .1 .1 .1 .1 .1 .1 .0
 
 returns-4 : tie.Need-returns-4 Inv-loop μ-loop
 returns-4 c =
     let l = c .before .loop in
     let gone = c .before .before .before .before .before .gone in
     let go-along = c .before .before .before .before .before .before .before .before .before .before .before .before .before .before .before .before .before .before .go-along in
-    let start = c .before .before .before .before .before .before .before .before .before .before .before .before .before .before .before .before .before .before .before .before .before .before .before .before .before .before .before .before .before .before .before .before .before .before in
+    let start = c .before .before .before .before .before .before .before .before .before .before .before .before .before .before .before .before .before .before .before .before .before .before .before .before .before .before .before .before .before .before .before .before .before in
     let p = start .pre .0 in
     let z = start .pre .1 .0 in
     let a = start .args in
-    let r = a .to .turn .carrier .0 in
+    let r = a .to .carrier .0 in
     let room = go-along .last .1 .1 .1 .1 .1 .1 .1 .0 in
     let k = gone .given .0 .0 in
     let m = gone .given .0 .1 .0 in
@@ -386,8 +420,13 @@ carry-spec =
     add-finished
     sub-i
     loop-holds
-    mul-t39
-    array-read-t42
+    mul-t38
+    array-read-t41
+    place-in-requires
+    mul-rest
+    sub-rest
+    part-rest-start
+    part-rest-end
     home-at-requires
     enum-known-homed
     enum-told-2
@@ -397,6 +436,7 @@ carry-spec =
     same-length-14
     same-length-15
     returns-3
+    add-requires
     sub-i-2
     loop-less
     loop-again

@@ -9,8 +9,9 @@ use Rattle.paper.specs.Text.{count}
 use Rattle.acting.specs.Acting.{Tabled}
 use Rattle.moving.specs.Bounds.{carrier-most}
 use Rattle.step.specs.Asking.{BaysBelow}
+use Rattle.go.proofs.Lending.{rest-lent}
 use Rattle.home.proofs.Homing.{stages-stuck}
-use Rattle.carry.specs.Carrying.{Goals, HomeBelow, Bound}
+use Rattle.along.specs.Along.{Goals, HomeBelow, Bound}
 use Rattle.carry.proofs.Carrying.{settles, settles-stuck, Served, served-none, served-more, served-stuck, served-all, home-more}
 use Rattle.home.specs.declared.Staged.the-variants.{Planned}
 use Rattle.home.specs.declared.Staged.the-variants.{Stuck}
@@ -45,19 +46,34 @@ cast-number c =
     let z = start .pre .1 in
     omega (arith, c .loop-test .taken, z .0 .many, p .placed .few, p .most)
 
-mul-t21 : tie.Need-mul-t21 Inv-loop μ-loop
-mul-t21 c = search needs
+mul-t19 : tie.Need-mul-t19 Inv-loop μ-loop
+mul-t19 c = search needs
 
-shared-slice-read-t24 : tie.Need-shared-slice-read-t24 Inv-loop μ-loop
-shared-slice-read-t24 c = search needs
+shared-slice-read-t23 : tie.Need-shared-slice-read-t23 Inv-loop μ-loop
+shared-slice-read-t23 c = search needs
+
+place-in-requires : tie.Need-place-in-requires Inv-loop μ-loop
+place-in-requires c κs = search needs
+
+mul-rest : tie.Need-mul-rest Inv-loop μ-loop
+mul-rest c = search needs
+
+sub-rest : tie.Need-sub-rest Inv-loop μ-loop
+sub-rest c = search needs
+
+part-rest-start : tie.Need-part-rest-start Inv-loop μ-loop
+part-rest-start c = search needs
+
+part-rest-end : tie.Need-part-rest-end Inv-loop μ-loop
+part-rest-end c = search needs
 
 carry-requires : tie.Need-carry-requires Inv-loop μ-loop
 carry-requires c κs =
-    let loop-test = c .before .before .before .before .before .before .loop-test in
-    let start = c .before .before .before .before .before .before .before .before .before .before .before .before .before .before .before .before .before in
+    let loop-test = c .before .before .before .before .before .before .before .before .loop-test in
+    let start = c .before .before .before .before .before .before .before .before .before .before .before .before .before .before .before .before .before .before .before in
     let p = start .pre .0 in
     let z = start .pre .1 in
-    let l = c .before .before .before .before .before .before .before .loop in
+    let l = c .before .before .before .before .before .before .before .before .before .loop in
     let v = l .inv in
     let b = v .7 (p .tabled) in
     let e : length (l .standing) ≡ length (start .args .standing .now) = v .3 in (
@@ -70,7 +86,7 @@ carry-requires c κs =
         levelled = rw e (p .levelled);
       },
       (
-        (omega (arith, loop-test .taken, v .2, z .0 .many), rw e (z .1), omega (arith, v .1, loop-test .taken, z .0 .many, p .placed .few, p .most), v .9, rw e (c .before .before .before .before .before .before .before .before .is-carousel .ensures)),
+        (omega (arith, loop-test .taken, v .2, z .0 .many), rw e (z .1), v .9, rw e (c .before .before .before .before .before .before .before .before .before .before .is-carousel .ensures)),
         (record { goals = start .args .goals .now; each = record { many = omega (arith, v .2, z .0 .many); apart = z .0 .apart; inside = rw e (z .0 .inside) }; own = refl; below = v .6 }, rw e (z .3)),
       ),
     )
@@ -82,41 +98,26 @@ enum-told : tie.Need-enum-told Inv-loop μ-loop
 enum-told c = c .match .keys2
 
 same-length : tie.Need-same-length Inv-loop μ-loop
-same-length c =
-    let carry = c .before .before .before .before .before .before .before .before .before .before .before .before .carry in
-    let loop = c .before .before .before .before .before .before .before .before .before .before .before .before .before .before .before .before .before .before .before .before .loop in
-    carry .kept .1 .1 .1 .0 ∙ loop .inv .2
+same-length c = c .before .before .before .before .before .before .before .before .before .before .before .before .carry .kept .1 .1 .1 .0 ∙ c .before .before .before .before .before .before .before .before .before .before .before .before .before .before .before .before .before .before .before .before .before .before .loop .inv .2
 
 same-length-2 : tie.Need-same-length-2 Inv-loop μ-loop
-same-length-2 c =
-    let carry = c .before .before .before .before .before .before .before .before .before .before .before .before .carry in
-    let loop = c .before .before .before .before .before .before .before .before .before .before .before .before .before .before .before .before .before .before .before .before .loop in
-    carry .kept .1 .1 .1 .1 .0 ∙ loop .inv .3
+same-length-2 c = c .before .before .before .before .before .before .before .before .before .before .before .before .carry .kept .1 .1 .1 .1 .0 ∙ c .before .before .before .before .before .before .before .before .before .before .before .before .before .before .before .before .before .before .before .before .before .before .loop .inv .3
 
 same-length-3 : tie.Need-same-length-3 Inv-loop μ-loop
-same-length-3 c =
-    let carry = c .before .before .before .before .before .before .before .before .before .before .before .before .carry in
-    let loop = c .before .before .before .before .before .before .before .before .before .before .before .before .before .before .before .before .before .before .before .before .loop in
-    carry .kept .1 .1 .1 .1 .1 .0 ∙ loop .inv .4
+same-length-3 c = c .before .before .before .before .before .before .before .before .before .before .before .before .carry .kept .1 .1 .1 .1 .1 .0 ∙ c .before .before .before .before .before .before .before .before .before .before .before .before .before .before .before .before .before .before .before .before .before .before .loop .inv .4
 
 same-length-4 : tie.Need-same-length-4 Inv-loop μ-loop
-same-length-4 c =
-    let carry = c .before .before .before .before .before .before .before .before .before .before .before .before .carry in
-    let loop = c .before .before .before .before .before .before .before .before .before .before .before .before .before .before .before .before .before .before .before .before .loop in
-    carry .kept .1 .1 .1 .1 .1 .1 .0 ∙ loop .inv .8
+same-length-4 c = c .before .before .before .before .before .before .before .before .before .before .before .before .carry .kept .1 .1 .1 .1 .1 .1 .0 ∙ c .before .before .before .before .before .before .before .before .before .before .before .before .before .before .before .before .before .before .before .before .before .before .loop .inv .8
 
 same-length-5 : tie.Need-same-length-5 Inv-loop μ-loop
-same-length-5 c =
-    let carry = c .before .before .before .before .before .before .before .before .before .before .before .before .carry in
-    let loop = c .before .before .before .before .before .before .before .before .before .before .before .before .before .before .before .before .before .before .before .before .loop in
-    carry .kept .1 .1 .1 .1 .1 .1 .1 .0 ∙ loop .inv .5
+same-length-5 c = c .before .before .before .before .before .before .before .before .before .before .before .out .given .1 ∙ c .before .before .before .before .before .before .before .before .before .before .before .before .before .before .before .before .before .before .before .before .before .before .loop .inv .5
 
 returns : tie.Need-returns Inv-loop μ-loop
 returns c =
     let carry = c .before .before .before .before .before .before .before .before .before .before .before .before .carry in
-    let loop-test = c .before .before .before .before .before .before .before .before .before .before .before .before .before .before .before .before .before .before .before .loop-test in
-    let start = c .before .before .before .before .before .before .before .before .before .before .before .before .before .before .before .before .before .before .before .before .before .before .before .before .before .before .before .before .before .before in
-    let l = c .before .before .before .before .before .before .before .before .before .before .before .before .before .before .before .before .before .before .before .before .loop in
+    let loop-test = c .before .before .before .before .before .before .before .before .before .before .before .before .before .before .before .before .before .before .before .before .before .loop-test in
+    let start = c .before .before .before .before .before .before .before .before .before .before .before .before .before .before .before .before .before .before .before .before .before .before .before .before .before .before .before .before .before .before .before .before in
+    let l = c .before .before .before .before .before .before .before .before .before .before .before .before .before .before .before .before .before .before .before .before .before .before .loop in
     let v = l .inv in
     let z = start .pre .1 in
     let kw : length (l .standing) ≡ length (start .args .standing .now) = v .3 in
@@ -126,44 +127,52 @@ returns c =
     let b : Bound (length (start .args .standing .now)) (l .placement) (l .r) (getD (start .args .goals .now) (l .r) 0) = record { goals = start .args .goals .now; each = g; own = refl; below = v .6 } in
     rw e (λ t. stages-stuck (served-stuck (v .7 t) (loop-test .taken) (rw e at (f t b (z .3)))), settles-stuck)
 
+add-requires : tie.Need-add-requires Inv-loop μ-loop
+add-requires c κs =
+    let start = c .before .before .before .before .before .before .before .before .before .before .before .before .before .before .before .before .before .before .before .before .before .before .before .before .before .before .before .before .before .before .before .before .before in
+    let v = c .before .before .before .before .before .before .before .before .before .before .before .before .before .before .before .before .before .before .before .before .before .before .before .loop .inv in
+    let e : c .before .before .before .before .before .before .before .before .before .before .before .before .before .carry .result ≡ Planned (c .before .carried .given .0 .0) = c .before .carried .given .1 in
+    omega (arith, c .before .before .before .before .before .before .before .before .before .before .before .before .before .carry .ensures .0 .few _ e, v .1, c .before .before .before .before .before .before .before .before .before .before .before .before .before .before .before .before .before .before .before .before .before .before .loop-test .taken, start .pre .1 .0 .many, start .pre .0 .placed .few, start .pre .0 .most)
+
 add-r : tie.Need-add-r Inv-loop μ-loop
 add-r c =
-    let loop-test = c .before .before .before .before .before .before .before .before .before .before .before .before .before .before .before .before .before .before .before .before .loop-test in
-    let start = c .before .before .before .before .before .before .before .before .before .before .before .before .before .before .before .before .before .before .before .before .before .before .before .before .before .before .before .before .before .before .before in
+    let loop-test = c .before .before .before .before .before .before .before .before .before .before .before .before .before .before .before .before .before .before .before .before .before .before .before .loop-test in
+    let start = c .before .before .before .before .before .before .before .before .before .before .before .before .before .before .before .before .before .before .before .before .before .before .before .before .before .before .before .before .before .before .before .before .before .before in
     let p = start .pre .0 in
     let z = start .pre .1 in
     omega (arith, loop-test .taken, z .0 .many, p .placed .few, p .most)
 
 loop-less : tie.Need-loop-less Inv-loop μ-loop
-loop-less c = search needs
+loop-less c = omega (arith, c .before .before .before .before .before .before .before .before .before .before .before .before .before .before .before .before .before .before .before .before .before .before .before .loop-test .taken)
 
 loop-again : tie.Need-loop-again Inv-loop μ-loop
 loop-again c =
-    let carry = c .before .before .before .before .before .before .before .before .before .before .before .before .before .carry in
-    let loop-test = c .before .before .before .before .before .before .before .before .before .before .before .before .before .before .before .before .before .before .before .before .loop-test in
-    let start = c .before .before .before .before .before .before .before .before .before .before .before .before .before .before .before .before .before .before .before .before .before .before .before .before .before .before .before .before .before .before .before in
+    let carry = c .before .before .before .before .before .before .before .before .before .before .before .before .before .before .carry in
+    let loop-test = c .before .before .before .before .before .before .before .before .before .before .before .before .before .before .before .before .before .before .before .before .before .before .before .loop-test in
+    let start = c .before .before .before .before .before .before .before .before .before .before .before .before .before .before .before .before .before .before .before .before .before .before .before .before .before .before .before .before .before .before .before .before .before .before in
     let p = start .pre .0 in
     let z = start .pre .1 in
-    let l = c .before .before .before .before .before .before .before .before .before .before .before .before .before .before .before .before .before .before .before .before .before .loop in
+    let l = c .before .before .before .before .before .before .before .before .before .before .before .before .before .before .before .before .before .before .before .before .before .before .before .before .loop in
     let v = l .inv in
     let b = v .7 (p .tabled) in
     let k = carry .kept in
     let kw : length (l .standing) ≡ length (start .args .standing .now) = v .3 in
-    let e : carry .result ≡ Planned (c .before .carried .given .0 .0) = c .before .carried .given .1 in
+    let e : carry .result ≡ Planned (c .before .before .carried .given .0 .0) = c .before .before .carried .given .1 in
     let few = carry .ensures .0 .few _ e in
     let f = rw kw at (carry .ensures .1) in
+    let out = c .before .before .before .before .before .before .before .before .before .before .before .before .before .out .given in
     let g : Goals (length (start .args .standing .now)) (start .args .goals .now) (l .placement) = record { many = omega (arith, v .2, z .0 .many); apart = z .0 .apart; inside = z .0 .inside } in
     let bound : Bound (length (start .args .standing .now)) (l .placement) (l .r) (getD (start .args .goals .now) (l .r) 0) = record { goals = start .args .goals .now; each = g; own = refl; below = v .6 } in
     let hr : l .r < length (l .placement) = omega (arith, loop-test .taken, v .2, z .0 .many) in (
       omega (arith, loop-test .taken),
-      omega (arith, few, v .1),
-      omega (arith, k .1 .1 .1 .0, v .2),
-      omega (arith, k .1 .1 .1 .1 .0, v .3),
-      omega (arith, k .1 .1 .1 .1 .1 .0, v .4),
-      omega (arith, k .1 .1 .1 .1 .1 .1 .1 .0, v .5),
+      omega (arith, few, v .1, c .add .ensures .crossings),
+      k .1 .1 .1 .0 ∙ v .2,
+      k .1 .1 .1 .1 .0 ∙ v .3,
+      k .1 .1 .1 .1 .1 .0 ∙ v .4,
+      omega (arith, out .1, v .5),
       home-more (p .tabled) (p .most) (z .1) (start .args .goals .now) (l .r) (l .placement) (b .played .placed) g hr (v .6) (rw e at (f (p .tabled) bound (z .3))),
-      λ t. served-more (v .7 t) (loop-test .taken) (rw e at (f t bound (z .3))),
-      omega (arith, k .1 .1 .1 .1 .1 .1 .0, v .8),
+      λ t. served-more (v .7 t) (loop-test .taken) (rest-lent _ (c .before .before .before .before .before .before .before .before .before .before .before .before .before .before .before .before .before .before .before .before .place-in .ensures) out (c .add .ensures)) (rw e at (f t bound (z .3))),
+      k .1 .1 .1 .1 .1 .1 .0 ∙ v .8,
       carry .ensures .2 .below _ e,
     )
 
@@ -198,8 +207,13 @@ carry-all-spec =
     is-carousel-requires
     loop-holds
     cast-number
-    mul-t21
-    shared-slice-read-t24
+    mul-t19
+    shared-slice-read-t23
+    place-in-requires
+    mul-rest
+    sub-rest
+    part-rest-start
+    part-rest-end
     carry-requires
     enum-known-carried
     enum-told
@@ -209,6 +223,7 @@ carry-all-spec =
     same-length-4
     same-length-5
     returns
+    add-requires
     add-r
     loop-less
     loop-again

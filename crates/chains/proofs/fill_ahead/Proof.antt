@@ -6,9 +6,10 @@ use Rattle.chains.specs.Links.{links-each}
 use Rattle.plans.proofs.Rest.{fits-named}
 use Rattle.docket.specs.Reading.{crossingOf}
 use Rattle.paper.specs.Limits.{most-bays}
-use Rattle.paper.specs.Yard.{crossings, named}
-use lib.ListN.{length, set, length-set}
-use Prim.Native.Nat.{suc, _<_, _+_, _*_, _-_}
+use Rattle.paper.specs.Yard.{crossings, named, most-crossings}
+use mathlib.Core.List.{List}
+use lib.ListN.{length, getD, set, length-set}
+use Prim.Native.Nat.{ℕ, suc, _≤_, _<_, _+_, _*_, _-_}
 use mathlib.Core.Path.{_≡_, refl, sym, _∙_, ap}
 use denote.Ref.{now}
 use native.Mathlib.Omega.{arith}
@@ -40,6 +41,72 @@ small c =
     let s = c .before .before .before .before .before in
     fits-named most-bays most-bays (now (s .args .plan)) (s .pre .2) (c .before .before .loop .m - 1) (inside c) (crossingOf (c .crossing-at .result)) (c .crossing-at .ensures)
 
+-- what is known once its two bays and its carrier are read
+module _ (k : tie.After-carrier-key Inv-loop μ-loop) where
+  abbrev at-hand : tie.After-crossing-at Inv-loop μ-loop
+  at-hand = k .before .before .before
+
+  abbrev plan : List ℕ
+  plan = now (at-hand .before .before .before .before .before .args .plan)
+
+  abbrev links : List ℕ
+  links = at-hand .before .before .loop .links
+
+  abbrev entering : List ℕ
+  entering = at-hand .before .before .loop .entering
+
+  abbrev moving : List ℕ
+  moving = at-hand .before .before .loop .moving
+
+  abbrev m : ℕ
+  m = at-hand .before .before .loop .m
+
+  abbrev left : ℕ
+  left = k .before .before .bay-key .result
+
+  abbrev entered : ℕ
+  entered = k .before .bay-key2 .result
+
+  abbrev carrier : ℕ
+  carrier = k .carrier-key .result
+
+  one-less : m ≡ suc (m - 1)
+  one-less = omega (arith, at-hand .before .loop-test .taken)
+
+  filling : FillingUp plan links entering moving m
+  filling = at-hand .before .before .loop .inv .1
+
+  left-small : left < most-bays
+  left-small = omega (arith, small at-hand, k .before .before .bay-key .ensures)
+
+  entered-small : entered < most-bays
+  entered-small = omega (arith, small at-hand, k .before .bay-key2 .ensures)
+
+  carrier-small : carrier < most-bays
+  carrier-small = omega (arith, small at-hand, k .carrier-key .ensures)
+
+  left-is : left ≡ named (crossings plan) (m - 1) .from
+  left-is = k .before .before .bay-key .ensures ∙ ap (λ y. y .from) (at-hand .crossing-at .ensures)
+
+  entered-is : entered ≡ named (crossings plan) (m - 1) .to
+  entered-is = k .before .bay-key2 .ensures ∙ ap (λ y. y .to) (at-hand .crossing-at .ensures)
+
+  carrier-is : carrier ≡ named (crossings plan) (m - 1) .carrier
+  carrier-is = k .carrier-key .ensures ∙ ap (λ y. y .carrier) (at-hand .crossing-at .ensures)
+
+  -- the next entering and the next crossing of the carrier lie above, within the plan
+  enters : (key : ℕ) → key < most-bays → (m - 1 < getD entering key 0) × (getD entering key 0 ≤ length plan)
+  enters = enters-low plan links entering moving m (m - 1) one-less filling left entered carrier left-is entered-is carrier-is left-small entered-small carrier-small
+
+  moves : (m - 1 < getD moving carrier 0) × (getD moving carrier 0 ≤ length plan)
+  moves = moves-low plan links entering moving m (m - 1) one-less filling left entered carrier left-is entered-is carrier-is left-small entered-small carrier-small
+
+  short : length plan ≤ most-crossings
+  short = at-hand .before .before .before .before .before .pre .0
+
+  long : length links ≡ length plan * links-each
+  long = filling .long
+
 bay-key-requires : tie.Need-bay-key-requires Inv-loop μ-loop
 bay-key-requires c κs = search needs
 
@@ -53,363 +120,99 @@ mul-narrow : tie.Need-mul-narrow Inv-loop μ-loop
 mul-narrow c = search needs
 
 array-read-narrow : tie.Need-array-read-narrow Inv-loop μ-loop
-array-read-narrow c =
-    let k = c in
-    let a = k .before .before .before in
-    let s = a .before .before .before .before .before in
-    let t = a .before .before .loop in
-    let f = k .before .before .bay-key .result in
-    let g = k .before .bay-key2 .result in
-    let h = k .carrier-key .result in
-    let is : t .m ≡ suc (t .m - 1) = omega (arith, a .before .loop-test .taken) in
-    let fs : f < most-bays = omega (arith, small a, k .before .before .bay-key .ensures) in
-    let gs : g < most-bays = omega (arith, small a, k .before .bay-key2 .ensures) in
-    let hs : h < most-bays = omega (arith, small a, k .carrier-key .ensures) in
-    let f-is : f ≡ named (crossings (now (s .args .plan))) (t .m - 1) .from = k .before .before .bay-key .ensures ∙ ap (λ y. y .from) (a .crossing-at .ensures) in
-    let g-is : g ≡ named (crossings (now (s .args .plan))) (t .m - 1) .to = k .before .bay-key2 .ensures ∙ ap (λ y. y .to) (a .crossing-at .ensures) in
-    let h-is : h ≡ named (crossings (now (s .args .plan))) (t .m - 1) .carrier = k .carrier-key .ensures ∙ ap (λ y. y .carrier) (a .crossing-at .ensures) in
-    let low = enters-low (now (s .args .plan)) (t .links) (t .entering) (t .moving) (t .m) (t .m - 1) is (t .inv .1) f g h f-is g-is h-is fs gs hs in
-    let moved = moves-low (now (s .args .plan)) (t .links) (t .entering) (t .moving) (t .m) (t .m - 1) is (t .inv .1) f g h f-is g-is h-is fs gs hs in
-    omega (arith, fs, t .inv .1 .bays)
+array-read-narrow c = omega (arith, left-small c, filling c .bays)
 
 sub-narrow : tie.Need-sub-narrow Inv-loop μ-loop
-sub-narrow c =
-    let k = c in
-    let a = k .before .before .before in
-    let s = a .before .before .before .before .before in
-    let t = a .before .before .loop in
-    let f = k .before .before .bay-key .result in
-    let g = k .before .bay-key2 .result in
-    let h = k .carrier-key .result in
-    let is : t .m ≡ suc (t .m - 1) = omega (arith, a .before .loop-test .taken) in
-    let fs : f < most-bays = omega (arith, small a, k .before .before .bay-key .ensures) in
-    let gs : g < most-bays = omega (arith, small a, k .before .bay-key2 .ensures) in
-    let hs : h < most-bays = omega (arith, small a, k .carrier-key .ensures) in
-    let f-is : f ≡ named (crossings (now (s .args .plan))) (t .m - 1) .from = k .before .before .bay-key .ensures ∙ ap (λ y. y .from) (a .crossing-at .ensures) in
-    let g-is : g ≡ named (crossings (now (s .args .plan))) (t .m - 1) .to = k .before .bay-key2 .ensures ∙ ap (λ y. y .to) (a .crossing-at .ensures) in
-    let h-is : h ≡ named (crossings (now (s .args .plan))) (t .m - 1) .carrier = k .carrier-key .ensures ∙ ap (λ y. y .carrier) (a .crossing-at .ensures) in
-    let low = enters-low (now (s .args .plan)) (t .links) (t .entering) (t .moving) (t .m) (t .m - 1) is (t .inv .1) f g h f-is g-is h-is fs gs hs in
-    let moved = moves-low (now (s .args .plan)) (t .links) (t .entering) (t .moving) (t .m) (t .m - 1) is (t .inv .1) f g h f-is g-is h-is fs gs hs in
-    let lf = low f fs in
-    omega (arith, lf .0)
+sub-narrow c = omega (arith, enters c (left c) (left-small c) .0)
 
 narrow-requires : tie.Need-narrow-requires Inv-loop μ-loop
-narrow-requires c κs =
-    let k = c in
-    let a = k .before .before .before in
-    let s = a .before .before .before .before .before in
-    let t = a .before .before .loop in
-    let f = k .before .before .bay-key .result in
-    let g = k .before .bay-key2 .result in
-    let h = k .carrier-key .result in
-    let is : t .m ≡ suc (t .m - 1) = omega (arith, a .before .loop-test .taken) in
-    let fs : f < most-bays = omega (arith, small a, k .before .before .bay-key .ensures) in
-    let gs : g < most-bays = omega (arith, small a, k .before .bay-key2 .ensures) in
-    let hs : h < most-bays = omega (arith, small a, k .carrier-key .ensures) in
-    let f-is : f ≡ named (crossings (now (s .args .plan))) (t .m - 1) .from = k .before .before .bay-key .ensures ∙ ap (λ y. y .from) (a .crossing-at .ensures) in
-    let g-is : g ≡ named (crossings (now (s .args .plan))) (t .m - 1) .to = k .before .bay-key2 .ensures ∙ ap (λ y. y .to) (a .crossing-at .ensures) in
-    let h-is : h ≡ named (crossings (now (s .args .plan))) (t .m - 1) .carrier = k .carrier-key .ensures ∙ ap (λ y. y .carrier) (a .crossing-at .ensures) in
-    let low = enters-low (now (s .args .plan)) (t .links) (t .entering) (t .moving) (t .m) (t .m - 1) is (t .inv .1) f g h f-is g-is h-is fs gs hs in
-    let moved = moves-low (now (s .args .plan)) (t .links) (t .entering) (t .moving) (t .m) (t .m - 1) is (t .inv .1) f g h f-is g-is h-is fs gs hs in
-    let lf = low f fs in
-    omega (arith, lf .0, lf .1, s .pre .0)
+narrow-requires c κs = let e = enters c (left c) (left-small c) in omega (arith, e .0, e .1, short c)
 
 mul-links : tie.Need-mul-links Inv-loop μ-loop
-mul-links c =
-    let k = c .before in
-    let a = k .before .before .before in
-    let t = a .before .before .loop in
-    let long : length (t .links) ≡ length (now (a .before .before .before .before .before .args .plan)) * links-each = t .inv .1 .long in
-    let in-plan = inside a in
-    search needs
+mul-links c = let many = long (c .before) in let in-plan = inside (at-hand (c .before)) in search needs
 
 mul-links-2 : tie.Need-mul-links-2 Inv-loop μ-loop
-mul-links-2 c =
-    let k = c .before in
-    let a = k .before .before .before in
-    let t = a .before .before .loop in
-    let long : length (t .links) ≡ length (now (a .before .before .before .before .before .args .plan)) * links-each = t .inv .1 .long in
-    let in-plan = inside a in
-    search needs
+mul-links-2 c = let many = long (c .before) in let in-plan = inside (at-hand (c .before)) in search needs
 
 slice-write-links : tie.Need-slice-write-links Inv-loop μ-loop
-slice-write-links c =
-    let k = c .before in
-    let a = k .before .before .before in
-    let t = a .before .before .loop in
-    let long : length (t .links) ≡ length (now (a .before .before .before .before .before .args .plan)) * links-each = t .inv .1 .long in
-    let in-plan = inside a in
-    omega (arith, long, in-plan)
+slice-write-links c = let k = c .before in omega (arith, long k, inside (at-hand k))
 
 mul-narrow-2 : tie.Need-mul-narrow-2 Inv-loop μ-loop
 mul-narrow-2 c = search needs
 
 array-read-narrow-2 : tie.Need-array-read-narrow-2 Inv-loop μ-loop
-array-read-narrow-2 c =
-    let k = c .before in
-    let a = k .before .before .before in
-    let s = a .before .before .before .before .before in
-    let t = a .before .before .loop in
-    let f = k .before .before .bay-key .result in
-    let g = k .before .bay-key2 .result in
-    let h = k .carrier-key .result in
-    let is : t .m ≡ suc (t .m - 1) = omega (arith, a .before .loop-test .taken) in
-    let fs : f < most-bays = omega (arith, small a, k .before .before .bay-key .ensures) in
-    let gs : g < most-bays = omega (arith, small a, k .before .bay-key2 .ensures) in
-    let hs : h < most-bays = omega (arith, small a, k .carrier-key .ensures) in
-    let f-is : f ≡ named (crossings (now (s .args .plan))) (t .m - 1) .from = k .before .before .bay-key .ensures ∙ ap (λ y. y .from) (a .crossing-at .ensures) in
-    let g-is : g ≡ named (crossings (now (s .args .plan))) (t .m - 1) .to = k .before .bay-key2 .ensures ∙ ap (λ y. y .to) (a .crossing-at .ensures) in
-    let h-is : h ≡ named (crossings (now (s .args .plan))) (t .m - 1) .carrier = k .carrier-key .ensures ∙ ap (λ y. y .carrier) (a .crossing-at .ensures) in
-    let low = enters-low (now (s .args .plan)) (t .links) (t .entering) (t .moving) (t .m) (t .m - 1) is (t .inv .1) f g h f-is g-is h-is fs gs hs in
-    let moved = moves-low (now (s .args .plan)) (t .links) (t .entering) (t .moving) (t .m) (t .m - 1) is (t .inv .1) f g h f-is g-is h-is fs gs hs in
-    omega (arith, gs, t .inv .1 .bays)
+array-read-narrow-2 c = let k = c .before in omega (arith, entered-small k, filling k .bays)
 
 sub-narrow-2 : tie.Need-sub-narrow-2 Inv-loop μ-loop
-sub-narrow-2 c =
-    let k = c .before in
-    let a = k .before .before .before in
-    let s = a .before .before .before .before .before in
-    let t = a .before .before .loop in
-    let f = k .before .before .bay-key .result in
-    let g = k .before .bay-key2 .result in
-    let h = k .carrier-key .result in
-    let is : t .m ≡ suc (t .m - 1) = omega (arith, a .before .loop-test .taken) in
-    let fs : f < most-bays = omega (arith, small a, k .before .before .bay-key .ensures) in
-    let gs : g < most-bays = omega (arith, small a, k .before .bay-key2 .ensures) in
-    let hs : h < most-bays = omega (arith, small a, k .carrier-key .ensures) in
-    let f-is : f ≡ named (crossings (now (s .args .plan))) (t .m - 1) .from = k .before .before .bay-key .ensures ∙ ap (λ y. y .from) (a .crossing-at .ensures) in
-    let g-is : g ≡ named (crossings (now (s .args .plan))) (t .m - 1) .to = k .before .bay-key2 .ensures ∙ ap (λ y. y .to) (a .crossing-at .ensures) in
-    let h-is : h ≡ named (crossings (now (s .args .plan))) (t .m - 1) .carrier = k .carrier-key .ensures ∙ ap (λ y. y .carrier) (a .crossing-at .ensures) in
-    let low = enters-low (now (s .args .plan)) (t .links) (t .entering) (t .moving) (t .m) (t .m - 1) is (t .inv .1) f g h f-is g-is h-is fs gs hs in
-    let moved = moves-low (now (s .args .plan)) (t .links) (t .entering) (t .moving) (t .m) (t .m - 1) is (t .inv .1) f g h f-is g-is h-is fs gs hs in
-    let lg = low g gs in
-    omega (arith, lg .0)
+sub-narrow-2 c = let k = c .before in omega (arith, enters k (entered k) (entered-small k) .0)
 
 narrow-requires-2 : tie.Need-narrow-requires-2 Inv-loop μ-loop
 narrow-requires-2 c κs =
     let k = c .before in
-    let a = k .before .before .before in
-    let s = a .before .before .before .before .before in
-    let t = a .before .before .loop in
-    let f = k .before .before .bay-key .result in
-    let g = k .before .bay-key2 .result in
-    let h = k .carrier-key .result in
-    let is : t .m ≡ suc (t .m - 1) = omega (arith, a .before .loop-test .taken) in
-    let fs : f < most-bays = omega (arith, small a, k .before .before .bay-key .ensures) in
-    let gs : g < most-bays = omega (arith, small a, k .before .bay-key2 .ensures) in
-    let hs : h < most-bays = omega (arith, small a, k .carrier-key .ensures) in
-    let f-is : f ≡ named (crossings (now (s .args .plan))) (t .m - 1) .from = k .before .before .bay-key .ensures ∙ ap (λ y. y .from) (a .crossing-at .ensures) in
-    let g-is : g ≡ named (crossings (now (s .args .plan))) (t .m - 1) .to = k .before .bay-key2 .ensures ∙ ap (λ y. y .to) (a .crossing-at .ensures) in
-    let h-is : h ≡ named (crossings (now (s .args .plan))) (t .m - 1) .carrier = k .carrier-key .ensures ∙ ap (λ y. y .carrier) (a .crossing-at .ensures) in
-    let low = enters-low (now (s .args .plan)) (t .links) (t .entering) (t .moving) (t .m) (t .m - 1) is (t .inv .1) f g h f-is g-is h-is fs gs hs in
-    let moved = moves-low (now (s .args .plan)) (t .links) (t .entering) (t .moving) (t .m) (t .m - 1) is (t .inv .1) f g h f-is g-is h-is fs gs hs in
-    let lg = low g gs in
-    omega (arith, lg .0, lg .1, s .pre .0)
+    let e = enters k (entered k) (entered-small k) in
+    omega (arith, e .0, e .1, short k)
 
 mul-links-3 : tie.Need-mul-links-3 Inv-loop μ-loop
-mul-links-3 c =
-    let k = c .before .before in
-    let a = k .before .before .before in
-    let t = a .before .before .loop in
-    let long : length (t .links) ≡ length (now (a .before .before .before .before .before .args .plan)) * links-each = t .inv .1 .long in
-    let in-plan = inside a in
-    search needs
+mul-links-3 c = let many = long (c .before .before) in let in-plan = inside (at-hand (c .before .before)) in search needs
 
 add-links : tie.Need-add-links Inv-loop μ-loop
-add-links c =
-    let k = c .before .before in
-    let a = k .before .before .before in
-    let t = a .before .before .loop in
-    let long : length (t .links) ≡ length (now (a .before .before .before .before .before .args .plan)) * links-each = t .inv .1 .long in
-    let in-plan = inside a in
-    search needs
+add-links c = let many = long (c .before .before) in let in-plan = inside (at-hand (c .before .before)) in search needs
 
 mul-links-4 : tie.Need-mul-links-4 Inv-loop μ-loop
-mul-links-4 c =
-    let k = c .before .before in
-    let a = k .before .before .before in
-    let t = a .before .before .loop in
-    let long : length (t .links) ≡ length (now (a .before .before .before .before .before .args .plan)) * links-each = t .inv .1 .long in
-    let in-plan = inside a in
-    search needs
+mul-links-4 c = let many = long (c .before .before) in let in-plan = inside (at-hand (c .before .before)) in search needs
 
 slice-write-links-2 : tie.Need-slice-write-links-2 Inv-loop μ-loop
 slice-write-links-2 c =
     let k = c .before .before in
-    let a = k .before .before .before in
-    let t = a .before .before .loop in
-    let long : length (t .links) ≡ length (now (a .before .before .before .before .before .args .plan)) * links-each = t .inv .1 .long in
-    let in-plan = inside a in
-    omega (arith, long, in-plan, length-set (t .links) ((t .m - 1) * links-each) (c .before .narrow .result))
+    omega (arith, long k, inside (at-hand k), length-set (links k) ((m k - 1) * links-each) (c .before .narrow .result))
 
 mul-narrow-3 : tie.Need-mul-narrow-3 Inv-loop μ-loop
 mul-narrow-3 c = search needs
 
 array-read-narrow-3 : tie.Need-array-read-narrow-3 Inv-loop μ-loop
-array-read-narrow-3 c =
-    let k = c .before .before in
-    let a = k .before .before .before in
-    let s = a .before .before .before .before .before in
-    let t = a .before .before .loop in
-    let f = k .before .before .bay-key .result in
-    let g = k .before .bay-key2 .result in
-    let h = k .carrier-key .result in
-    let is : t .m ≡ suc (t .m - 1) = omega (arith, a .before .loop-test .taken) in
-    let fs : f < most-bays = omega (arith, small a, k .before .before .bay-key .ensures) in
-    let gs : g < most-bays = omega (arith, small a, k .before .bay-key2 .ensures) in
-    let hs : h < most-bays = omega (arith, small a, k .carrier-key .ensures) in
-    let f-is : f ≡ named (crossings (now (s .args .plan))) (t .m - 1) .from = k .before .before .bay-key .ensures ∙ ap (λ y. y .from) (a .crossing-at .ensures) in
-    let g-is : g ≡ named (crossings (now (s .args .plan))) (t .m - 1) .to = k .before .bay-key2 .ensures ∙ ap (λ y. y .to) (a .crossing-at .ensures) in
-    let h-is : h ≡ named (crossings (now (s .args .plan))) (t .m - 1) .carrier = k .carrier-key .ensures ∙ ap (λ y. y .carrier) (a .crossing-at .ensures) in
-    let low = enters-low (now (s .args .plan)) (t .links) (t .entering) (t .moving) (t .m) (t .m - 1) is (t .inv .1) f g h f-is g-is h-is fs gs hs in
-    let moved = moves-low (now (s .args .plan)) (t .links) (t .entering) (t .moving) (t .m) (t .m - 1) is (t .inv .1) f g h f-is g-is h-is fs gs hs in
-    omega (arith, hs, t .inv .1 .carriers)
+array-read-narrow-3 c = let k = c .before .before in omega (arith, carrier-small k, filling k .carriers)
 
 sub-narrow-3 : tie.Need-sub-narrow-3 Inv-loop μ-loop
-sub-narrow-3 c =
-    let k = c .before .before in
-    let a = k .before .before .before in
-    let s = a .before .before .before .before .before in
-    let t = a .before .before .loop in
-    let f = k .before .before .bay-key .result in
-    let g = k .before .bay-key2 .result in
-    let h = k .carrier-key .result in
-    let is : t .m ≡ suc (t .m - 1) = omega (arith, a .before .loop-test .taken) in
-    let fs : f < most-bays = omega (arith, small a, k .before .before .bay-key .ensures) in
-    let gs : g < most-bays = omega (arith, small a, k .before .bay-key2 .ensures) in
-    let hs : h < most-bays = omega (arith, small a, k .carrier-key .ensures) in
-    let f-is : f ≡ named (crossings (now (s .args .plan))) (t .m - 1) .from = k .before .before .bay-key .ensures ∙ ap (λ y. y .from) (a .crossing-at .ensures) in
-    let g-is : g ≡ named (crossings (now (s .args .plan))) (t .m - 1) .to = k .before .bay-key2 .ensures ∙ ap (λ y. y .to) (a .crossing-at .ensures) in
-    let h-is : h ≡ named (crossings (now (s .args .plan))) (t .m - 1) .carrier = k .carrier-key .ensures ∙ ap (λ y. y .carrier) (a .crossing-at .ensures) in
-    let low = enters-low (now (s .args .plan)) (t .links) (t .entering) (t .moving) (t .m) (t .m - 1) is (t .inv .1) f g h f-is g-is h-is fs gs hs in
-    let moved = moves-low (now (s .args .plan)) (t .links) (t .entering) (t .moving) (t .m) (t .m - 1) is (t .inv .1) f g h f-is g-is h-is fs gs hs in
-    omega (arith, moved .0)
+sub-narrow-3 c = omega (arith, moves (c .before .before) .0)
 
 narrow-requires-3 : tie.Need-narrow-requires-3 Inv-loop μ-loop
-narrow-requires-3 c κs =
-    let k = c .before .before in
-    let a = k .before .before .before in
-    let s = a .before .before .before .before .before in
-    let t = a .before .before .loop in
-    let f = k .before .before .bay-key .result in
-    let g = k .before .bay-key2 .result in
-    let h = k .carrier-key .result in
-    let is : t .m ≡ suc (t .m - 1) = omega (arith, a .before .loop-test .taken) in
-    let fs : f < most-bays = omega (arith, small a, k .before .before .bay-key .ensures) in
-    let gs : g < most-bays = omega (arith, small a, k .before .bay-key2 .ensures) in
-    let hs : h < most-bays = omega (arith, small a, k .carrier-key .ensures) in
-    let f-is : f ≡ named (crossings (now (s .args .plan))) (t .m - 1) .from = k .before .before .bay-key .ensures ∙ ap (λ y. y .from) (a .crossing-at .ensures) in
-    let g-is : g ≡ named (crossings (now (s .args .plan))) (t .m - 1) .to = k .before .bay-key2 .ensures ∙ ap (λ y. y .to) (a .crossing-at .ensures) in
-    let h-is : h ≡ named (crossings (now (s .args .plan))) (t .m - 1) .carrier = k .carrier-key .ensures ∙ ap (λ y. y .carrier) (a .crossing-at .ensures) in
-    let low = enters-low (now (s .args .plan)) (t .links) (t .entering) (t .moving) (t .m) (t .m - 1) is (t .inv .1) f g h f-is g-is h-is fs gs hs in
-    let moved = moves-low (now (s .args .plan)) (t .links) (t .entering) (t .moving) (t .m) (t .m - 1) is (t .inv .1) f g h f-is g-is h-is fs gs hs in
-    omega (arith, moved .0, moved .1, s .pre .0)
+narrow-requires-3 c κs = let k = c .before .before in omega (arith, moves k .0, moves k .1, short k)
 
 mul-links-5 : tie.Need-mul-links-5 Inv-loop μ-loop
-mul-links-5 c =
-    let k = c .before .before .before in
-    let a = k .before .before .before in
-    let t = a .before .before .loop in
-    let long : length (t .links) ≡ length (now (a .before .before .before .before .before .args .plan)) * links-each = t .inv .1 .long in
-    let in-plan = inside a in
-    search needs
+mul-links-5 c = let many = long (c .before .before .before) in let in-plan = inside (at-hand (c .before .before .before)) in search needs
 
 add-links-2 : tie.Need-add-links-2 Inv-loop μ-loop
-add-links-2 c =
-    let k = c .before .before .before in
-    let a = k .before .before .before in
-    let t = a .before .before .loop in
-    let long : length (t .links) ≡ length (now (a .before .before .before .before .before .args .plan)) * links-each = t .inv .1 .long in
-    let in-plan = inside a in
-    search needs
+add-links-2 c = let many = long (c .before .before .before) in let in-plan = inside (at-hand (c .before .before .before)) in search needs
 
 mul-links-6 : tie.Need-mul-links-6 Inv-loop μ-loop
-mul-links-6 c =
-    let k = c .before .before .before in
-    let a = k .before .before .before in
-    let t = a .before .before .loop in
-    let long : length (t .links) ≡ length (now (a .before .before .before .before .before .args .plan)) * links-each = t .inv .1 .long in
-    let in-plan = inside a in
-    search needs
+mul-links-6 c = let many = long (c .before .before .before) in let in-plan = inside (at-hand (c .before .before .before)) in search needs
 
 slice-write-links-3 : tie.Need-slice-write-links-3 Inv-loop μ-loop
 slice-write-links-3 c =
     let k = c .before .before .before in
-    let a = k .before .before .before in
-    let t = a .before .before .loop in
-    let long : length (t .links) ≡ length (now (a .before .before .before .before .before .args .plan)) * links-each = t .inv .1 .long in
-    let in-plan = inside a in
-    omega (arith, long, in-plan, length-set (t .links) ((t .m - 1) * links-each) (c .before .before .narrow .result), length-set (set (t .links) ((t .m - 1) * links-each) (c .before .before .narrow .result)) ((t .m - 1) * links-each + 1) (c .before .narrow2 .result))
+    let first = c .before .before .narrow .result in
+    omega (arith, long k, inside (at-hand k), length-set (links k) ((m k - 1) * links-each) first, length-set (set (links k) ((m k - 1) * links-each) first) ((m k - 1) * links-each + 1) (c .before .narrow2 .result))
 
 mul-entering : tie.Need-mul-entering Inv-loop μ-loop
 mul-entering c = search needs
 
 array-write-entering : tie.Need-array-write-entering Inv-loop μ-loop
-array-write-entering c =
-    let k = c .before .before .before in
-    let a = k .before .before .before in
-    let s = a .before .before .before .before .before in
-    let t = a .before .before .loop in
-    let f = k .before .before .bay-key .result in
-    let g = k .before .bay-key2 .result in
-    let h = k .carrier-key .result in
-    let is : t .m ≡ suc (t .m - 1) = omega (arith, a .before .loop-test .taken) in
-    let fs : f < most-bays = omega (arith, small a, k .before .before .bay-key .ensures) in
-    let gs : g < most-bays = omega (arith, small a, k .before .bay-key2 .ensures) in
-    let hs : h < most-bays = omega (arith, small a, k .carrier-key .ensures) in
-    let f-is : f ≡ named (crossings (now (s .args .plan))) (t .m - 1) .from = k .before .before .bay-key .ensures ∙ ap (λ y. y .from) (a .crossing-at .ensures) in
-    let g-is : g ≡ named (crossings (now (s .args .plan))) (t .m - 1) .to = k .before .bay-key2 .ensures ∙ ap (λ y. y .to) (a .crossing-at .ensures) in
-    let h-is : h ≡ named (crossings (now (s .args .plan))) (t .m - 1) .carrier = k .carrier-key .ensures ∙ ap (λ y. y .carrier) (a .crossing-at .ensures) in
-    let low = enters-low (now (s .args .plan)) (t .links) (t .entering) (t .moving) (t .m) (t .m - 1) is (t .inv .1) f g h f-is g-is h-is fs gs hs in
-    let moved = moves-low (now (s .args .plan)) (t .links) (t .entering) (t .moving) (t .m) (t .m - 1) is (t .inv .1) f g h f-is g-is h-is fs gs hs in
-    omega (arith, gs, t .inv .1 .bays)
+array-write-entering c = let k = c .before .before .before in omega (arith, entered-small k, filling k .bays)
 
 mul-moving : tie.Need-mul-moving Inv-loop μ-loop
 mul-moving c = search needs
 
 array-write-moving : tie.Need-array-write-moving Inv-loop μ-loop
-array-write-moving c =
-    let k = c .before .before .before in
-    let a = k .before .before .before in
-    let s = a .before .before .before .before .before in
-    let t = a .before .before .loop in
-    let f = k .before .before .bay-key .result in
-    let g = k .before .bay-key2 .result in
-    let h = k .carrier-key .result in
-    let is : t .m ≡ suc (t .m - 1) = omega (arith, a .before .loop-test .taken) in
-    let fs : f < most-bays = omega (arith, small a, k .before .before .bay-key .ensures) in
-    let gs : g < most-bays = omega (arith, small a, k .before .bay-key2 .ensures) in
-    let hs : h < most-bays = omega (arith, small a, k .carrier-key .ensures) in
-    let f-is : f ≡ named (crossings (now (s .args .plan))) (t .m - 1) .from = k .before .before .bay-key .ensures ∙ ap (λ y. y .from) (a .crossing-at .ensures) in
-    let g-is : g ≡ named (crossings (now (s .args .plan))) (t .m - 1) .to = k .before .bay-key2 .ensures ∙ ap (λ y. y .to) (a .crossing-at .ensures) in
-    let h-is : h ≡ named (crossings (now (s .args .plan))) (t .m - 1) .carrier = k .carrier-key .ensures ∙ ap (λ y. y .carrier) (a .crossing-at .ensures) in
-    let low = enters-low (now (s .args .plan)) (t .links) (t .entering) (t .moving) (t .m) (t .m - 1) is (t .inv .1) f g h f-is g-is h-is fs gs hs in
-    let moved = moves-low (now (s .args .plan)) (t .links) (t .entering) (t .moving) (t .m) (t .m - 1) is (t .inv .1) f g h f-is g-is h-is fs gs hs in
-    omega (arith, hs, t .inv .1 .carriers)
+array-write-moving c = let k = c .before .before .before in omega (arith, carrier-small k, filling k .carriers)
 
 loop-less : tie.Need-loop-less Inv-loop μ-loop
-loop-less c = omega (arith, c .before .before .before .before .before .before .before .loop-test .taken)
+loop-less c = omega (arith, one-less (c .before .before .before))
 
 loop-again : tie.Need-loop-again Inv-loop μ-loop
 loop-again c =
     let k = c .before .before .before in
-    let a = k .before .before .before in
-    let s = a .before .before .before .before .before in
-    let t = a .before .before .loop in
-    let f = k .before .before .bay-key .result in
-    let g = k .before .bay-key2 .result in
-    let h = k .carrier-key .result in
-    let is : t .m ≡ suc (t .m - 1) = omega (arith, a .before .loop-test .taken) in
-    let fs : f < most-bays = omega (arith, small a, k .before .before .bay-key .ensures) in
-    let gs : g < most-bays = omega (arith, small a, k .before .bay-key2 .ensures) in
-    let hs : h < most-bays = omega (arith, small a, k .carrier-key .ensures) in
-    let f-is : f ≡ named (crossings (now (s .args .plan))) (t .m - 1) .from = k .before .before .bay-key .ensures ∙ ap (λ y. y .from) (a .crossing-at .ensures) in
-    let g-is : g ≡ named (crossings (now (s .args .plan))) (t .m - 1) .to = k .before .bay-key2 .ensures ∙ ap (λ y. y .to) (a .crossing-at .ensures) in
-    let h-is : h ≡ named (crossings (now (s .args .plan))) (t .m - 1) .carrier = k .carrier-key .ensures ∙ ap (λ y. y .carrier) (a .crossing-at .ensures) in
-    let low = enters-low (now (s .args .plan)) (t .links) (t .entering) (t .moving) (t .m) (t .m - 1) is (t .inv .1) f g h f-is g-is h-is fs gs hs in
-    let moved = moves-low (now (s .args .plan)) (t .links) (t .entering) (t .moving) (t .m) (t .m - 1) is (t .inv .1) f g h f-is g-is h-is fs gs hs in
-    let next = up-next (now (s .args .plan)) (t .links) (t .entering) (t .moving) (t .m) (t .m - 1) is (t .inv .1) f g h f-is g-is h-is fs gs hs (c .before .before .narrow .result) (c .before .narrow2 .result) (c .narrow3 .result) (c .before .before .narrow .ensures) (c .before .narrow2 .ensures) (c .narrow3 .ensures) in
-    (next .long ∙ sym (s .pre .1), next)
+    let next = up-next (plan k) (links k) (entering k) (moving k) (m k) (m k - 1) (one-less k) (filling k) (left k) (entered k) (carrier k) (left-is k) (entered-is k) (carrier-is k) (left-small k) (entered-small k) (carrier-small k) (c .before .before .narrow .result) (c .before .narrow2 .result) (c .narrow3 .result) (c .before .before .narrow .ensures) (c .before .narrow2 .ensures) (c .narrow3 .ensures) in
+    (next .long ∙ sym (at-hand k .before .before .before .before .before .pre .1), next)
 
 same-length : tie.Need-same-length Inv-loop μ-loop
 same-length c = c .before .loop .inv .0

@@ -6,9 +6,10 @@ use Rattle.chains.specs.Links.{links-each}
 use Rattle.plans.proofs.Rest.{fits-named}
 use Rattle.docket.specs.Reading.{crossingOf}
 use Rattle.paper.specs.Limits.{most-bays}
-use Rattle.paper.specs.Yard.{crossings, named}
-use lib.ListN.{length, set, length-set}
-use Prim.Native.Nat.{_<_, _+_, _*_, _-_}
+use Rattle.paper.specs.Yard.{crossings, named, most-crossings}
+use mathlib.Core.List.{List}
+use lib.ListN.{length, getD, length-set}
+use Prim.Native.Nat.{ℕ, _<_, _+_, _*_, _-_}
 use mathlib.Core.Path.{_≡_, refl, sym, _∙_, ap}
 use denote.Ref.{now}
 use native.Mathlib.Omega.{arith}
@@ -33,6 +34,55 @@ small c =
     let s = c .before .before .before .before .before in
     fits-named most-bays most-bays (now (s .args .plan)) (s .pre .2) (c .before .before .loop .m) (c .before .loop-test .taken) (crossingOf (c .crossing-at .result)) (c .crossing-at .ensures)
 
+-- what is known once its two bays are read
+module _ (k : tie.After-bay-key2 Inv-loop μ-loop) where
+  abbrev at-hand : tie.After-crossing-at Inv-loop μ-loop
+  at-hand = k .before .before
+
+  abbrev plan : List ℕ
+  plan = now (at-hand .before .before .before .before .before .args .plan)
+
+  abbrev links : List ℕ
+  links = at-hand .before .before .loop .links
+
+  abbrev leaving : List ℕ
+  leaving = at-hand .before .before .loop .leaving
+
+  abbrev m : ℕ
+  m = at-hand .before .before .loop .m
+
+  abbrev left : ℕ
+  left = k .before .bay-key .result
+
+  abbrev entered : ℕ
+  entered = k .bay-key2 .result
+
+  inside : m < length plan
+  inside = at-hand .before .loop-test .taken
+
+  filling : FillingDown plan links leaving m
+  filling = at-hand .before .before .loop .inv .1
+
+  left-small : left < most-bays
+  left-small = omega (arith, small at-hand, k .before .bay-key .ensures)
+
+  entered-small : entered < most-bays
+  entered-small = omega (arith, small at-hand, k .bay-key2 .ensures)
+
+  left-is : left ≡ named (crossings plan) m .from
+  left-is = k .before .bay-key .ensures ∙ ap (λ y. y .from) (at-hand .crossing-at .ensures)
+
+  entered-is : entered ≡ named (crossings plan) m .to
+  entered-is = k .bay-key2 .ensures ∙ ap (λ y. y .to) (at-hand .crossing-at .ensures)
+
+  low : (key : ℕ) → key < most-bays → getD leaving key 0 < most-crossings
+  low key h =
+      let l = leaves-low plan links leaving m inside filling left entered left-is entered-is left-small entered-small key h in
+      omega (arith, l, inside, at-hand .before .before .before .before .before .pre .0)
+
+  long : length links ≡ length plan * links-each
+  long = filling .long
+
 bay-key-requires : tie.Need-bay-key-requires Inv-loop μ-loop
 bay-key-requires c κs = search needs
 
@@ -43,213 +93,43 @@ mul-narrow : tie.Need-mul-narrow Inv-loop μ-loop
 mul-narrow c = search needs
 
 array-read-narrow : tie.Need-array-read-narrow Inv-loop μ-loop
-array-read-narrow c =
-    let k = c in
-    let a = k .before .before in
-    let s = a .before .before .before .before .before in
-    let t = a .before .before .loop in
-    let in-plan = a .before .loop-test .taken in
-    let f = k .before .bay-key .result in
-    let g = k .bay-key2 .result in
-    let long : length (t .links) ≡ length (now (s .args .plan)) * links-each = t .inv .1 .long in
-    let fs : f < most-bays = omega (arith, small a, k .before .bay-key .ensures) in
-    let gs : g < most-bays = omega (arith, small a, k .bay-key2 .ensures) in
-    let f-is : f ≡ named (crossings (now (s .args .plan))) (t .m) .from = k .before .bay-key .ensures ∙ ap (λ y. y .from) (a .crossing-at .ensures) in
-    let g-is : g ≡ named (crossings (now (s .args .plan))) (t .m) .to = k .bay-key2 .ensures ∙ ap (λ y. y .to) (a .crossing-at .ensures) in
-    let low = leaves-low (now (s .args .plan)) (t .links) (t .leaving) (t .m) in-plan (t .inv .1) f g f-is g-is fs gs in
-    omega (arith, gs, t .inv .1 .bays)
+array-read-narrow c = omega (arith, entered-small c, filling c .bays)
 
 narrow-requires : tie.Need-narrow-requires Inv-loop μ-loop
-narrow-requires c κs =
-    let k = c in
-    let a = k .before .before in
-    let s = a .before .before .before .before .before in
-    let t = a .before .before .loop in
-    let in-plan = a .before .loop-test .taken in
-    let f = k .before .bay-key .result in
-    let g = k .bay-key2 .result in
-    let long : length (t .links) ≡ length (now (s .args .plan)) * links-each = t .inv .1 .long in
-    let fs : f < most-bays = omega (arith, small a, k .before .bay-key .ensures) in
-    let gs : g < most-bays = omega (arith, small a, k .bay-key2 .ensures) in
-    let f-is : f ≡ named (crossings (now (s .args .plan))) (t .m) .from = k .before .bay-key .ensures ∙ ap (λ y. y .from) (a .crossing-at .ensures) in
-    let g-is : g ≡ named (crossings (now (s .args .plan))) (t .m) .to = k .bay-key2 .ensures ∙ ap (λ y. y .to) (a .crossing-at .ensures) in
-    let low = leaves-low (now (s .args .plan)) (t .links) (t .leaving) (t .m) in-plan (t .inv .1) f g f-is g-is fs gs in
-    let lg = low g gs in
-    omega (arith, lg, in-plan, s .pre .0)
+narrow-requires c κs = low c (entered c) (entered-small c)
 
 mul-links : tie.Need-mul-links Inv-loop μ-loop
-mul-links c =
-    let k = c .before in
-    let a = k .before .before in
-    let s = a .before .before .before .before .before in
-    let t = a .before .before .loop in
-    let in-plan = a .before .loop-test .taken in
-    let f = k .before .bay-key .result in
-    let g = k .bay-key2 .result in
-    let long : length (t .links) ≡ length (now (s .args .plan)) * links-each = t .inv .1 .long in
-    let fs : f < most-bays = omega (arith, small a, k .before .bay-key .ensures) in
-    let gs : g < most-bays = omega (arith, small a, k .bay-key2 .ensures) in
-    let f-is : f ≡ named (crossings (now (s .args .plan))) (t .m) .from = k .before .bay-key .ensures ∙ ap (λ y. y .from) (a .crossing-at .ensures) in
-    let g-is : g ≡ named (crossings (now (s .args .plan))) (t .m) .to = k .bay-key2 .ensures ∙ ap (λ y. y .to) (a .crossing-at .ensures) in
-    let low = leaves-low (now (s .args .plan)) (t .links) (t .leaving) (t .m) in-plan (t .inv .1) f g f-is g-is fs gs in
-    search needs
+mul-links c = let many = long (c .before) in let in-plan = inside (c .before) in search needs
 
 add-links : tie.Need-add-links Inv-loop μ-loop
-add-links c =
-    let k = c .before in
-    let a = k .before .before in
-    let s = a .before .before .before .before .before in
-    let t = a .before .before .loop in
-    let in-plan = a .before .loop-test .taken in
-    let f = k .before .bay-key .result in
-    let g = k .bay-key2 .result in
-    let long : length (t .links) ≡ length (now (s .args .plan)) * links-each = t .inv .1 .long in
-    let fs : f < most-bays = omega (arith, small a, k .before .bay-key .ensures) in
-    let gs : g < most-bays = omega (arith, small a, k .bay-key2 .ensures) in
-    let f-is : f ≡ named (crossings (now (s .args .plan))) (t .m) .from = k .before .bay-key .ensures ∙ ap (λ y. y .from) (a .crossing-at .ensures) in
-    let g-is : g ≡ named (crossings (now (s .args .plan))) (t .m) .to = k .bay-key2 .ensures ∙ ap (λ y. y .to) (a .crossing-at .ensures) in
-    let low = leaves-low (now (s .args .plan)) (t .links) (t .leaving) (t .m) in-plan (t .inv .1) f g f-is g-is fs gs in
-    search needs
+add-links c = let many = long (c .before) in let in-plan = inside (c .before) in search needs
 
 mul-links-2 : tie.Need-mul-links-2 Inv-loop μ-loop
-mul-links-2 c =
-    let k = c .before in
-    let a = k .before .before in
-    let s = a .before .before .before .before .before in
-    let t = a .before .before .loop in
-    let in-plan = a .before .loop-test .taken in
-    let f = k .before .bay-key .result in
-    let g = k .bay-key2 .result in
-    let long : length (t .links) ≡ length (now (s .args .plan)) * links-each = t .inv .1 .long in
-    let fs : f < most-bays = omega (arith, small a, k .before .bay-key .ensures) in
-    let gs : g < most-bays = omega (arith, small a, k .bay-key2 .ensures) in
-    let f-is : f ≡ named (crossings (now (s .args .plan))) (t .m) .from = k .before .bay-key .ensures ∙ ap (λ y. y .from) (a .crossing-at .ensures) in
-    let g-is : g ≡ named (crossings (now (s .args .plan))) (t .m) .to = k .bay-key2 .ensures ∙ ap (λ y. y .to) (a .crossing-at .ensures) in
-    let low = leaves-low (now (s .args .plan)) (t .links) (t .leaving) (t .m) in-plan (t .inv .1) f g f-is g-is fs gs in
-    search needs
+mul-links-2 c = let many = long (c .before) in let in-plan = inside (c .before) in search needs
 
 slice-write-links : tie.Need-slice-write-links Inv-loop μ-loop
-slice-write-links c =
-    let k = c .before in
-    let a = k .before .before in
-    let s = a .before .before .before .before .before in
-    let t = a .before .before .loop in
-    let in-plan = a .before .loop-test .taken in
-    let f = k .before .bay-key .result in
-    let g = k .bay-key2 .result in
-    let long : length (t .links) ≡ length (now (s .args .plan)) * links-each = t .inv .1 .long in
-    let fs : f < most-bays = omega (arith, small a, k .before .bay-key .ensures) in
-    let gs : g < most-bays = omega (arith, small a, k .bay-key2 .ensures) in
-    let f-is : f ≡ named (crossings (now (s .args .plan))) (t .m) .from = k .before .bay-key .ensures ∙ ap (λ y. y .from) (a .crossing-at .ensures) in
-    let g-is : g ≡ named (crossings (now (s .args .plan))) (t .m) .to = k .bay-key2 .ensures ∙ ap (λ y. y .to) (a .crossing-at .ensures) in
-    let low = leaves-low (now (s .args .plan)) (t .links) (t .leaving) (t .m) in-plan (t .inv .1) f g f-is g-is fs gs in
-    omega (arith, long, in-plan)
+slice-write-links c = omega (arith, long (c .before), inside (c .before))
 
 mul-narrow-2 : tie.Need-mul-narrow-2 Inv-loop μ-loop
 mul-narrow-2 c = search needs
 
 array-read-narrow-2 : tie.Need-array-read-narrow-2 Inv-loop μ-loop
-array-read-narrow-2 c =
-    let k = c .before in
-    let a = k .before .before in
-    let s = a .before .before .before .before .before in
-    let t = a .before .before .loop in
-    let in-plan = a .before .loop-test .taken in
-    let f = k .before .bay-key .result in
-    let g = k .bay-key2 .result in
-    let long : length (t .links) ≡ length (now (s .args .plan)) * links-each = t .inv .1 .long in
-    let fs : f < most-bays = omega (arith, small a, k .before .bay-key .ensures) in
-    let gs : g < most-bays = omega (arith, small a, k .bay-key2 .ensures) in
-    let f-is : f ≡ named (crossings (now (s .args .plan))) (t .m) .from = k .before .bay-key .ensures ∙ ap (λ y. y .from) (a .crossing-at .ensures) in
-    let g-is : g ≡ named (crossings (now (s .args .plan))) (t .m) .to = k .bay-key2 .ensures ∙ ap (λ y. y .to) (a .crossing-at .ensures) in
-    let low = leaves-low (now (s .args .plan)) (t .links) (t .leaving) (t .m) in-plan (t .inv .1) f g f-is g-is fs gs in
-    omega (arith, fs, t .inv .1 .bays)
+array-read-narrow-2 c = let k = c .before in omega (arith, left-small k, filling k .bays)
 
 narrow-requires-2 : tie.Need-narrow-requires-2 Inv-loop μ-loop
-narrow-requires-2 c κs =
-    let k = c .before in
-    let a = k .before .before in
-    let s = a .before .before .before .before .before in
-    let t = a .before .before .loop in
-    let in-plan = a .before .loop-test .taken in
-    let f = k .before .bay-key .result in
-    let g = k .bay-key2 .result in
-    let long : length (t .links) ≡ length (now (s .args .plan)) * links-each = t .inv .1 .long in
-    let fs : f < most-bays = omega (arith, small a, k .before .bay-key .ensures) in
-    let gs : g < most-bays = omega (arith, small a, k .bay-key2 .ensures) in
-    let f-is : f ≡ named (crossings (now (s .args .plan))) (t .m) .from = k .before .bay-key .ensures ∙ ap (λ y. y .from) (a .crossing-at .ensures) in
-    let g-is : g ≡ named (crossings (now (s .args .plan))) (t .m) .to = k .bay-key2 .ensures ∙ ap (λ y. y .to) (a .crossing-at .ensures) in
-    let low = leaves-low (now (s .args .plan)) (t .links) (t .leaving) (t .m) in-plan (t .inv .1) f g f-is g-is fs gs in
-    let lf = low f fs in
-    omega (arith, lf, in-plan, s .pre .0)
+narrow-requires-2 c κs = let k = c .before in low k (left k) (left-small k)
 
 mul-links-3 : tie.Need-mul-links-3 Inv-loop μ-loop
-mul-links-3 c =
-    let k = c .before .before in
-    let a = k .before .before in
-    let s = a .before .before .before .before .before in
-    let t = a .before .before .loop in
-    let in-plan = a .before .loop-test .taken in
-    let f = k .before .bay-key .result in
-    let g = k .bay-key2 .result in
-    let long : length (t .links) ≡ length (now (s .args .plan)) * links-each = t .inv .1 .long in
-    let fs : f < most-bays = omega (arith, small a, k .before .bay-key .ensures) in
-    let gs : g < most-bays = omega (arith, small a, k .bay-key2 .ensures) in
-    let f-is : f ≡ named (crossings (now (s .args .plan))) (t .m) .from = k .before .bay-key .ensures ∙ ap (λ y. y .from) (a .crossing-at .ensures) in
-    let g-is : g ≡ named (crossings (now (s .args .plan))) (t .m) .to = k .bay-key2 .ensures ∙ ap (λ y. y .to) (a .crossing-at .ensures) in
-    let low = leaves-low (now (s .args .plan)) (t .links) (t .leaving) (t .m) in-plan (t .inv .1) f g f-is g-is fs gs in
-    search needs
+mul-links-3 c = let many = long (c .before .before) in let in-plan = inside (c .before .before) in search needs
 
 add-links-2 : tie.Need-add-links-2 Inv-loop μ-loop
-add-links-2 c =
-    let k = c .before .before in
-    let a = k .before .before in
-    let s = a .before .before .before .before .before in
-    let t = a .before .before .loop in
-    let in-plan = a .before .loop-test .taken in
-    let f = k .before .bay-key .result in
-    let g = k .bay-key2 .result in
-    let long : length (t .links) ≡ length (now (s .args .plan)) * links-each = t .inv .1 .long in
-    let fs : f < most-bays = omega (arith, small a, k .before .bay-key .ensures) in
-    let gs : g < most-bays = omega (arith, small a, k .bay-key2 .ensures) in
-    let f-is : f ≡ named (crossings (now (s .args .plan))) (t .m) .from = k .before .bay-key .ensures ∙ ap (λ y. y .from) (a .crossing-at .ensures) in
-    let g-is : g ≡ named (crossings (now (s .args .plan))) (t .m) .to = k .bay-key2 .ensures ∙ ap (λ y. y .to) (a .crossing-at .ensures) in
-    let low = leaves-low (now (s .args .plan)) (t .links) (t .leaving) (t .m) in-plan (t .inv .1) f g f-is g-is fs gs in
-    search needs
+add-links-2 c = let many = long (c .before .before) in let in-plan = inside (c .before .before) in search needs
 
 mul-links-4 : tie.Need-mul-links-4 Inv-loop μ-loop
-mul-links-4 c =
-    let k = c .before .before in
-    let a = k .before .before in
-    let s = a .before .before .before .before .before in
-    let t = a .before .before .loop in
-    let in-plan = a .before .loop-test .taken in
-    let f = k .before .bay-key .result in
-    let g = k .bay-key2 .result in
-    let long : length (t .links) ≡ length (now (s .args .plan)) * links-each = t .inv .1 .long in
-    let fs : f < most-bays = omega (arith, small a, k .before .bay-key .ensures) in
-    let gs : g < most-bays = omega (arith, small a, k .bay-key2 .ensures) in
-    let f-is : f ≡ named (crossings (now (s .args .plan))) (t .m) .from = k .before .bay-key .ensures ∙ ap (λ y. y .from) (a .crossing-at .ensures) in
-    let g-is : g ≡ named (crossings (now (s .args .plan))) (t .m) .to = k .bay-key2 .ensures ∙ ap (λ y. y .to) (a .crossing-at .ensures) in
-    let low = leaves-low (now (s .args .plan)) (t .links) (t .leaving) (t .m) in-plan (t .inv .1) f g f-is g-is fs gs in
-    search needs
+mul-links-4 c = let many = long (c .before .before) in let in-plan = inside (c .before .before) in search needs
 
 slice-write-links-2 : tie.Need-slice-write-links-2 Inv-loop μ-loop
-slice-write-links-2 c =
-    let k = c .before .before in
-    let a = k .before .before in
-    let s = a .before .before .before .before .before in
-    let t = a .before .before .loop in
-    let in-plan = a .before .loop-test .taken in
-    let f = k .before .bay-key .result in
-    let g = k .bay-key2 .result in
-    let long : length (t .links) ≡ length (now (s .args .plan)) * links-each = t .inv .1 .long in
-    let fs : f < most-bays = omega (arith, small a, k .before .bay-key .ensures) in
-    let gs : g < most-bays = omega (arith, small a, k .bay-key2 .ensures) in
-    let f-is : f ≡ named (crossings (now (s .args .plan))) (t .m) .from = k .before .bay-key .ensures ∙ ap (λ y. y .from) (a .crossing-at .ensures) in
-    let g-is : g ≡ named (crossings (now (s .args .plan))) (t .m) .to = k .bay-key2 .ensures ∙ ap (λ y. y .to) (a .crossing-at .ensures) in
-    let low = leaves-low (now (s .args .plan)) (t .links) (t .leaving) (t .m) in-plan (t .inv .1) f g f-is g-is fs gs in
-    omega (arith, long, in-plan, length-set (t .links) (t .m * links-each + 3) (c .before .narrow .result))
+slice-write-links-2 c = let k = c .before .before in omega (arith, long k, inside k, length-set (links k) (m k * links-each + 3) (c .before .narrow .result))
 
 add-m : tie.Need-add-m Inv-loop μ-loop
 add-m c = search needs
@@ -258,42 +138,16 @@ mul-leaving : tie.Need-mul-leaving Inv-loop μ-loop
 mul-leaving c = search needs
 
 array-write-leaving : tie.Need-array-write-leaving Inv-loop μ-loop
-array-write-leaving c =
-    let k = c .before .before in
-    let a = k .before .before in
-    let s = a .before .before .before .before .before in
-    let t = a .before .before .loop in
-    let in-plan = a .before .loop-test .taken in
-    let f = k .before .bay-key .result in
-    let g = k .bay-key2 .result in
-    let long : length (t .links) ≡ length (now (s .args .plan)) * links-each = t .inv .1 .long in
-    let fs : f < most-bays = omega (arith, small a, k .before .bay-key .ensures) in
-    let gs : g < most-bays = omega (arith, small a, k .bay-key2 .ensures) in
-    let f-is : f ≡ named (crossings (now (s .args .plan))) (t .m) .from = k .before .bay-key .ensures ∙ ap (λ y. y .from) (a .crossing-at .ensures) in
-    let g-is : g ≡ named (crossings (now (s .args .plan))) (t .m) .to = k .bay-key2 .ensures ∙ ap (λ y. y .to) (a .crossing-at .ensures) in
-    let low = leaves-low (now (s .args .plan)) (t .links) (t .leaving) (t .m) in-plan (t .inv .1) f g f-is g-is fs gs in
-    omega (arith, fs, t .inv .1 .bays)
+array-write-leaving c = let k = c .before .before in omega (arith, left-small k, filling k .bays)
 
 loop-less : tie.Need-loop-less Inv-loop μ-loop
-loop-less c = omega (arith, c .before .before .before .before .before .loop-test .taken)
+loop-less c = omega (arith, inside (c .before .before))
 
 loop-again : tie.Need-loop-again Inv-loop μ-loop
 loop-again c =
     let k = c .before .before in
-    let a = k .before .before in
-    let s = a .before .before .before .before .before in
-    let t = a .before .before .loop in
-    let in-plan = a .before .loop-test .taken in
-    let f = k .before .bay-key .result in
-    let g = k .bay-key2 .result in
-    let long : length (t .links) ≡ length (now (s .args .plan)) * links-each = t .inv .1 .long in
-    let fs : f < most-bays = omega (arith, small a, k .before .bay-key .ensures) in
-    let gs : g < most-bays = omega (arith, small a, k .bay-key2 .ensures) in
-    let f-is : f ≡ named (crossings (now (s .args .plan))) (t .m) .from = k .before .bay-key .ensures ∙ ap (λ y. y .from) (a .crossing-at .ensures) in
-    let g-is : g ≡ named (crossings (now (s .args .plan))) (t .m) .to = k .bay-key2 .ensures ∙ ap (λ y. y .to) (a .crossing-at .ensures) in
-    let low = leaves-low (now (s .args .plan)) (t .links) (t .leaving) (t .m) in-plan (t .inv .1) f g f-is g-is fs gs in
-    let next = down-next (now (s .args .plan)) (t .links) (t .leaving) (t .m) in-plan (t .inv .1) f g f-is g-is fs gs (c .before .narrow .result) (c .narrow2 .result) (c .before .narrow .ensures) (c .narrow2 .ensures) in
-    (next .long ∙ sym (s .pre .1), next)
+    let next = down-next (plan k) (links k) (leaving k) (m k) (inside k) (filling k) (left k) (entered k) (left-is k) (entered-is k) (left-small k) (entered-small k) (c .before .narrow .result) (c .narrow2 .result) (c .before .narrow .ensures) (c .narrow2 .ensures) in
+    (next .long ∙ sym (at-hand k .before .before .before .before .before .pre .1), next)
 
 same-length : tie.Need-same-length Inv-loop μ-loop
 same-length c = c .before .loop .inv .0

@@ -5,9 +5,12 @@ use native.Mathlib.Omega.{arith}
 use lib.ListN.{length}
 use borrow.Author.Needs.{needs}
 use Rattle.moving.specs.Bounds.{vacate-most}
-use Rattle.clear.proofs.Clearing.{lowest-in, two-short, two-both, two-from, two-within, clears-short, clears-as, twoShown, first-none, first-then, clear-none, clear-one, clear-two, around-of, inside-of, inside-less, holdsTwo, lowest-free, kept-free, ready-again, clears-both}
-use Rattle.clear.specs.declared.Kept.the-variants.{Nothing}
-use Rattle.clear.specs.declared.Kept.the-variants.{One}
+use Rattle.acting.proofs.Holding.{ready-again, holdsTwo, twoShown}
+use Rattle.keeping.proofs.Keeping.{two-short, two-both, two-from, two-within, clears-short, clears-as}
+use Rattle.keeping.proofs.Around.{around-of, inside-of, inside-less}
+use Rattle.clear.proofs.Clearing.{lowest-in, first-none, first-then, clear-none, clear-one, clear-two, lowest-free, kept-free, clears-both}
+use Rattle.keeping.specs.declared.Kept.the-variants.{Nothing}
+use Rattle.keeping.specs.declared.Kept.the-variants.{One}
 use Rattle.clear.proofs.clear.Statement.{statement}
 use Rattle.clear.proofs.clear.Tie as tie
 
@@ -21,7 +24,9 @@ join-row-requires : tie.Need-join-row-requires
 join-row-requires c κs = search needs
 
 slice-aggregate-remove : tie.Need-slice-aggregate-remove
-slice-aggregate-remove c = search needs
+slice-aggregate-remove c =
+    let join-row = c .before .before .join-row in
+    omega (arith, join-row .kept .0)
 
 cast-remove : tie.Need-cast-remove
 cast-remove c = search needs
@@ -39,7 +44,9 @@ alone-requires : tie.Need-alone-requires
 alone-requires c κs = search needs
 
 slice-aggregate-join : tie.Need-slice-aggregate-join
-slice-aggregate-join c = search needs
+slice-aggregate-join c =
+    let alone = c .before .before .alone in
+    omega (arith, alone .kept .0)
 
 cast-join : tie.Need-cast-join
 cast-join c = search needs
@@ -48,19 +55,35 @@ join-requires : tie.Need-join-requires
 join-requires c κs = search needs
 
 slice-aggregate-lowest-common : tie.Need-slice-aggregate-lowest-common
-slice-aggregate-lowest-common c = search needs
+slice-aggregate-lowest-common c =
+    let remove = c .before .before .before .before .before .before .before .before .before .before .remove in
+    let join-row = c .before .before .before .before .before .before .before .before .before .before .before .before .before .before .join-row in
+    omega (arith, remove .kept .0, join-row .kept .0)
 
 lowest-common-requires : tie.Need-lowest-common-requires
-lowest-common-requires c κs = search needs
+lowest-common-requires c κs =
+    let remove = c .before .before .before .before .before .before .before .before .before .before .before .remove in
+    let join-row = c .before .before .before .before .before .before .before .before .before .before .before .before .before .before .before .join-row in
+    (omega (arith, remove .kept .0, join-row .kept .0), omega (arith, c .before .before .before .before .before .before .before .before .before .before .before .before .before .before .before .before .before .before .before .before .before .before .before .pre .0 .empty-size))
 
 slice-aggregate-remove-2 : tie.Need-slice-aggregate-remove-2
-slice-aggregate-remove-2 c = search needs
+slice-aggregate-remove-2 c =
+    let remove = c .before .before .before .before .before .before .before .before .before .before .before .before .before .before .remove in
+    let join-row = c .before .before .before .before .before .before .before .before .before .before .before .before .before .before .before .before .before .before .join-row in
+    omega (arith, remove .kept .0, join-row .kept .0)
 
 remove-requires-2 : tie.Need-remove-requires-2
-remove-requires-2 c κs = search needs
+remove-requires-2 c κs =
+    let remove = c .before .before .before .before .before .before .before .before .before .before .before .before .before .before .remove in
+    let join-row = c .before .before .before .before .before .before .before .before .before .before .before .before .before .before .before .before .before .before .join-row in
+    omega (arith, c .before .if1 .taken, remove .kept .0, join-row .kept .0)
 
 slice-aggregate-lowest-common-2 : tie.Need-slice-aggregate-lowest-common-2
-slice-aggregate-lowest-common-2 c = search needs
+slice-aggregate-lowest-common-2 c =
+    let remove2 = c .before .before .remove2 in
+    let remove = c .before .before .before .before .before .before .before .before .before .before .before .before .before .before .before .before .before .remove in
+    let join-row = c .before .before .before .before .before .before .before .before .before .before .before .before .before .before .before .before .before .before .before .before .before .join-row in
+    omega (arith, remove2 .kept .0, remove .kept .0, join-row .kept .0)
 
 lowest-common-requires-2 : tie.Need-lowest-common-requires-2
 lowest-common-requires-2 c κs =
@@ -70,10 +93,10 @@ lowest-common-requires-2 c κs =
     (omega (arith, c .before .before .before .remove2 .kept .0, remove .kept .0, join-row .kept .0), omega (arith, start .pre .0 .empty-size))
 
 cast-t43 : tie.Need-cast-t43
-cast-t43 c = search needs
+cast-t43 c = omega (arith, c .before .before .before .before .before .before .before .if1 .taken)
 
 cast-t45 : tie.Need-cast-t45
-cast-t45 c = search needs
+cast-t45 c = omega (arith, c .if2 .taken)
 
 same-length : tie.Need-same-length
 same-length c = refl
@@ -95,13 +118,20 @@ returns c =
     (two-both (if1 .taken) (c .if2 .taken) (omega arith) (omega arith), λ t. clears-both (clear-two (around-of t _ _ _ _ (p .most) (z .0) (join-row .ensures) (remove .ensures)) (p .most) (p .placed) (lowest-common .ensures) hx _ (remove2 .ensures) (c .before .lowest-common2 .ensures) hy) _ _ (p .placed))
 
 cast-t47 : tie.Need-cast-t47
-cast-t47 c = search needs
+cast-t47 c = omega (arith, c .before .before .before .before .before .before .before .if1 .taken)
 
 slice-aggregate-keep-second : tie.Need-slice-aggregate-keep-second
-slice-aggregate-keep-second c = search needs
+slice-aggregate-keep-second c =
+    let remove2 = c .before .before .before .before .before .before .remove2 in
+    let remove = c .before .before .before .before .before .before .before .before .before .before .before .before .before .before .before .before .before .before .before .before .before .remove in
+    let join-row = c .before .before .before .before .before .before .before .before .before .before .before .before .before .before .before .before .before .before .before .before .before .before .before .before .before .join-row in
+    omega (arith, remove2 .kept .0, remove .kept .0, join-row .kept .0)
 
 slice-aggregate-keep-second-2 : tie.Need-slice-aggregate-keep-second-2
-slice-aggregate-keep-second-2 c = search needs
+slice-aggregate-keep-second-2 c =
+    let join = c .before .before .before .before .before .before .before .before .before .before .before .before .before .before .join in
+    let alone = c .before .before .before .before .before .before .before .before .before .before .before .before .before .before .before .before .before .before .alone in
+    omega (arith, join .kept .0, alone .kept .0)
 
 keep-second-requires : tie.Need-keep-second-requires
 keep-second-requires c κs =
@@ -117,7 +147,7 @@ keep-second-requires c κs =
     let z = start .pre .1 in
     let i = inside-of (p .tabled) _ _ _ _ (z .0) (join-row .ensures) (remove .ensures) in
     let hx = lowest-in _ i (lowest-common .ensures) (if1 .taken) in
-    (p, (search needs, search needs, omega arith, hx, inside-less i _ _ (remove2 .ensures), omega (arith, z .2), holdsTwo (p .tabled) _ _ _ _ (alone .ensures) (join .ensures), lowest-free _ (p .placed) (lowest-common .ensures) hx (p .most)))
+    (p, (omega (arith, remove2 .kept .0, remove .kept .0, join-row .kept .0), omega (arith, join .kept .0, alone .kept .0), omega arith, hx, inside-less i _ _ (remove2 .ensures), omega (arith, z .2), holdsTwo (p .tabled) _ _ _ _ (alone .ensures) (join .ensures), lowest-free _ (p .placed) (lowest-common .ensures) hx (p .most)))
 
 same-length-2 : tie.Need-same-length-2
 same-length-2 c =
@@ -159,10 +189,16 @@ returns-2 c =
     (two-within (omega arith) (keep-second .ensures .0), λ t. clears-as (clear-one (around-of t _ _ _ _ (p .most) (z .0) (join-row .ensures) (remove .ensures)) (p .most) (p .placed) (lowest-common .ensures) hx _ (remove2 .ensures) (lowest-common2 .ensures) (if2 .left)) (keep-second .ensures .1 t (holdsTwo t _ _ _ _ (alone .ensures) (join .ensures))))
 
 slice-aggregate-keep-one : tie.Need-slice-aggregate-keep-one
-slice-aggregate-keep-one c = search needs
+slice-aggregate-keep-one c =
+    let remove = c .before .before .before .before .before .before .before .before .before .before .before .before .before .before .remove in
+    let join-row = c .before .before .before .before .before .before .before .before .before .before .before .before .before .before .before .before .before .before .join-row in
+    omega (arith, remove .kept .0, join-row .kept .0)
 
 slice-aggregate-keep-one-2 : tie.Need-slice-aggregate-keep-one-2
-slice-aggregate-keep-one-2 c = search needs
+slice-aggregate-keep-one-2 c =
+    let join = c .before .before .before .before .before .before .before .join in
+    let alone = c .before .before .before .before .before .before .before .before .before .before .before .alone in
+    omega (arith, join .kept .0, alone .kept .0)
 
 keep-one-requires : tie.Need-keep-one-requires
 keep-one-requires c κs =
@@ -174,7 +210,7 @@ keep-one-requires c κs =
     let p = start .pre .0 in
     let z = start .pre .1 in
     let i = inside-of (p .tabled) _ _ _ _ (z .0) (join-row .ensures) (remove .ensures) in
-    (p, (search needs, search needs, omega arith, i, omega (arith, z .2), twoShown (p .tabled) (holdsTwo (p .tabled) _ _ _ _ (alone .ensures) (join .ensures))))
+    (p, (omega (arith, remove .kept .0, join-row .kept .0), omega (arith, join .kept .0, alone .kept .0), omega arith, i, omega (arith, z .2), twoShown (p .tabled) (holdsTwo (p .tabled) _ _ _ _ (alone .ensures) (join .ensures))))
 
 enum-known-first : tie.Need-enum-known-first
 enum-known-first c = c .match .keys1
@@ -235,7 +271,10 @@ slice-aggregate-keep-second-3 c =
     omega (arith, remove .kept .0, join-row .kept .0)
 
 slice-aggregate-keep-second-4 : tie.Need-slice-aggregate-keep-second-4
-slice-aggregate-keep-second-4 c = search needs
+slice-aggregate-keep-second-4 c =
+    let join = c .before .before .before .before .before .before .before .before .before .before .before .before .before .before .before .before .before .before .before .before .before .before .before .before .before .before .join in
+    let alone = c .before .before .before .before .before .before .before .before .before .before .before .before .before .before .before .before .before .before .before .before .before .before .before .before .before .before .before .before .before .before .alone in
+    omega (arith, join .kept .0, alone .kept .0)
 
 keep-second-requires-2 : tie.Need-keep-second-requires-2
 keep-second-requires-2 c κs =

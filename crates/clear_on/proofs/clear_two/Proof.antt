@@ -3,7 +3,7 @@
 use mathlib.Core.Path.{_∙_, _≡_}
 use native.Mathlib.Omega.{arith}
 use lib.ListN.{length}
-use Rattle.clear.proofs.Clearing.{ready-again}
+use Rattle.acting.proofs.Holding.{ready-again}
 use Rattle.moving.specs.Bounds.{clear-once-most}
 use Rattle.clear_on.proofs.Attempting.{pair-none, pair-both, pair-from, still-there, two-at-once, two-few, two-in-time}
 use Rattle.clear_on.proofs.clear_two.Statement.{statement}

@@ -2,9 +2,9 @@
 -- Assumes nothing.
 use mathlib.Core.Path.{_≡_}
 use native.Mathlib.Omega.{arith}
-use Rattle.clear.proofs.Clearing.{inside-of, inside-less}
+use Rattle.keeping.proofs.Around.{inside-of, inside-less}
 use Rattle.clear_on.proofs.Attempting.{others-is, log-stored, pair-none, pair-both, gone-none, gone-both}
-use Rattle.clear.specs.declared.Kept.the-variants.{One}
+use Rattle.keeping.specs.declared.Kept.the-variants.{One}
 use borrow.Author.Needs.{needs}
 use Rattle.clear_on.proofs.go_on.Statement.{statement}
 use Rattle.clear_on.proofs.go_on.Tie as tie

@@ -7,7 +7,8 @@ use lib.ListN.{length, take}
 use lib.Seq.{take-all}
 use borrow.Author.Needs.{needs}
 use Rattle.paper.specs.Text.{Text}
-use Rattle.edges.specs.Held.{last-line, Came}
+use Rattle.edge_lines.specs.Lines.{last-line}
+use Rattle.edges.specs.Held.{Came}
 use Rattle.edges.proofs.Storing.{stored-length, came-piece}
 use Rattle.edges.proofs.feed.Statement.{statement}
 use Rattle.edges.proofs.feed.Tie as tie

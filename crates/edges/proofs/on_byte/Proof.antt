@@ -3,7 +3,7 @@
 use borrow.Author.Needs.{needs}
 use borrow.Author.Tests.{eq-eqb, ne-eqb}
 use Rattle.survey.specs.Bytes.{lineByte}
-use Rattle.edges.specs.Held.{wordBy}
+use Rattle.edge_lines.specs.Lines.{wordBy}
 use Rattle.edges.proofs.on_byte.Statement.{statement}
 use Rattle.edges.proofs.on_byte.Tie as tie
 

@@ -19,22 +19,22 @@ step-in-requires c κs =
     let p = start .pre .0 in
     let z = start .pre .1 in
     let free = sym (c .before .before .before .before .before .before .is-in .ensures) ∙ c .before .before .before .before .before .if1 .taken in
-    ((z .0, z .2, free, p .placed), (p .most, p .empty-size, z .6 .size, z .5))
+    ((z .0, z .2, free, p .placed), (p .most, p .empty-size, z .5 .size))
 
 same-length : tie.Need-same-length
-same-length c = search needs
+same-length c = c .before .before .before .before .before .before .before .before .before .before .step-in .kept .1 .1 .0
 
 same-length-2 : tie.Need-same-length-2
-same-length-2 c = search needs
+same-length-2 c = c .before .before .before .before .before .before .before .before .before .before .step-in .kept .1 .1 .1 .0
 
 same-length-3 : tie.Need-same-length-3
-same-length-3 c = search needs
+same-length-3 c = c .before .before .before .before .before .before .before .before .before .before .step-in .kept .1 .1 .1 .1 .0
 
 same-length-4 : tie.Need-same-length-4
-same-length-4 c = search needs
+same-length-4 c = c .before .before .before .before .before .before .before .before .before .before .step-in .kept .1 .1 .1 .1 .1 .0
 
 same-length-5 : tie.Need-same-length-5
-same-length-5 c = search needs
+same-length-5 c = c .before .before .before .before .before .before .before .before .before .before .step-in .kept .1 .1 .1 .1 .1 .1 .0
 
 returns : tie.Need-returns
 returns c =
@@ -49,26 +49,26 @@ returns c =
     let stepped = step-in .ensures in (
       omega (arith, stepped .0 .counted),
       λ t. stepped-free t (p .most) (z .4) (a .next .finished) (a .next .carrier .0) (a .next .to .0) (a .placement .now) (p .placed) (z .0) (z .2) (z .3) free (stepped .0),
-      stepped .1 (a .next .finished) (z .6),
+      stepped .1 (a .next .finished) (z .5),
     )
 
 step-requires : tie.Need-step-requires
 step-requires c κs = search needs
 
 same-length-6 : tie.Need-same-length-6
-same-length-6 c = search needs
+same-length-6 c = c .before .before .before .before .before .before .before .before .before .before .step .kept .1 .1 .0
 
 same-length-7 : tie.Need-same-length-7
-same-length-7 c = search needs
+same-length-7 c = c .before .before .before .before .before .before .before .before .before .before .step .kept .1 .1 .1 .0
 
 same-length-8 : tie.Need-same-length-8
-same-length-8 c = search needs
+same-length-8 c = c .before .before .before .before .before .before .before .before .before .before .step .kept .1 .1 .1 .1 .0
 
 same-length-9 : tie.Need-same-length-9
-same-length-9 c = search needs
+same-length-9 c = c .before .before .before .before .before .before .before .before .before .before .step .kept .1 .1 .1 .1 .1 .0
 
 same-length-10 : tie.Need-same-length-10
-same-length-10 c = search needs
+same-length-10 c = c .before .before .before .before .before .before .before .before .before .before .step .kept .1 .1 .1 .1 .1 .1 .0
 
 returns-2 : tie.Need-returns-2
 returns-2 c = search needs

@@ -1,6 +1,7 @@
--- `go::go` meets its contract. The steps so far, then the rest of the path from here, are the whole; r stands where its last step led.
+-- `go::go` meets its contract. The steps so far, then the rest of the path from here, are the whole; r stands where its last step led. What a step stored
+-- in the rest of the list follows what the steps before it stored.
 -- Assumes nothing.
-use mathlib.Core.Path.{_≡_, refl}
+use mathlib.Core.Path.{_≡_, _∙_, refl}
 use mathlib.Core.List.{List, []}
 use Prim.Native.Nat.{ℕ, _≤_, _<_, _-_, _+_, _*_}
 use native.Mathlib.Omega.{arith}
@@ -12,6 +13,7 @@ use Rattle.acting.proofs.Acting.{tries-none}
 use Rattle.moving.specs.Bounds.{swap-most}
 use Rattle.step.specs.Asking.{BaysBelow}
 use Rattle.go.specs.Going.{Linked}
+use Rattle.go.proofs.Lending.{rest-lent}
 use Rattle.go.proofs.Going.{Going, going-none, going-all, going-more, going-stops, linked-here, arrived}
 use Rattle.acting.specs.declared.Tried.the-variants.{Done}
 use Rattle.acting.specs.declared.Tried.the-variants.{Failed}
@@ -19,14 +21,14 @@ use Rattle.go.proofs.go.Statement.{statement}
 use Rattle.go.proofs.go.Tie as tie
 
 abbrev Inv-loop : tie.InvT-loop
-Inv-loop table ahead placement₀ standing₀ empty₀ settled₀ out₀ r finished at i₀ placement standing empty settled out count i =
-    (i ≤ length ahead) × (count .crossings ≤ at .crossings + swap-most * i) × (length placement ≡ length placement₀) × (length standing ≡ length standing₀) × (length empty ≡ length empty₀) × (length out ≡ length out₀)
+Inv-loop table ahead r placement₀ standing₀ empty₀ settled₀ out₀ finished count₀ i₀ placement standing empty settled out count i =
+    (i ≤ length ahead) × (count .crossings ≤ swap-most * i) × (length placement ≡ length placement₀) × (length standing ≡ length standing₀) × (length empty ≡ length empty₀) × (length out ≡ length out₀)
     × Linked (length standing₀) table (getD placement (r .0) 0) (drop i ahead)
-    × ((t : Tabled (length standing₀) table) (goals : List ℕ) → Going (t .yard) goals (r .0) ahead (length standing₀) placement₀ out₀ at i placement standing empty out count)
+    × ((t : Tabled (length standing₀) table) (goals : List ℕ) → Going (t .yard) goals (r .0) ahead (length standing₀) placement₀ out₀ i placement standing empty out count)
     × (length settled ≡ length settled₀) × BaysBelow (r .0) placement settled
 
 abbrev μ-loop : tie.MeasureT-loop
-μ-loop table ahead placement₀ standing₀ empty₀ settled₀ out₀ r finished at i₀ placement standing empty settled out count i =
+μ-loop table ahead r placement₀ standing₀ empty₀ settled₀ out₀ finished count₀ i₀ placement standing empty settled out count i =
     length ahead - i
 
 cast-finished : tie.Need-cast-finished Inv-loop μ-loop
@@ -34,25 +36,40 @@ cast-finished c = search needs
 
 loop-holds : tie.Need-loop-holds Inv-loop μ-loop
 loop-holds c =
-    let start = c .before .before .before .before .before .before .before .before .before .before in
-    (omega arith, omega arith, refl, refl, refl, refl, start .pre .1 .1, λ t goals. going-none _ _ _ _ _ _ _ _ _ _ (start .pre .0 .placed), refl, start .pre .1 .4)
+    let start = c .before .before .before .before .before .before .before .before in
+    (omega arith, omega arith, refl, refl, refl, refl, start .pre .1 .1, λ t goals. going-none _ _ _ _ _ _ _ _ _ (start .pre .0 .placed), refl, start .pre .1 .4)
 
-mul-t18 : tie.Need-mul-t18 Inv-loop μ-loop
-mul-t18 c = search needs
+mul-t17 : tie.Need-mul-t17 Inv-loop μ-loop
+mul-t17 c = search needs
 
-shared-slice-read-t21 : tie.Need-shared-slice-read-t21 Inv-loop μ-loop
-shared-slice-read-t21 c = search needs
+shared-slice-read-t20 : tie.Need-shared-slice-read-t20 Inv-loop μ-loop
+shared-slice-read-t20 c = search needs
+
+place-in-requires : tie.Need-place-in-requires Inv-loop μ-loop
+place-in-requires c κs = search needs
+
+mul-advance : tie.Need-mul-advance Inv-loop μ-loop
+mul-advance c = search needs
+
+sub-advance : tie.Need-sub-advance Inv-loop μ-loop
+sub-advance c = search needs
+
+part-advance-start : tie.Need-part-advance-start Inv-loop μ-loop
+part-advance-start c = search needs
+
+part-advance-end : tie.Need-part-advance-end Inv-loop μ-loop
+part-advance-end c = search needs
 
 advance-requires : tie.Need-advance-requires Inv-loop μ-loop
 advance-requires c κs =
-    let loop-test = c .before .before .before .before .before .before .loop-test in
+    let loop-test = c .before .before .before .before .before .before .before .before .loop-test in
     let start = c .before .before .before .before .before .before .before .before .before .before .before .before .before .before .before .before .before .before in
     let p = start .pre .0 in
     let z = start .pre .1 in
-    let l = c .before .before .before .before .before .before .before .loop in
+    let l = c .before .before .before .before .before .before .before .before .before .loop in
     let v = l .inv in
     let b = v .7 (p .tabled) [] in
-    let h = linked-here (length (start .args .standing .now)) (start .args .table .now) (getD (l .placement) (start .args .turn .carrier .0) 0) (start .args .ahead .now) (l .i) (loop-test .taken) (v .6) in
+    let h = linked-here (length (start .args .standing .now)) (start .args .table .now) (getD (l .placement) (start .args .r .0) 0) (start .args .ahead .now) (l .i) (loop-test .taken) (v .6) in
     let e : length (l .standing) ≡ length (start .args .standing .now) = v .3 in (
       record {
         most = omega (arith, p .most, e);
@@ -62,36 +79,36 @@ advance-requires c κs =
         tabled = rw e (p .tabled);
         levelled = rw e (p .levelled);
       },
-      (omega (arith, z .0, v .2), omega (arith, z .0, v .2), rw e (h .0), h .1, rw e (z .2), omega (arith, v .1, z .3, loop-test .taken), v .9),
+      (omega (arith, z .0, v .2), omega (arith, z .0, v .2), rw e (h .0), h .1, rw e (z .2), v .9),
     )
 
 enum-known-one : tie.Need-enum-known-one Inv-loop μ-loop
-enum-known-one c = search needs
+enum-known-one c = c .match .keys1
 
 enum-told : tie.Need-enum-told Inv-loop μ-loop
-enum-told c = search needs
+enum-told c = c .match .keys2
 
 same-length : tie.Need-same-length Inv-loop μ-loop
-same-length c = search needs
+same-length c = c .before .before .before .before .before .before .before .before .before .before .before .before .advance .kept .1 .1 .0 ∙ c .before .before .before .before .before .before .before .before .before .before .before .before .before .before .before .before .before .before .before .before .before .before .loop .inv .2
 
 same-length-2 : tie.Need-same-length-2 Inv-loop μ-loop
-same-length-2 c = search needs
+same-length-2 c = c .before .before .before .before .before .before .before .before .before .before .before .before .advance .kept .1 .1 .1 .0 ∙ c .before .before .before .before .before .before .before .before .before .before .before .before .before .before .before .before .before .before .before .before .before .before .loop .inv .3
 
 same-length-3 : tie.Need-same-length-3 Inv-loop μ-loop
-same-length-3 c = search needs
+same-length-3 c = c .before .before .before .before .before .before .before .before .before .before .before .before .advance .kept .1 .1 .1 .1 .0 ∙ c .before .before .before .before .before .before .before .before .before .before .before .before .before .before .before .before .before .before .before .before .before .before .loop .inv .4
 
 same-length-4 : tie.Need-same-length-4 Inv-loop μ-loop
-same-length-4 c = search needs
+same-length-4 c = c .before .before .before .before .before .before .before .before .before .before .before .before .advance .kept .1 .1 .1 .1 .1 .0 ∙ c .before .before .before .before .before .before .before .before .before .before .before .before .before .before .before .before .before .before .before .before .before .before .loop .inv .8
 
 same-length-5 : tie.Need-same-length-5 Inv-loop μ-loop
-same-length-5 c = search needs
+same-length-5 c = c .before .before .before .out .given .1 ∙ c .before .before .before .before .before .before .before .before .before .before .before .before .before .before .before .before .before .before .before .before .before .before .loop .inv .5
 
 returns : tie.Need-returns Inv-loop μ-loop
 returns c =
     let advance = c .before .before .before .before .before .before .before .before .before .before .before .before .advance in
-    let loop-test = c .before .before .before .before .before .before .before .before .before .before .before .before .before .before .before .before .before .before .before .loop-test in
+    let loop-test = c .before .before .before .before .before .before .before .before .before .before .before .before .before .before .before .before .before .before .before .before .before .loop-test in
     let start = c .before .before .before .before .before .before .before .before .before .before .before .before .before .before .before .before .before .before .before .before .before .before .before .before .before .before .before .before .before .before .before in
-    let l = c .before .before .before .before .before .before .before .before .before .before .before .before .before .before .before .before .before .before .before .before .loop in
+    let l = c .before .before .before .before .before .before .before .before .before .before .before .before .before .before .before .before .before .before .before .before .before .before .loop in
     let v = l .inv in (
       tt,
       λ t goals.
@@ -102,59 +119,69 @@ returns c =
       advance .ensures .2,
     )
 
+add-requires : tie.Need-add-requires Inv-loop μ-loop
+add-requires c κs =
+    let l = c .before .before .before .before .before .before .before .before .before .before .before .before .before .before .before .before .before .before .before .before .before .before .before .loop in
+    let e : c .before .before .before .before .before .before .before .before .before .before .before .before .before .advance .result ≡ Done (c .before .one .given .0 .0) = c .before .one .given .1 in
+    omega (arith, rw e at (c .before .before .before .before .before .before .before .before .before .before .before .before .before .advance .ensures .0), l .inv .0, l .inv .1, c .before .before .before .before .before .before .before .before .before .before .before .before .before .before .before .before .before .before .before .before .before .before .before .before .before .before .before .before .before .before .before .before .pre .1 .3)
+
 add-i : tie.Need-add-i Inv-loop μ-loop
-add-i c = search needs
+add-i c = omega (arith, c .before .before .before .before .before .before .before .before .before .before .before .before .before .before .before .before .before .before .before .before .before .before .before .loop-test .taken, c .before .before .before .before .before .before .before .before .before .before .before .before .before .before .before .before .before .before .before .before .before .before .before .before .before .before .before .before .before .before .before .before .before .pre .1 .3)
 
 loop-less : tie.Need-loop-less Inv-loop μ-loop
-loop-less c = search needs
+loop-less c = omega (arith, c .before .before .before .before .before .before .before .before .before .before .before .before .before .before .before .before .before .before .before .before .before .before .before .loop-test .taken)
 
 loop-again : tie.Need-loop-again Inv-loop μ-loop
 loop-again c =
-    let advance = c .before .before .before .before .before .before .before .before .before .before .before .before .before .advance in
-    let loop-test = c .before .before .before .before .before .before .before .before .before .before .before .before .before .before .before .before .before .before .before .before .loop-test in
-    let start = c .before .before .before .before .before .before .before .before .before .before .before .before .before .before .before .before .before .before .before .before .before .before .before .before .before .before .before .before .before .before .before .before in
+    let advance = c .before .before .before .before .before .before .before .before .before .before .before .before .before .before .advance in
+    let loop-test = c .before .before .before .before .before .before .before .before .before .before .before .before .before .before .before .before .before .before .before .before .before .before .before .loop-test in
+    let start = c .before .before .before .before .before .before .before .before .before .before .before .before .before .before .before .before .before .before .before .before .before .before .before .before .before .before .before .before .before .before .before .before .before in
     let p = start .pre .0 in
     let z = start .pre .1 in
-    let l = c .before .before .before .before .before .before .before .before .before .before .before .before .before .before .before .before .before .before .before .before .before .loop in
+    let r = start .args .r .0 in
+    let l = c .before .before .before .before .before .before .before .before .before .before .before .before .before .before .before .before .before .before .before .before .before .before .before .before .loop in
     let v = l .inv in
     let b = v .7 (p .tabled) [] in
-    let h = linked-here (length (start .args .standing .now)) (start .args .table .now) (getD (l .placement) (start .args .turn .carrier .0) 0) (start .args .ahead .now) (l .i) (loop-test .taken) (v .6) in
+    let h = linked-here (length (start .args .standing .now)) (start .args .table .now) (getD (l .placement) r 0) (start .args .ahead .now) (l .i) (loop-test .taken) (v .6) in
     let kw : length (l .standing) ≡ length (start .args .standing .now) = v .3 in
     let k = advance .kept in
-    let e : advance .result ≡ Done (c .before .one .given .0 .0) = c .before .one .given .1 in
+    let e : advance .result ≡ Done (c .before .before .one .given .0 .0) = c .before .before .one .given .1 in
     let few = rw e at (advance .ensures .0) in
     let f = rw kw at (advance .ensures .1) in
-    let hr : start .args .turn .carrier .0 < length (l .placement) = omega (arith, z .0, v .2) in
-    let hf : start .args .turn .carrier .0 ≤ length (l .placement) = omega (arith, z .0, v .2) in (
+    let out = c .before .before .before .before .before .out .given in
+    let hr : r < length (l .placement) = omega (arith, z .0, v .2) in
+    let hf : r ≤ length (l .placement) = omega (arith, z .0, v .2) in (
       omega (arith, loop-test .taken),
-      omega (arith, few, v .1),
-      omega (arith, k .1 .1 .0, v .2),
-      omega (arith, k .1 .1 .1 .0, v .3),
-      omega (arith, k .1 .1 .1 .1 .0, v .4),
-      omega (arith, k .1 .1 .1 .1 .1 .1 .0, v .5),
-      rw (arrived (p .tabled) (p .most) (z .2) (start .args .turn .carrier .0) (start .args .turn .carrier .0) (getD (start .args .ahead .now) (l .i) 0) (l .placement) (b .played .placed) hr hf (h .0) (h .1) (rw e at (f (p .tabled)))) (h .2),
-      λ t goals. going-more (v .7 t goals) (loop-test .taken) (rw e at (f t)),
-      omega (arith, k .1 .1 .1 .1 .1 .0, v .8),
+      omega (arith, few, v .1, c .add .ensures .crossings),
+      k .1 .1 .0 ∙ v .2,
+      k .1 .1 .1 .0 ∙ v .3,
+      k .1 .1 .1 .1 .0 ∙ v .4,
+      out .1 ∙ v .5,
+      rw (arrived (p .tabled) (p .most) (z .2) r r (getD (start .args .ahead .now) (l .i) 0) (l .placement) (b .played .placed) hr hf (h .0) (h .1) (rw e at (f (p .tabled)))) (h .2),
+      λ t goals. going-more (v .7 t goals) (loop-test .taken) (rest-lent _ (c .before .before .before .before .before .before .before .before .before .before .before .before .before .before .before .before .before .before .before .before .place-in .ensures) out (c .add .ensures)) (rw e at (f t)),
+      k .1 .1 .1 .1 .1 .0 ∙ v .8,
       advance .ensures .2,
     )
 
 same-length-6 : tie.Need-same-length-6 Inv-loop μ-loop
-same-length-6 c = search needs
+same-length-6 c = c .before .loop .inv .2
 
 same-length-7 : tie.Need-same-length-7 Inv-loop μ-loop
-same-length-7 c = search needs
+same-length-7 c = c .before .loop .inv .3
 
 same-length-8 : tie.Need-same-length-8 Inv-loop μ-loop
-same-length-8 c = search needs
+same-length-8 c = c .before .loop .inv .4
 
 same-length-9 : tie.Need-same-length-9 Inv-loop μ-loop
-same-length-9 c = search needs
+same-length-9 c = c .before .loop .inv .8
 
 same-length-10 : tie.Need-same-length-10 Inv-loop μ-loop
-same-length-10 c = search needs
+same-length-10 c = c .before .loop .inv .5
 
 returns-2 : tie.Need-returns-2 Inv-loop μ-loop
-returns-2 c = (omega (arith, c .before .loop .inv .0, c .before .loop .inv .1), λ t goals. going-all _ _ _ _ _ _ _ _ _ _ _ _ _ _ (c .before .loop .inv .7 t goals) (c .loop-test .left), c .before .loop .inv .9)
+returns-2 c =
+    let v = c .before .loop .inv in
+    (omega (arith, v .0, v .1), λ t goals. going-all _ _ _ _ _ _ _ _ _ _ _ _ _ (v .7 t goals) (c .loop-test .left), v .9)
 
 pub go-spec : {M : Type 1} → statement M
 go-spec =
@@ -164,8 +191,13 @@ go-spec =
     μ-loop
     cast-finished
     loop-holds
-    mul-t18
-    shared-slice-read-t21
+    mul-t17
+    shared-slice-read-t20
+    place-in-requires
+    mul-advance
+    sub-advance
+    part-advance-start
+    part-advance-end
     advance-requires
     enum-known-one
     enum-told
@@ -175,6 +207,7 @@ go-spec =
     same-length-4
     same-length-5
     returns
+    add-requires
     add-i
     loop-less
     loop-again

@@ -17,106 +17,106 @@ mul-c c = search needs
 
 shared-slice-read-c : tie.Need-shared-slice-read-c
 shared-slice-read-c c =
-    let start = c .before .before .before .before .before .before .before .before .before .before .before in
+    let start = c .before .before .before .before .before .before .before .before .before .before in
     omega (arith, start .pre .1 .1, start .pre .1 .2)
 
 cast-c : tie.Need-cast-c
 cast-c c =
-    let start = c .before .before .before .before .before .before .before .before .before .before .before in
+    let start = c .before .before .before .before .before .before .before .before .before .before in
     omega (arith, c .shared-slice-known3 .given (start .args .home .bay .0))
 
 returns : tie.Need-returns
 returns c =
-    let start = c .before .before .before .before .before .before .before .before .before .before .before .before in
+    let start = c .before .before .before .before .before .before .before .before .before .before .before in
     let p = start .pre .0 in
     let z = start .pre .1 in
     let h = start .args .home in
-    (at-most (omega arith), λ t goals many o. stages-none (home-absent _ _ _ _ _ _ (whose-high o (h .finished) (h .bay .0) (z .1) many (c .if1 .taken)) (omega arith)) (p .placed), z .6)
+    (at-most (omega arith), λ t goals many o. stages-none (home-absent _ _ _ _ _ _ (whose-high o (h .finished) (h .bay .0) (z .1) many (c .if1 .taken)) (omega arith)) (p .placed), z .5)
 
 mul-if2 : tie.Need-mul-if2
 mul-if2 c = search needs
 
 slice-read-if2 : tie.Need-slice-read-if2
 slice-read-if2 c =
-    let start = c .before .before .before .before .before .before .before .before .before .before .before .before .before in
+    let start = c .before .before .before .before .before .before .before .before .before .before .before .before in
     omega (arith, c .before .if1 .left, start .pre .1 .0)
 
 returns-2 : tie.Need-returns-2
 returns-2 c =
     let if1 = c .before .before .before .if1 in
-    let start = c .before .before .before .before .before .before .before .before .before .before .before .before .before .before .before in
+    let start = c .before .before .before .before .before .before .before .before .before .before .before .before .before .before in
     let p = start .pre .0 in
     let z = start .pre .1 in
     let h = start .args .home in
-    (at-most (omega arith), λ t goals many o. stages-none (home-there _ _ _ _ _ _ (whose-low o (h .finished) (h .bay .0) (z .1) (if1 .left)) (if1 .left) (c .if2 .taken)) (p .placed), z .6)
+    (at-most (omega arith), λ t goals many o. stages-none (home-there _ _ _ _ _ _ (whose-low o (h .finished) (h .bay .0) (z .1) (if1 .left)) (if1 .left) (c .if2 .taken)) (p .placed), z .5)
 
 cast-t24 : tie.Need-cast-t24
 cast-t24 c =
-    let start = c .before .before .before .before .before .before .before .before .before .before .before .before .before .before .before in
+    let start = c .before .before .before .before .before .before .before .before .before .before .before .before .before .before in
     let p = start .pre .0 in
     omega (arith, c .before .before .before .if1 .left, start .pre .1 .0, p .placed .few, p .most)
 
 step-requires : tie.Need-step-requires
 step-requires c κs =
     let if1 = c .before .before .before .before .before .before .before .before .if1 in
-    let start = c .before .before .before .before .before .before .before .before .before .before .before .before .before .before .before .before .before .before .before .before in
+    let start = c .before .before .before .before .before .before .before .before .before .before .before .before .before .before .before .before .before .before .before in
     let z = start .pre .1 in
-    let rail = z .5 .beside (if1 .left) (c .before .before .before .before .before .if2 .left) in
-    (start .pre .0, (omega (arith, if1 .left, z .0), z .0, z .1, rail, z .3, z .4, z .6))
+    let rail = z .4 .beside (if1 .left) (c .before .before .before .before .before .if2 .left) in
+    (start .pre .0, (omega (arith, if1 .left, z .0), z .0, z .1, rail, z .3, z .5))
 
 enum-known-one : tie.Need-enum-known-one
-enum-known-one c = search needs
+enum-known-one c = c .match .keys1
 
 enum-told : tie.Need-enum-told
-enum-told c = search needs
+enum-told c = c .match .keys2
 
 same-length : tie.Need-same-length
-same-length c = search needs
+same-length c = c .before .before .before .before .before .before .before .before .before .before .before .before .step .kept .1 .1 .0
 
 same-length-2 : tie.Need-same-length-2
-same-length-2 c = search needs
+same-length-2 c = c .before .before .before .before .before .before .before .before .before .before .before .before .step .kept .1 .1 .1 .0
 
 same-length-3 : tie.Need-same-length-3
-same-length-3 c = search needs
+same-length-3 c = c .before .before .before .before .before .before .before .before .before .before .before .before .step .kept .1 .1 .1 .1 .0
 
 same-length-4 : tie.Need-same-length-4
-same-length-4 c = search needs
+same-length-4 c = c .before .before .before .before .before .before .before .before .before .before .before .before .step .kept .1 .1 .1 .1 .1 .0
 
 same-length-5 : tie.Need-same-length-5
-same-length-5 c = search needs
+same-length-5 c = c .before .before .before .before .before .before .before .before .before .before .before .before .step .kept .1 .1 .1 .1 .1 .1 .0
 
 returns-3 : tie.Need-returns-3
 returns-3 c =
     let step = c .before .before .before .before .before .before .before .before .before .before .before .before .step in
     let if2 = c .before .before .before .before .before .before .before .before .before .before .before .before .before .before .before .before .before .before .if2 in
     let if1 = c .before .before .before .before .before .before .before .before .before .before .before .before .before .before .before .before .before .before .before .before .before .if1 in
-    let start = c .before .before .before .before .before .before .before .before .before .before .before .before .before .before .before .before .before .before .before .before .before .before .before .before .before .before .before .before .before .before .before .before .before in
+    let start = c .before .before .before .before .before .before .before .before .before .before .before .before .before .before .before .before .before .before .before .before .before .before .before .before .before .before .before .before .before .before .before .before in
     let z = start .pre .1 in
     let h = start .args .home in
     let e : step .result ≡ Failed = c .enum-told .given .1 in
     (at-most-stuck, λ t goals many o. home-stuck _ _ _ _ _ _ (whose-low o (h .finished) (h .bay .0) (z .1) (if1 .left)) (if1 .left) refl (if2 .left) (rw e at (step .ensures .1 t)), step .ensures .2)
 
 same-length-6 : tie.Need-same-length-6
-same-length-6 c = search needs
+same-length-6 c = c .before .before .before .before .before .before .before .before .before .before .before .before .before .step .kept .1 .1 .0
 
 same-length-7 : tie.Need-same-length-7
-same-length-7 c = search needs
+same-length-7 c = c .before .before .before .before .before .before .before .before .before .before .before .before .before .step .kept .1 .1 .1 .0
 
 same-length-8 : tie.Need-same-length-8
-same-length-8 c = search needs
+same-length-8 c = c .before .before .before .before .before .before .before .before .before .before .before .before .before .step .kept .1 .1 .1 .1 .0
 
 same-length-9 : tie.Need-same-length-9
-same-length-9 c = search needs
+same-length-9 c = c .before .before .before .before .before .before .before .before .before .before .before .before .before .step .kept .1 .1 .1 .1 .1 .0
 
 same-length-10 : tie.Need-same-length-10
-same-length-10 c = search needs
+same-length-10 c = c .before .before .before .before .before .before .before .before .before .before .before .before .before .step .kept .1 .1 .1 .1 .1 .1 .0
 
 returns-4 : tie.Need-returns-4
 returns-4 c =
     let step = c .before .before .before .before .before .before .before .before .before .before .before .before .before .step in
     let if2 = c .before .before .before .before .before .before .before .before .before .before .before .before .before .before .before .before .before .before .before .if2 in
     let if1 = c .before .before .before .before .before .before .before .before .before .before .before .before .before .before .before .before .before .before .before .before .before .before .if1 in
-    let start = c .before .before .before .before .before .before .before .before .before .before .before .before .before .before .before .before .before .before .before .before .before .before .before .before .before .before .before .before .before .before .before .before .before .before in
+    let start = c .before .before .before .before .before .before .before .before .before .before .before .before .before .before .before .before .before .before .before .before .before .before .before .before .before .before .before .before .before .before .before .before .before in
     let z = start .pre .1 in
     let h = start .args .home in
     let e : step .result ≡ Done (c .before .one .given .0 .0) = c .before .one .given .1 in

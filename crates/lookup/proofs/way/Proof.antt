@@ -3,7 +3,7 @@
 use mathlib.Core.Path.{refl}
 use native.Mathlib.Omega.{arith}
 use borrow.Author.Needs.{needs}
-use Rattle.lookup.proofs.Levelling.{levels-few}
+use Rattle.first_level.proofs.Missing.{levels-few}
 use Rattle.lookup.proofs.Looking.{untold, looked, level-rowed, end-short, distant, way-told}
 use Rattle.lookup.proofs.way.Statement.{statement}
 use Rattle.lookup.proofs.way.Tie as tie

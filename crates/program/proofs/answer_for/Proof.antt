@@ -2,7 +2,7 @@
 -- Assumes nothing.
 use mathlib.Core.Path.{sym, ap}
 use native.Mathlib.Omega.{arith}
-use Rattle.program.specs.Short.{shortOr}
+use Rattle.print_room.specs.Short.{shortOr}
 use Rattle.program.proofs.Ordering.{order-stands, refusal-stands}
 use Rattle.program.proofs.Readying.{refused-or-ready}
 use borrow.Author.Needs.{needs}

@@ -1,7 +1,7 @@
 -- `program::program_short` meets its contract: it is one of the two prints.
 -- Assumes nothing.
 use borrow.Author.Needs.{needs}
-use Rattle.program.specs.Short.{programShort}
+use Rattle.print_room.specs.Short.{programShort}
 use Rattle.program.proofs.program_short.Statement.{statement}
 use Rattle.program.proofs.program_short.Tie as tie
 

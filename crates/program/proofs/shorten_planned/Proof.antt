@@ -3,7 +3,7 @@
 use mathlib.Core.Path.{sym}
 use native.Mathlib.Omega.{arith}
 use lib.Seq.{length-take-le}
-use Rattle.program.proofs.Shortening.{enough, marked, written-short, not-refused, refusal-stays}
+use Rattle.program.proofs.Shortening.{enough, marked, left-short, refusal-stays}
 use borrow.Author.Needs.{needs}
 use Rattle.program.proofs.shorten_planned.Statement.{statement}
 use Rattle.program.proofs.shorten_planned.Tie as tie
@@ -27,12 +27,6 @@ slice-aggregate-shorten-2 c = sym (enough _ (array-share-prefix-marks (c .before
 shorten-requires : tie.Need-shorten-requires
 shorten-requires c κs = search needs
 
-enum-known-shorter : tie.Need-enum-known-shorter
-enum-known-shorter c = search needs
-
-enum-known-shorter-2 : tie.Need-enum-known-shorter-2
-enum-known-shorter-2 c = search needs
-
 enum-known-answer-2 : tie.Need-enum-known-answer-2
 enum-known-answer-2 c = search needs
 
@@ -41,21 +35,12 @@ same-length c = search needs
 
 returns : tie.Need-returns
 returns c =
-    let answer = c .before .before .before .before .before .before .before .before .before .before .answer in
-    let start = c .before .before .before .before .before .before .before .before .before .before .before .before .before .before .before .before .before in
-    written-short (start .pre .0) _ (answer .given .1) _ (marked (start .pre .0) _ (answer .given .1)) _ (start .pre .1) (c .before .before .before .before .before .shorten .ensures) _ (c .before .shorter .given .1)
-
-same-length-2 : tie.Need-same-length-2
-same-length-2 c = search needs
+    let answer = c .before .before .before .before .before .before .before .answer in
+    let start = c .before .before .before .before .before .before .before .before .before .before .before .before .before .before in
+    left-short (start .pre .0) _ (answer .given .1) _ (marked (start .pre .0) _ (answer .given .1)) _ (start .pre .1) (c .before .before .shorten .ensures)
 
 returns-2 : tie.Need-returns-2
 returns-2 c =
-    let answer = c .before .before .before .before .before .before .before .before .before .before .answer in
-    let start = c .before .before .before .before .before .before .before .before .before .before .before .before .before .before .before .before .before in
-    not-refused (start .pre .0) _ (answer .given .1) _ (marked (start .pre .0) _ (answer .given .1)) _ (start .pre .1) (c .before .before .before .before .before .shorten .ensures) _ (c .before .shorter2 .given .1)
-
-returns-3 : tie.Need-returns-3
-returns-3 c =
     let start = c .before .before .before .before .before .before .before .before in
     refusal-stays (start .pre .0) _ (c .before .answer2 .given .1) (start .pre .1)
 
@@ -68,11 +53,7 @@ shorten-planned-spec =
     array-share-prefix-marks
     slice-aggregate-shorten-2
     shorten-requires
-    enum-known-shorter
-    enum-known-shorter-2
     enum-known-answer-2
     same-length
     returns
-    same-length-2
-    returns-2
-    returns-3)
+    returns-2)

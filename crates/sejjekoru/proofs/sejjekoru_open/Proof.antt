@@ -45,16 +45,16 @@ use denote.Signature.{plain, shrSliceOf}
 use Rattle.paper.specs.Order.{order}
 use Rattle.bills.specs.declared.Line.{Line}
 use Rattle.bills.specs.declared.Record.{Record}
-use Rattle.ledger.specs.declared.Held.{Held}
+use Rattle.held_lines.specs.declared.HeldLines.{HeldLines}
 use Rattle.bills.proofs.Line as L
 use Rattle.bills.proofs.Record as R
 use Rattle.bills.proofs.Record.Laws as R′
-use Rattle.ledger.proofs.Held as D
-use Rattle.ledger.proofs.Held.Laws as D′
-use Rattle.sejjekoru.specs.declared.Opening.{Opening}
+use Rattle.held_lines.proofs.HeldLines as D
+use Rattle.held_lines.proofs.HeldLines.Laws as D′
+use Rattle.sejjekoru.specs.declared.ToldOpening.{ToldOpening}
 use Rattle.sejjekoru.specs.Bills.{OpenOn}
-use Rattle.sejjekoru.proofs.Opening as O
-use Rattle.sejjekoru.proofs.Opening.Laws as O′
+use Rattle.sejjekoru.proofs.ToldOpening as O
+use Rattle.sejjekoru.proofs.ToldOpening.Laws as O′
 use Rattle.sejjekoru.proofs.Opened.{filled, may-fill, open-tells}
 use Rattle.sejjekoru.proofs.open_on as open-on
 use Rattle.sejjekoru.proofs.open_on.Symbol as open-on-def
@@ -131,7 +131,7 @@ module _ {M : Type 1} (𝓤 : URA M) (H : Heap 𝓤) (A : Atoms 𝓤) (W : Given
   abbrev rec-vals : Record → List Val
   rec-vals = LL.vals R.the-type R′.the-laws
 
-  abbrev held-vals : Held → List Val
+  abbrev held-vals : HeldLines → List Val
   held-vals = LL.vals D.the-type D′.the-laws
 
   -- what `open_on`'s triple binds outside
@@ -170,7 +170,7 @@ module _ {M : Type 1} (𝓤 : URA M) (H : Heap 𝓤) (A : Atoms 𝓤) (W : Given
       move ! (0 ∷ 6 ∷ 7 ∷ 8 ∷ 9 ∷ 10 ∷ 1 ∷ 2 ∷ 3 ∷ 4 ∷ []) $ group ! 10 $ move ! (1 ∷ 0 ∷ []) $ join ! $ frame ! $ done !
 
   -- what `open_on` says of what it returns and of the last value of `value`
-  abbrev On : Opening → ℕ → Type 0
+  abbrev On : ToldOpening → ℕ → Type 0
   On r z = OpenOn (order n (rails .now) (start .now) (goal .now)) (plan .now) (marks .now) (rec .now) (length (lines .now)) r z
 
   abbrev last : Lasts open-on.ended κs-open a-open → ℕ
@@ -180,10 +180,10 @@ module _ {M : Type 1} (𝓤 : URA M) (H : Heap 𝓤) (A : Atoms 𝓤) (W : Given
   last-of zs = qed W (‵ ftrue ∷ ‵ ftrue ∷ ‵ ftrue ∷ ‵ ftrue ∷ ‵ ftrue ∷ ‵ ftrue ∷ ‵ ftrue ∷ ‵ ftrue ∷ ‵ (fres (value .name) (u64 .coded .code (last zs))) ∷ ‵ ftrue ∷ []) ∵ keep ! (8 ∷ []) $ done !
 
   -- the relation of an opening, at its own machine value
-  whole-is : (r : Opening) (w : Val) → Is O.the-row r (w ∷ []) → Is O.the-row r (LL.vals O.the-type O′.the-laws r)
+  whole-is : (r : ToldOpening) (w : Val) → Is O.the-row r (w ∷ []) → Is O.the-row r (LL.vals O.the-type O′.the-laws r)
   whole-is r w is = LL.owes O.the-type O′.the-laws r (LL.owed O.the-type O′.the-laws r _ is)
 
-  module _ (r : Opening) (is : Is O.the-row r (LL.vals O.the-type O′.the-laws r)) where
+  module _ (r : ToldOpening) (is : Is O.the-row r (LL.vals O.the-type O′.the-laws r)) where
     -- what whoever holds the opening knows of its fields
     number-is : Is u64 (r .number) (vint w64 (r .number) ∷ [])
     number-is = LL.owed O.the-type O′.the-laws r _ is .0
@@ -255,7 +255,7 @@ module _ {M : Type 1} (𝓤 : URA M) (H : Heap 𝓤) (A : Atoms 𝓤) (W : Given
         -- `open_on`
         move ! (38 ∷ 39 ∷ 40 ∷ 41 ∷ 42 ∷ 43 ∷ 44 ∷ []) $ group ! 7 $ use1 W (raw (Open 𝓤 H A mem′ run .pre to-open)) (goes-open n-fits (lines-fit .0) rec-is) $
         calls-at ! fm (Open 𝓤 H A mem′ run) known-open to-open (and-then ! (load ! (from ! (stop !)) (look ! 35 refl)) (and-then ! (load ! (from ! (stop !)) (look ! 33 refl)) (and-then ! (load ! (from ! (stop !)) (look ! 31 refl)) (and-then ! (load ! (from ! (stop !)) (look ! 29 refl)) (and-then ! (load ! (from ! (stop !)) (look ! 27 refl)) (and-then ! (load ! (from ! (stop !)) (look ! 25 refl)) (and-then ! (load ! (from ! (stop !)) (look ! 15 refl)) (and-then ! (load ! (from ! (stop !)) (look ! 13 refl)) (and-then ! (load ! (from ! (stop !)) (look ! 11 refl)) (no-more !)))))))))) (λ w.
-        use1 W (later (some (λ (r : Opening). (Toks ⊛ ‵ (O.the-row .own r (w ∷ []))) ⊛ raw (ensured 𝓤 H A open-on.ended (open-on.clauses 𝓤 H A mem′ run) κs-open a-open tt r)))) (id⊢ 𝓤 _) $ await ! tt $ pick ! (λ r.
+        use1 W (later (some (λ (r : ToldOpening). (Toks ⊛ ‵ (O.the-row .own r (w ∷ []))) ⊛ raw (ensured 𝓤 H A open-on.ended (open-on.clauses 𝓤 H A mem′ run) κs-open a-open tt r)))) (id⊢ 𝓤 _) $ await ! tt $ pick ! (λ r.
         split ! $ move ! (1 ∷ []) $ use1 W (some (λ (zs : Lasts open-on.ended κs-open a-open). ‵ (lasts open-on.ended κs-open a-open zs) ⊛ raw (fact 𝓤 (On r (last zs))))) (id⊢ 𝓤 _) $ pick ! (λ zs. split ! $ move ! (1 ∷ []) $ heard ! (On r (last zs)) (λ on.
         use1 W (‵ (fres (value .name) (u64 .coded .code (last zs)))) (last-of zs) $ move ! (1 ∷ []) $ split ! $ move ! (1 ∷ []) $ peeks ! O.the-row (Is O.the-row) (shows 𝓤 H A O.the-row) r (w ∷ []) (λ is. drops ! $
         -- [the tokens; the last value; the record's cell; the open borrow; obs; auth; _16; …; _0 at 38; …; the token of lines; lines]
@@ -276,7 +276,7 @@ module _ {M : Type 1} (𝓤 : URA M) (H : Heap 𝓤) (A : Atoms 𝓤) (W : Given
         land ! (from ! (stop !)) (init ! 12 refl (subst (λ (y : Val). Holds (hasTy tyUnit y) × WT y) (sym (ap only is-unit)) (tt, tt))) $
         assigns ! (of-opd ! (load ! (from ! (fld ! refl (stop !))) (look-in ! 20 (sub ! 0 refl (whole !))))) (from ! (stop !)) (init ! 40 refl (tt, record { fits = number-is r (whole-is r w is) .1 })) $
         returns ! (look ! 40 refl) $ forget ! 8 refl $ forget ! 10 refl $ forget ! 12 refl $ forget ! 14 refl $ forget ! 16 refl $ forget ! 18 refl $ forget ! 20 refl $ forget ! 22 refl $ forget ! 24 refl $ forget ! 26 refl $ forget ! 28 refl $ forget ! 30 refl $ forget ! 32 refl $ forget ! 34 refl $ forget ! 36 refl $ forget ! 38 refl $ forget ! 40 refl $
-        move ! (40 ∷ 41 ∷ []) $ free1 ! $ move ! (38 ∷ 39 ∷ []) $ free1 ! $ move ! (36 ∷ 37 ∷ []) $ free1 ! $ move ! (34 ∷ 35 ∷ []) $ free1 ! $ move ! (32 ∷ 33 ∷ []) $ free1 ! $ move ! (30 ∷ 31 ∷ []) $ free1 ! $ move ! (28 ∷ 29 ∷ []) $ free1 ! $ move ! (26 ∷ 27 ∷ []) $ free1 ! $ move ! (24 ∷ 25 ∷ []) $ free1 ! $ move ! (22 ∷ 23 ∷ []) $ free1 ! $ move ! (20 ∷ 21 ∷ []) $ free1 ! $ move ! (18 ∷ 19 ∷ []) $ free1 ! $ move ! (16 ∷ 17 ∷ []) $ free1 ! $ move ! (14 ∷ 15 ∷ []) $ free1 ! $ move ! (12 ∷ 13 ∷ []) $ free1 ! $ move ! (10 ∷ 11 ∷ []) $ free1 ! $ move ! (8 ∷ 9 ∷ []) $ free1 ! $ free0 ! $
+        move ! (40 ∷ 41 ∷ 38 ∷ 39 ∷ 36 ∷ 37 ∷ 34 ∷ 35 ∷ 32 ∷ 33 ∷ 30 ∷ 31 ∷ 28 ∷ 29 ∷ 26 ∷ 27 ∷ 24 ∷ 25 ∷ 22 ∷ 23 ∷ 20 ∷ 21 ∷ 18 ∷ 19 ∷ 16 ∷ 17 ∷ 14 ∷ 15 ∷ 12 ∷ 13 ∷ 10 ∷ 11 ∷ 8 ∷ 9 ∷ []) $ free1 ! $ free1 ! $ free1 ! $ free1 ! $ free1 ! $ free1 ! $ free1 ! $ free1 ! $ free1 ! $ free1 ! $ free1 ! $ free1 ! $ free1 ! $ free1 ! $ free1 ! $ free1 ! $ free1 ! $ free0 ! $
         split ! $ keep ! (4 ∷ 5 ∷ 6 ∷ 0 ∷ 2 ∷ 8 ∷ 7 ∷ []) $ by ! (exits r (whole-is r w is) (last zs) on (ls .0) l e))))))))))))))))))))))))))))))))
 
 module _ {M : Type 1} (𝓤 : URA M) (H : Heap 𝓤) (A : Atoms 𝓤) (W : Given 𝓤 H A) (mem′ : Memory → SProp 𝓤) (run : Routine → Fun 𝓤) where

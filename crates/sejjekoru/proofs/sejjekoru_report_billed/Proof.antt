@@ -43,20 +43,21 @@ use denote.Exit.{yes}
 use Rattle.paper.specs.Order.{order}
 use Rattle.bills.specs.declared.Line.{Line}
 use Rattle.bills.specs.declared.Record.{Record}
-use Rattle.ledger.specs.declared.Held.{Held}
-use Rattle.ledger.specs.Lines.{gathered}
+use Rattle.held_lines.specs.declared.HeldLines.{HeldLines}
+use Rattle.held_lines.specs.Lines.{gathered}
 use Rattle.bills.proofs.Line as L
 use Rattle.bills.proofs.Line.Laws as L′
 use Rattle.bills.proofs.Record as R
 use Rattle.bills.proofs.Record.Laws as R′
-use Rattle.ledger.proofs.Held as D
-use Rattle.ledger.proofs.Held.Laws as D′
-use Rattle.sejjekoru.specs.declared.Told.{Told}
+use Rattle.held_lines.proofs.HeldLines as D
+use Rattle.held_lines.proofs.HeldLines.Laws as D′
+use Rattle.sejjekoru.specs.declared.ToldReport.{ToldReport}
 use Rattle.sejjekoru.specs.Bills.{ReportOn, ReportBilledTells}
-use Rattle.sejjekoru.proofs.Told as T
-use Rattle.sejjekoru.proofs.Told.Laws as T′
+use Rattle.sejjekoru.proofs.ToldReport as T
+use Rattle.sejjekoru.proofs.ToldReport.Laws as T′
 use Rattle.sejjekoru.proofs.Billing.{report-says}
 use Rattle.sejjekoru.proofs.Passing.{apart, passes}
+use Rattle.sejjekoru.proofs.Lifetimes.{lifetimes-on, shares-on, record-token, lines-token, tokens, tokens-on, order-and-plan}
 use Rattle.sejjekoru.proofs.Shared.{LentShared, lends-shared, shared-back}
 use Rattle.sheets.proofs.gather as gather
 use Rattle.sheets.proofs.gather.Symbol as gather-def
@@ -89,39 +90,12 @@ module _ {M : Type 1} (𝓤 : URA M) (H : Heap 𝓤) (A : Atoms 𝓤) (mem : Mem
   abbrev Enter : Contract 𝓤
   Enter = tripleOf 𝓤 H A enter.signature (enter.spec 𝓤 H A mem run)
 
-module _ {M : Type 1} (𝓤 : URA M) (H : Heap 𝓤) (A : Atoms 𝓤) (W : Given 𝓤 H A) (mem : Memory → SProp 𝓤) (run : Routine → Fun 𝓤) (κs : Lfts 8) (qs : Shares 8) (a : Args report.signature κs) where
-  -- the parameters
-  abbrev bays : ℕ
-  bays = a .0
+module _ {M : Type 1} (𝓤 : URA M) (H : Heap 𝓤) (A : Atoms 𝓤) (W : Given 𝓤 H A) (mem : Memory → SProp 𝓤) (run : Routine → Fun 𝓤) (κs : Lfts 8) (qs : Shares 8)
+    (bays : ℕ) (rails start goal plan marks : RefT (List ℕ)) (name : ℕ) (rec : RefT Record) (lines : RefT (List Line)) (value : RefT ℕ) where
+  abbrev a : Args report.signature κs
+  a = (bays, (rails, (start, (goal, (plan, (marks, (name, (rec, (lines, (value, tt))))))))))
 
-  abbrev rails : RefT (List ℕ)
-  rails = a .1 .0
-
-  abbrev start : RefT (List ℕ)
-  start = a .1 .1 .0
-
-  abbrev goal : RefT (List ℕ)
-  goal = a .1 .1 .1 .0
-
-  abbrev plan : RefT (List ℕ)
-  plan = a .1 .1 .1 .1 .0
-
-  abbrev marks : RefT (List ℕ)
-  marks = a .1 .1 .1 .1 .1 .0
-
-  abbrev name : ℕ
-  name = a .1 .1 .1 .1 .1 .1 .0
-
-  abbrev rec : RefT Record
-  rec = a .1 .1 .1 .1 .1 .1 .1 .0
-
-  abbrev lines : RefT (List Line)
-  lines = a .1 .1 .1 .1 .1 .1 .1 .1 .0
-
-  abbrev value : RefT ℕ
-  value = a .1 .1 .1 .1 .1 .1 .1 .1 .1 .0
-
-  abbrev held : Held
+  abbrev held : HeldLines
   held = gathered (lines .now)
 
   -- the machine value of a record
@@ -133,10 +107,10 @@ module _ {M : Type 1} (𝓤 : URA M) (H : Heap 𝓤) (A : Atoms 𝓤) (W : Given
 
   -- what is passed to `report_on`: the lifetimes but for the record's and the lines', and the parameters with the record and the held lines by value, of which the second has the machine value w
   abbrev κs′ : Lfts 6
-  κs′ = (κs .0, (κs .1 .0, (κs .1 .1 .0, (κs .1 .1 .1 .0, (κs .1 .1 .1 .1 .0, (κs .1 .1 .1 .1 .1 .1 .1 .0, tt))))))
+  κs′ = lifetimes-on κs
 
   abbrev qs′ : Shares 6
-  qs′ = (qs .0, (qs .1 .0, (qs .1 .1 .0, (qs .1 .1 .1 .0, (qs .1 .1 .1 .1 .0, (qs .1 .1 .1 .1 .1 .1 .1 .0, tt))))))
+  qs′ = shares-on qs
 
   abbrev a′ : Args on.signature κs′
   a′ = (bays, (rails, (start, (goal, (plan, (marks, (name, (rec .now, (held, (value, tt))))))))))
@@ -155,56 +129,23 @@ module _ {M : Type 1} (𝓤 : URA M) (H : Heap 𝓤) (A : Atoms 𝓤) (W : Given
   to-gather ν δ = (((ν ∷ [], tt), (fullShare, tt), tt, (lent δ, tt), (slice-vals lines, tt)), tt)
 
   -- the lines, the place and the line passed to `enter`
-  abbrev to-enter : Told → Enter 𝓤 H A mem run .Ghost
+  abbrev to-enter : ToldReport → Enter 𝓤 H A mem run .Ghost
   to-enter r = (((κs .1 .1 .1 .1 .1 .1 .0, tt), (qs .1 .1 .1 .1 .1 .1 .0, tt), tt, (lines, (r .at, (r .line, tt))), (slice-vals lines, (vint w64 (r .at) ∷ [], (LL.vals L.the-type L′.the-laws (r .line), tt)))), tt)
 
   -- the tokens
-  abbrev tok₀ : Item 𝓤
-  tok₀ = ‵ (flft (κs .0) (qs .0))
-
-  abbrev tok₁ : Item 𝓤
-  tok₁ = ‵ (flft (κs .1 .0) (qs .1 .0))
-
-  abbrev tok₂ : Item 𝓤
-  tok₂ = ‵ (flft (κs .1 .1 .0) (qs .1 .1 .0))
-
-  abbrev tok₃ : Item 𝓤
-  tok₃ = ‵ (flft (κs .1 .1 .1 .0) (qs .1 .1 .1 .0))
-
-  abbrev tok₄ : Item 𝓤
-  tok₄ = ‵ (flft (κs .1 .1 .1 .1 .0) (qs .1 .1 .1 .1 .0))
-
   abbrev tok₅ : Item 𝓤
-  tok₅ = ‵ (flft (κs .1 .1 .1 .1 .1 .0) (qs .1 .1 .1 .1 .1 .0))
+  tok₅ = record-token 𝓤 κs qs
 
   abbrev tok₆ : Item 𝓤
-  tok₆ = ‵ (flft (κs .1 .1 .1 .1 .1 .1 .0) (qs .1 .1 .1 .1 .1 .1 .0))
-
-  abbrev tok₇ : Item 𝓤
-  tok₇ = ‵ (flft (κs .1 .1 .1 .1 .1 .1 .1 .0) (qs .1 .1 .1 .1 .1 .1 .1 .0))
+  tok₆ = lines-token 𝓤 κs qs
 
   abbrev Tokens : List (Item 𝓤)
-  Tokens = tok₀ ∷ tok₁ ∷ tok₂ ∷ tok₃ ∷ tok₄ ∷ tok₅ ∷ tok₆ ∷ tok₇ ∷ ‵ ftrue ∷ []
+  Tokens = tokens 𝓤 κs qs
 
   abbrev Tokens′ : List (Item 𝓤)
-  Tokens′ = tok₀ ∷ tok₁ ∷ tok₂ ∷ tok₃ ∷ tok₄ ∷ tok₇ ∷ ‵ ftrue ∷ []
+  Tokens′ = tokens-on 𝓤 κs qs
 
   -- what the parameters own
-  abbrev own-bays : Item 𝓤
-  own-bays = ‵ (u64 .own bays (vint w64 bays ∷ []))
-
-  abbrev own-rails : Item 𝓤
-  own-rails = ‵ (ShrSlice (named 0) (κs .0) u16 .own rails (slice-vals rails))
-
-  abbrev own-start : Item 𝓤
-  own-start = ‵ (ShrSlice (named 1) (κs .1 .0) u16 .own start (slice-vals start))
-
-  abbrev own-goal : Item 𝓤
-  own-goal = ‵ (ShrSlice (named 2) (κs .1 .1 .0) u16 .own goal (slice-vals goal))
-
-  abbrev own-plan : Item 𝓤
-  own-plan = ‵ (ShrSlice (named 3) (κs .1 .1 .1 .0) u64 .own plan (slice-vals plan))
-
   abbrev own-marks : Item 𝓤
   own-marks = ‵ (MutSlice (named 4) (κs .1 .1 .1 .1 .0) u8 .own marks (slice-vals marks))
 
@@ -221,34 +162,34 @@ module _ {M : Type 1} (𝓤 : URA M) (H : Heap 𝓤) (A : Atoms 𝓤) (W : Given
   own-value = ‵ (MutRef (named 7) (κs .1 .1 .1 .1 .1 .1 .1 .0) u64 .own value (ptr-vals value))
 
   abbrev Owned : List (Item 𝓤)
-  Owned = own-bays ∷ own-rails ∷ own-start ∷ own-goal ∷ own-plan ∷ own-marks ∷ own-name ∷ own-rec ∷ own-lines ∷ own-value ∷ ‵ ftrue ∷ []
+  Owned = order-and-plan 𝓤 κs bays rails start goal plan (own-marks ∷ own-name ∷ own-rec ∷ own-lines ∷ own-value ∷ ‵ ftrue ∷ [])
 
   abbrev Owned′ : Val → List (Item 𝓤)
-  Owned′ w = own-bays ∷ own-rails ∷ own-start ∷ own-goal ∷ own-plan ∷ own-marks ∷ own-name ∷ ‵ (R.the-row .own (rec .now) (mach (rec .now))) ∷ ‵ (D.the-row .own held (w ∷ [])) ∷ own-value ∷ ‵ ftrue ∷ []
+  Owned′ w = order-and-plan 𝓤 κs bays rails start goal plan (own-marks ∷ own-name ∷ ‵ (R.the-row .own (rec .now) (mach (rec .now))) ∷ ‵ (D.the-row .own held (w ∷ [])) ∷ own-value ∷ ‵ ftrue ∷ [])
 
   -- what is passed to `enter`
-  abbrev Entered : Told → List (Item 𝓤)
+  abbrev Entered : ToldReport → List (Item 𝓤)
   Entered r = own-lines ∷ ‵ (usize .own (r .at) (vint w64 (r .at) ∷ [])) ∷ ‵ (L.the-row .own (r .line) (LL.vals L.the-type L′.the-laws (r .line))) ∷ ‵ ftrue ∷ []
 
   abbrev Post : Val → SProp 𝓤
   Post = walkOf 𝓤 H A report.ended stayed (report.clauses 𝓤 H A mem run) .post ((κs, qs, tt, a, vss), tt)
 
   -- what `report_on` says of its result r, at the last values ws, and what these are
-  abbrev Said : Told → Lasts on.ended κs′ a′ → Type 0
+  abbrev Said : ToldReport → Lasts on.ended κs′ a′ → Type 0
   Said r ws = ReportOn (order bays (rails .now) (start .now) (goal .now)) (plan .now) (marks .now) name (rec .now) held r (ws .1 .1 .1 .1 .1 .1 .1 .1 .1 .0) (ws .1 .1 .1 .1 .1 .0)
 
   abbrev Last : Lasts on.ended κs′ a′ → List (Item 𝓤)
   Last ws = ‵ ftrue ∷ ‵ ftrue ∷ ‵ ftrue ∷ ‵ ftrue ∷ ‵ ftrue ∷ ‵ (fsep (finally u8 (marks .name) (ws .1 .1 .1 .1 .1 .0)) (feq ℕ (length (ws .1 .1 .1 .1 .1 .0)) (length (marks .now)))) ∷ ‵ ftrue ∷ ‵ ftrue ∷ ‵ ftrue ∷ ‵ (fres (value .name) (u64 .coded .code (ws .1 .1 .1 .1 .1 .1 .1 .1 .1 .0))) ∷ ‵ ftrue ∷ []
 
   -- the last values at exit: of the marks and the value as `report_on` leaves them, of the record as it is stored, of the lines zs
-  abbrev at-exit : Told → Lasts on.ended κs′ a′ → List Line → Lasts report.ended κs a
+  abbrev at-exit : ToldReport → Lasts on.ended κs′ a′ → List Line → Lasts report.ended κs a
   at-exit r ws zs = (tt, (tt, (tt, (tt, (tt, (ws .1 .1 .1 .1 .1 .0, (tt, (r .record, (zs, (ws .1 .1 .1 .1 .1 .1 .1 .1 .1 .0, tt))))))))))
 
-  abbrev Has : Told → Lasts on.ended κs′ a′ → List Line → List (Item 𝓤)
+  abbrev Has : ToldReport → Lasts on.ended κs′ a′ → List Line → List (Item 𝓤)
   Has r ws zs = ‵ ftrue ∷ ‵ ftrue ∷ ‵ ftrue ∷ ‵ ftrue ∷ ‵ ftrue ∷ ‵ (finally u8 (marks .name) (ws .1 .1 .1 .1 .1 .0)) ∷ ‵ ftrue ∷ ‵ (fres (rec .name) (R.the-row .coded .code (r .record))) ∷ ‵ (finally L.the-row (lines .name) zs) ∷ ‵ (fres (value .name) (u64 .coded .code (ws .1 .1 .1 .1 .1 .1 .1 .1 .1 .0))) ∷ ‵ ftrue ∷ []
 
   -- of `gather`'s `ensured`, the clause alone
-  gather-of : (ν : ℕ) (δ : GName) (h : Held) → ent 𝓤 (ensured 𝓤 H A gather.ended (gather.clauses 𝓤 H A mem run) (ν ∷ [], tt) (lent δ, tt) tt h) (fact 𝓤 (h ≡ held))
+  gather-of : (ν : ℕ) (δ : GName) (h : HeldLines) → ent 𝓤 (ensured 𝓤 H A gather.ended (gather.clauses 𝓤 H A mem run) (ν ∷ [], tt) (lent δ, tt) tt h) (fact 𝓤 (h ≡ held))
   gather-of ν δ h = exE 𝓤 _ (λ ws. snd∗ 𝓤 (sem 𝓤 H A (lasts gather.ended (ν ∷ [], tt) (lent δ, tt) ws)) (fact 𝓤 (h ≡ held)))
 
   -- the lines that are lent, with the token of their lifetime
@@ -261,19 +202,19 @@ module _ {M : Type 1} (𝓤 : URA M) (H : Heap 𝓤) (A : Atoms 𝓤) (W : Given
       by ! (passes 𝓤 H A (‵ (flft (ν ∷ []) fullShare) ∷ ‵ ftrue ∷ []) (Lent ν δ))
 
   -- the fields of what `report_on` answers
-  number-fits : (r : Told) (v : Val) → Is T.the-row r (v ∷ []) → r .number < 2 ^ 64
+  number-fits : (r : ToldReport) (v : Val) → Is T.the-row r (v ∷ []) → r .number < 2 ^ 64
   number-fits r v is = LL.owed T.the-type T′.the-laws r _ is .0 .1
 
-  is-record : (r : Told) (v : Val) → Is T.the-row r (v ∷ []) → Is R.the-row (r .record) (mach (r .record))
+  is-record : (r : ToldReport) (v : Val) → Is T.the-row r (v ∷ []) → Is R.the-row (r .record) (mach (r .record))
   is-record r v is = LL.owed T.the-type T′.the-laws r _ is .1 .0
 
-  at-fits : (r : Told) (v : Val) → Is T.the-row r (v ∷ []) → r .at < 2 ^ 64
+  at-fits : (r : ToldReport) (v : Val) → Is T.the-row r (v ∷ []) → r .at < 2 ^ 64
   at-fits r v is = LL.owed T.the-type T′.the-laws r _ is .1 .1 .0 .1
 
-  is-line : (r : Told) (v : Val) → Is T.the-row r (v ∷ []) → Is L.the-row (r .line) (LL.vals L.the-type L′.the-laws (r .line))
+  is-line : (r : ToldReport) (v : Val) → Is T.the-row r (v ∷ []) → Is L.the-row (r .line) (LL.vals L.the-type L′.the-laws (r .line))
   is-line r v is = LL.owed T.the-type T′.the-laws r _ is .1 .1 .1 .0
 
-  exits : (r : Told) (ws : Lasts on.ended κs′ a′) (zs : List Line) → Said r ws → r .number < 2 ^ 64 → zs ≡ set (lines .now) (r .at) (r .line) → length zs ≡ length (lines .now)
+  exits : (r : ToldReport) (ws : Lasts on.ended κs′ a′) (zs : List Line) → Said r ws → r .number < 2 ^ 64 → zs ≡ set (lines .now) (r .at) (r .line) → length zs ≡ length (lines .now)
       → ent 𝓤 (⋆ 𝓤 H A (raw (toks 𝓤 A 6 κs′ qs′) ∷ tok₅ ∷ (tok₆ ⊛ ‵ ftrue) ∷ ‵ (fres (rec .name) (R.the-row .coded .code (r .record))) ∷ ‵ (finally L.the-row (lines .name) zs) ∷ ‵ (lasts on.ended κs′ a′ ws) ∷ [])) (Post (vint w64 (r .number)))
   exits r ws zs said fits e long =
       qed W (raw (toks 𝓤 A 6 κs′ qs′) ∷ tok₅ ∷ (tok₆ ⊛ ‵ ftrue) ∷ ‵ (fres (rec .name) (R.the-row .coded .code (r .record))) ∷ ‵ (finally L.the-row (lines .name) zs) ∷ ‵ (lasts on.ended κs′ a′ ws) ∷ []) ∵
@@ -314,9 +255,9 @@ module _ {M : Type 1} (𝓤 : URA M) (H : Heap 𝓤) (A : Atoms 𝓤) (W : Given
         (lends-shared L.the-row (κs .1 .1 .1 .1 .1 .1 .0) (ν ∷ []) (qs .1 .1 .1 .1 .1 .1 .0) (lines .name) (lines .ptr .0) (lines .ptr .1) 𝓤 H A W (named 6) (named 0) (lines .now)) $ await ! tt $ pick ! (λ δ. split ! $
         move ! (2 ∷ 0 ∷ []) $ use2 W (raw (Gather 𝓤 H A mem run .pre (to-gather ν δ))) (goes-gather ν δ) $
         calls-at ! fm (Gather 𝓤 H A mem run) known-gather (to-gather ν δ) (and-then ! (load ! (from ! (stop !)) (look ! 16 refl)) (no-more !)) (λ w.
-        use1 W (later (some (λ (h : Held). ((‵ (flft (ν ∷ []) fullShare) ⊛ ‵ ftrue) ⊛ ‵ (D.the-row .own h (w ∷ []))) ⊛ raw (ensured 𝓤 H A gather.ended (gather.clauses 𝓤 H A mem run) (ν ∷ [], tt) (lent δ, tt) tt h)))) (id⊢ 𝓤 _) $ await ! tt $ pick ! (λ h.
+        use1 W (later (some (λ (h : HeldLines). ((‵ (flft (ν ∷ []) fullShare) ⊛ ‵ ftrue) ⊛ ‵ (D.the-row .own h (w ∷ []))) ⊛ raw (ensured 𝓤 H A gather.ended (gather.clauses 𝓤 H A mem run) (ν ∷ [], tt) (lent δ, tt) tt h)))) (id⊢ 𝓤 _) $ await ! tt $ pick ! (λ h.
         split ! $ move ! (1 ∷ []) $ use1 W (raw (fact 𝓤 (h ≡ held))) (gather-of ν δ h) $ heard ! (h ≡ held) (λ e.
-        split ! $ rewrite ! 1 (λ (g : Held). ‵ (D.the-row .own g (w ∷ []))) e refl $ move ! (1 ∷ []) $
+        split ! $ rewrite ! 1 (λ (g : HeldLines). ‵ (D.the-row .own g (w ∷ []))) e refl $ move ! (1 ∷ []) $
         peeks ! D.the-row (Is D.the-row) (shows 𝓤 H A D.the-row) held (w ∷ []) (λ is. land ! (from ! (stop !)) (init ! 23 refl (LL.lawful D.the-type D′.the-laws 𝓤 H A W .typed held _ is .0)) $
         -- the lifetime is ended, and the lines come back
         move ! (1 ∷ []) $ split ! $ lft-end ! tt $ move ! (0 ∷ 3 ∷ []) $
@@ -335,7 +276,7 @@ module _ {M : Type 1} (𝓤 : URA M) (H : Heap 𝓤) (A : Atoms 𝓤) (W : Given
         move ! (52 ∷ 53 ∷ 54 ∷ 55 ∷ 56 ∷ 57 ∷ 58 ∷ 59 ∷ 60 ∷ 61 ∷ 62 ∷ 63 ∷ 64 ∷ 65 ∷ 1 ∷ 7 ∷ 66 ∷ 67 ∷ []) $ cut (Tokens′ ++ Owned′ w) (raw (On 𝓤 H A mem run .pre (to-on w)) ∷ []) _ (passes 𝓤 H A Tokens′ (Owned′ w)) $
         -- [what it asks; the record's cell; the open borrow; obs; auth; the lines; their token; the 44 of the locals]
         calls-at ! fm (On 𝓤 H A mem run) known-on (to-on w) (and-then ! (load ! (from ! (stop !)) (look ! 47 refl)) (and-then ! (load ! (from ! (stop !)) (look ! 45 refl)) (and-then ! (load ! (from ! (stop !)) (look ! 43 refl)) (and-then ! (load ! (from ! (stop !)) (look ! 41 refl)) (and-then ! (load ! (from ! (stop !)) (look ! 39 refl)) (and-then ! (load ! (from ! (stop !)) (look ! 17 refl)) (and-then ! (load ! (from ! (stop !)) (look ! 35 refl)) (and-then ! (load ! (from ! (stop !)) (look ! 15 refl)) (and-then ! (load ! (from ! (stop !)) (look ! 27 refl)) (and-then ! (load ! (from ! (stop !)) (look ! 13 refl)) (no-more !))))))))))) (λ v.
-        use1 W (later (some (λ (r : Told). (raw (toks 𝓤 A 6 κs′ qs′) ⊛ ‵ (T.the-row .own r (v ∷ []))) ⊛ raw (ensured 𝓤 H A on.ended (on.clauses 𝓤 H A mem run) κs′ a′ tt r)))) (id⊢ 𝓤 _) $ await ! tt $ pick ! (λ r.
+        use1 W (later (some (λ (r : ToldReport). (raw (toks 𝓤 A 6 κs′ qs′) ⊛ ‵ (T.the-row .own r (v ∷ []))) ⊛ raw (ensured 𝓤 H A on.ended (on.clauses 𝓤 H A mem run) κs′ a′ tt r)))) (id⊢ 𝓤 _) $ await ! tt $ pick ! (λ r.
         split ! $ move ! (1 ∷ []) $ use1 W (some (λ (ws : Lasts on.ended κs′ a′). ‵ (lasts on.ended κs′ a′ ws) ⊛ raw (fact 𝓤 (Said r ws)))) (id⊢ 𝓤 _) $ pick ! (λ ws.
         split ! $ move ! (1 ∷ []) $ heard ! (Said r ws) (λ said. move ! (1 ∷ []) $ split ! $ move ! (1 ∷ []) $
         -- [what is told; the six tokens; the last values; the record's cell; the open borrow; obs; auth; the lines; their token; the 44 of the locals]
@@ -361,7 +302,7 @@ module _ {M : Type 1} (𝓤 : URA M) (H : Heap 𝓤) (A : Atoms 𝓤) (W : Given
         -- [the token of the lines; the last lines; true; the last record; its token; the six tokens; the last values; the 44 of the locals]
         assigns ! (of-opd ! (load ! (from ! (fld ! refl (stop !))) (look-in ! 25 (sub ! 0 refl (whole !))))) (from ! (stop !)) (init ! 49 refl (tt, record { fits = number-fits r v is′ })) $
         returns ! (look ! 49 refl) $ forget ! 7 refl $ forget ! 9 refl $ forget ! 11 refl $ forget ! 13 refl $ forget ! 15 refl $ forget ! 17 refl $ forget ! 19 refl $ forget ! 21 refl $ forget ! 23 refl $ forget ! 25 refl $ forget ! 27 refl $ forget ! 29 refl $ forget ! 31 refl $ forget ! 33 refl $ forget ! 35 refl $ forget ! 37 refl $ forget ! 39 refl $ forget ! 41 refl $ forget ! 43 refl $ forget ! 45 refl $ forget ! 47 refl $ forget ! 49 refl $
-        move ! (49 ∷ 50 ∷ []) $ free1 ! $ move ! (47 ∷ 48 ∷ []) $ free1 ! $ move ! (45 ∷ 46 ∷ []) $ free1 ! $ move ! (43 ∷ 44 ∷ []) $ free1 ! $ move ! (41 ∷ 42 ∷ []) $ free1 ! $ move ! (39 ∷ 40 ∷ []) $ free1 ! $ move ! (37 ∷ 38 ∷ []) $ free1 ! $ move ! (35 ∷ 36 ∷ []) $ free1 ! $ move ! (33 ∷ 34 ∷ []) $ free1 ! $ move ! (31 ∷ 32 ∷ []) $ free1 ! $ move ! (29 ∷ 30 ∷ []) $ free1 ! $ move ! (27 ∷ 28 ∷ []) $ free1 ! $ move ! (25 ∷ 26 ∷ []) $ free1 ! $ move ! (23 ∷ 24 ∷ []) $ free1 ! $ move ! (21 ∷ 22 ∷ []) $ free1 ! $ move ! (19 ∷ 20 ∷ []) $ free1 ! $ move ! (17 ∷ 18 ∷ []) $ free1 ! $ move ! (15 ∷ 16 ∷ []) $ free1 ! $ move ! (13 ∷ 14 ∷ []) $ free1 ! $ move ! (11 ∷ 12 ∷ []) $ free1 ! $ move ! (9 ∷ 10 ∷ []) $ free1 ! $ move ! (7 ∷ 8 ∷ []) $ free1 ! $ free0 ! $
+        move ! (49 ∷ 50 ∷ 47 ∷ 48 ∷ 45 ∷ 46 ∷ 43 ∷ 44 ∷ 41 ∷ 42 ∷ 39 ∷ 40 ∷ 37 ∷ 38 ∷ 35 ∷ 36 ∷ 33 ∷ 34 ∷ 31 ∷ 32 ∷ 29 ∷ 30 ∷ 27 ∷ 28 ∷ 25 ∷ 26 ∷ 23 ∷ 24 ∷ 21 ∷ 22 ∷ 19 ∷ 20 ∷ 17 ∷ 18 ∷ 15 ∷ 16 ∷ 13 ∷ 14 ∷ 11 ∷ 12 ∷ 9 ∷ 10 ∷ 7 ∷ 8 ∷ []) $ free1 ! $ free1 ! $ free1 ! $ free1 ! $ free1 ! $ free1 ! $ free1 ! $ free1 ! $ free1 ! $ free1 ! $ free1 ! $ free1 ! $ free1 ! $ free1 ! $ free1 ! $ free1 ! $ free1 ! $ free1 ! $ free1 ! $ free1 ! $ free1 ! $ free1 ! $ free0 ! $
         keep ! (5 ∷ 4 ∷ 0 ∷ 3 ∷ 1 ∷ 6 ∷ []) $ by ! (exits r ws (zs .0) said (number-fits r v is′) e′ long)))))))))))))))))))))))))))))))))))))))))))
 
 module _ {M : Type 1} (𝓤 : URA M) (H : Heap 𝓤) (A : Atoms 𝓤) (W : Given 𝓤 H A) (mem : Memory → SProp 𝓤) (run : Routine → Fun 𝓤) where
@@ -394,7 +335,7 @@ module _ {M : Type 1} (𝓤 : URA M) (H : Heap 𝓤) (A : Atoms 𝓤) (W : Given
           ),
         ),
       ))
-      (λ κs qs bounds a g are. via 𝓤 _ (fst∗ 𝓤 _ (emp 𝓤)) (walk 𝓤 H A W mem run κs qs a C Λ fm known-gather known-on known-enter are))
+      (λ κs qs bounds a g are. via 𝓤 _ (fst∗ 𝓤 _ (emp 𝓤)) (walk 𝓤 H A W mem run κs qs (a .0) (a .1 .0) (a .1 .1 .0) (a .1 .1 .1 .0) (a .1 .1 .1 .1 .0) (a .1 .1 .1 .1 .1 .0) (a .1 .1 .1 .1 .1 .1 .0) (a .1 .1 .1 .1 .1 .1 .1 .0) (a .1 .1 .1 .1 .1 .1 .1 .1 .0) (a .1 .1 .1 .1 .1 .1 .1 .1 .1 .0) C Λ fm known-gather known-on known-enter are))
 
   goes : AllGo 𝓤 H A W 8 (report.signature .params) (report.ended .kept) stayed
   goes = (

@@ -1,5 +1,5 @@
 -- `sheets::fill` meets its contract: a walk of its MIR, by hand. The borrow is opened once, before the loop, and closed once, after it; between the two, after i turns, the first i places have the held lines and the others are as they were.
--- All that the proof knows of `ledger::line_at` is that it meets its contract.
+-- All that the proof knows of `held_lines::line_at` is that it meets its contract.
 -- Assumes nothing.
 use mathlib.Core.Path.{_≡_, refl, sym, _∙_, ap, subst}
 use Prim.Native.Nat.{ℕ, zero, suc, _+_, _*_, _<_, _≤_, _^_}
@@ -50,17 +50,17 @@ use denote.Triple.Statement.{Contract, Triple}
 use denote.Triple.Table.{entered, cited}
 use denote.Triple.Walked.{says, needs, Stays, stay-slice, stay-none, walkOf, AllGo, goes-slice, goes-none, Walks, ends-at, walked, walk-meets}
 use Rattle.bills.specs.declared.Line.{Line}
-use Rattle.ledger.specs.declared.Held.{Held}
+use Rattle.held_lines.specs.declared.HeldLines.{HeldLines}
 use Rattle.bills.specs.Billing.{noLine}
-use Rattle.ledger.specs.Lines.{lineAt}
+use Rattle.held_lines.specs.Lines.{lineAt}
 use Rattle.bills.proofs.Line as T
 use Rattle.bills.proofs.Line.Laws as T′
-use Rattle.ledger.proofs.Held as S
-use Rattle.ledger.proofs.Held.Laws as S′
-use Rattle.ledger.proofs.line_at as line-at
-use Rattle.ledger.proofs.line_at.Symbol as line-at-def
-use Rattle.ledger.proofs.line_at.Symbol.{name as #ledger·line-at}
-use Rattle.ledger.proofs.line_at.Met as line-at-thm
+use Rattle.held_lines.proofs.HeldLines as S
+use Rattle.held_lines.proofs.HeldLines.Laws as S′
+use Rattle.held_lines.proofs.line_at as line-at
+use Rattle.held_lines.proofs.line_at.Symbol as line-at-def
+use Rattle.held_lines.proofs.line_at.Symbol.{name as #held-lines·line-at}
+use Rattle.held_lines.proofs.line_at.Met as line-at-thm
 use Rattle.sheets.proofs.fill.Key.{name as #sheets·fill}
 use Rattle.sheets.proofs.fill as fill
 use Rattle.sheets.proofs.fill.Statement as stated
@@ -100,10 +100,10 @@ abbrev slice : Ty
 slice = sliceTy (tyRef (named 0) mut (pointee (T.the-row .written)))
 
 abbrev Arg : Type 0
-Arg = RefT (List Line) × (Held × Unit {0})
+Arg = RefT (List Line) × (HeldLines × Unit {0})
 
 -- the machine value of what is held
-abbrev val : Held → Val
+abbrev val : HeldLines → Val
 val = LL.val S.the-type S′.the-laws
 
 abbrev stayed : Stays (fill.ended .signature .params) (fill.ended .kept)
@@ -115,10 +115,10 @@ module _ {M : Type 1} (𝓤 : URA M) (H : Heap 𝓤) (A : Atoms 𝓤) (at-mem : 
   LineAt = tripleOf 𝓤 H A line-at.signature (line-at.spec 𝓤 H A at-mem run)
 
   -- of its `ensured`, the clause alone
-  got-of : (held : Held) (i : ℕ) (r : Line) → ent 𝓤 (ensured 𝓤 H A line-at.ended (line-at.clauses 𝓤 H A at-mem run) tt (held, (i, tt)) tt r) (fact 𝓤 (r ≡ lineAt held i))
+  got-of : (held : HeldLines) (i : ℕ) (r : Line) → ent 𝓤 (ensured 𝓤 H A line-at.ended (line-at.clauses 𝓤 H A at-mem run) tt (held, (i, tt)) tt r) (fact 𝓤 (r ≡ lineAt held i))
   got-of held i r = exE 𝓤 _ (λ ws. snd∗ 𝓤 (sem 𝓤 H A (lasts line-at.ended tt (held, (i, tt)) ws)) (fact 𝓤 (r ≡ lineAt held i)))
 
-module _ {M : Type 1} (𝓤 : URA M) (H : Heap 𝓤) (A : Atoms 𝓤) (W : Given 𝓤 H A) (at-mem : Memory → SProp 𝓤) (run : Routine → Fun 𝓤) (κ : Lft) (q : Share) (b o : ℕ) (γ : GName) (ys : List Line) (held : Held) where
+module _ {M : Type 1} (𝓤 : URA M) (H : Heap 𝓤) (A : Atoms 𝓤) (W : Given 𝓤 H A) (at-mem : Memory → SProp 𝓤) (run : Routine → Fun 𝓤) (κ : Lft) (q : Share) (b o : ℕ) (γ : GName) (ys : List Line) (held : HeldLines) where
   abbrev x : Arg
   x = (record { ptr = (b, o); name = γ; now = ys }, (held, tt))
 
@@ -169,7 +169,7 @@ module _ {M : Type 1} (𝓤 : URA M) (H : Heap 𝓤) (A : Atoms 𝓤) (W : Given
         qed W [] ∵ nothing ! $ owned ! usize (Is usize) (uint-makes 𝓤 H A W w64) i _ (refl, lt-of-le-of-lt (le-of-lt p) (lit< tt)) $ fjoin ! $
         owned ! S.the-row (Is S.the-row) (LL.makes S.the-type S′.the-plain 𝓤 H A) held _ gh $ fjoin ! $ nothing ! $ join ! $ frame ! $ done !
 
-    module _ (𝓣 : Tables 𝓤 H) (known : Triple 𝓤 (𝓣 .C #ledger·line-at) (LineAt 𝓤 H A at-mem run)) (l₀ l₁ l₂ l₃ l₄ l₅ l₆ l₇ l₈ : ℕ) where
+    module _ (𝓣 : Tables 𝓤 H) (known : Triple 𝓤 (𝓣 .C #held-lines·line-at) (LineAt 𝓤 H A at-mem run)) (l₀ l₁ l₂ l₃ l₄ l₅ l₆ l₇ l₈ : ℕ) where
       abbrev C : Calls 𝓤 H
       C = 𝓣 .C
 
@@ -294,7 +294,7 @@ module _ {M : Type 1} (𝓤 : URA M) (H : Heap 𝓤) (A : Atoms 𝓤) (W : Given
     typed : True (hasTy S′.mir (val held)) × WT (val held)
     typed = LL.lawful S.the-type S′.the-laws 𝓤 H A W .typed held _ gh .0
 
-    walk : (𝓣 : Tables 𝓤 H) → Triple 𝓤 (𝓣 .C #ledger·line-at) (LineAt 𝓤 H A at-mem run) → ent 𝓤 (onEntry 𝓤 H A fill.signature (κ, tt) (q, tt) x at)
+    walk : (𝓣 : Tables 𝓤 H) → Triple 𝓤 (𝓣 .C #held-lines·line-at) (LineAt 𝓤 H A at-mem run) → ent 𝓤 (onEntry 𝓤 H A fill.signature (κ, tt) (q, tt) x at)
         (WpFn 𝓤 H (𝓣 .C) (𝓣 .Λ) code.function (sliceVal (b, o) n ∷ val held ∷ []) Post)
     walk 𝓣 known =
         qed W ((‵ (flft κ q) ⊛ ‵ ftrue) ∷ ‵ (owns (MutSlice (named 0) κ T.the-row ∷ S.the-row ∷ []) x at) ∷ []) ∵ split ! $ move ! (2 ∷ []) $ fsplit ! $ fsplit ! $ drop ! $ fsplit ! $ keep ! (0 ∷ 1 ∷ 3 ∷ []) $
@@ -304,7 +304,7 @@ module _ {M : Type 1} (𝓤 : URA M) (H : Heap 𝓤) (A : Atoms 𝓤) (W : Given
         move ! (18 ∷ 19 ∷ 20 ∷ []) $ body 𝓣 known l₀ l₁ l₂ l₃ l₄ l₅ l₆ l₇ l₈)))))))))
 
 module _ {M : Type 1} (𝓤 : URA M) (H : Heap 𝓤) (A : Atoms 𝓤) (W : Given 𝓤 H A) (at-mem : Memory → SProp 𝓤) (run : Routine → Fun 𝓤) where
-  fill-walks : (𝓣 : Tables 𝓤 H) → Triple 𝓤 (𝓣 .C #ledger·line-at) (LineAt 𝓤 H A at-mem run) → Walks 𝓤 H A fill.ended stayed (WpFn 𝓤 H (𝓣 .C) (𝓣 .Λ) code.function) (fill.clauses 𝓤 H A at-mem run)
+  fill-walks : (𝓣 : Tables 𝓤 H) → Triple 𝓤 (𝓣 .C #held-lines·line-at) (LineAt 𝓤 H A at-mem run) → Walks 𝓤 H A fill.ended stayed (WpFn 𝓤 H (𝓣 .C) (𝓣 .Λ) code.function) (fill.clauses 𝓤 H A at-mem run)
   fill-walks 𝓣 known = walked 𝓤 H A fill.ended stayed (fill.clauses 𝓤 H A at-mem run) (WpFn 𝓤 H (𝓣 .C) (𝓣 .Λ) code.function) (λ κs. (slice-vals, (LL.vals S.the-type S′.the-laws, tt)))
       (λ κs. (mut-slice-tells (named 0) (κs .0) T.the-row, (LL.tells S.the-type S′.the-laws, tt)))
       (λ κs qs bounds a g are. needs 𝓤 _ _ (λ rq.
@@ -313,7 +313,7 @@ module _ {M : Type 1} (𝓤 : URA M) (H : Heap 𝓤) (A : Atoms 𝓤) (W : Given
   goes : AllGo 𝓤 H A W 1 (fill.signature .params) (fill.ended .kept) stayed
   goes = (goes-slice 𝓤 H A W 1 0 tt (plain (λ _. T.the-row)), (goes-none 𝓤 H A W 1 (λ _. S.the-row) yes (λ κs x f. refl), tt))
 
-fill-meets : {M : Type 1} (𝓤 : URA M) (H : Heap 𝓤) (A : Atoms 𝓤) → Given 𝓤 H A → (at-mem : Memory → SProp 𝓤) (run : Routine → Fun 𝓤) (𝓣 : Tables 𝓤 H) → Triple 𝓤 (𝓣 .C #ledger·line-at) (LineAt 𝓤 H A at-mem run)
+fill-meets : {M : Type 1} (𝓤 : URA M) (H : Heap 𝓤) (A : Atoms 𝓤) → Given 𝓤 H A → (at-mem : Memory → SProp 𝓤) (run : Routine → Fun 𝓤) (𝓣 : Tables 𝓤 H) → Triple 𝓤 (𝓣 .C #held-lines·line-at) (LineAt 𝓤 H A at-mem run)
     → Meets 𝓤 H A fill.signature (WpFn 𝓤 H (𝓣 .C) (𝓣 .Λ) code.function) (fill.spec 𝓤 H A at-mem run)
 fill-meets 𝓤 H A W at-mem run 𝓣 known = walk-meets 𝓤 H A fill.ended stayed W (goes 𝓤 H A W at-mem run) (fill.clauses 𝓤 H A at-mem run) (WpFn 𝓤 H (𝓣 .C) (𝓣 .Λ) code.function) (WpFn-mono 𝓤 H (W .laws) 𝓣 code.function) (fill-walks 𝓤 H A W at-mem run 𝓣 known)
 
@@ -323,4 +323,4 @@ fill-spec 𝓤 H 𝓜 𝓖 𝓡 =
     entered 𝓤 H (tripleOf 𝓤 H (𝓖 .A) fill.signature (fill.spec 𝓤 H (𝓖 .A) (𝓜 .mem) (𝓡 .run)))
     (tables 𝓤 H 𝓜 𝓡 code.env .C) (tables 𝓤 H 𝓜 𝓡 code.env .Λ) #sheets·fill code.function (code.unfolded 𝓤 H 𝓜 𝓡)
     (fill-meets 𝓤 H (𝓖 .A) (givenOf 𝓤 H 𝓜 𝓖) (𝓜 .mem) (𝓡 .run) (tablesOf 𝓤 H 𝓜 (tables 𝓤 H 𝓜 𝓡 code.env))
-    (cited 𝓤 H (LineAt 𝓤 H (𝓖 .A) (𝓜 .mem) (𝓡 .run)) 𝓜 𝓡 code.env #ledger·line-at line-at-def.routine code.calls-ledger·line-at (line-at-thm.met 𝓤 H 𝓜 𝓖 𝓡)))
+    (cited 𝓤 H (LineAt 𝓤 H (𝓖 .A) (𝓜 .mem) (𝓡 .run)) 𝓜 𝓡 code.env #held-lines·line-at line-at-def.routine code.calls-held-lines·line-at (line-at-thm.met 𝓤 H 𝓜 𝓖 𝓡)))

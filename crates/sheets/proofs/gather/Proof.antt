@@ -1,5 +1,5 @@
 -- `sheets::gather` meets its contract: a walk of its MIR, by hand. The lent slice is looked into once, before the loop, and the local array is taken apart there; each turn reads one line and stores it at its place of the array.
--- The array after i turns is `readTo ys i` (ledger's `proofs/Laid.antt`), and the number of turns that are left is the variant. All that it knows of `top`, `no_lines` and `hold` is that each meets its contract.
+-- The array after i turns is `readTo ys i` (held_lines' `proofs/Laid.antt`), and the number of turns that are left is the variant. All that it knows of `top`, `no_lines` and `hold` is that each meets its contract.
 -- Assumes nothing.
 use mathlib.Core.Path.{_≡_, refl, sym, _∙_, ap, subst}
 use Prim.Native.Nat.{ℕ, zero, suc, _+_, _*_, _<_, _^_}
@@ -51,26 +51,26 @@ use denote.Triple.Spec.{Meets, tripleOf}
 use denote.Triple.Table.{entered, cited}
 use denote.Triple.Walked.{says, Stays, stay-none-slice, walkOf, goes-none-slice, Walks, ends-at, walked, walk-meets}
 use Rattle.bills.specs.declared.Line.{Line}
-use Rattle.ledger.specs.declared.Held.{Held}
+use Rattle.held_lines.specs.declared.HeldLines.{HeldLines}
 use Rattle.bills.specs.Billing.{noLine}
-use Rattle.ledger.specs.Lines.{noLines, heldOf, topOf}
+use Rattle.held_lines.specs.Lines.{noLines, heldOf, topOf}
 use Rattle.bills.proofs.Line as Ln
 use Rattle.bills.proofs.Line.Laws as Ln′
-use Rattle.ledger.proofs.Held as Hd
-use Rattle.ledger.proofs.Held.Laws as Hd′
-use Rattle.ledger.proofs.top as top
-use Rattle.ledger.proofs.top.Symbol as top-def
-use Rattle.ledger.proofs.top.Symbol.{name as #ledger·top}
-use Rattle.ledger.proofs.top.Met as top-thm
-use Rattle.ledger.proofs.no_lines as no-lines
-use Rattle.ledger.proofs.no_lines.Symbol as no-lines-def
-use Rattle.ledger.proofs.no_lines.Symbol.{name as #ledger·no-lines}
-use Rattle.ledger.proofs.no_lines.Met as no-lines-thm
-use Rattle.ledger.proofs.hold as hold
-use Rattle.ledger.proofs.hold.Symbol as hold-def
-use Rattle.ledger.proofs.hold.Symbol.{name as #ledger·hold}
-use Rattle.ledger.proofs.hold.Met as hold-thm
-use Rattle.ledger.proofs.Laid.{readTo, none-read, one-more-read, read-length, all-read}
+use Rattle.held_lines.proofs.HeldLines as Hd
+use Rattle.held_lines.proofs.HeldLines.Laws as Hd′
+use Rattle.held_lines.proofs.top as top
+use Rattle.held_lines.proofs.top.Symbol as top-def
+use Rattle.held_lines.proofs.top.Symbol.{name as #held-lines·top}
+use Rattle.held_lines.proofs.top.Met as top-thm
+use Rattle.held_lines.proofs.no_lines as no-lines
+use Rattle.held_lines.proofs.no_lines.Symbol as no-lines-def
+use Rattle.held_lines.proofs.no_lines.Symbol.{name as #held-lines·no-lines}
+use Rattle.held_lines.proofs.no_lines.Met as no-lines-thm
+use Rattle.held_lines.proofs.hold as hold
+use Rattle.held_lines.proofs.hold.Symbol as hold-def
+use Rattle.held_lines.proofs.hold.Symbol.{name as #held-lines·hold}
+use Rattle.held_lines.proofs.hold.Met as hold-thm
+use Rattle.held_lines.proofs.Laid.{readTo, none-read, one-more-read, read-length, all-read}
 use Rattle.sheets.proofs.gather.Key.{name as #sheets·gather}
 use Rattle.sheets.proofs.gather as gather
 use Rattle.sheets.proofs.gather.Statement as stated
@@ -149,7 +149,7 @@ module _ {M : Type 1} (𝓤 : URA M) (H : Heap 𝓤) (A : Atoms 𝓤) (mem : Mem
       (exE 𝓤 _ (λ ws. snd∗ 𝓤 (sem 𝓤 H A (lasts no-lines.ended tt tt ws)) (fact 𝓤 (r ≡ noLines))))
       (guardE 𝓤 (r ≡ noLines) (emp 𝓤) (λ e. guardI 𝓤 (r ≡ readTo ys 0) (emp 𝓤) (e ∙ none-read ys)))
 
-  held-of : (n : ℕ) (zs : List Line) (r : Held) → ent 𝓤 (ensured 𝓤 H A hold.ended (hold.clauses 𝓤 H A mem run) tt (n, (zs, tt)) tt r) (fact 𝓤 (r ≡ heldOf n zs))
+  held-of : (n : ℕ) (zs : List Line) (r : HeldLines) → ent 𝓤 (ensured 𝓤 H A hold.ended (hold.clauses 𝓤 H A mem run) tt (n, (zs, tt)) tt r) (fact 𝓤 (r ≡ heldOf n zs))
   held-of n zs r = exE 𝓤 _ (λ ws. snd∗ 𝓤 (sem 𝓤 H A (lasts hold.ended tt (n, (zs, tt)) ws)) (fact 𝓤 (r ≡ heldOf n zs)))
 
 module _ {M : Type 1} (𝓤 : URA M) (H : Heap 𝓤) (A : Atoms 𝓤) (W : Given 𝓤 H A) where
@@ -192,7 +192,7 @@ module _ {M : Type 1} (𝓤 : URA M) (H : Heap 𝓤) (A : Atoms 𝓤) (W : Given
   abbrev last : List Line
   last = readTo ys (topOf n)
 
-  exits : Room LineT n → (r : Held) (v : Val) → r ≡ heldOf n last → ent 𝓤 (⋆ 𝓤 H A (‵ (flft κ q) ∷ ‵ Res ∷ ‵ Lent ∷ ‵ (HeldT .own r (v ∷ [])) ∷ [])) (Post v)
+  exits : Room LineT n → (r : HeldLines) (v : Val) → r ≡ heldOf n last → ent 𝓤 (⋆ 𝓤 H A (‵ (flft κ q) ∷ ‵ Res ∷ ‵ Lent ∷ ‵ (HeldT .own r (v ∷ [])) ∷ [])) (Post v)
   exits g r v e =
       qed W (‵ (flft κ q) ∷ ‵ Res ∷ ‵ Lent ∷ ‵ (HeldT .own r (v ∷ [])) ∷ []) ∵
       suffices ! _ (ends-at 𝓤 H A gather.ended stayed (gather.clauses 𝓤 H A mem run) W (((κ, tt), (q, tt), tt, x, at), tt) v r (tt, tt) (tt, tt)) $ says ! (e ∙ all-read ys) $
@@ -224,7 +224,7 @@ module _ {M : Type 1} (𝓤 : URA M) (H : Heap 𝓤) (A : Atoms 𝓤) (W : Given
   abbrev Locals : (l₀ l₁ l₂ l₃ l₄ l₅ l₆ l₇ l₈ l₉ m₀ m₁ m₂ m₃ : ℕ) → Env 𝓤 H
   Locals l₀ l₁ l₂ l₃ l₄ l₅ l₆ l₇ l₈ l₉ m₀ m₁ m₂ m₃ = (Hd′.mir, l₀) ∷ (slice, l₁) ∷ (word, l₂) ∷ (word, l₃) ∷ (arr, l₄) ∷ (word, l₅) ∷ (arr, l₆) ∷ (tyBool, l₇) ∷ (word, l₈) ∷ (tyPtr, l₉) ∷ (Ln′.mir, m₀) ∷ (word, m₁) ∷ (tyPtr, m₂) ∷ (tyPtr, m₃) ∷ []
 
-  module _ (𝓣 : Tables 𝓤 H) (g : Room LineT n) (known-hold : Triple 𝓤 (𝓣 .C #ledger·hold) (Hold 𝓤 H A mem run)) (q′ : Share) (l₀ l₁ l₂ l₃ l₄ l₅ l₆ l₇ l₈ l₉ m₀ m₁ m₂ m₃ : ℕ) where
+  module _ (𝓣 : Tables 𝓤 H) (g : Room LineT n) (known-hold : Triple 𝓤 (𝓣 .C #held-lines·hold) (Hold 𝓤 H A mem run)) (q′ : Share) (l₀ l₁ l₂ l₃ l₄ l₅ l₆ l₇ l₈ l₉ m₀ m₁ m₂ m₃ : ℕ) where
     abbrev C : Calls 𝓤 H
     C = 𝓣 .C
 
@@ -319,7 +319,7 @@ module _ {M : Type 1} (𝓤 : URA M) (H : Heap 𝓤) (A : Atoms 𝓤) (W : Given
         assigns ! (of-opd ! (load ! (from ! (stop !)) (look ! 1 refl))) (from ! (stop !)) (init ! 14 refl (array-lawful 𝓤 H A W LineT (LL.lawful Ln.the-type Ln′.the-laws 𝓤 H A W) most-bays .typed last (arr-vals last) is .0)) $
         owned ! usize (Is usize) (uint-makes 𝓤 H A W w64) n (vint w64 n ∷ []) (refl, g .0) $ use2 W (raw (Hold 𝓤 H A mem run .pre (to-hold last))) (goes-hold last) $
         calls-at ! (fmOf 𝓤 H (W .laws) 𝓣) (Hold 𝓤 H A mem run) known-hold (to-hold last) (and-then ! (load ! (from ! (stop !)) (look ! 12 refl)) (and-then ! (load ! (from ! (stop !)) (look ! 14 refl)) (no-more !))) (λ v.
-        use1 W (later (some (λ (r : Held). (‵ ftrue ⊛ ‵ (HeldT .own r (v ∷ []))) ⊛ raw (ensured 𝓤 H A hold.ended (hold.clauses 𝓤 H A mem run) tt (n, (last, tt)) tt r)))) (id⊢ 𝓤 _) $ await ! tt $ pick ! (λ r.
+        use1 W (later (some (λ (r : HeldLines). (‵ ftrue ⊛ ‵ (HeldT .own r (v ∷ []))) ⊛ raw (ensured 𝓤 H A hold.ended (hold.clauses 𝓤 H A mem run) tt (n, (last, tt)) tt r)))) (id⊢ 𝓤 _) $ await ! tt $ pick ! (λ r.
         split ! $ move ! (1 ∷ []) $ use1 W (raw (fact 𝓤 (r ≡ heldOf n last))) (held-of 𝓤 H A mem run n last r) $ heard ! (r ≡ heldOf n last) (λ e. split ! $ drop ! $
         peeks ! HeldT (Is HeldT) (shows 𝓤 H A HeldT) r (v ∷ []) (λ is′.
         land ! (from ! (stop !)) (init ! 15 refl (LL.lawful Hd.the-type Hd′.the-laws 𝓤 H A W .typed r (v ∷ []) is′ .0)) $
@@ -353,8 +353,8 @@ module _ {M : Type 1} (𝓤 : URA M) (H : Heap 𝓤) (A : Atoms 𝓤) (W : Given
         (via 𝓤 (guard 𝓤 (Facts (topOf n) 0) (⋆ 𝓤 H A (At 0))) (guardI 𝓤 (Facts (topOf n) 0) (⋆ 𝓤 H A (At 0)) (zero-add (topOf n))) (exI 𝓤 (λ (j : ℕ). guard 𝓤 (Facts (topOf n) j) (⋆ 𝓤 H A (At j))) 0))
         (loop-rule 𝓤 H (W .laws) 𝓣 _<_ (Nat·lt-wfRel .wf) En turn Left Inv turns (topOf n))
 
-  module _ (𝓣 : Tables 𝓤 H) (known-top : Triple 𝓤 (𝓣 .C #ledger·top) (Top 𝓤 H A mem run)) (known-no-lines : Triple 𝓤 (𝓣 .C #ledger·no-lines) (NoLines 𝓤 H A mem run))
-      (known-hold : Triple 𝓤 (𝓣 .C #ledger·hold) (Hold 𝓤 H A mem run)) (g : Room LineT n) where
+  module _ (𝓣 : Tables 𝓤 H) (known-top : Triple 𝓤 (𝓣 .C #held-lines·top) (Top 𝓤 H A mem run)) (known-no-lines : Triple 𝓤 (𝓣 .C #held-lines·no-lines) (NoLines 𝓤 H A mem run))
+      (known-hold : Triple 𝓤 (𝓣 .C #held-lines·hold) (Hold 𝓤 H A mem run)) (g : Room LineT n) where
     -- [_13; …; _12; …; _11; …; _10; …; _9; …; _8; …; _7; …; _6; …; _5; …; _4; …; _3; …; _2; …; _1; …; _0; …; the token; what the parameter owns]
     abbrev Entered : (l₀ l₁ l₂ l₃ l₄ l₅ l₆ l₇ l₈ l₉ m₀ m₁ m₂ m₃ : ℕ) → List (Item 𝓤)
     Entered l₀ l₁ l₂ l₃ l₄ l₅ l₆ l₇ l₈ l₉ m₀ m₁ m₂ m₃ = ‵ (froom tyPtr m₃ 0) ∷ ‵ (fdies tyPtr m₃) ∷ ‵ (froom tyPtr m₂ 0) ∷ ‵ (fdies tyPtr m₂) ∷ ‵ (froom word m₁ 0) ∷ ‵ (fdies word m₁) ∷ ‵ (froom Ln′.mir m₀ 0) ∷ ‵ (fdies Ln′.mir m₀) ∷ ‵ (froom tyPtr l₉ 0) ∷ ‵ (fdies tyPtr l₉)
@@ -400,8 +400,8 @@ module _ {M : Type 1} (𝓤 : URA M) (H : Heap 𝓤) (A : Atoms 𝓤) (W : Given
         alloc1 ! (λ l₀. alloc1 ! (λ l₁. alloc1 ! (λ l₂. alloc1 ! (λ l₃. alloc1 ! (λ l₄. alloc1 ! (λ l₅. alloc1 ! (λ l₆. alloc1 ! (λ l₇. alloc1 ! (λ l₈. alloc1 ! (λ l₉. alloc1 ! (λ m₀. alloc1 ! (λ m₁. alloc1 ! (λ m₂. alloc1 ! (λ m₃. alloc0 ! $ params1 ! $
         pass1 ! (init ! 24 refl (tt, (tt, (record { fits = g .0 }, tt)))) $ pass0 ! $ body l₀ l₁ l₂ l₃ l₄ l₅ l₆ l₇ l₈ l₉ m₀ m₁ m₂ m₃))))))))))))))
 
-module _ {M : Type 1} (𝓤 : URA M) (H : Heap 𝓤) (A : Atoms 𝓤) (W : Given 𝓤 H A) (mem : Memory → SProp 𝓤) (run : Routine → Fun 𝓤) (𝓣 : Tables 𝓤 H) (known-top : Triple 𝓤 (𝓣 .C #ledger·top) (Top 𝓤 H A mem run))
-    (known-no-lines : Triple 𝓤 (𝓣 .C #ledger·no-lines) (NoLines 𝓤 H A mem run)) (known-hold : Triple 𝓤 (𝓣 .C #ledger·hold) (Hold 𝓤 H A mem run)) where
+module _ {M : Type 1} (𝓤 : URA M) (H : Heap 𝓤) (A : Atoms 𝓤) (W : Given 𝓤 H A) (mem : Memory → SProp 𝓤) (run : Routine → Fun 𝓤) (𝓣 : Tables 𝓤 H) (known-top : Triple 𝓤 (𝓣 .C #held-lines·top) (Top 𝓤 H A mem run))
+    (known-no-lines : Triple 𝓤 (𝓣 .C #held-lines·no-lines) (NoLines 𝓤 H A mem run)) (known-hold : Triple 𝓤 (𝓣 .C #held-lines·hold) (Hold 𝓤 H A mem run)) where
   gather-walks : Walks 𝓤 H A gather.ended stayed (WpFn 𝓤 H (𝓣 .C) (𝓣 .Λ) code.function) (gather.clauses 𝓤 H A mem run)
   gather-walks = walked 𝓤 H A gather.ended stayed (gather.clauses 𝓤 H A mem run) (WpFn 𝓤 H (𝓣 .C) (𝓣 .Λ) code.function) (λ κs. (slice-vals, tt)) (λ κs. (shr-slice-tells (named 0) (κs .0) LineT, tt))
       (λ κs qs bounds a g are. via 𝓤 _ (fst∗ 𝓤 _ (emp 𝓤))
@@ -417,6 +417,6 @@ gather-spec 𝓤 H 𝓜 𝓖 𝓡 =
     entered 𝓤 H (tripleOf 𝓤 H (𝓖 .A) gather.signature (gather.spec 𝓤 H (𝓖 .A) (𝓜 .mem) (𝓡 .run)))
     (tables 𝓤 H 𝓜 𝓡 code.env .C) (tables 𝓤 H 𝓜 𝓡 code.env .Λ) #sheets·gather code.function (code.unfolded 𝓤 H 𝓜 𝓡)
     (gather-meets 𝓤 H (𝓖 .A) (givenOf 𝓤 H 𝓜 𝓖) (𝓜 .mem) (𝓡 .run) (tablesOf 𝓤 H 𝓜 (tables 𝓤 H 𝓜 𝓡 code.env))
-    (cited 𝓤 H (Top 𝓤 H (𝓖 .A) (𝓜 .mem) (𝓡 .run)) 𝓜 𝓡 code.env #ledger·top top-def.routine code.calls-ledger·top (top-thm.met 𝓤 H 𝓜 𝓖 𝓡))
-    (cited 𝓤 H (NoLines 𝓤 H (𝓖 .A) (𝓜 .mem) (𝓡 .run)) 𝓜 𝓡 code.env #ledger·no-lines no-lines-def.routine code.calls-ledger·no-lines (no-lines-thm.met 𝓤 H 𝓜 𝓖 𝓡))
-    (cited 𝓤 H (Hold 𝓤 H (𝓖 .A) (𝓜 .mem) (𝓡 .run)) 𝓜 𝓡 code.env #ledger·hold hold-def.routine code.calls-ledger·hold (hold-thm.met 𝓤 H 𝓜 𝓖 𝓡)))
+    (cited 𝓤 H (Top 𝓤 H (𝓖 .A) (𝓜 .mem) (𝓡 .run)) 𝓜 𝓡 code.env #held-lines·top top-def.routine code.calls-held-lines·top (top-thm.met 𝓤 H 𝓜 𝓖 𝓡))
+    (cited 𝓤 H (NoLines 𝓤 H (𝓖 .A) (𝓜 .mem) (𝓡 .run)) 𝓜 𝓡 code.env #held-lines·no-lines no-lines-def.routine code.calls-held-lines·no-lines (no-lines-thm.met 𝓤 H 𝓜 𝓖 𝓡))
+    (cited 𝓤 H (Hold 𝓤 H (𝓖 .A) (𝓜 .mem) (𝓡 .run)) 𝓜 𝓡 code.env #held-lines·hold hold-def.routine code.calls-held-lines·hold (hold-thm.met 𝓤 H 𝓜 𝓖 𝓡)))

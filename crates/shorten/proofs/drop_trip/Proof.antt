@@ -3,7 +3,7 @@
 use borrow.Author.Needs.{needs}
 use borrow.Author.Tests.{eqb-true}
 use Rattle.shorten.proofs.Trimming.{trim-next, trim-end, trim-over}
-use Rattle.shorten.proofs.Passing.{keeps-1, own-keeps}
+use Rattle.returning.proofs.Passing.{keeps-1, own-keeps}
 use Rattle.chains.proofs.Linking.{linked-drop}
 use Rattle.chains.specs.Links.{Linked}
 use Rattle.trips.specs.Names.{dropTrip}

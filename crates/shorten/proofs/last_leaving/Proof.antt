@@ -4,7 +4,6 @@ use borrow.Author.Needs.{needs}
 use Rattle.shorten.proofs.Noting.{NoneLeaves, none-start, none-more, none-over, leaving-found, leaving-none}
 use Rattle.docket.specs.Reading.{crossingOf}
 use Rattle.paper.specs.Yard.{crossings, named}
-use lib.ListN.{length}
 use Prim.Native.Nat.{suc, _≤_, _-_}
 use mathlib.Core.Path.{_≡_, refl, sym, _∙_, ap}
 use denote.Ref.{now}

@@ -1,6 +1,6 @@
 -- `shorten::leaves_bay` meets its contract. A dropped crossing leaves no bay.
 -- Assumes nothing.
-use Rattle.shorten.proofs.Asking.{gone-not, in-so}
+use Rattle.returning.proofs.Asking.{gone-not, in-so}
 use lib.Dec.{eqb}
 use mathlib.Core.Path.{_∙_, ap}
 use borrow.Author.Needs.{needs}

@@ -1,6 +1,6 @@
 -- `step::make_way` meets its contract. Where the vacate fails nothing has moved, so the swap starts where the step did.
 -- Assumes nothing.
-use mathlib.Core.Path.{_≡_, ap}
+use mathlib.Core.Path.{_∙_, _≡_, ap}
 use Prim.Native.Nat.{_<_}
 use native.Mathlib.Omega.{arith}
 use lib.ListN.{length, getD}
@@ -51,13 +51,13 @@ make-room-requires c κs =
     let start = c .before .before .before .before .before .before .before .before .before .before .before .before .before .before .before .before .before .before .before .before .before in
     let p = start .pre .0 in
     let z = start .pre .1 in
-    (p, (z .2, omega (arith, add .kept .0, keep .kept .0), omega (arith, z .5), heldBy (p .tabled) (start .args .next .carrier .0) (z .6) (keep .ensures) (add .ensures)))
+    (p, (z .2, omega (arith, add .kept .0, keep .kept .0), omega arith, heldBy (p .tabled) (start .args .next .carrier .0) (z .5) (keep .ensures) (add .ensures)))
 
 enum-known-vacated : tie.Need-enum-known-vacated
-enum-known-vacated c = search needs
+enum-known-vacated c = c .match .keys1
 
 enum-told : tie.Need-enum-told
-enum-told c = search needs
+enum-told c = c .match .keys2
 
 cast-bay : tie.Need-cast-bay
 cast-bay c = search needs
@@ -80,7 +80,7 @@ cast-t41 c =
     let p = start .pre .0 in
     let z = start .pre .1 in
     let e : make-room .result ≡ Failed = c .before .before .enum-told .given .1 in
-    let a = rw e at (make-room .ensures .1 (heldBy (p .tabled) (start .args .next .carrier .0) (z .6) (keep .ensures) (add .ensures))) in
+    let a = rw e at (make-room .ensures .1 (heldBy (p .tabled) (start .args .next .carrier .0) (z .5) (keep .ensures) (add .ensures))) in
     let u = a .fails (acted-failed a) .1 in
     let h : getD (make-room .last .1 .1 .1 .1 .0) (start .args .next .to .0) 0 < length (start .args .placement .now) = rw (u .same-standing) (met-carrier (p .tabled) (p .most) (z .4) (start .args .next .finished) (start .args .next .carrier .0) (start .args .next .to .0) (start .args .placement .now) (p .placed) (z .0) (z .2) (z .3) (acted-failed a) .0) in
     omega (arith, h, p .most, p .placed .few)
@@ -94,7 +94,7 @@ swap-requires c κs =
     let p = start .pre .0 in
     let z = start .pre .1 in
     let e : make-room .result ≡ Failed = c .before .before .before .before .before .before .enum-told .given .1 in
-    let a = rw e at (make-room .ensures .1 (heldBy (p .tabled) (start .args .next .carrier .0) (z .6) (keep .ensures) (add .ensures))) in
+    let a = rw e at (make-room .ensures .1 (heldBy (p .tabled) (start .args .next .carrier .0) (z .5) (keep .ensures) (add .ensures))) in
     let f = acted-failed a in
     let u = a .fails f .1 in
     let m = met-carrier (p .tabled) (p .most) (z .4) (start .args .next .finished) (start .args .next .carrier .0) (start .args .next .to .0) (start .args .placement .now) (p .placed) (z .0) (z .2) (z .3) f in
@@ -107,22 +107,21 @@ swap-requires c κs =
         rw sp (z .0),
         rw (sp, ss) (m .0),
         rw ss (met-other (p .tabled) (p .most) (z .4) (start .args .next .finished) (start .args .next .carrier .0) (start .args .next .to .0) (start .args .placement .now) (p .placed) (z .0) (z .2) (z .3) f),
-        z .5,
         rw (sp, ss) (record { tabled = p .tabled; beside = b }),
       ),
     )
 
 same-length : tie.Need-same-length
-same-length c = search needs
+same-length c = c .before .before .before .before .before .before .swap .kept .1 .1 .1 .0 ∙ c .before .before .before .before .before .before .before .before .before .before .before .before .before .before .before .before .before .before .before .before .before .before .before .make-room .kept .1 .1 .1 .0
 
 same-length-2 : tie.Need-same-length-2
-same-length-2 c = search needs
+same-length-2 c = c .before .before .before .before .before .before .swap .kept .1 .1 .1 .1 .0 ∙ c .before .before .before .before .before .before .before .before .before .before .before .before .before .before .before .before .before .before .before .before .before .before .before .make-room .kept .1 .1 .1 .1 .0
 
 same-length-3 : tie.Need-same-length-3
-same-length-3 c = search needs
+same-length-3 c = c .before .before .before .before .before .before .before .before .before .before .before .before .before .before .before .before .before .before .before .before .before .before .before .make-room .kept .1 .1 .1 .1 .1 .0
 
 same-length-4 : tie.Need-same-length-4
-same-length-4 c = search needs
+same-length-4 c = c .before .before .before .before .before .before .swap .kept .1 .1 .1 .1 .1 .1 .0 ∙ c .before .before .before .before .before .before .before .before .before .before .before .before .before .before .before .before .before .before .before .before .before .before .before .make-room .kept .1 .1 .1 .1 .1 .1 .0
 
 returns : tie.Need-returns
 returns c =
@@ -137,7 +136,7 @@ returns c =
     let e : make-room .result ≡ Failed = enum-told .given .1 in (
       swap .ensures .0,
       λ t.
-          let a = rw e at (make-room .ensures .1 (heldBy t (start .args .next .carrier .0) (z .6) (keep .ensures) (add .ensures))) in
+          let a = rw e at (make-room .ensures .1 (heldBy t (start .args .next .carrier .0) (z .5) (keep .ensures) (add .ensures))) in
           let f = acted-failed a in
           let u = a .fails f .1 in
           let se : make-room .last .1 .1 .1 .1 .1 .0 ≡ start .args .empty .now = u .same-empty in
@@ -168,28 +167,28 @@ cross-requires c κs =
     let few = rw e at (make-room .ensures .0) in
     let kw : length (make-room .last .1 .1 .1 .1 .0) ≡ length (start .args .standing .now) = make-room .kept .1 .1 .1 .1 .0 in
     let kf : length (make-room .last .1 .1 .1 .1 .1 .0) ≡ length (start .args .empty .now) = make-room .kept .1 .1 .1 .1 .1 .0 in
-    let d = acted-done (rw e at (make-room .ensures .1 (heldBy (p .tabled) (start .args .next .carrier .0) (z .6) (keep .ensures) (add .ensures)))) in (
+    let d = acted-done (rw e at (make-room .ensures .1 (heldBy (p .tabled) (start .args .next .carrier .0) (z .5) (keep .ensures) (add .ensures)))) in (
       rw kw (d .2 .placed .inside (start .args .next .carrier .0) (r-inside (p .tabled) (p .most) (z .4) (start .args .next .finished) (start .args .next .carrier .0) (start .args .next .to .0) (start .args .placement .now) (p .placed) (z .0) (z .2) (z .3) (d .0) (d .1) _ (d .2 .moved))),
       rw kw (z .2),
       omega (arith, p .most, kw),
       omega (arith, p .empty-size, kf),
-      omega (arith, few, z .5),
+      omega (arith, few),
       r-there (p .tabled) (p .most) (z .4) (start .args .next .finished) (start .args .next .carrier .0) (start .args .next .to .0) (start .args .placement .now) (p .placed) (z .0) (z .2) (z .3) (d .0) (d .1) _ (d .2 .moved),
       w-empty (p .tabled) (p .most) (z .4) (start .args .next .finished) (start .args .next .carrier .0) (start .args .next .to .0) (start .args .placement .now) (p .placed) (z .0) (z .2) (z .3) (d .0) (d .1) _ (d .2 .moved),
       rw kw (d .2 .placed),
     )
 
 same-length-5 : tie.Need-same-length-5
-same-length-5 c = search needs
+same-length-5 c = c .before .before .before .before .before .before .before .before .cross .kept .0 ∙ c .before .before .before .before .before .before .before .before .before .before .before .before .before .before .before .before .before .before .before .before .before .before .before .before .before .make-room .kept .1 .1 .1 .0
 
 same-length-6 : tie.Need-same-length-6
-same-length-6 c = search needs
+same-length-6 c = c .before .before .before .before .before .before .before .before .cross .kept .1 .0 ∙ c .before .before .before .before .before .before .before .before .before .before .before .before .before .before .before .before .before .before .before .before .before .before .before .before .before .make-room .kept .1 .1 .1 .1 .0
 
 same-length-7 : tie.Need-same-length-7
-same-length-7 c = search needs
+same-length-7 c = c .before .before .before .before .before .before .before .before .cross .kept .1 .1 .0 ∙ c .before .before .before .before .before .before .before .before .before .before .before .before .before .before .before .before .before .before .before .before .before .before .before .before .before .make-room .kept .1 .1 .1 .1 .1 .0
 
 same-length-8 : tie.Need-same-length-8
-same-length-8 c = search needs
+same-length-8 c = c .before .before .before .before .before .before .before .before .cross .kept .1 .1 .1 .1 .1 .0 ∙ c .before .before .before .before .before .before .before .before .before .before .before .before .before .before .before .before .before .before .before .before .before .before .before .before .before .make-room .kept .1 .1 .1 .1 .1 .1 .0
 
 returns-2 : tie.Need-returns-2
 returns-2 c =
@@ -208,7 +207,7 @@ returns-2 c =
     let crossed = rw kw at (cross .ensures) in (
       omega (arith, few, crossed .counted),
       λ t.
-          let d = acted-done (rw e at (make-room .ensures .1 (heldBy t (start .args .next .carrier .0) (z .6) (keep .ensures) (add .ensures)))) in
+          let d = acted-done (rw e at (make-room .ensures .1 (heldBy t (start .args .next .carrier .0) (z .5) (keep .ensures) (add .ensures)))) in
           stepped-cross t (p .most) (z .4) (start .args .next .finished) (start .args .next .carrier .0) (start .args .next .to .0) (start .args .placement .now) (p .placed) (z .0) (z .2) (z .3) (d .0) (d .1) (d .2) crossed,
     )
 

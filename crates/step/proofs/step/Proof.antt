@@ -12,35 +12,35 @@ use Rattle.step.proofs.step.Tie as tie
 cast-own : tie.Need-cast-own
 cast-own c = search needs
 
-mul-t16 : tie.Need-mul-t16
-mul-t16 c = search needs
+mul-t15 : tie.Need-mul-t15
+mul-t15 c = search needs
 
-slice-read-t18 : tie.Need-slice-read-t18
-slice-read-t18 c = search needs
+slice-read-t17 : tie.Need-slice-read-t17
+slice-read-t17 c = search needs
 
 step-to-requires : tie.Need-step-to-requires
-step-to-requires c κs = search needs
+step-to-requires c κs = let start = c .before .before .before .before .before .before .before .before .before .before .before .before .before .before .before in (start .pre .0, start .pre .1)
 
 enum-known-stepped : tie.Need-enum-known-stepped
-enum-known-stepped c = search needs
+enum-known-stepped c = c .match .keys1
 
 enum-told : tie.Need-enum-told
-enum-told c = search needs
+enum-told c = c .match .keys2
 
 same-length : tie.Need-same-length
-same-length c = search needs
+same-length c = c .before .before .before .before .before .before .before .before .before .before .step-to .kept .1 .1 .1 .0
 
 same-length-2 : tie.Need-same-length-2
-same-length-2 c = search needs
+same-length-2 c = c .before .before .before .before .before .before .before .before .before .before .step-to .kept .1 .1 .1 .1 .0
 
 same-length-3 : tie.Need-same-length-3
-same-length-3 c = search needs
+same-length-3 c = c .before .before .before .before .before .before .before .before .before .before .step-to .kept .1 .1 .1 .1 .1 .0
 
 same-length-4 : tie.Need-same-length-4
 same-length-4 c = search needs
 
 same-length-5 : tie.Need-same-length-5
-same-length-5 c = search needs
+same-length-5 c = c .before .before .before .before .before .before .before .before .before .before .step-to .kept .1 .1 .1 .1 .1 .1 .0
 
 returns : tie.Need-returns
 returns c =
@@ -51,29 +51,29 @@ returns c =
     let e : step-to .result ≡ Failed = c .enum-told .given .1 in
     let a = rw e at (step-to .ensures .1) in
     let f = a (p .tabled) in
-    (tt, a, rw (f .still refl) (z .6))
+    (tt, a, rw (f .still refl) (z .5))
 
 settle-requires : tie.Need-settle-requires
 settle-requires c κs =
     let start = c .before .before .before .before .before .before .before .before .before .before .before .before .before .before .before .before .before .before .before .before .before .before .before .before .before .before .before .before in
     let p = start .pre .0 in
     let z = start .pre .1 in
-    (z .6 .size, omega (arith, p .placed .inside (start .args .next .carrier .0) (z .0), p .most), omega (arith, z .2, p .most))
+    (z .5 .size, omega (arith, p .placed .inside (start .args .next .carrier .0) (z .0), p .most), omega (arith, z .2, p .most))
 
 same-length-6 : tie.Need-same-length-6
-same-length-6 c = search needs
+same-length-6 c = c .before .before .before .before .before .before .before .before .before .before .before .before .before .before .before .step-to .kept .1 .1 .1 .0
 
 same-length-7 : tie.Need-same-length-7
-same-length-7 c = search needs
+same-length-7 c = c .before .before .before .before .before .before .before .before .before .before .before .before .before .before .before .step-to .kept .1 .1 .1 .1 .0
 
 same-length-8 : tie.Need-same-length-8
-same-length-8 c = search needs
+same-length-8 c = c .before .before .before .before .before .before .before .before .before .before .before .before .before .before .before .step-to .kept .1 .1 .1 .1 .1 .0
 
 same-length-9 : tie.Need-same-length-9
-same-length-9 c = search needs
+same-length-9 c = c .before .before .settle .kept .0
 
 same-length-10 : tie.Need-same-length-10
-same-length-10 c = search needs
+same-length-10 c = c .before .before .before .before .before .before .before .before .before .before .before .before .before .before .before .step-to .kept .1 .1 .1 .1 .1 .1 .0
 
 returns-2 : tie.Need-returns-2
 returns-2 c =
@@ -87,7 +87,7 @@ returns-2 c =
       rw e at (step-to .ensures .0),
       a,
       settled-after (p .tabled) (p .most) (z .4) (start .args .next .finished) (start .args .next .carrier .0) (start .args .next .to .0) (start .args .placement .now) (p .placed) (z .0) (z .1) (z .2) (z .3)
-          (a (p .tabled)) (z .6) (c .before .before .settle .kept .0) (c .before .before .settle .ensures),
+          (a (p .tabled)) (z .5) (c .before .before .settle .kept .0) (c .before .before .settle .ensures),
     )
 
 pub step-spec : {M : Type 1} → statement M
@@ -95,8 +95,8 @@ step-spec =
     tie.close
     (tie.spec
     cast-own
-    mul-t16
-    slice-read-t18
+    mul-t15
+    slice-read-t17
     step-to-requires
     enum-known-stepped
     enum-told

@@ -1,6 +1,6 @@
 -- `step::step_aside` meets its contract.
 -- Assumes nothing.
-use mathlib.Core.Path.{_≡_}
+use mathlib.Core.Path.{_∙_, _≡_}
 use native.Mathlib.Omega.{arith}
 use lib.ListN.{length}
 use borrow.Author.Needs.{needs}
@@ -16,12 +16,12 @@ fill-requires c κs =
     let z = start .pre .1 in (
       (
         z .2,
-        inside-e (p .tabled) (p .most) (z .4) (start .args .next .finished) (start .args .next .carrier .0) (start .args .next .to .0) (start .args .placement .now) (p .placed) (z .0) (z .1) (z .2) (z .3) (z .6) (z .7) (start .args .e .0) (z .8) (z .9),
+        inside-e (p .tabled) (p .most) (z .4) (start .args .next .finished) (start .args .next .carrier .0) (start .args .next .to .0) (start .args .placement .now) (p .placed) (z .0) (z .1) (z .2) (z .3) (z .5) (z .6) (start .args .e .0) (z .7) (z .8),
         p .most,
         p .empty-size,
-        omega (arith, z .5),
-        full-in (p .tabled) (p .most) (z .4) (start .args .next .finished) (start .args .next .carrier .0) (start .args .next .to .0) (start .args .placement .now) (p .placed) (z .0) (z .1) (z .2) (z .3) (z .6) (z .7) (start .args .e .0) (z .8) (z .9),
-        empty-e (p .tabled) (p .most) (z .4) (start .args .next .finished) (start .args .next .carrier .0) (start .args .next .to .0) (start .args .placement .now) (p .placed) (z .0) (z .1) (z .2) (z .3) (z .6) (z .7) (start .args .e .0) (z .8) (z .9),
+        omega arith,
+        full-in (p .tabled) (p .most) (z .4) (start .args .next .finished) (start .args .next .carrier .0) (start .args .next .to .0) (start .args .placement .now) (p .placed) (z .0) (z .1) (z .2) (z .3) (z .5) (z .6) (start .args .e .0) (z .7) (z .8),
+        empty-e (p .tabled) (p .most) (z .4) (start .args .next .finished) (start .args .next .carrier .0) (start .args .next .to .0) (start .args .placement .now) (p .placed) (z .0) (z .1) (z .2) (z .3) (z .5) (z .6) (start .args .e .0) (z .7) (z .8),
         p .placed,
       ),
       p .table-size,
@@ -45,28 +45,28 @@ cross-requires c κs =
     let kw : length (fill .last .1 .1 .0) ≡ length (start .args .standing .now) = fill .kept .1 .1 .0 in
     let kf : length (fill .last .1 .1 .1 .0) ≡ length (start .args .empty .now) = fill .kept .1 .1 .1 .0 in
     let d = fill .ensures (p .tabled) in
-    let m = made-aside (p .tabled) (p .most) (z .4) (start .args .next .finished) (start .args .next .carrier .0) (start .args .next .to .0) (start .args .placement .now) (p .placed) (z .0) (z .1) (z .2) (z .3) (z .6) (z .7) (start .args .e .0) (z .8) (z .9) in (
+    let m = made-aside (p .tabled) (p .most) (z .4) (start .args .next .finished) (start .args .next .carrier .0) (start .args .next .to .0) (start .args .placement .now) (p .placed) (z .0) (z .1) (z .2) (z .3) (z .5) (z .6) (start .args .e .0) (z .7) (z .8) in (
       rw kw (d .placed .inside (start .args .next .carrier .0) (r-inside (p .tabled) (p .most) (z .4) (start .args .next .finished) (start .args .next .carrier .0) (start .args .next .to .0) (start .args .placement .now) (p .placed) (z .0) (z .2) (z .3) _ m _ (d .moved))),
       rw kw (z .2),
       omega (arith, p .most, kw),
       omega (arith, p .empty-size, kf),
-      omega (arith, d .counted, z .5),
+      omega (arith, d .counted),
       r-there (p .tabled) (p .most) (z .4) (start .args .next .finished) (start .args .next .carrier .0) (start .args .next .to .0) (start .args .placement .now) (p .placed) (z .0) (z .2) (z .3) _ m _ (d .moved),
       w-empty (p .tabled) (p .most) (z .4) (start .args .next .finished) (start .args .next .carrier .0) (start .args .next .to .0) (start .args .placement .now) (p .placed) (z .0) (z .2) (z .3) _ m _ (d .moved),
       rw kw (d .placed),
     )
 
 same-length : tie.Need-same-length
-same-length c = search needs
+same-length c = c .before .before .before .before .before .before .before .before .cross .kept .0 ∙ c .before .before .before .before .before .before .before .before .before .before .before .before .before .before .before .before .before .before .before .before .before .before .before .fill .kept .1 .0
 
 same-length-2 : tie.Need-same-length-2
-same-length-2 c = search needs
+same-length-2 c = c .before .before .before .before .before .before .before .before .cross .kept .1 .0 ∙ c .before .before .before .before .before .before .before .before .before .before .before .before .before .before .before .before .before .before .before .before .before .before .before .fill .kept .1 .1 .0
 
 same-length-3 : tie.Need-same-length-3
-same-length-3 c = search needs
+same-length-3 c = c .before .before .before .before .before .before .before .before .cross .kept .1 .1 .0 ∙ c .before .before .before .before .before .before .before .before .before .before .before .before .before .before .before .before .before .before .before .before .before .before .before .fill .kept .1 .1 .1 .0
 
 same-length-4 : tie.Need-same-length-4
-same-length-4 c = search needs
+same-length-4 c = c .before .before .before .before .before .before .before .before .cross .kept .1 .1 .1 .1 .1 .0 ∙ c .before .before .before .before .before .before .before .before .before .before .before .before .before .before .before .before .before .before .before .before .before .before .before .fill .kept .1 .1 .1 .1 .1 .1 .0
 
 returns : tie.Need-returns
 returns c =
@@ -80,7 +80,7 @@ returns c =
     let crossed = rw kw at (cross .ensures) in (
       omega (arith, d .counted, crossed .counted),
       λ t.
-          let m = made-aside t (p .most) (z .4) (start .args .next .finished) (start .args .next .carrier .0) (start .args .next .to .0) (start .args .placement .now) (p .placed) (z .0) (z .1) (z .2) (z .3) (z .6) (z .7) (start .args .e .0) (z .8) (z .9) in
+          let m = made-aside t (p .most) (z .4) (start .args .next .finished) (start .args .next .carrier .0) (start .args .next .to .0) (start .args .placement .now) (p .placed) (z .0) (z .1) (z .2) (z .3) (z .5) (z .6) (start .args .e .0) (z .7) (z .8) in
           stepped-cross t (p .most) (z .4) (start .args .next .finished) (start .args .next .carrier .0) (start .args .next .to .0) (start .args .placement .now) (p .placed) (z .0) (z .2) (z .3) _ m (fill .ensures t) crossed,
     )
 

@@ -29,7 +29,7 @@ cross-requires c κs =
       z .1,
       s .0,
       s .1,
-      omega (arith, s .3),
+      omega arith,
       bay-in (a .placement .now) (a .r .0) (z .0),
       not-true (elem (a .w .0) (a .placement .now)) (sym (z .3 .empties (a .w .0) (z .1)) ∙ z .2),
       z .3,
@@ -43,19 +43,19 @@ settle-requires c κs =
     (s .2, omega (arith, z .3 .inside (start .args .r .0) (z .0), s .0), omega (arith, z .1, s .0))
 
 same-length : tie.Need-same-length
-same-length c = search needs
+same-length c = c .before .before .before .before .before .before .before .before .before .before .before .before .cross .kept .0
 
 same-length-2 : tie.Need-same-length-2
-same-length-2 c = search needs
+same-length-2 c = c .before .before .before .before .before .before .before .before .before .before .before .before .cross .kept .1 .0
 
 same-length-3 : tie.Need-same-length-3
-same-length-3 c = search needs
+same-length-3 c = c .before .before .before .before .before .before .before .before .before .before .before .before .cross .kept .1 .1 .0
 
 same-length-4 : tie.Need-same-length-4
-same-length-4 c = search needs
+same-length-4 c = c .before .before .settle .kept .0
 
 same-length-5 : tie.Need-same-length-5
-same-length-5 c = search needs
+same-length-5 c = c .before .before .before .before .before .before .before .before .before .before .before .before .cross .kept .1 .1 .1 .1 .1 .0
 
 returns : tie.Need-returns
 returns c =

@@ -15,7 +15,7 @@ use Rattle.rings.proofs.Searching.{Widening, widening-first, widening-more, wid
 use Rattle.acting.specs.Acting.{Tabled}
 use Rattle.acting.specs.declared.Tried.the-variants.{Done, Failed}
 use Rattle.trial.proofs.Copying.{freeShown}
-use Rattle.swap.proofs.Seeking.{Sought, sought-first, sought-found, sought-end, sought-start, sought-more, sought-next, reached-from, ring-low, near-of}
+use Rattle.swap.proofs.Seeking.{Sought, sought-first, sought-found, sought-end, sought-start, sought-more, sought-next, reached-from, ring-low, near-of, swap-none, swap-some}
 use Rattle.swap.proofs.seek.Statement.{statement}
 use Rattle.swap.proofs.seek.Tie as tie
 
@@ -210,7 +210,7 @@ returns c =
     let z = start .pre .1 in
     let a = start .args in
     let hu = p .placed .inside (a .r .0) (z .0) in
-    (tt, λ t b. (sought-end t _ _ _ (p .most) hu _ (c .if1 .taken) (c .before .nearest .inv .5 t b), tt))
+    (tt, λ t b. swap-none _ _ _ _ (sought-end t _ _ _ (p .most) hu _ (c .if1 .taken) (c .before .nearest .inv .5 t b)))
 
 same-length-2 : tie.Need-same-length-2 Inv-loop μ-loop Inv-nearest μ-nearest
 same-length-2 c = search needs
@@ -233,7 +233,7 @@ returns-2 c =
           let i = sym (nearest .inv .4 t (if1 .left) .ringing _ h) ∙ loop .inv .2 h in
           let near = near-of b (reached-from t (a .r .0) (a .s .0) (a .placement .now) (p .most) hu _ _ i) in
           let w = try-junction .ensures .1 t near in
-          (sought-found t _ _ _ _ _ (loop .inv .3 t b) i (w .fits _ e), w .logged _ e),
+          swap-some _ _ _ _ (sought-found t _ _ _ _ _ (loop .inv .3 t b) i (w .fits _ e)) (w .logged _ e),
     )
 
 pub seek-spec : {M : Type 1} → statement M

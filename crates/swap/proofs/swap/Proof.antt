@@ -3,10 +3,9 @@
 use mathlib.Core.Path.{_≡_, refl}
 use native.Mathlib.Omega.{arith}
 use borrow.Author.Needs.{needs}
-use Rattle.moving.proofs.Playing.{stored-exact}
 use Rattle.exchange.proofs.Exchanging.{length-exchange}
 use Rattle.swap.specs.declared.Spare.the-variants.{Both}
-use Rattle.swap.proofs.Committing.{traded-proceeds}
+use Rattle.swap.proofs.Committing.{noted-logged, traded-proceeds}
 use Rattle.swap.proofs.Besides.{swap-own}
 use Rattle.swap.proofs.swap.Statement.{statement}
 use Rattle.swap.proofs.swap.Tie as tie
@@ -39,23 +38,23 @@ spare-bays-requires c κs =
     (omega (arith, hr, p .table-size), omega (arith, hs, p .most), p .empty-size)
 
 enum-known-spare : tie.Need-enum-known-spare
-enum-known-spare c = search needs
+enum-known-spare c = c .match .keys1
 
 swap-beside-requires : tie.Need-swap-beside-requires
 swap-beside-requires c κs =
     let start = c .before .before .before .before .before .before .before .before .before .before .before .before .before .before .before .before in
     let p = start .pre .0 in
     let z = start .pre .1 in
-    (z .0, z .1, omega (arith, p .placed .few, p .most), p .placed .inside _ (z .0), p .placed .inside _ (z .1), z .3)
+    (z .0, z .1, omega (arith, p .placed .few, p .most), p .placed .inside _ (z .0), p .placed .inside _ (z .1))
 
 same-length : tie.Need-same-length
-same-length c = search needs
+same-length c = c .before .before .before .before .before .before .swap-beside .kept .1 .1 .1 .0
 
 same-length-2 : tie.Need-same-length-2
-same-length-2 c = search needs
+same-length-2 c = c .before .before .before .before .before .before .swap-beside .kept .1 .1 .1 .1 .0
 
 same-length-3 : tie.Need-same-length-3
-same-length-3 c = search needs
+same-length-3 c = c .before .before .before .before .before .before .swap-beside .kept .1 .1 .1 .1 .1 .0
 
 returns : tie.Need-returns
 returns c =
@@ -67,29 +66,31 @@ returns c =
     let g = spare .given in
     let e : spare-bays .result ≡ Both (g .0 .0) (g .0 .1 .0) = g .1 in
     let two = rw e at (spare-bays .ensures) in
-    let w = c .before .before .before .before .before .before .swap-beside .ensures in
-    let few = rw length-exchange at (w .2 .counted) in (
+    let swap-beside = c .before .before .before .before .before .before .swap-beside in
+    let w = swap-beside .ensures in
+    let few = rw length-exchange at (w .2 .counted) in
+    let long = swap-beside .kept .1 .1 .1 .1 .1 .0 in (
       omega (arith, few),
-      λ t b. traded-proceeds t (p .placed) refl _ _ (z .0) (z .1) (z .2) b _ _ (swap-own t (p .placed) (p .most) (z .0) (z .1) b two) (w .0) (w .1) (record { stored = stored-exact (w .2 .stored); counted = w .2 .counted; parks = omega (arith, w .3); few = λ h. omega (arith, h, w .3, few) }),
+      λ t b. traded-proceeds t (p .placed) refl _ _ (z .0) (z .1) (z .2) b _ _ (swap-own t (p .placed) (p .most) (z .0) (z .1) b two) (w .0) (w .1) long (noted-logged (w .2)),
     )
 
 enum-told : tie.Need-enum-told
-enum-told c = search needs
+enum-told c = c .match .keys2
 
 swap-far-requires : tie.Need-swap-far-requires
 swap-far-requires c κs = search needs
 
 same-length-4 : tie.Need-same-length-4
-same-length-4 c = search needs
+same-length-4 c = c .before .before .before .before .before .before .swap-far .kept .1 .1 .1 .0
 
 same-length-5 : tie.Need-same-length-5
-same-length-5 c = search needs
+same-length-5 c = c .before .before .before .before .before .before .swap-far .kept .1 .1 .1 .1 .0
 
 same-length-6 : tie.Need-same-length-6
-same-length-6 c = search needs
+same-length-6 c = c .before .before .before .before .before .before .swap-far .kept .1 .1 .1 .1 .1 .1 .0
 
 returns-2 : tie.Need-returns-2
-returns-2 c = search needs
+returns-2 c = c .before .before .before .before .before .before .swap-far .ensures
 
 pub swap-spec : {M : Type 1} → statement M
 swap-spec =

@@ -19,10 +19,10 @@ try-at-requires : tie.Need-try-at-requires
 try-at-requires c κs = search needs
 
 same-length : tie.Need-same-length
-same-length c = search needs
+same-length c = c .before .before .try-at .kept .1 .1 .1 .1 .1 .0
 
 returns-2 : tie.Need-returns-2
-returns-2 c = (c .before .before .try-at .ensures .0, λ t near. tried-at _ _ _ _ _ (sym (c .before .before .before .before .before .before .before .is-junction .ensures t) ∙ c .before .before .before .before .before .before .if1 .taken) (c .before .before .try-at .ensures .1 t near))
+returns-2 c = (c .before .before .try-at .ensures .0, λ t near. tried-at _ _ _ _ _ _ (sym (c .before .before .before .before .before .before .before .is-junction .ensures t) ∙ c .before .before .before .before .before .before .if1 .taken) (c .before .before .try-at .ensures .1 t near))
 
 returns-3 : tie.Need-returns-3
 returns-3 c = (tt, λ t near. tried-not _ _ _ _ _ _ (sym (c .before .is-junction .ensures t) ∙ c .if1 .left))

@@ -3,7 +3,7 @@
 use mathlib.Core.Path.{sym, _∙_}
 use borrow.Author.Tests.{not-true, not-false}
 use Rattle.program.proofs.Readying.{refused-ready}
-use Rattle.timed.proofs.Printing.{edition-says, known-says}
+use Rattle.timed_handing.proofs.Printing.{edition-says, known-says}
 use borrow.Author.Needs.{needs}
 use Rattle.timed.proofs.program.Statement.{statement}
 use Rattle.timed.proofs.program.Tie as tie

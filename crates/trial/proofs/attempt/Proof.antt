@@ -51,7 +51,7 @@ attempt-on-requires c κs =
     let z = start .pre .1 in
     let e = copy .ensures in
     let d = copy2 .ensures in
-    (ready-copy p _ _ _ e d (search needs) (c .before .before .before .before .before .keep .ensures .row), (rw e (z .0), rw e (z .1), z .2, rw d (z .3), rw d (z .4), z .5, z .6))
+    (ready-copy p _ _ _ e d (search needs) (c .before .before .before .before .before .keep .ensures .row), (rw e (z .0), rw e (z .1), z .2, rw d (z .3), rw d (z .4), z .5))
 
 same-length : tie.Need-same-length
 same-length c = c .before .before .before .before .before .attempt-on .kept .1 .1 .1 .1 .1 .1 .0

@@ -4,7 +4,7 @@ use mathlib.Core.Path.{_∙_}
 use native.Mathlib.Omega.{arith}
 use borrow.Author.Needs.{needs}
 use Rattle.exchange.proofs.Exchanging.{length-exchange}
-use Rattle.trial.proofs.Attempting.{wrote-none, attempted}
+use Rattle.trial.proofs.Attempting.{attempts-none, attempted}
 use Rattle.trial.proofs.attempt_on.Statement.{statement}
 use Rattle.trial.proofs.attempt_on.Tie as tie
 
@@ -40,7 +40,7 @@ same-length-4 c =
 returns : tie.Need-returns
 returns c =
     let set-up = c .before .before .before .before .before .before .before .before .before .before .set-up in
-    (tt, λ t led. wrote-none (set-up .ensures .1 t led .missing (c .enum-told .given .1)))
+    (tt, λ t led. attempts-none (set-up .ensures .1 t led .missing (c .enum-told .given .1)))
 
 cast-follower : tie.Need-cast-follower
 cast-follower c = search needs
@@ -60,40 +60,24 @@ higher-requires c κs = search needs
 exchange-requires : tie.Need-exchange-requires
 exchange-requires c κs =
     let set-up = c .before .before .before .before .before .before .before .before .before .before .before .before .before .before .before .before .before .before .set-up in
-    let start = c .before .before .before .before .before .before .before .before .before .before .before .before .before .before .before .before .before .before .before .before .before .before .before .before .before .before .before .before .before in
     let f = set-up .ensures .0 .few _ _ _ (c .before .before .before .before .before .before .before .before .ready .given .1) in
-    omega (arith, f .0, start .pre .1 .6)
-
-sub-undo : tie.Need-sub-undo
-sub-undo c =
-    let ready = c .before .before .before .before .before .before .before .before .before .before .before .before .ready in
-    let set-up = c .before .before .before .before .before .before .before .before .before .before .before .before .before .before .before .before .before .before .before .before .before .before .set-up in
-    omega (arith, set-up .ensures .0 .few _ _ _ (ready .given .1) .1)
+    omega (arith, f .0)
 
 undo-requires : tie.Need-undo-requires
 undo-requires c κs =
     let ready = c .before .before .before .before .before .before .before .before .before .before .before .before .ready in
     let set-up = c .before .before .before .before .before .before .before .before .before .before .before .before .before .before .before .before .before .before .before .before .before .before .set-up in
-    let start = c .before .before .before .before .before .before .before .before .before .before .before .before .before .before .before .before .before .before .before .before .before .before .before .before .before .before .before .before .before .before .before .before .before in
-    let z = start .pre .1 in
     let f = set-up .ensures .0 .few _ _ _ (ready .given .1) in
     let e = rw length-exchange at (c .before .before .before .exchange .ensures .counted) in
-    (omega (arith, f .1, e), omega (arith, e, f .0, z .6))
-
-sub-many : tie.Need-sub-many
-sub-many c =
-    let ready = c .before .before .before .before .before .before .before .before .before .before .before .before .before .before .before .ready in
-    let set-up = c .before .before .before .before .before .before .before .before .before .before .before .before .before .before .before .before .before .before .before .before .before .before .before .before .before .set-up in
-    omega (arith, set-up .ensures .0 .few _ _ _ (ready .given .1) .1)
+    (omega (arith, e), omega (arith, e, f .0))
 
 add-crossings : tie.Need-add-crossings
 add-crossings c =
     let ready = c .before .before .before .before .before .before .before .before .before .before .before .before .before .before .before .ready in
     let set-up = c .before .before .before .before .before .before .before .before .before .before .before .before .before .before .before .before .before .before .before .before .before .before .before .before .before .set-up in
-    let start = c .before .before .before .before .before .before .before .before .before .before .before .before .before .before .before .before .before .before .before .before .before .before .before .before .before .before .before .before .before .before .before .before .before .before .before .before in
     let f = set-up .ensures .0 .few _ _ _ (ready .given .1) in
     let e = rw length-exchange at (c .before .before .before .before .before .before .exchange .ensures .counted) in
-    omega (arith, e, f .0, start .pre .1 .6)
+    omega (arith, e, f .0)
 
 same-length-5 : tie.Need-same-length-5
 same-length-5 c =
@@ -126,7 +110,7 @@ returns-2 c =
     let z = start .pre .1 in
     let f = set-up .ensures .0 .few _ _ _ (ready .given .1) in
     let e = rw length-exchange at (exchange .ensures .counted) in (
-      omega (arith, e, f .0, z .6),
+      omega (arith, e, f .0),
       λ t led.
           let q = set-up .ensures .1 t led .both _ _ _ (ready .given .1) in
           let ex = rw (lower .ensures, c .before .before .before .before .before .before .before .higher .ensures) at (exchange .ensures) in
@@ -151,9 +135,7 @@ attempt-on-spec =
     lower-requires
     higher-requires
     exchange-requires
-    sub-undo
     undo-requires
-    sub-many
     add-crossings
     same-length-5
     same-length-6

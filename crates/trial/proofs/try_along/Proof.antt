@@ -13,11 +13,11 @@ use Rattle.trial.proofs.try_along.Tie as tie
 cast-carrier : tie.Need-cast-carrier
 cast-carrier c = search needs
 
-mul-t14 : tie.Need-mul-t14
-mul-t14 c = search needs
+mul-t13 : tie.Need-mul-t13
+mul-t13 c = search needs
 
-shared-slice-read-t16 : tie.Need-shared-slice-read-t16
-shared-slice-read-t16 c = search needs
+shared-slice-read-t15 : tie.Need-shared-slice-read-t15
+shared-slice-read-t15 c = search needs
 
 slice-aggregate-path-between : tie.Need-slice-aggregate-path-between
 slice-aggregate-path-between c = search needs
@@ -70,7 +70,7 @@ try-on-requires c κs =
     let kept : length (path-between .last .1 .1 .1 .1 .1 .0) ≡ span = path-between .kept .1 .1 .1 .1 .1 .0 in
     let len : length (take (k .given .0 .0) (path-between .last .1 .1 .1 .1 .1 .0)) ≡ k .given .0 .0 = length-take-le _ _ (omega (arith, f .fits, p .most, kept)) in
     let q = path-found (p .tabled) _ _ _ (p .placed .inside (start .args .trial .carrier .0) (z .0)) (z .3) (f .same) in
-    (p, (z .0, z .1, z .2, z .3, q .2, omega (arith, len, f .fits, p .most), z .4, q .1))
+    (p, (z .0, z .1, z .2, z .3, q .2, omega (arith, len, f .fits, p .most), q .1))
 
 same-length : tie.Need-same-length
 same-length c = c .before .before .try-on .kept .1 .1 .1 .1 .1 .1 .0
@@ -90,8 +90,8 @@ try-along-spec =
     tie.close
     (tie.spec
     cast-carrier
-    mul-t14
-    shared-slice-read-t16
+    mul-t13
+    shared-slice-read-t15
     slice-aggregate-path-between
     slice-aggregate-path-between-2
     path-between-requires

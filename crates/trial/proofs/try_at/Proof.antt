@@ -26,7 +26,7 @@ try-on-requires c κs =
     let start = c .before .before .before .before .before .before .before .before .before .before .before .before in
     let p = start .pre .0 in
     let z = start .pre .1 in
-    (p, (z .0, z .1, z .2, z .3, alone-inside _ _ (p .placed .inside (start .args .trial .carrier .0) (z .0)), omega arith, z .4, omega arith))
+    (p, (z .0, z .1, z .2, z .3, alone-inside _ _ (p .placed .inside (start .args .trial .carrier .0) (z .0)), omega arith, omega arith))
 
 same-length : tie.Need-same-length
 same-length c = c .before .before .try-on .kept .1 .1 .1 .1 .1 .1 .0
@@ -69,7 +69,7 @@ try-on-requires-2 c κs =
     let s = c .before .before .before .before .before .before .before .before .before .before .before .before .before .before .before in
     let p = s .pre .0 in
     let z = s .pre .1 in
-    (p, (z .0, z .1, z .2, z .3, two-inside _ _ _ (p .placed .inside (s .args .trial .carrier .0) (z .0)) (z .3), omega arith, z .4, omega arith))
+    (p, (z .0, z .1, z .2, z .3, two-inside _ _ _ (p .placed .inside (s .args .trial .carrier .0) (z .0)) (z .3), omega arith, omega arith))
 
 same-length-2 : tie.Need-same-length-2
 same-length-2 c = c .before .before .try-on2 .kept .1 .1 .1 .1 .1 .1 .0

@@ -11,11 +11,11 @@ use Rattle.trial.proofs.try_on.Tie as tie
 cast-neighbour : tie.Need-cast-neighbour
 cast-neighbour c = search needs
 
-mul-t16 : tie.Need-mul-t16
-mul-t16 c = search needs
+mul-t15 : tie.Need-mul-t15
+mul-t15 c = search needs
 
-shared-slice-read-t18 : tie.Need-shared-slice-read-t18
-shared-slice-read-t18 c = search needs
+shared-slice-read-t17 : tie.Need-shared-slice-read-t17
+shared-slice-read-t17 c = search needs
 
 second-is-requires : tie.Need-second-is-requires
 second-is-requires c κs = search needs
@@ -37,7 +37,7 @@ attempt-requires c κs =
     let start = c .before .before .before .before .before .before .before .before .before .before .before .before .before .before .before .before in
     let p = start .pre .0 in
     let z = start .pre .1 in
-    (p, (z .1, z .0, (λ e. z .2 (sym e)), z .3, part-inside (start .args .path .now) 2 _ (z .4), omega (arith, part-long (start .args .path .now) 2, z .5), z .6))
+    (p, (z .1, z .0, (λ e. z .2 (sym e)), z .3, part-inside (start .args .path .now) 2 _ (z .4), omega (arith, part-long (start .args .path .now) 2, z .5)))
 
 same-length : tie.Need-same-length
 same-length c = c .before .before .attempt .kept .1 .1 .1 .1 .1 .1 .0
@@ -64,7 +64,7 @@ attempt-requires-2 c κs =
     let start = c .before .before .before .before .before .before .before .before .before .before .before .before .before .before .before in
     let p = start .pre .0 in
     let z = start .pre .1 in
-    (p, (z .0, z .1, z .2, z .3, part-inside (start .args .path .now) 1 _ (z .4), omega (arith, part-long (start .args .path .now) 1, z .5), z .6))
+    (p, (z .0, z .1, z .2, z .3, part-inside (start .args .path .now) 1 _ (z .4), omega (arith, part-long (start .args .path .now) 1, z .5)))
 
 same-length-2 : tie.Need-same-length-2
 same-length-2 c = c .before .before .attempt2 .kept .1 .1 .1 .1 .1 .1 .0
@@ -82,8 +82,8 @@ try-on-spec =
     tie.close
     (tie.spec
     cast-neighbour
-    mul-t16
-    shared-slice-read-t18
+    mul-t15
+    shared-slice-read-t17
     second-is-requires
     returns
     sub-attempt

@@ -9,7 +9,7 @@ use Rattle.paper.proofs.Nearest.{nearest-empty}
 use Rattle.paper.specs.Yard.{isEmpty}
 use Rattle.words.specs.Sets.{span}
 use Rattle.rings.specs.Ways.{endOf}
-use Rattle.vacate.proofs.Vacating.{vacates-none, can-shift, vacates-filled}
+use Rattle.vacate.proofs.Vacating.{way-told, vacates-none, can-shift, vacates-filled}
 use Rattle.vacate.proofs.fill_nearest.Statement.{statement}
 use Rattle.vacate.proofs.fill_nearest.Tie as tie
 use Rattle.vacate.proofs.fill_nearest.Reads as reads
@@ -20,7 +20,9 @@ slice-aggregate-way-out : tie.Need-slice-aggregate-way-out
 slice-aggregate-way-out c = search needs
 
 way-out-requires : tie.Need-way-out-requires
-way-out-requires c κs = search needs
+way-out-requires c κs =
+    let p = c .before .before .before .before .before .before .before .before .pre in
+    (p .0, p .1, p .2, p .3, p .4, search needs, p .7, p .9, p .10, p .6)
 
 enum-known-e : tie.Need-enum-known-e
 enum-known-e c = c .match .keys1
@@ -42,7 +44,7 @@ array-share-prefix-path c =
     let start = c .before .before .before .before .before .before .before .before .before .before .before .before .before in
     let p = start .pre in
     let w = c .before .before .before .before .way-out in
-    let t = rw (c .before .e .given .1) at (w .ensures (p .9) (isEmpty _) (p .8 .empties)) in
+    let t = way-told (c .before .e .given .1) (w .ensures (p .9) (isEmpty _) (p .8 .empties)) in
     let kept : length (w .last .1 .1 .1 .1 .1 .0) ≡ span = w .kept .1 .1 .1 .1 .1 .0 in
     omega (arith, t .fits, p .0, kept)
 
@@ -51,7 +53,7 @@ slice-aggregate-shift c =
     let start = c .before .before .before .before .before .before .before .before .before .before .before .before .before .before in
     let p = start .pre in
     let w = c .before .before .before .before .before .way-out in
-    let t = rw (c .before .before .e .given .1) at (w .ensures (p .9) (isEmpty _) (p .8 .empties)) in
+    let t = way-told (c .before .before .e .given .1) (w .ensures (p .9) (isEmpty _) (p .8 .empties)) in
     let kept : length (w .last .1 .1 .1 .1 .1 .0) ≡ span = w .kept .1 .1 .1 .1 .1 .0 in
     sym (length-take-le _ _ (omega (arith, t .fits, p .0, kept)))
 
@@ -61,7 +63,7 @@ shift-requires c κs =
     let start = c .before .before .before .before .before .before .before .before .before .before .before .before .before .before .before .before .before .before in
     let p = start .pre in
     let w = c .before .before .before .before .before .before .before .before .before .way-out in
-    let t = rw (e .given .1) at (w .ensures (p .9) (isEmpty _) (p .8 .empties)) in
+    let t = way-told (e .given .1) (w .ensures (p .9) (isEmpty _) (p .8 .empties)) in
     let kept : length (w .last .1 .1 .1 .1 .1 .0) ≡ span = w .kept .1 .1 .1 .1 .1 .0 in
     let len : length (take (e .given .0 .1 .0) (w .last .1 .1 .1 .1 .1 .0)) ≡ e .given .0 .1 .0 = length-take-le _ _ (omega (arith, t .fits, p .0, kept)) in
     (p .0, p .4, omega (arith, len, t .fits, p .0, p .5), p .8, can-shift (p .9) (p .0) _ (p .1) (p .8) (start .args .out .now) (start .args .at) (sym (p .6)) (sym (p .7)) _ (t .nearest ∙ sym (nearest-empty _ _ _ _)) _ (t .path _ refl))
@@ -93,11 +95,11 @@ returns-2 c =
     let start = c .before .before .before .before .before .before .before .before .before .before .before .before .before .before .before .before .before .before .before .before .before .before .before .before .before .before .before in
     let p = start .pre in
     let w = c .before .before .before .before .before .before .before .before .before .before .before .before .before .before .before .before .before .before .way-out in
-    let t = rw (e .given .1) at (w .ensures (p .9) (isEmpty _) (p .8 .empties)) in
+    let t = way-told (e .given .1) (w .ensures (p .9) (isEmpty _) (p .8 .empties)) in
     let kept : length (w .last .1 .1 .1 .1 .1 .0) ≡ span = w .kept .1 .1 .1 .1 .1 .0 in
     let len : length (take (e .given .0 .1 .0) (w .last .1 .1 .1 .1 .1 .0)) ≡ e .given .0 .1 .0 = length-take-le _ _ (omega (arith, t .fits, p .0, kept)) in
     λ s.
-    let v = rw (e .given .1) at (w .ensures s (isEmpty _) (p .8 .empties)) in
+    let v = way-told (e .given .1) (w .ensures s (isEmpty _) (p .8 .empties)) in
     vacates-filled s (p .0) _ (p .1) (p .8) _ _ (sym (p .6)) (sym (p .7)) _ (v .nearest ∙ sym (nearest-empty _ _ _ _)) _ (v .path _ refl) _ _ _ _ _ _ refl refl (omega (arith, len, t .fits)) (shift .ensures)
 
 pub fill-nearest-spec : {M : Type 1} → statement M

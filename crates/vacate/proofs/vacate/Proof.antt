@@ -125,7 +125,9 @@ same-length-10 c =
     fill-nearest .kept .1 .1 .1 .1 .1 .1 .0
 
 returns-4 : tie.Need-returns-4
-returns-4 c = search needs
+returns-4 c =
+    let fill-nearest = c .before .before .before .before .before .before .before .before .fill-nearest in
+    fill-nearest .ensures
 
 pub vacate-spec : {M : Type 1} → statement M
 vacate-spec =

@@ -12,16 +12,16 @@ mul-if1-2 : tie.Need-mul-if1-2
 mul-if1-2 c = search needs
 
 way-to-nearest-requires : tie.Need-way-to-nearest-requires
-way-to-nearest-requires c κs = search needs
+way-to-nearest-requires c κs = let p = c .before .before .before .before .before .before .pre in (p .0, p .1, p .2, p .3, p .4, p .5, p .6, p .7)
 
 same-length : tie.Need-same-length
 same-length c = c .before .before .way-to-nearest .kept .1 .1 .1 .1 .1 .0
 
 returns : tie.Need-returns
-returns c = search needs
+returns c = c .before .before .way-to-nearest .ensures
 
 way-requires : tie.Need-way-requires
-way-requires c κs = search needs
+way-requires c κs = c .before .before .before .before .before .before .pre
 
 enum-known-known : tie.Need-enum-known-known
 enum-known-known c = c .match .keys1
@@ -36,7 +36,10 @@ enum-told : tie.Need-enum-told
 enum-told c = c .match .keys2
 
 way-to-nearest-requires-2 : tie.Need-way-to-nearest-requires-2
-way-to-nearest-requires-2 c κs = search needs
+way-to-nearest-requires-2 c κs =
+    let way = c .before .before .before .before .before .way in
+    let p = c .before .before .before .before .before .before .before .before .before .before .before .before .pre in
+    (p .0, p .1, p .2, p .3, p .4, rw (way .kept .1 .1 .1 .1 .1 .0) (p .5), p .6, p .7)
 
 same-length-3 : tie.Need-same-length-3
 same-length-3 c =
@@ -44,7 +47,7 @@ same-length-3 c =
     c .before .before .way-to-nearest2 .kept .1 .1 .1 .1 .1 .0 ∙ way .kept .1 .1 .1 .1 .1 .0
 
 returns-3 : tie.Need-returns-3
-returns-3 c = search needs
+returns-3 c = c .before .before .way-to-nearest2 .ensures
 
 pub way-out-spec : {M : Type 1} → statement M
 way-out-spec =

@@ -3,12 +3,8 @@
 use borrow.Author.Needs.{needs}
 use Rattle.numbers.specs.Numbers.{verdictNumber, verdictValue}
 use Rattle.sejjekoru.proofs.Saying.{told-as}
-use Rattle.numbers.proofs.told.Reads as told-reads
-use Rattle.surveying.proofs.read.Reads as read-reads
 use Rattle.sejjekoru.proofs.surveys.sejjekoru_read_survey.Statement.{statement}
 use Rattle.sejjekoru.proofs.surveys.sejjekoru_read_survey.Tie as tie
-use Rattle.sejjekoru.proofs.surveys.sejjekoru_read_survey.Reads as reads
-use Rattle.sejjekoru.proofs.surveys.sejjekoru_read_survey.Lts as lts
 
 read-requires : tie.Need-read-requires
 read-requires c κs = search needs

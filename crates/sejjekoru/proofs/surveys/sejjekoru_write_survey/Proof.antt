@@ -3,12 +3,8 @@
 use borrow.Author.Needs.{needs}
 use Rattle.numbers.specs.Numbers.{verdictNumber, verdictValue}
 use Rattle.sejjekoru.proofs.Saying.{told-as}
-use Rattle.numbers.proofs.told.Reads as told-reads
-use Rattle.surveying.proofs.write.Reads as write-reads
 use Rattle.sejjekoru.proofs.surveys.sejjekoru_write_survey.Statement.{statement}
 use Rattle.sejjekoru.proofs.surveys.sejjekoru_write_survey.Tie as tie
-use Rattle.sejjekoru.proofs.surveys.sejjekoru_write_survey.Reads as reads
-use Rattle.sejjekoru.proofs.surveys.sejjekoru_write_survey.Lts as lts
 
 write-requires : tie.Need-write-requires
 write-requires c κs = search needs

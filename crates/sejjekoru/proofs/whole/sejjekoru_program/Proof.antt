@@ -4,11 +4,6 @@ use Rattle.sejjekoru.proofs.Handed.{text-tells}
 use borrow.Author.Needs.{needs}
 use Rattle.sejjekoru.proofs.whole.sejjekoru_program.Statement.{statement}
 use Rattle.sejjekoru.proofs.whole.sejjekoru_program.Tie as tie
-use Rattle.sejjekoru.proofs.whole.sejjekoru_program.Reads as reads
-use Rattle.sejjekoru.proofs.whole.sejjekoru_program.Lts as lts
-use Rattle.printout.proofs.program.Reads as program-reads
-use Rattle.numbers.proofs.told.Reads as told-reads
-use Rattle.handing.proofs.answer.Reads as answer-reads
 
 program-requires : tie.Need-program-requires
 program-requires c κs = search needs

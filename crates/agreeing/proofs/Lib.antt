@@ -1,0 +1,4 @@
+pub mod Standing
+mod Worked
+pub mod Refusing
+mod Comparing

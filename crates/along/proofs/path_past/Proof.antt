@@ -1,0 +1,49 @@
+-- `along::path_past` meets its contract. What the yard is decides which bays are held.
+-- Assumes nothing.
+use mathlib.Core.Path.{refl, sym, _∙_}
+use borrow.Author.Needs.{needs}
+use Rattle.trial.proofs.Copying.{freeShown}
+use Rattle.along.proofs.Along.{past-held, past-none}
+use Rattle.along.proofs.path_past.Statement.{statement}
+use Rattle.along.proofs.path_past.Tie as tie
+
+path-between-requires : tie.Need-path-between-requires
+path-between-requires c κs = search needs
+
+same-length : tie.Need-same-length
+same-length c = c .before .before .path-between .kept .1 .1 .1 .1 .1 .0
+
+returns : tie.Need-returns
+returns c =
+    let start = c .before .before .before .before .before .before .before .before in
+    λ s. past-held s _ _ _ _ (sym (c .before .before .before .before .if1 .taken) ∙ start .pre .7 (s .yard) (s .joins)) (c .before .before .path-between .ensures s)
+
+slice-aggregate-path-between : tie.Need-slice-aggregate-path-between
+slice-aggregate-path-between c = search needs
+
+path-between-requires-2 : tie.Need-path-between-requires-2
+path-between-requires-2 c κs =
+    let p = c .before .before .before .before .before .before .pre in
+    (p .0, p .1, p .2, p .3, refl, p .5, freeShown (record { yard = p .6 .yard; joins = p .6 .joins }))
+
+same-length-2 : tie.Need-same-length-2
+same-length-2 c = c .before .before .path-between2 .kept .1 .1 .1 .1 .1 .0
+
+returns-2 : tie.Need-returns-2
+returns-2 c =
+    let start = c .before .before .before .before .before .before .before .before .before in
+    λ s.
+    let bare = freeShown (record { yard = s .yard; joins = s .joins }) in
+    past-none s bare _ _ _ _ refl refl (sym (c .before .before .before .before .before .if1 .left) ∙ start .pre .7 (s .yard) (s .joins)) (c .before .before .path-between2 .ensures bare)
+
+pub path-past-spec : {M : Type 1} → statement M
+path-past-spec =
+    tie.close
+    (tie.spec
+    path-between-requires
+    same-length
+    returns
+    slice-aggregate-path-between
+    path-between-requires-2
+    same-length-2
+    returns-2)

@@ -1,0 +1,3 @@
+pub mod Leading
+mod Passing
+mod Handing

@@ -1,0 +1,4 @@
+pub mod Short
+pub mod Whole
+pub mod Printout
+pub mod Ready

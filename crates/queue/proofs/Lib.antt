@@ -1,0 +1,5 @@
+pub mod Places
+pub mod Queueing
+pub mod Words
+pub mod Passing
+pub mod Reading
