@@ -34,7 +34,7 @@ use Rattle.acting.specs.declared.Tried.the-variants.{Failed}
 use Rattle.clear_on.specs.declared.Pair.the-variants.{Missing}
 use Rattle.clear_on.specs.declared.Pair.{Pair}
 
-too-few : (Y : Yard) (L M : Carrier) (v b : Bay) (done : Made) (kept : List Bay) → length kept < 2 → finish Y L M v b done kept ≡ none
+pub too-few : (Y : Yard) (L M : Carrier) (v b : Bay) (done : Made) (kept : List Bay) → length kept < 2 → finish Y L M v b done kept ≡ none
 unfolding finish
 too-few Y L M v b done [] h = refl
 too-few Y L M v b done (x ∷ []) h = refl

@@ -150,7 +150,7 @@ fn attempt(
 }
 
 // Whether the path's second bay is w.
-fn second_is(path: &[u16], w: Bay) -> bool
+pub fn second_is(path: &[u16], w: Bay) -> bool
     ensures { λ r. ⌜ r ≡ ltb 1 (length (now (path .entry))) and eqb (getD (now (path .entry)) 1 0) (w .0) ⌝ }
 {
     if path.len() < 2 {
@@ -161,7 +161,7 @@ fn second_is(path: &[u16], w: Bay) -> bool
 
 // A trial at the junction, where the path from the carrier's bay leads: where its second bay is the neighbour's, the neighbour leads and the
 // carrier follows; otherwise the carrier leads.
-fn try_on(
+pub fn try_on(
     table: &[u64],
     path: &[u16],
     trial: Trial,

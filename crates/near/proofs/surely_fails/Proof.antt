@@ -1,11 +1,11 @@
--- `swap::surely_fails` meets its contract. What the outlook says of the table and the empty bays is a blocked junction in the yard.
+-- `near::surely_fails` meets its contract. What the outlook says of the table and the empty bays is a blocked junction in the yard.
 -- Assumes nothing.
 use mathlib.Core.Path.{refl}
 use borrow.Author.Needs.{needs}
 use Rattle.paper.proofs.Tests.{not-both}
-use Rattle.swap.proofs.Foreseeing.{outlook-asks, blocked-none}
-use Rattle.swap.proofs.surely_fails.Statement.{statement}
-use Rattle.swap.proofs.surely_fails.Tie as tie
+use Rattle.near.proofs.Foreseeing.{outlook-asks, blocked-none}
+use Rattle.near.proofs.surely_fails.Statement.{statement}
+use Rattle.near.proofs.surely_fails.Tie as tie
 
 cast-first : tie.Need-cast-first
 cast-first c = search needs

@@ -1,27 +1,24 @@
--- A swap in code: which junctions fit, and which bays are to spare.
+-- The junction of a swap in code: which junctions fit, and what is said of the first that does, near or far.
 -- Assumes nothing.
 use mathlib.Core.Path.{_≡_}
 use mathlib.Core.Bool.{Bool, true, false}
-use mathlib.Core.List.{List, [], _∷_}
+use mathlib.Core.List.{List, []}
 use mathlib.Core.Option.{none, some}
-use Prim.Native.Nat.{ℕ, _≤_, _<_}
-use lib.ListN.{length}
-use Rattle.paper.specs.Basics.{_and_}
-use Rattle.paper.specs.Procedure.{Made, only, clearOnce, trial, swap}
+use Prim.Native.Nat.{ℕ, _<_}
+use lib.ListN.{length, getD}
+use Rattle.paper.specs.Basics.{_and_, In}
+use Rattle.paper.specs.Path.{rings}
+use Rattle.paper.specs.Procedure.{Made, trial, swap}
 use Rattle.paper.specs.Yard.{Bay, Carrier, Yard, Placement, bayOf, joined, junction}
 use Rattle.paper.proofs.Playing.{Sound}
 use Rattle.docket.specs.Reading.{isSome}
-use Rattle.words.specs.Sets.{span}
 use Rattle.moving.specs.Bounds.{swap-most}
-use Rattle.moving.specs.Placed.{Placed}
-use Rattle.acting.specs.Acting.{Tabled, nothing, Within, Proceeds}
+use Rattle.acting.specs.Acting.{Tabled, nothing, Within}
 use Rattle.acting.specs.declared.Tally.{Tally}
 use Rattle.acting.specs.declared.Tried.{Tried}
 use Rattle.acting.specs.declared.Tried.the-variants.{Done, Failed}
 use Rattle.clear_on.specs.Going.{Logged, Attempts}
 use Rattle.trial.specs.Trying.{Near}
-use Rattle.swap.specs.declared.Spare.{Spare}
-use Rattle.swap.specs.declared.Spare.the-variants.{Both, Fewer}
 
 -- v is a junction whose trial succeeds
 unfoldable pub fitting : Yard → Carrier → Carrier → Placement → Bay → Bool
@@ -43,19 +40,27 @@ pub record SideBySide (n : ℕ) (table : List ℕ) (r s : Carrier) (p : Placemen
   pub tabled : Tabled n table
   pub beside : Beside (tabled .yard) r s p
 
--- ## At r's own bay
+-- r and its neighbour s
+pub record SeekAsks (r s : Carrier) (table p standing : List ℕ) : Type 0 where
+  pub first : r < length p
+  pub second : s < length p
+  pub differ : s ≡ r → ⊥
+  pub side : SideBySide (length standing) table r s p
 
--- x and y are the lowest empty neighbours of u other than w: clearing around u keeps them, and nobody moves
-pub record TwoSpare (table empty : List ℕ) (u w x y : Bay) : Type 0 where
-  pub rising : x < y
-  pub kept : {n : ℕ} (t : Tabled n table) {p standing : List ℕ} → n ≤ span → u < n → Placed n p standing empty
-      → clearOnce (t .yard) u w p ≡ record { made = only []; kept = x ∷ y ∷ [] }
+-- the trial that is the paper's swap
+pub record SeekSays (r s : Carrier) (table p standing log : List ℕ) (z : Tried) : Type 0 where
+  pub few : Within nothing swap-most z
+  pub swaps : (t : Tabled (length standing) table) → Beside (t .yard) r s p → Attempts (swap (t .yard) r s p) log z
 
-abbrev pub Spares : List ℕ → List ℕ → Bay → Bay → Spare → Type 0
-Spares table empty u w (Both x y) = TwoSpare table empty u w (x .0) (y .0)
-Spares table empty u w Fewer = Unit {0}
+-- ## Near and far
 
--- ## What is asked, what is said
+-- so many rings are near, the carrier's own bay being the first
+abbrev pub near-rings : ℕ
+near-rings = 8
+
+-- no bay of those fits
+abbrev pub NoneNear : Yard → Carrier → Carrier → Placement → Type 0
+NoneNear Y r s p = (i b : ℕ) → i < near-rings → In b (getD (rings Y [] (bayOf p r)) i []) → fitting Y r s p b ≡ false
 
 -- no trial at v succeeds
 abbrev pub SurelyFails : (r s : Carrier) (v : Bay) (table p standing : List ℕ) → Type 0
@@ -69,26 +74,14 @@ TryJunctionSays r s v table p standing log z =
     → Near (t .yard) r s v p
     → TriedAt (t .yard) r s v p log z)
 
--- the trial that is the paper's swap
-abbrev pub SeekSays : (r s : Carrier) (table p standing log : List ℕ) → Tried → Type 0
-SeekSays r s table p standing log z =
-    Within nothing swap-most z
-    × ((t : Tabled (length standing) table)
-    → Beside (t .yard) r s p
-    → Attempts (swap (t .yard) r s p) log z)
-
 -- r and its neighbour s
-abbrev pub SwapAsks : (r s : Carrier) (table p standing : List ℕ) → Type 0
-SwapAsks r s table p standing =
-    (r < length p)
-    × (s < length p)
-    × (s ≡ r → ⊥)
-    × SideBySide (length standing) table r s p
+pub record NearAsks (r s : Carrier) (p : List ℕ) : Type 0 where
+  pub first : r < length p
+  pub second : s < length p
+  pub differ : s ≡ r → ⊥
 
--- the paper's swap
-abbrev pub SwapSays : (r s : Carrier) (table p standing out p′ standing′ empty′ out′ : List ℕ) → Tried → Type 0
-SwapSays r s table p standing out p′ standing′ empty′ out′ z =
-    Within nothing swap-most z
-    × ((t : Tabled (length standing) table)
-    → Beside (t .yard) r s p
-    → Proceeds (swap (t .yard) r s p) (length standing) p out nothing p′ standing′ empty′ out′ z)
+-- the trial that is the paper's swap, or that none near succeeds
+pub record NearSays (r s : Carrier) (table p standing log : List ℕ) (z : Tried) : Type 0 where
+  pub few : Within nothing swap-most z
+  pub found : (m : Tally) → z ≡ Done m → (t : Tabled (length standing) table) → Beside (t .yard) r s p → Attempts (swap (t .yard) r s p) log (Done m)
+  pub missed : z ≡ Failed → (t : Tabled (length standing) table) → Beside (t .yard) r s p → NoneNear (t .yard) r s p

@@ -1,10 +1,10 @@
--- `swap::try_junction` meets its contract. The trial is lent the log; where v is blocked there is none.
+-- `near::try_junction` meets its contract. The trial is lent the log; where v is blocked there is none.
 -- Assumes nothing.
 use mathlib.Core.Path.{sym, _∙_}
 use borrow.Author.Needs.{needs}
-use Rattle.swap.proofs.Seeking.{tried-at, tried-not, tried-never}
-use Rattle.swap.proofs.try_junction.Statement.{statement}
-use Rattle.swap.proofs.try_junction.Tie as tie
+use Rattle.near.proofs.Seeking.{tried-at, tried-not, tried-never}
+use Rattle.near.proofs.try_junction.Statement.{statement}
+use Rattle.near.proofs.try_junction.Tie as tie
 
 is-junction-requires : tie.Need-is-junction-requires
 is-junction-requires c κs = search needs

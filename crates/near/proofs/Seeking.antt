@@ -5,7 +5,7 @@ use mathlib.Core.Path.{_≡_, sym, _∙_, ap, refl}
 use mathlib.Core.Bool.{Bool, true, false}
 use mathlib.Core.List.{List, [], _∷_}
 use mathlib.Core.Option.{none, some}
-use Prim.Native.Nat.{ℕ, suc, _≤_, _<_, _+_, zero}
+use Prim.Native.Nat.{ℕ, suc, min, _≤_, _<_, _+_, zero}
 use native.Mathlib.Omega.{arith}
 use lib.ListN.{getD}
 use native.Mathlib.Decide.{ℕ-discrete, decLt}
@@ -13,14 +13,13 @@ use Rattle.paper.specs.Basics.{_and_, _>>=_, filter, find, concat, firstOf, ele
 use Rattle.paper.specs.Path.{rings, nearestFirst, ringOf}
 use Rattle.paper.specs.Procedure.{Made, trial, swap}
 use Rattle.paper.specs.Yard.{Bay, Carrier, Yard, Placement, bayOf, junction}
-use Rattle.paper.proofs.Members.{find-passes, In-nil, find-in, find-some, nothing-in-nil, in-count, none-find}
+use Rattle.paper.proofs.Members.{find-passes, find-in, find-some, nothing-in-nil, in-count, none-find, In-nil}
 use Rattle.paper.proofs.Nearest.{find-here, find-later}
 use Rattle.paper.proofs.Rings.{distance-in, in-concat, reached-sym}
 use Rattle.paper.proofs.Shortest.{Rising, find-lowest, rings-rise}
 use Rattle.paper.proofs.Tests.{by-cases, by-option, not-both, and-right, and-both, never}
 use Rattle.docket.specs.Reading.{isSome}
 use Rattle.words.specs.Sets.{mem, span, Lowest}
-use Rattle.swap.specs.Seeking.{Beside, fitting, TriedAt}
 use Rattle.rings.proofs.Searching.{in-yard, ring-none}
 use Rattle.acting.specs.Acting.{Tabled}
 use Rattle.acting.specs.declared.Tally.{Tally}
@@ -30,6 +29,7 @@ use Rattle.trial.proofs.Attempting.{attempts-none, attempts-some}
 use Rattle.trial.specs.Trying.{Near}
 use Rattle.trial.proofs.Copying.{freeShown}
 use Rattle.acting.specs.declared.Tried.the-variants.{Done, Failed}
+use Rattle.near.specs.Seeking.{Beside, fitting, TriedAt, near-rings, NoneNear}
 
 first-found : (Y : Yard) (r s : Carrier) (p : Placement) (l : List Bay)
     → firstOf (λ v. trial Y r s v p) (filter (junction Y) l) ≡ (find (fitting Y r s p) l >>= λ v. trial Y r s v p)
@@ -55,7 +55,7 @@ module _ (Y : Yard) (r s : Carrier) (p : Placement) where
       → Attempts (swap Y r s p) log (Done m)
   swap-some f q = attempts-some (swap-found Y r s p ∙ rw (← f) (q .1)) (q .2)
 
-fitting-not : (Y : Yard) (r s : Carrier) (p : Placement) (v : Bay) → junction Y v ≡ false → fitting Y r s p v ≡ false
+pub fitting-not : (Y : Yard) (r s : Carrier) (p : Placement) (v : Bay) → junction Y v ≡ false → fitting Y r s p v ≡ false
 unfolding fitting _and_
 fitting-not Y r s p v e = rw e
 
@@ -77,6 +77,7 @@ tried-at Y r s v p log j w = record {
   logged = w .done;
 }
 
+-- a bay that is no junction is not tried
 pub tried-not : (Y : Yard) (r s : Carrier) (v : Bay) (p log : List ℕ) → junction Y v ≡ false → TriedAt Y r s v p log Failed
 tried-not Y r s v p log j = record { fails = λ e. fitting-not Y r s p v j; fits = λ m e. never (cc); logged = λ m e. never (cc) }
 
@@ -122,17 +123,19 @@ module _ {n : ℕ} {table : List ℕ} (t : Tabled n table) (r s : Carrier) (p : 
       sym (find-rings (fitting (t .yard) r s p) rs d v (g .rings-before)
       (find-is (fitting (t .yard) r s p) (getD rs d []) v (rings-rise (t .yard) [] (bayOf p r) d) i h (g .below)))
 
-  module _ (most : n ≤ span) (hu : bayOf p r < n) where
-    pub sought-end : (d : ℕ) → n ≤ d → Sought (t .yard) r s p d 0 → none ≡ find (fitting (t .yard) r s p) (nearestFirst (t .yard) [] (bayOf p r))
-    sought-end d h g =
-        sym (none-find (fitting (t .yard) r s p) (concat rs) (λ b i.
-        let e : ℕ = ringOf (t .yard) b rs in
-        let y : In b (getD rs e []) = distance-in (t .yard) b rs i in
-        elim (decLt e d) [
-          | yes m ↦ g .rings-before e b m y
-          | no m ↦ In-nil b (rw (ring-none (freeShown t) (bayOf p r) e (omega arith)) at y)
-        ]))
+  -- no bay is further
+  pub sought-end : (d : ℕ) → ((k b : ℕ) → d < k → In b (getD rs k []) → ⊥) → Sought (t .yard) r s p (d + 1) 0
+      → none ≡ find (fitting (t .yard) r s p) (nearestFirst (t .yard) [] (bayOf p r))
+  sought-end d h g =
+      sym (none-find (fitting (t .yard) r s p) (concat rs) (λ b i.
+      let e : ℕ = ringOf (t .yard) b rs in
+      let y : In b (getD rs e []) = distance-in (t .yard) b rs i in
+      elim (decLt d e) [
+        | yes m ↦ absurd (h e b m y)
+        | no m ↦ g .rings-before e b (omega arith) y
+      ]))
 
+  module _ (most : n ≤ span) (hu : bayOf p r < n) where
     module _ (d : ℕ) (ring : List ℕ) (same : (y : ℕ) → y < span → mem ring y ≡ elem y (getD rs d [])) where
       pub sought-start : (v : ℕ) → Sought (t .yard) r s p d 0 → Lowest (mem ring) 0 span v → Sought (t .yard) r s p d v
       sought-start v g l = record { rings-before = g .rings-before; below = λ b i h. not-both (same b (omega (arith, l .upto)) ∙ i) (l .before b (omega arith) h) }
@@ -166,3 +169,11 @@ module _ {n : ℕ} {table : List ℕ} (t : Tabled n table) (r s : Carrier) (p : 
 
 pub near-of : {Y : Yard} {r s : Carrier} {v : Bay} {p : Placement} → Beside Y r s p → In (bayOf p r) (nearestFirst Y [] v) → Near Y r s v p
 near-of b i = record { sound = b .sound; reached = i; beside = b .beside }
+
+-- the near rings are passed, or no bay is further
+module _ {n : ℕ} {table : List ℕ} (t : Tabled n table) (r s : Carrier) (p : Placement) where
+  pub none-near : (d : ℕ) → min near-rings n ≤ d → Sought (t .yard) r s p d 0 → NoneNear (t .yard) r s p
+  none-near d h g i b k y = elim (decLt i d) [
+    | yes m ↦ g .rings-before i b m y
+    | no m ↦ In-nil b (rw (ring-none (freeShown t) (bayOf p r) i (omega arith)) at y)
+  ]
