@@ -20,8 +20,8 @@ use Rattle.paper.proofs.Commuting.{done-set}
 use Rattle.paper.proofs.Marking.{closed-of}
 use Rattle.paper.proofs.Checking.{check-passed}
 use Rattle.paper.proofs.Reporting.{tell-facts, done-already, facts-accept}
-use Rattle.paper.proofs.Logging.{Kept, fine, some-ready, all-done, plan-lawful, kept-from-fresh}
-use Rattle.paper.proofs.Handing.{handed-passes}
+use Rattle.laws.proofs.Logging.{Kept, fine, some-ready, all-done, plan-lawful, kept-from-fresh}
+use Rattle.laws.proofs.Handing.{handed-passes}
 use Rattle.bills.specs.Billing.{places, untouched, noLine}
 use Rattle.bills.specs.Answering.{marksThen}
 use Rattle.bills.specs.Keeping.{Books, answerOn, booksBy, freshBooks, booksFrom, billedFrom}

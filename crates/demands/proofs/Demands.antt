@@ -18,8 +18,8 @@ use Rattle.paper.proofs.Planning.{accepted-exactly, stopped-exactly, room-exact
 use Rattle.paper.proofs.Slotting.{slots-rise, slots-lowest}
 use Rattle.paper.proofs.Checking.{check-passed}
 use Rattle.paper.proofs.Reporting.{accept-facts, facts-accept, done-already, report-accepts}
-use Rattle.paper.proofs.Logging.{fine, some-ready, all-done, unaccepted, plan-lawful, kept-from-fresh}
-use Rattle.paper.proofs.Handing.{handed-passes}
+use Rattle.laws.proofs.Logging.{fine, some-ready, all-done, unaccepted, plan-lawful, kept-from-fresh}
+use Rattle.laws.proofs.Handing.{handed-passes}
 
 pub demand-1 : (o : Order) → Demand1 o
 unfolding written slotsEnd

@@ -15,7 +15,7 @@ use Rattle.paper.specs.Answers.{check}
 use Rattle.paper.specs.Log.{Request, marksOf, namesOf, acceptedOf}
 use Rattle.paper.proofs.Playing.{after-length}
 use Rattle.paper.proofs.Checking.{check-passed}
-use Rattle.paper.proofs.Logging.{fine, kept-from-fresh}
+use Rattle.laws.proofs.Logging.{fine, kept-from-fresh}
 use Rattle.demands.proofs.Demands.{demand-3}
 use Rattle.docket.specs.declared.Verdict.{Verdict as Held}
 use Rattle.placement.specs.Standing.{refusal, standing, standingEnd, PlacementSays}

@@ -11,7 +11,7 @@ use Rattle.paper.specs.Yard.{Crossing, unpack, crossings}
 use Rattle.paper.specs.Answers.{Answer, accepted}
 use Rattle.paper.specs.OnePass.{Fits}
 use Rattle.paper.specs.Print.{decimal, actionLine, costLine, ended, printed}
-use Rattle.paper.proofs.Digits.{tenTo, short}
+use Rattle.laws.proofs.Digits.{tenTo, short}
 use Rattle.docket.specs.declared.Verdict.{Verdict}
 use Rattle.printing.specs.Parts.{named, actionLines}
 use Rattle.printing.proofs.Lines.{action-parts, cost-parts, lines-none, lines-more, plan-parts}

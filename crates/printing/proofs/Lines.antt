@@ -17,7 +17,7 @@ use Rattle.paper.proofs.Packing.{unpack-small}
 use Rattle.paper.specs.Print.{decimal, actionLine, costLine, refusedLine, ended, planLines, printPlan, printed}
 use Rattle.docket.specs.Reading.{isSome}
 use Rattle.printing.specs.Parts.{named, actionLines, handed}
-use Rattle.paper.proofs.Digits.{decimal-short}
+use Rattle.laws.proofs.Digits.{decimal-short}
 
 pub named-short : (t : Text) (n : ℕ) → n < 2 ^ 64 → length (named t n) ≤ length t + 20
 unfolding named

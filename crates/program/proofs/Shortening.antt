@@ -18,7 +18,7 @@ use Rattle.paper.specs.Log.{marksFrom}
 use Rattle.paper.specs.Program.{program-room}
 use Rattle.paper.proofs.Tests.{never, or-neither}
 use Rattle.paper.proofs.Checking.{check-passed}
-use Rattle.paper.proofs.Logging.{fine, kept-from-fresh}
+use Rattle.laws.proofs.Logging.{fine, kept-from-fresh}
 use Rattle.docket.specs.declared.Refusal.{Refusal}
 use Rattle.docket.specs.Reading.{verdictOf}
 use Rattle.docket.specs.declared.Verdict.{Verdict}

@@ -11,7 +11,7 @@ use Rattle.paper.specs.Order.{Order}
 use Rattle.paper.specs.Answers.{Answer, accepted, refused, told, plan, written}
 use Rattle.paper.specs.Program.{program-room}
 use Rattle.paper.proofs.Tests.{never}
-use Rattle.paper.proofs.Handing.{handed-passes}
+use Rattle.laws.proofs.Handing.{handed-passes}
 use Rattle.docket.specs.Reading.{verdictOf}
 use Rattle.docket.specs.declared.Verdict.the-variants.{Granted}
 use Rattle.planner.specs.declared.Planned.{Planned}

@@ -15,9 +15,9 @@ use Rattle.paper.specs.Docket.{yardOf, badMarks}
 use Rattle.paper.specs.Answers.{Report, accept, already, refuse, accepts, check, marksAfter, plan as planned, accepted}
 use Rattle.paper.specs.Log.{Request, answerTo, marksFrom, namesFrom, marksOf, namesOf}
 use Rattle.paper.proofs.Tests.{not-both}
-use Rattle.paper.proofs.Logging.{fine, plan-lawful, kept-from-fresh}
+use Rattle.laws.proofs.Logging.{fine, plan-lawful, kept-from-fresh}
 use Rattle.demands.proofs.Demands.{Demand3, demand-3}
-use Rattle.paper.proofs.Handing.{handed-passes}
+use Rattle.laws.proofs.Handing.{handed-passes}
 use Rattle.trips.specs.Trips.{shorten}
 use Rattle.trips.proofs.Shortened.{shortened-passes}
 use Rattle.bills.specs.Answering.{opening, marksThen}

@@ -11,8 +11,8 @@ use Rattle.paper.specs.Basics.{_and_}
 use Rattle.paper.specs.Text.{SPACE, split, isDigit, sized, isNumber}
 use Rattle.paper.specs.Print.{spell, decimal}
 use Rattle.paper.proofs.Tests.{by-cases, and-both}
-use Rattle.paper.proofs.Digits.{spell-some, tenTo, short, decimal-digits, decimal-some}
-use Rattle.paper.proofs.Lines.{split-number}
+use Rattle.laws.proofs.Digits.{spell-some, tenTo, short, decimal-digits, decimal-some}
+use Rattle.laws.proofs.Lines.{split-number}
 
 -- ## Numbers
 -- a number below 100,000 has one to five digits

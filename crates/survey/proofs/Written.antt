@@ -17,8 +17,8 @@ use Rattle.paper.specs.Docket.{railsOf, badRail, size, rail, no-1, no-2, no-3}
 use Rattle.paper.specs.Text.{Text, SPACE, lines, split, same, all, value, good, readLines}
 use Rattle.paper.specs.Print.{decimal, ended}
 use Rattle.paper.proofs.Tests.{by-cases, none-both, none-from, none-when, never-some, or-none, good-same}
-use Rattle.paper.proofs.Digits.{decimal-value}
-use Rattle.paper.proofs.Lines.{plain, AllPlain, lines-ended, number-plain, all-cat}
+use Rattle.laws.proofs.Digits.{decimal-value}
+use Rattle.laws.proofs.Lines.{plain, AllPlain, lines-ended, number-plain, all-cat}
 use Rattle.paper.proofs.Admitted.{sizes-of}
 use Rattle.survey.specs.Survey.{headDue, railsDue, isComment, twoNumbers, numbersAfter, taken, surveyLine, surveyEnd, readSurvey, headLine, railLine, surveyOf, firstThree}
 use Rattle.survey.proofs.Words.{decimal-number, two-fields}

@@ -15,9 +15,9 @@ use Rattle.paper.specs.Dependence.{slots}
 use Rattle.paper.specs.Text.{Text, SPACE, join, lines, split, same, all, isDigit}
 use Rattle.paper.specs.Print.{decimal, actionLine, costLine, ended}
 use Rattle.paper.proofs.Tests.{and-left, and-right}
-use Rattle.paper.proofs.Digits.{decimal-value, decimal-digits, decimal-some}
-use Rattle.paper.proofs.Lines.{split-number, plain, AllPlain, lines-ended, number-plain, all-cat}
-use Rattle.paper.proofs.Printing.{action-back, action-plain, cost-plain}
+use Rattle.laws.proofs.Digits.{decimal-value, decimal-digits, decimal-some}
+use Rattle.laws.proofs.Lines.{split-number, plain, AllPlain, lines-ended, number-plain, all-cat}
+use Rattle.laws.proofs.Printing.{action-back, action-plain, cost-plain}
 use Rattle.paper.proofs.Slotting as first
 use Rattle.trains.specs.Slots.{withSlots, trainSlots}
 use Rattle.trains.specs.Print.{timedLine, timedLines, printTimed, readTime, spaced, readTimedLine, readTimed}

@@ -6,7 +6,7 @@ use borrow.Author.Needs.{needs}
 use borrow.Fn.Kinds.{In}
 use borrow.Fn.PlainCycle.{Measures, is, falls, and}
 use Rattle.stores.proofs.Stores.{wrote-one}
-use Rattle.paper.proofs.Digits.{decimal-one, decimal-more, decimal-short}
+use Rattle.laws.proofs.Digits.{decimal-one, decimal-more, decimal-short}
 use Rattle.printing.proofs.put_number.Reads as put-number
 use Rattle.stores.proofs.byte.Reads as byte-reads
 use Rattle.printing.proofs.put_number.Kinds as put-number-kinds

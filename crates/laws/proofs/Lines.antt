@@ -6,13 +6,13 @@ use Prim.Native.Nat.{ℕ, _≤_}
 use native.Mathlib.Omega.{arith}
 use lib.Dec.{eqb, leb}
 use borrow.Author.Tests.{eqb-true, ne-eqb, not-true, leb-true}
 use Rattle.paper.specs.Basics.{_and_}
 use Rattle.paper.specs.Text.{Text, LF, CR, join, lines, split, all, isDigit}
 use Rattle.paper.specs.Print.{decimal, ended}
 use Rattle.paper.proofs.Tests.{by-cases, and-left, and-right, and-both, not-both}
 use Rattle.paper.proofs.Fields.{and-assoc}
 use Rattle.paper.proofs.Stepping.{split-some}
-use Rattle.paper.proofs.Digits.{decimal-digits}
+use Rattle.laws.proofs.Digits.{decimal-digits}
 
 -- ## Pieces
 abbrev pub Without : ℕ → Text → Type 0

@@ -8,12 +8,12 @@ use Prim.Native.Nat.{ℕ}
 use lib.Dec.{eqb}
 use lib.ListN.{length, getD}
 use borrow.Author.Tests.{eq-eqb, le-leb}
 use Rattle.paper.specs.Basics.{_and_}
 use Rattle.paper.specs.Yard.{Crossing}
 use Rattle.paper.specs.Text.{Text, SPACE, join, lines, split, same, all, isDigit}
 use Rattle.paper.specs.Print.{decimal, actionLine, costLine, planLines, printPlan, numberAfter, readAction, readPlan}
-use Rattle.paper.proofs.Digits.{decimal-value, decimal-digits, decimal-some}
-use Rattle.paper.proofs.Lines.{split-number, plain, AllPlain, lines-ended, number-plain, all-cat}
+use Rattle.laws.proofs.Digits.{decimal-value, decimal-digits, decimal-some}
+use Rattle.laws.proofs.Lines.{split-number, plain, AllPlain, lines-ended, number-plain, all-cat}
 
 number-back : (c n : ℕ) → numberAfter c (c ∷ decimal n ++ []) ≡ some n
 unfolding numberAfter _and_
