@@ -3,7 +3,7 @@ use mathlib.Core.Path.{_≡_, _∙_, ap}
 use mathlib.Core.Bool.{Bool, true, false}
 use Prim.Native.Nat.{ℕ}
 use borrow.Author.Tests.{ne-eqb}
-use Rattle.scenario.specs.Under.{countIn}
+use Rattle.carrier_lists.specs.Counting.{countIn}
 use Rattle.scenario.specs.declared.Reading.{Reading}
 use Rattle.link.specs.declared.Kept.{Kept}
 use Rattle.link.specs.Link.{yesOf, bitOf, readingIn, blankKept, keptOf}

@@ -15,7 +15,7 @@ use Rattle.paper.specs.Bytes.{State, failed, going, Under, inVersion, inCarrier
 use Rattle.paper.proofs.Tests.{by-cases}
 use Rattle.stores.specs.Writing.{Wrote}
 use Rattle.stores.proofs.Stores.{wrote-stands}
-use Rattle.scenario.proofs.Taking.{count-few, count-same}
+use Rattle.carrier_lists.proofs.Counting.{count-few, count-same}
 use Rattle.scenario.specs.declared.Reading.{Reading}
 use Rattle.scenario.specs.Under.{Sound, stateOf, startsOf, goalsOf, Stored}
 use Rattle.link.specs.declared.Kept.{Kept}

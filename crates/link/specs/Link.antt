@@ -16,7 +16,8 @@ use Rattle.paper.specs.Map.{Grid, cells}
 use Rattle.paper.specs.Bytes.{State, failed, going, Under, inVersion, inCarrier, scenarioStep, scenarioFinish, unread}
 use Rattle.gridmap.specs.Cells.{numbering, bayFound}
 use Rattle.scenario.specs.declared.Reading.{Reading}
-use Rattle.scenario.specs.Under.{countIn, stateOf, startsOf, goalsOf}
+use Rattle.carrier_lists.specs.Counting.{countIn}
+use Rattle.scenario.specs.Under.{stateOf, startsOf, goalsOf}
 use Rattle.docket.specs.Reading.{verdictOf}
 use Rattle.link.specs.declared.Kept.{Kept}
 use Rattle.link.specs.declared.Link.{Link}

@@ -84,7 +84,7 @@ pub fn reading(k: Kept) -> Reading
         version: version,
         begun: yes(k.begun),
         held: yes(k.held),
-        count: scenario::counted(version, k.count),
+        count: carrier_lists::counted(version, k.count),
         start: 0,
         goal: 0,
         text: TextSeen {

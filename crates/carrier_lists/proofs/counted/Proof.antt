@@ -1,9 +1,9 @@
--- `scenario::counted` meets its contract.
+-- `carrier_lists::counted` meets its contract.
 -- Assumes nothing.
 use borrow.Author.Needs.{needs}
-use Rattle.scenario.proofs.Taking.{counted-below, counted-above}
-use Rattle.scenario.proofs.counted.Statement.{statement}
-use Rattle.scenario.proofs.counted.Tie as tie
+use Rattle.carrier_lists.proofs.Counting.{counted-below, counted-above}
+use Rattle.carrier_lists.proofs.counted.Statement.{statement}
+use Rattle.carrier_lists.proofs.counted.Tie as tie
 
 returns : tie.Need-returns
 returns c = search needs
