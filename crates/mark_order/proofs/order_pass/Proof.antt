@@ -1,4 +1,4 @@
--- `marks::order_pass` meets its contract. The crossing at hand has its carrier and bays below 256, so each table has its entry; the rest is the pass of proofs/Ordering.
+-- `mark_order::order_pass` meets its contract. The crossing at hand has its carrier and bays below 256, so each table has its entry; the rest is the pass of proofs/Ordering.
 -- Assumes nothing.
 use mathlib.Core.Path.{sym, _∙_}
 use mathlib.Core.Logic.{⊎-elim}
@@ -11,9 +11,9 @@ use Rattle.paper.specs.Limits.{most-bays}
 use Rattle.paper.specs.Yard.{Crossing}
 use Rattle.docket.specs.Reading.{crossingOf}
 use Rattle.plans.proofs.Rest.{fits-named}
-use Rattle.marks.proofs.Ordering.{Ordering, ordering-start, ordering-undone, ordering-done, ordering-met, ordering-end}
-use Rattle.marks.proofs.order_pass.Statement.{statement}
-use Rattle.marks.proofs.order_pass.Tie as tie
+use Rattle.mark_order.proofs.Ordering.{Ordering, ordering-start, ordering-undone, ordering-done, ordering-met, ordering-end}
+use Rattle.mark_order.proofs.order_pass.Statement.{statement}
+use Rattle.mark_order.proofs.order_pass.Tie as tie
 
 abbrev Inv-loop : tie.InvT-loop
 Inv-loop plan marks carriers₀ bays₀ i₀ carriers bays i = Ordering plan marks carriers bays i

@@ -1,4 +1,4 @@
--- `marks::bad_marks` meets its contract. The three clauses of 11, one after the other.
+-- `mark_order::bad_marks` meets its contract. The three clauses of 11, one after the other.
 -- Assumes nothing.
 use mathlib.Core.Path.{_≡_, sym, _∙_, ap}
 use mathlib.Core.Bool.{true, not}
@@ -12,8 +12,8 @@ use Rattle.paper.specs.Yard.{unpack, crossings}
 use Rattle.paper.specs.Dependence.{outOfOrder}
 use Rattle.paper.specs.Docket.{badMarks}
 use Rattle.paper.proofs.Tests.{or-left, or-right, or-neither}
-use Rattle.marks.proofs.bad_marks.Statement.{statement}
-use Rattle.marks.proofs.bad_marks.Tie as tie
+use Rattle.mark_order.proofs.bad_marks.Statement.{statement}
+use Rattle.mark_order.proofs.bad_marks.Tie as tie
 
 returns : tie.Need-returns
 unfolding badMarks

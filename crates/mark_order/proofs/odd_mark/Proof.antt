@@ -1,13 +1,13 @@
--- `marks::odd_mark` meets its contract. What was seen and what is left to look at decide.
+-- `mark_order::odd_mark` meets its contract. What was seen and what is left to look at decide.
 -- Assumes nothing.
 use Prim.Native.Nat.{_≤_, _-_}
 use native.Mathlib.Omega.{arith}
 use borrow.Author.Needs.{needs}
 use denote.Ref.{now}
 use lib.ListN.{length}
-use Rattle.marks.proofs.Telling.{OddFrom, odd-start, odd-on, odd-end}
-use Rattle.marks.proofs.odd_mark.Statement.{statement}
-use Rattle.marks.proofs.odd_mark.Tie as tie
+use Rattle.mark_order.proofs.Odd.{OddFrom, odd-start, odd-on, odd-end}
+use Rattle.mark_order.proofs.odd_mark.Statement.{statement}
+use Rattle.mark_order.proofs.odd_mark.Tie as tie
 
 abbrev Inv-loop : tie.InvT-loop
 Inv-loop marks odd₀ i₀ odd i = (i ≤ length marks) × OddFrom marks odd i

@@ -1,12 +1,12 @@
--- `marks::touched` meets its contract. The three tests are the definition's, one after the other.
+-- `mark_order::touched` meets its contract. The three tests are the definition's, one after the other.
 -- Assumes nothing.
 use mathlib.Core.Path.{sym}
 use borrow.Author.Needs.{needs}
 use borrow.Author.Tests.{eq-eqb, ne-eqb}
 use Rattle.paper.specs.Basics.{_or_}
 use Rattle.paper.proofs.Tests.{or-left, or-right}
-use Rattle.marks.proofs.touched.Statement.{statement}
-use Rattle.marks.proofs.touched.Tie as tie
+use Rattle.mark_order.proofs.touched.Statement.{statement}
+use Rattle.mark_order.proofs.touched.Tie as tie
 
 element-copy-out-if1 : tie.Need-element-copy-out-if1
 element-copy-out-if1 c = search needs
