@@ -24,7 +24,7 @@ use Rattle.paper.proofs.Tests.{never, by-read}
 use Rattle.gridmap.specs.Cells.{numbering, bayFound}
 use Rattle.gridmap.proofs.Good.{map-sized}
 use Rattle.scenario.proofs.OfMap.{reads-of-map}
-use Rattle.readers.specs.Reading.{Listing, listed, unlisted, listing, listingIn}
+use Rattle.listing.specs.Reading.{Listing, listed, unlisted, listing, listingIn}
 use Rattle.link.specs.declared.Link.{Link}
 use Rattle.link.specs.declared.Turn.{Turn}
 use Rattle.link.specs.Link.{piece-bytes, stateIn, isOpen, stepIn, linkBy, finishIn, verdictBy, carriersRead, Saying, told, sayingOf, beginLink, begunLink, pieceLink, endSaying, Holds, BeginSays, PieceLeaves, EndLeaves, EndSays}

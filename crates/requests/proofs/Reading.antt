@@ -20,7 +20,7 @@ use Rattle.exactly.specs.First.{Given}
 use Rattle.exactly.proofs.First.{given-number}
 use Rattle.handing.specs.Handing.{handed}
 use Rattle.readback.specs.Files.{planVerdict, reportsVerdict}
-use Rattle.readers.specs.Reading.{laying, laidVerdict, listed, listingIn, listing, short, listVerdict}
+use Rattle.listing.specs.Reading.{laying, laidVerdict, listed, listingIn, listing, short, listVerdict}
 use Rattle.survey.specs.Survey.{readSurvey, readRefusal}
 use Rattle.survey.proofs.Broken.{BreaksAfter, broken-exactly}
 use Rattle.surveying.specs.Says.{readAnswer}

@@ -1,9 +1,9 @@
--- `readers::lay` meets its contract.
+-- `listing::lay` meets its contract.
 -- Assumes nothing.
 use borrow.Author.Needs.{needs}
-use Rattle.readers.proofs.Saying.{lay-short, lay-fits}
-use Rattle.readers.proofs.lay.Statement.{statement}
-use Rattle.readers.proofs.lay.Tie as tie
+use Rattle.listing.proofs.Saying.{lay-short, lay-fits}
+use Rattle.listing.proofs.lay.Statement.{statement}
+use Rattle.listing.proofs.lay.Tie as tie
 
 slice-aggregate-rails : tie.Need-slice-aggregate-rails
 slice-aggregate-rails c = search needs

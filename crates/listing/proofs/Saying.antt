@@ -20,7 +20,7 @@ use Rattle.gridmap.specs.declared.Grid.{Grid as Held}
 use Rattle.scenario.specs.declared.ScenarioRead.{ScenarioRead}
 use Rattle.scenario.specs.declared.ScenarioRead.the-variants as scenario-read
 use Rattle.scenario.specs.Under.{bayBy, startsOf, goalsOf, Reads}
-use Rattle.readers.specs.Reading.{Laid, laid, laying, Listing, listing, listingIn, short, MapSays, ScenarioSays}
+use Rattle.listing.specs.Reading.{Laid, laid, laying, Listing, listing, listingIn, short, MapSays, ScenarioSays}
 
 module _ (n : ℕ) (ends before : List ℕ) (needed : ℕ) (counted : needed ≡ 0 + length ends) where
   pub lay-short : length before < needed → MapSays (laid n ends) before (denied (room needed)) 0 before

@@ -1,9 +1,9 @@
--- `readers::list` meets its contract.
+-- `listing::list` meets its contract.
 -- Assumes nothing.
 use borrow.Author.Needs.{needs}
-use Rattle.readers.proofs.Saying.{list-short, list-short-2, list-fits, list-bad}
-use Rattle.readers.proofs.list.Statement.{statement}
-use Rattle.readers.proofs.list.Tie as tie
+use Rattle.listing.proofs.Saying.{list-short, list-short-2, list-fits, list-bad}
+use Rattle.listing.proofs.list.Statement.{statement}
+use Rattle.listing.proofs.list.Tie as tie
 
 slice-aggregate-read : tie.Need-slice-aggregate-read
 slice-aggregate-read c = search needs
