@@ -1,8 +1,8 @@
--- `surveying::read` meets its contract.
+-- `survey_files::read` meets its contract.
 -- Assumes nothing.
 use borrow.Author.Needs.{needs}
-use Rattle.surveying.proofs.read.Statement.{statement}
-use Rattle.surveying.proofs.read.Tie as tie
+use Rattle.survey_files.proofs.read.Statement.{statement}
+use Rattle.survey_files.proofs.read.Tie as tie
 
 slice-aggregate-read : tie.Need-slice-aggregate-read
 slice-aggregate-read c = search needs

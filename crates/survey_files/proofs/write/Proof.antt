@@ -1,13 +1,13 @@
--- `surveying::write` meets its contract.
+-- `survey_files::write` meets its contract.
 -- Assumes nothing.
 use mathlib.Core.Path.{refl, sym, _∙_, ap}
 use native.Mathlib.Omega.{arith}
 use borrow.Author.Needs.{needs}
 use Rattle.survey.proofs.Written.{passes}
 use Rattle.surveying.specs.Says.{testedOf}
 use Rattle.surveying.proofs.Telling.{write-refused, write-room, write-all}
-use Rattle.surveying.proofs.write.Statement.{statement}
-use Rattle.surveying.proofs.write.Tie as tie
+use Rattle.survey_files.proofs.write.Statement.{statement}
+use Rattle.survey_files.proofs.write.Tie as tie
 
 test-requires : tie.Need-test-requires
 test-requires c κs = search needs
