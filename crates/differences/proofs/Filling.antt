@@ -11,7 +11,7 @@ use lib.Seq.{getD-set-same, getD-set-other}
 use Rattle.paper.specs.Limits.{most-carriers}
 use Rattle.paper.specs.Yard.{Carrier}
 use Rattle.paper.proofs.Tests.{by-cases}
-use Rattle.comparing.specs.Statements.{FillSays}
+use Rattle.differences.specs.Filled.{FillSays}
 
 pub record Filling (seconds firsts : List ℕ) (filled : List ℤ) (i : ℕ) : Type 0 where
   pub within : i ≤ most-carriers

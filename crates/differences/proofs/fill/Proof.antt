@@ -1,15 +1,15 @@
--- `comparing::fill` meets its contract: the pass over the carriers of proofs/Filling.
+-- `differences::fill` meets its contract: the pass over the carriers of proofs/Filling.
 -- Assumes nothing.
 use mathlib.Core.Path.{_∙_}
 use Prim.Native.Nat.{_-_}
 use mir.Syntax.{w64}
 use mir.ValLaws.{toZ-ofZ}
 use denote.Ref.{now}
-use Rattle.comparing.proofs.Filling.{Filling, filling-start, filling-on, filling-ends}
+use Rattle.differences.proofs.Filling.{Filling, filling-start, filling-on, filling-ends}
 use borrow.Author.Needs.{needs}
 use Rattle.paper.specs.Limits.{most-carriers}
-use Rattle.comparing.proofs.fill.Statement.{statement}
-use Rattle.comparing.proofs.fill.Tie as tie
+use Rattle.differences.proofs.fill.Statement.{statement}
+use Rattle.differences.proofs.fill.Tie as tie
 
 abbrev Inv-loop : tie.InvT-loop
 Inv-loop firsts seconds differences₀ c₀ differences c = Filling seconds firsts differences c

@@ -1,8 +1,8 @@
 -- two numbers of 32 bits: the difference fits 64
 use borrow.Author.Needs.{needs}
-use Rattle.comparing.proofs.Signed.{less-fits, less-read}
-use Rattle.comparing.proofs.less.Statement.{statement}
-use Rattle.comparing.proofs.less.Tie as tie
+use Rattle.differences.proofs.Signed.{less-fits, less-read}
+use Rattle.differences.proofs.less.Statement.{statement}
+use Rattle.differences.proofs.less.Tie as tie
 
 cast-result : tie.Need-cast-result
 cast-result c = search needs
