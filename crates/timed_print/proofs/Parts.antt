@@ -9,9 +9,10 @@ use Rattle.paper.specs.Yard.{Crossing, unpack, crossings}
 use Rattle.paper.specs.Text.{text}
 use Rattle.paper.proofs.Packing.{unpack-small}
 use Rattle.paper.specs.Print.{decimal, actionLine, costLine, ended}
-use Rattle.printing.specs.Parts.{named}
+use Rattle.put_bytes.specs.Named.{named}
 use Rattle.laws.proofs.Digits.{decimal-short}
-use Rattle.printing.proofs.Lines.{named-short, ended-append}
+use Rattle.put_bytes.proofs.Short.{named-short}
+use Rattle.printing.proofs.Lines.{ended-append}
 use Rattle.trains.specs.Print.{timedLine, timedLines, printTimed}
 use Rattle.timed_print.specs.Lines.{linesOf}
 

@@ -1,4 +1,4 @@
--- `printing::put_number` meets its contract. The digits are those of the tenth, by the call, and the last one behind them; the number falls.
+-- `put_bytes::put_number` meets its contract. The digits are those of the tenth, by the call, and the last one behind them; the number falls.
 -- Assumes nothing.
 use Prim.Native.Nat.{ℕ, _+_, _/_, _%_, _<_}
 use native.Mathlib.Omega.{arith}
@@ -7,12 +7,12 @@ use borrow.Fn.Kinds.{In}
 use borrow.Fn.PlainCycle.{Measures, is, falls, and}
 use Rattle.stores.proofs.Stores.{wrote-one}
 use Rattle.laws.proofs.Digits.{decimal-one, decimal-more, decimal-short}
-use Rattle.printing.proofs.put_number.Reads as put-number
+use Rattle.put_bytes.proofs.put_number.Reads as put-number
 use Rattle.stores.proofs.byte.Reads as byte-reads
-use Rattle.printing.proofs.put_number.Kinds as put-number-kinds
-use Rattle.printing.proofs.+put_number.Lts-put_number as put-number-lts
-use Rattle.printing.proofs.+put_number.{statement}
-use Rattle.printing.proofs.+put_number.Tie.{close}
+use Rattle.put_bytes.proofs.put_number.Kinds as put-number-kinds
+use Rattle.put_bytes.proofs.+put_number.Lts-put_number as put-number-lts
+use Rattle.put_bytes.proofs.+put_number.{statement}
+use Rattle.put_bytes.proofs.+put_number.Tie.{close}
 
 abbrev μ-put-number : Measures 1 put-number-kinds.ps ℕ
 μ-put-number κs a = a .1 .1 .0

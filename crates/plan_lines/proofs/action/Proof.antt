@@ -1,13 +1,14 @@
--- `printing::action` meets its contract. Each number goes where the one before it ended; a line has at most 73 bytes.
+-- `plan_lines::action` meets its contract. Each number goes where the one before it ended; a line has at most 73 bytes.
 -- Assumes nothing.
 use native.Mathlib.Omega.{arith}
 use borrow.Author.Needs.{needs}
 use Rattle.paper.specs.Text.{text}
 use Rattle.docket.specs.Reading.{crossingOf}
 use Rattle.stores.proofs.Stores.{wrote-then}
-use Rattle.printing.proofs.Lines.{named-short, action-parts}
-use Rattle.printing.proofs.action.Statement.{statement}
-use Rattle.printing.proofs.action.Tie as tie
+use Rattle.put_bytes.proofs.Short.{named-short}
+use Rattle.plan_lines.proofs.Lines.{action-parts}
+use Rattle.plan_lines.proofs.action.Statement.{statement}
+use Rattle.plan_lines.proofs.action.Tie as tie
 
 slice-aggregate-put-named : tie.Need-slice-aggregate-put-named
 slice-aggregate-put-named c = search needs

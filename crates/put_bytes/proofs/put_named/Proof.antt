@@ -1,10 +1,10 @@
--- `printing::put_named` meets its contract. The number goes where the text ended.
+-- `put_bytes::put_named` meets its contract. The number goes where the text ended.
 -- Assumes nothing.
 use borrow.Author.Needs.{needs}
 use Rattle.stores.proofs.Stores.{wrote-then}
-use Rattle.printing.specs.Parts.{named}
-use Rattle.printing.proofs.put_named.Statement.{statement}
-use Rattle.printing.proofs.put_named.Tie as tie
+use Rattle.put_bytes.specs.Named.{named}
+use Rattle.put_bytes.proofs.put_named.Statement.{statement}
+use Rattle.put_bytes.proofs.put_named.Tie as tie
 
 put-text-requires : tie.Need-put-text-requires
 put-text-requires c κs = search needs

@@ -1,12 +1,13 @@
--- `printing::cost` meets its contract. The words behind the number go where its digits ended.
+-- `plan_lines::cost` meets its contract. The words behind the number go where its digits ended.
 -- Assumes nothing.
 use native.Mathlib.Omega.{arith}
 use borrow.Author.Needs.{needs}
 use Rattle.paper.specs.Text.{text}
 use Rattle.stores.proofs.Stores.{wrote-then}
-use Rattle.printing.proofs.Lines.{named-short, cost-parts}
-use Rattle.printing.proofs.cost.Statement.{statement}
-use Rattle.printing.proofs.cost.Tie as tie
+use Rattle.put_bytes.proofs.Short.{named-short}
+use Rattle.plan_lines.proofs.Lines.{cost-parts}
+use Rattle.plan_lines.proofs.cost.Statement.{statement}
+use Rattle.plan_lines.proofs.cost.Tie as tie
 
 slice-aggregate-put-named : tie.Need-slice-aggregate-put-named
 slice-aggregate-put-named c = search needs

@@ -1,4 +1,4 @@
--- `printing::put_text` meets its contract. After i turns the first i bytes are stored.
+-- `put_bytes::put_text` meets its contract. After i turns the first i bytes are stored.
 -- Assumes nothing.
 use Prim.Native.Nat.{_+_, _-_, _≤_}
 use lib.ListN.{length, take}
@@ -6,8 +6,8 @@ use borrow.Author.Needs.{needs}
 use Rattle.paper.specs.Text.{text}
 use Rattle.stores.specs.Writing.{Wrote}
 use Rattle.stores.proofs.Stores.{wrote-next, wrote-all, wrote-length}
-use Rattle.printing.proofs.put_text.Statement.{statement}
-use Rattle.printing.proofs.put_text.Tie as tie
+use Rattle.put_bytes.proofs.put_text.Statement.{statement}
+use Rattle.put_bytes.proofs.put_text.Tie as tie
 
 abbrev Inv-loop : tie.InvT-loop
 Inv-loop out₀ at text i₀ out i = (i ≤ length text) × Wrote out₀ at (take i text) out (at + i)
