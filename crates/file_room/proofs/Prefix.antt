@@ -20,8 +20,8 @@ use Rattle.paper.specs.Print.{printed}
 use Rattle.paper.specs.Program.{readFile, scenarioRead, programAnswer, program}
 use Rattle.paper.proofs.Tests.{by-cases, and-left, and-right, not-both, never, or-cases, some-when, some-from, some-same}
 use Rattle.lines.proofs.Words.{same-other}
-use Rattle.filing.specs.Filing.{map-bytes, scenario-bytes}
-use Rattle.filing.proofs.Enough.{decided}
+use Rattle.file_room.specs.Room.{map-bytes, scenario-bytes}
+use Rattle.file_room.proofs.Enough.{decided}
 
 same-sized : (l w : Text) → same l w ≡ true → length l ≡ length w
 same-sized l w h =
