@@ -21,7 +21,7 @@ use Rattle.paper.proofs.Swapping.{Chain}
 use Rattle.paper.proofs.Tests.{by-cases, never, never-some, some-same}
 use Rattle.go.specs.Going.{planOf, Linked}
 use Rattle.words.specs.Sets.{span}
-use Rattle.go.proofs.Lending.{RestLent, on-the-rest}
+use Rattle.acting.proofs.Lending.{RestLent, on-the-rest}
 use Rattle.home.specs.Homing.{Stages}
 use Rattle.paper.proofs.Making.{together-assoc, together-none, none-together}
 use Rattle.moving.specs.Placed.{Placed}

@@ -61,7 +61,7 @@ fn carry(
     while 0 < i {
         let bay = Bay(path[i]);
         let v = HomeBay { finished, bay };
-        let from = clear_on::place_in(out, count.crossings);
+        let from = acting::place_in(out, count.crossings);
         let rest = &mut out[from..];
         let homed = home::home_at(table, owner, v, placement, standing, empty, settled, rest);
         let Staged::Planned(made) = homed else {
@@ -111,7 +111,7 @@ pub fn carry_all(
             goal: Bay(goals[r]),
             in_carousel,
         };
-        let from = clear_on::place_in(out, count.crossings);
+        let from = acting::place_in(out, count.crossings);
         let rest = &mut out[from..];
         let carried = carry(table, owner, to, placement, standing, empty, settled, rest);
         let Staged::Planned(made) = carried else {

@@ -20,7 +20,7 @@ use Rattle.acting.specs.Acting.{Tabled, nothing, Tallied, Proceeds, Tries}
 use Rattle.acting.specs.declared.Tally.{Tally}
 use Rattle.acting.proofs.Acting.{tallied-none, tallied-then, tries-some, tried-done, tried-failed}
 use Rattle.step.specs.Asking.{Loopless}
-use Rattle.go.proofs.Lending.{RestLent, on-the-rest}
+use Rattle.acting.proofs.Lending.{RestLent, on-the-rest}
 use Rattle.acting.specs.declared.Tried.the-variants.{Done}
 use Rattle.acting.specs.declared.Tried.the-variants.{Failed}
 

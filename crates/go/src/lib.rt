@@ -67,7 +67,7 @@ pub fn go(
             carrier: r,
             to: w,
         };
-        let from = clear_on::place_in(out, count.crossings);
+        let from = acting::place_in(out, count.crossings);
         let one = advance(
             table,
             next,

@@ -10,7 +10,7 @@ ghost use Prim.Native.Nat.{ℕ, _≤_, _<_};
 ghost use lib.ListN.{length, getD};
 ghost use Rattle.words.specs.Sets.{mem, words, span};
 ghost use Rattle.moving.specs.Placed.{Placed};
-ghost use Rattle.acting.specs.Acting.{nothing, Ready, CrossCounts};
+ghost use Rattle.acting.specs.Acting.{Ready, CrossCounts};
 ghost use Rattle.step.specs.Asking.{BaysBelow, StepAsks, AsideAsks, StepSays, StepSettles};
 
 // One step: the carrier r that steps and the next bay w on its way. The carriers below `finished` are finished.
@@ -45,22 +45,17 @@ fn make_way(
     let mut held = [0u64; words::WORDS];
     words::keep(&mut held, 0, settled);
     words::add(&mut held, placement[own] as usize);
-    let nothing = Tally {
-        crossings: 0,
-        parked: 0,
-    };
-    let vacated = acting::make_room(table, &held, w, placement, standing, empty, out, nothing);
+    let vacated = acting::make_room(table, &held, w, placement, standing, empty, out);
     let Tried::Done(done) = vacated else {
         let bay = w.0 as usize;
         let s = Carrier(standing[bay] as u32);
         return swap::swap(table, r, s, placement, standing, empty, out);
     };
-    let a = Tally {
-        crossings: done.crossings,
-        parked: done.parked,
-    };
+    let made = done.crossings;
+    let parked = done.parked;
     let u = Bay(placement[own]);
-    Tried::Done(acting::cross(placement, standing, empty, u, w, out, a))
+    let crossings = moving::cross(placement, standing, empty, u, w, out, made);
+    Tried::Done(Tally { crossings, parked })
 }
 
 // The step where the bay e beside w is empty and the choice: the carrier at w crosses to it, then r crosses. An empty bay is not held, so nobody asks
@@ -84,14 +79,13 @@ fn step_aside(
 {
     let r = next.carrier;
     let w = next.to;
-    let nothing = Tally {
-        crossings: 0,
-        parked: 0,
-    };
-    let a = acting::fill(table, placement, standing, empty, w, e, out, nothing);
+    let aside = acting::fill(table, placement, standing, empty, w, e, out);
+    let made = aside.crossings;
+    let parked = aside.parked;
     let own = r.0 as usize;
     let u = Bay(placement[own]);
-    Tried::Done(acting::cross(placement, standing, empty, u, w, out, a))
+    let crossings = moving::cross(placement, standing, empty, u, w, out, made);
+    Tried::Done(Tally { crossings, parked })
 }
 
 // One step of r to w: it is vacated, then r crosses; or else r is swapped with the carrier there. Vacating an empty bay moves
@@ -120,11 +114,7 @@ fn step_to(
         let own = r.0 as usize;
         let here = placement[own];
         let u = Bay(here);
-        let nothing = Tally {
-            crossings: 0,
-            parked: 0,
-        };
-        return Tried::Done(acting::cross(placement, standing, empty, u, w, out, nothing));
+        return Tried::Done(acting::cross(placement, standing, empty, u, w, out));
     }
     let s = standing[bay];
     let there = s as usize;
@@ -164,7 +154,7 @@ pub fn step_in(
         ⌝ }
     ensures { λ m. ⌜
         CrossCounts (getD (now (placement .entry)) (r .0) 0) (w .0)
-        (now (placement .entry)) (now (standing .entry)) (now (out .entry)) nothing
+        (now (placement .entry)) (now (standing .entry)) (now (out .entry))
         (now (placement .exit)) (now (standing .exit)) (now (empty .exit)) (now (out .exit)) m
         × ((f : ℕ)
         → BaysBelow f (now (placement .entry)) (now (settled .entry))
@@ -173,11 +163,7 @@ pub fn step_in(
 {
     let own = r.0 as usize;
     let u = Bay(placement[own]);
-    let nothing = Tally {
-        crossings: 0,
-        parked: 0,
-    };
-    let m = acting::cross(placement, standing, empty, u, w, out, nothing);
+    let m = acting::cross(placement, standing, empty, u, w, out);
     settle::settle(settled, u, w);
     m
 }

@@ -15,7 +15,7 @@ use Rattle.moving.specs.Bounds.{swap-most}
 use Rattle.acting.specs.Acting.{Tabled}
 use Rattle.clear.proofs.Clearing.{ready-again}
 use Rattle.step.specs.Asking.{BaysBelow}
-use Rattle.go.proofs.Lending.{rest-lent}
+use Rattle.acting.proofs.Lending.{rest-lent}
 use Rattle.home.specs.Homing.{Owners}
 use Rattle.home.proofs.Homing.{stages-stuck, Homed, homed-none, homed-more, homed-stops, homed-all, at-most, at-most-stuck, turn-due, turn-low, turn-homed}
 use Rattle.home.proofs.Settling.{Settled, Homeward}

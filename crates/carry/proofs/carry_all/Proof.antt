@@ -9,7 +9,7 @@ use Rattle.paper.specs.Text.{count}
 use Rattle.acting.specs.Acting.{Tabled}
 use Rattle.moving.specs.Bounds.{carrier-most}
 use Rattle.step.specs.Asking.{BaysBelow}
-use Rattle.go.proofs.Lending.{rest-lent}
+use Rattle.acting.proofs.Lending.{rest-lent}
 use Rattle.home.proofs.Homing.{stages-stuck}
 use Rattle.along.specs.Along.{Goals, HomeBelow, Bound}
 use Rattle.carry.proofs.Carrying.{settles, settles-stuck, Served, served-none, served-more, served-stuck, served-all, home-more}

@@ -13,7 +13,7 @@ use Rattle.acting.proofs.Acting.{tries-none}
 use Rattle.moving.specs.Bounds.{swap-most}
 use Rattle.step.specs.Asking.{BaysBelow}
 use Rattle.go.specs.Going.{Linked}
-use Rattle.go.proofs.Lending.{rest-lent}
+use Rattle.acting.proofs.Lending.{rest-lent}
 use Rattle.go.proofs.Going.{Going, going-none, going-all, going-more, going-stops, linked-here, arrived}
 use Rattle.acting.specs.declared.Tried.the-variants.{Done}
 use Rattle.acting.specs.declared.Tried.the-variants.{Failed}

@@ -13,27 +13,28 @@ use Rattle.step.proofs.step_in.Tie as tie
 cast-own : tie.Need-cast-own
 cast-own c = search needs
 
-mul-t12 : tie.Need-mul-t12
-mul-t12 c = search needs
+mul-t11 : tie.Need-mul-t11
+mul-t11 c = search needs
 
-slice-read-t14 : tie.Need-slice-read-t14
-slice-read-t14 c = search needs
+slice-read-t13 : tie.Need-slice-read-t13
+slice-read-t13 c = search needs
 
 cross-requires : tie.Need-cross-requires
 cross-requires c κs =
     let start = c .before .before .before .before .before .before .before .before .before .before .before in
     let a = start .args in
     let z = start .pre .0 in
-    let s = start .pre .1 in (
-      z .3 .inside (a .r .0) (z .0),
-      z .1,
-      s .0,
-      s .1,
-      omega arith,
-      bay-in (a .placement .now) (a .r .0) (z .0),
-      not-true (elem (a .w .0) (a .placement .now)) (sym (z .3 .empties (a .w .0) (z .1)) ∙ z .2),
-      z .3,
-    )
+    let s = start .pre .1 in
+    record {
+      from-inside = z .3 .inside (a .r .0) (z .0);
+      to-inside = z .1;
+      most = s .0;
+      empty-size = s .1;
+      counts = omega arith;
+      full = bay-in (a .placement .now) (a .r .0) (z .0);
+      free = not-true (elem (a .w .0) (a .placement .now)) (sym (z .3 .empties (a .w .0) (z .1)) ∙ z .2);
+      placed = z .3;
+    }
 
 settle-requires : tie.Need-settle-requires
 settle-requires c κs =
@@ -71,8 +72,8 @@ step-in-spec =
     tie.close
     (tie.spec
     cast-own
-    mul-t12
-    slice-read-t14
+    mul-t11
+    slice-read-t13
     cross-requires
     settle-requires
     same-length

@@ -31,16 +31,17 @@ cross-requires c κs =
     let start = c .before .before .before .before .before .before .before .before .before .before .before .before .before .before .before .before .before .before in
     let p = start .pre .0 in
     let z = start .pre .1 in
-    let h = sym (c .before .before .before .before .before .before .if1 .taken) ∙ c .before .before .before .before .before .before .before .is-in .ensures in (
-      p .placed .inside (start .args .next .carrier .0) (z .0),
-      z .2,
-      p .most,
-      p .empty-size,
-      omega arith,
-      bay-in (start .args .placement .now) (start .args .next .carrier .0) (z .0),
-      free (p .tabled) (p .most) (z .4) (start .args .next .finished) (start .args .next .carrier .0) (start .args .next .to .0) (start .args .placement .now) (p .placed) (z .0) (z .2) (z .3) h,
-      p .placed,
-    )
+    let h = sym (c .before .before .before .before .before .before .if1 .taken) ∙ c .before .before .before .before .before .before .before .is-in .ensures in
+    record {
+      from-inside = p .placed .inside (start .args .next .carrier .0) (z .0);
+      to-inside = z .2;
+      most = p .most;
+      empty-size = p .empty-size;
+      counts = omega arith;
+      full = bay-in (start .args .placement .now) (start .args .next .carrier .0) (z .0);
+      free = free (p .tabled) (p .most) (z .4) (start .args .next .finished) (start .args .next .carrier .0) (start .args .next .to .0) (start .args .placement .now) (p .placed) (z .0) (z .2) (z .3) h;
+      placed = p .placed;
+    }
 
 same-length : tie.Need-same-length
 same-length c = c .before .before .before .before .before .before .before .before .cross .kept .0

@@ -3,6 +3,7 @@
 -- Assumes nothing.
 use mathlib.Core.Path.{_≡_, sym, _∙_, ap, refl}
 use mathlib.Core.List.{List, _++_, map}
+use mathlib.Core.Option.{Option}
 use Prim.Native.Nat.{ℕ, min, _≤_, _-_, _+_}
 use native.Mathlib.Omega.{arith}
 use lib.ListN.{length, take, drop, length-take, length-drop, length-map}
@@ -10,8 +11,10 @@ use lib.Seq.{length-take-le, take-append-add, take-append-le}
 use Rattle.paper.specs.Procedure.{Made}
 use Rattle.paper.specs.Yard.{pack}
 use Rattle.moving.specs.Placed.{Stored}
-use Rattle.acting.specs.Acting.{nothing, Added, Tallied}
+use Rattle.acting.specs.Acting.{nothing, Added, Tallied, Tries}
 use Rattle.acting.specs.declared.Tally.{Tally}
+use Rattle.acting.specs.declared.Tried.the-variants.{Done}
+use Rattle.acting.proofs.Acting.{tries-some, tried-done}
 
 -- The list `out` was lent from where it goes on, or from its end; that part of it is `rest` afterwards, and the whole is `out′`. What was counted
 -- is added.
@@ -31,7 +34,7 @@ rest-lent {from = from} behind e size a = record { from = from; behind = behind;
 
 module _ {out rest : List ℕ} {at more : Tally} {out′ : List ℕ} {sum : Tally} (l : RestLent out at rest more out′ sum) where
   -- what the rest begins with follows what stood before
-  stored-on-the-rest : (vs : List ℕ) → more .crossings ≡ length vs → (length vs ≤ length rest → take (length vs) rest ≡ vs) → Stored vs out (at .crossings) out′
+  pub stored-on-the-rest : (vs : List ℕ) → more .crossings ≡ length vs → (length vs ≤ length rest → take (length vs) rest ≡ vs) → Stored vs out (at .crossings) out′
   stored-on-the-rest vs many begins = record {
     long = l .long;
     front = λ h.
@@ -54,3 +57,7 @@ module _ {out rest : List ℕ} {at more : Tally} {out′ : List ℕ} {sum : Tall
         parks = omega (arith, w .parks, l .added .parks);
         few = λ h. omega (arith, h, l .added .few, l .added .crossings, w .few (omega arith));
       }
+
+  -- the action that succeeded in the rest succeeded in the whole
+  pub tries-on-the-rest : {o : Option Made} {n : ℕ} {p p′ standing′ empty′ lent : List ℕ} → Tries o n p lent nothing p′ standing′ empty′ rest (Done more) → Tries o n p out at p′ standing′ empty′ out′ (Done sum)
+  tries-on-the-rest t = let d = tried-done t in tries-some (d .1) (on-the-rest (d .2))
