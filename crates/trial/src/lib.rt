@@ -40,25 +40,15 @@ fn set_up(
         (now (table .entry)) (now (placement .entry)) (now (standing .entry)) (now (placement .exit)) (now (out .exit)) r
         ⌝ }
 {
-    let brought = bring::bring(
-        table,
-        path,
-        lead.couple,
-        placement,
-        standing,
-        empty,
-        out,
-        Tally {
-            crossings: 0,
-            parked: 0,
-        },
-    );
-    let Tried::Done(a) = brought else {
+    let brought = bring::bring(table, path, lead.couple, placement, standing, empty, out);
+    let Tried::Done(made) = brought else {
         return Pair::Missing;
     };
     let follower = lead.couple.follower.0 as usize;
     let b = Bay(placement[follower]);
-    clear_on::clear_two(table, lead, b, placement, standing, empty, out, a)
+    let from = acting::place_in(out, made.crossings);
+    let cleared = clear_on::clear_two(table, lead, b, placement, standing, empty, &mut out[from..]);
+    clear_on::after(made, cleared)
 }
 
 fn lower(x: Bay, y: Bay) -> Bay
