@@ -99,10 +99,7 @@ pub fn carry_all(
         ⌝ }
 {
     let in_carousel = kinds::is_carousel(table, standing.len());
-    let mut count = Tally {
-        crossings: 0,
-        parked: 0,
-    };
+    let mut count = acting::NOTHING;
     let mut r = 0;
     while r < goals.len() {
         let number = r as u32;

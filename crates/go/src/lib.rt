@@ -1,5 +1,4 @@
 // A carrier goes its path: it steps through the bays ahead, one after the other.
-use acting::Tally;
 use acting::Tried;
 use docket::Bay;
 use docket::Carrier;
@@ -55,10 +54,7 @@ pub fn go(
         ⌝ }
 {
     let finished = r.0 as usize;
-    let mut count = Tally {
-        crossings: 0,
-        parked: 0,
-    };
+    let mut count = acting::NOTHING;
     let mut i = 0;
     while i < ahead.len() {
         let w = Bay(ahead[i]);
