@@ -21,8 +21,7 @@ fn advance(
     requires { ⌜ Ready (now table) (now placement) (now standing) (now empty) ⌝ }
     requires { ⌜ StepAsks next (now table) (now placement) (now standing) (now settled) ⌝ }
     ensures { λ z. ⌜
-        StepSettles next
-        (now (table .entry)) (now (placement .entry)) (now (standing .entry)) (now (out .entry))
+        StepSettles next (now (table .entry)) (now (placement .entry)) (now (standing .entry)) (now (out .entry))
         (now (placement .exit)) (now (standing .exit)) (now (empty .exit)) (now (settled .exit)) (now (out .exit)) z
         ⌝ }
 {
@@ -68,15 +67,8 @@ pub fn go(
             to: w,
         };
         let from = clear_on::place_in(out, count.crossings);
-        let one = advance(
-            table,
-            next,
-            placement,
-            standing,
-            empty,
-            settled,
-            &mut out[from..],
-        );
+        let rest = &mut out[from..];
+        let one = advance(table, next, placement, standing, empty, settled, rest);
         let Tried::Done(made) = one else {
             return Tried::Failed;
         };

@@ -4,14 +4,8 @@ use acting::Tally;
 use acting::Tried;
 use docket::Bay;
 use docket::Carrier;
-ghost use mathlib.Core.Path.{_≡_};
-ghost use mathlib.Core.Bool.{true};
-ghost use Prim.Native.Nat.{ℕ, _≤_, _<_};
-ghost use lib.ListN.{length, getD};
-ghost use Rattle.words.specs.Sets.{mem, words, span};
-ghost use Rattle.moving.specs.Placed.{Placed};
-ghost use Rattle.acting.specs.Acting.{nothing, Ready, CrossCounts};
-ghost use Rattle.step.specs.Asking.{BaysBelow, StepAsks, AsideAsks, StepSays, StepSettles};
+ghost use Rattle.acting.specs.Acting.{Ready};
+ghost use Rattle.step.specs.Asking.{StepAsks, AsideAsks, StepSays, StepSettles, StepInAsks, StepInSays};
 
 // One step: the carrier r that steps and the next bay w on its way. The carriers below `finished` are finished.
 pub struct NextStep {
@@ -34,8 +28,7 @@ fn make_way(
     requires { ⌜ Ready (now table) (now placement) (now standing) (now empty) ⌝ }
     requires { ⌜ StepAsks next (now table) (now placement) (now standing) (now settled) ⌝ }
     ensures { λ z. ⌜
-        StepSays next
-        (now (table .entry)) (now (placement .entry)) (now (standing .entry)) (now (out .entry))
+        StepSays next (now (table .entry)) (now (placement .entry)) (now (standing .entry)) (now (out .entry))
         (now (placement .exit)) (now (standing .exit)) (now (empty .exit)) (now (out .exit)) z
         ⌝ }
 {
@@ -77,8 +70,7 @@ fn step_aside(
     requires { ⌜ Ready (now table) (now placement) (now standing) (now empty) ⌝ }
     requires { ⌜ AsideAsks next (e .0) (now table) (now placement) (now standing) (now empty) ⌝ }
     ensures { λ z. ⌜
-        StepSays next
-        (now (table .entry)) (now (placement .entry)) (now (standing .entry)) (now (out .entry))
+        StepSays next (now (table .entry)) (now (placement .entry)) (now (standing .entry)) (now (out .entry))
         (now (placement .exit)) (now (standing .exit)) (now (empty .exit)) (now (out .exit)) z
         ⌝ }
 {
@@ -108,8 +100,7 @@ fn step_to(
     requires { ⌜ Ready (now table) (now placement) (now standing) (now empty) ⌝ }
     requires { ⌜ StepAsks next (now table) (now placement) (now standing) (now settled) ⌝ }
     ensures { λ z. ⌜
-        StepSays next
-        (now (table .entry)) (now (placement .entry)) (now (standing .entry)) (now (out .entry))
+        StepSays next (now (table .entry)) (now (placement .entry)) (now (standing .entry)) (now (out .entry))
         (now (placement .exit)) (now (standing .exit)) (now (empty .exit)) (now (out .exit)) z
         ⌝ }
 {
@@ -151,24 +142,10 @@ pub fn step_in(
     settled: &mut [u64],
     out: &mut [u64],
 ) -> Tally
-    requires { ⌜
-        (r .0 < length (now placement))
-        × (w .0 < length (now standing))
-        × (mem (now empty) (w .0) ≡ true)
-        × Placed (length (now standing)) (now placement) (now standing) (now empty)
-        ⌝ }
-    requires { ⌜
-        (length (now standing) ≤ span)
-        × (length (now empty) ≡ words)
-        × (length (now settled) ≡ words)
-        ⌝ }
+    requires { ⌜ StepInAsks (r .0) (w .0) (now placement) (now standing) (now empty) (now settled) ⌝ }
     ensures { λ m. ⌜
-        CrossCounts (getD (now (placement .entry)) (r .0) 0) (w .0)
-        (now (placement .entry)) (now (standing .entry)) (now (out .entry)) nothing
-        (now (placement .exit)) (now (standing .exit)) (now (empty .exit)) (now (out .exit)) m
-        × ((f : ℕ)
-        → BaysBelow f (now (placement .entry)) (now (settled .entry))
-        → BaysBelow f (now (placement .exit)) (now (settled .exit)))
+        StepInSays (r .0) (w .0) (now (placement .entry)) (now (standing .entry)) (now (settled .entry)) (now (out .entry))
+        (now (placement .exit)) (now (standing .exit)) (now (empty .exit)) (now (settled .exit)) (now (out .exit)) m
         ⌝ }
 {
     let own = r.0 as usize;
@@ -195,8 +172,7 @@ pub fn step(
     requires { ⌜ Ready (now table) (now placement) (now standing) (now empty) ⌝ }
     requires { ⌜ StepAsks next (now table) (now placement) (now standing) (now settled) ⌝ }
     ensures { λ z. ⌜
-        StepSettles next
-        (now (table .entry)) (now (placement .entry)) (now (standing .entry)) (now (out .entry))
+        StepSettles next (now (table .entry)) (now (placement .entry)) (now (standing .entry)) (now (out .entry))
         (now (placement .exit)) (now (standing .exit)) (now (empty .exit)) (now (settled .exit)) (now (out .exit)) z
         ⌝ }
 {

@@ -15,13 +15,13 @@ fill-requires c κs =
     let p = start .pre .0 in
     let z = start .pre .1 in (
       (
-        z .2,
-        inside-e (p .tabled) (p .most) (z .4) (start .args .next .finished) (start .args .next .carrier .0) (start .args .next .to .0) (start .args .placement .now) (p .placed) (z .0) (z .1) (z .2) (z .3) (z .5) (z .6) (start .args .e .0) (z .7) (z .8),
+        z .can .bay-there,
+        inside-e (p .tabled) p z,
         p .most,
         p .empty-size,
         omega arith,
-        full-in (p .tabled) (p .most) (z .4) (start .args .next .finished) (start .args .next .carrier .0) (start .args .next .to .0) (start .args .placement .now) (p .placed) (z .0) (z .1) (z .2) (z .3) (z .5) (z .6) (start .args .e .0) (z .7) (z .8),
-        empty-e (p .tabled) (p .most) (z .4) (start .args .next .finished) (start .args .next .carrier .0) (start .args .next .to .0) (start .args .placement .now) (p .placed) (z .0) (z .1) (z .2) (z .3) (z .5) (z .6) (start .args .e .0) (z .7) (z .8),
+        full-in (p .tabled) p z,
+        empty-e (p .tabled) p z,
         p .placed,
       ),
       p .table-size,
@@ -45,14 +45,14 @@ cross-requires c κs =
     let kw : length (fill .last .1 .1 .0) ≡ length (start .args .standing .now) = fill .kept .1 .1 .0 in
     let kf : length (fill .last .1 .1 .1 .0) ≡ length (start .args .empty .now) = fill .kept .1 .1 .1 .0 in
     let d = fill .ensures (p .tabled) in
-    let m = made-aside (p .tabled) (p .most) (z .4) (start .args .next .finished) (start .args .next .carrier .0) (start .args .next .to .0) (start .args .placement .now) (p .placed) (z .0) (z .1) (z .2) (z .3) (z .5) (z .6) (start .args .e .0) (z .7) (z .8) in (
-      rw kw (d .placed .inside (start .args .next .carrier .0) (r-inside (p .tabled) (p .most) (z .4) (start .args .next .finished) (start .args .next .carrier .0) (start .args .next .to .0) (start .args .placement .now) (p .placed) (z .0) (z .2) (z .3) _ m _ (d .moved))),
-      rw kw (z .2),
+    let m = made-aside (p .tabled) p z in (
+      rw kw (d .placed .inside (start .args .next .carrier .0) (r-inside (p .tabled) (p .most) (z .can) (p .placed) _ m _ (d .moved))),
+      rw kw (z .can .bay-there),
       omega (arith, p .most, kw),
       omega (arith, p .empty-size, kf),
       omega (arith, d .counted),
-      r-there (p .tabled) (p .most) (z .4) (start .args .next .finished) (start .args .next .carrier .0) (start .args .next .to .0) (start .args .placement .now) (p .placed) (z .0) (z .2) (z .3) _ m _ (d .moved),
-      w-empty (p .tabled) (p .most) (z .4) (start .args .next .finished) (start .args .next .carrier .0) (start .args .next .to .0) (start .args .placement .now) (p .placed) (z .0) (z .2) (z .3) _ m _ (d .moved),
+      r-there (p .tabled) (p .most) (z .can) (p .placed) _ m _ (d .moved),
+      w-empty (p .tabled) (p .most) (z .can) (p .placed) _ m _ (d .moved),
       rw kw (d .placed),
     )
 
@@ -77,12 +77,13 @@ returns c =
     let z = start .pre .1 in
     let kw : length (fill .last .1 .1 .0) ≡ length (start .args .standing .now) = fill .kept .1 .1 .0 in
     let d = fill .ensures (p .tabled) in
-    let crossed = rw kw at (cross .ensures) in (
-      omega (arith, d .counted, crossed .counted),
-      λ t.
-          let m = made-aside t (p .most) (z .4) (start .args .next .finished) (start .args .next .carrier .0) (start .args .next .to .0) (start .args .placement .now) (p .placed) (z .0) (z .1) (z .2) (z .3) (z .5) (z .6) (start .args .e .0) (z .7) (z .8) in
-          stepped-cross t (p .most) (z .4) (start .args .next .finished) (start .args .next .carrier .0) (start .args .next .to .0) (start .args .placement .now) (p .placed) (z .0) (z .2) (z .3) _ m (fill .ensures t) crossed,
-    )
+    let crossed = rw kw at (cross .ensures) in
+    record {
+      few = omega (arith, d .counted, crossed .counted);
+      proceeds = λ t.
+          let m = made-aside t p z in
+          stepped-cross t (p .most) (z .can) (p .placed) _ m (fill .ensures t) crossed;
+    }
 
 pub step-aside-spec : {M : Type 1} → statement M
 step-aside-spec =

@@ -23,24 +23,26 @@ cross-requires : tie.Need-cross-requires
 cross-requires c κs =
     let start = c .before .before .before .before .before .before .before .before .before .before .before in
     let a = start .args in
-    let z = start .pre .0 in
-    let s = start .pre .1 in (
-      z .3 .inside (a .r .0) (z .0),
-      z .1,
-      s .0,
-      s .1,
+    let z = start .pre in (
+      z .placed .inside (a .r .0) (z .carrier-there),
+      z .bay-there,
+      z .most,
+      z .empty-size,
       omega arith,
-      bay-in (a .placement .now) (a .r .0) (z .0),
-      not-true (elem (a .w .0) (a .placement .now)) (sym (z .3 .empties (a .w .0) (z .1)) ∙ z .2),
-      z .3,
+      bay-in (a .placement .now) (a .r .0) (z .carrier-there),
+      not-true (elem (a .w .0) (a .placement .now)) (sym (z .placed .empties (a .w .0) (z .bay-there)) ∙ z .free),
+      z .placed,
     )
 
 settle-requires : tie.Need-settle-requires
 settle-requires c κs =
     let start = c .before .before .before .before .before .before .before .before .before .before .before .before .before .before .before .before .before .before .before .before .before in
-    let z = start .pre .0 in
-    let s = start .pre .1 in
-    (s .2, omega (arith, z .3 .inside (start .args .r .0) (z .0), s .0), omega (arith, z .1, s .0))
+    let z = start .pre in
+    record {
+      size = z .settled-size;
+      from-low = omega (arith, z .placed .inside (start .args .r .0) (z .carrier-there), z .most);
+      to-low = omega (arith, z .bay-there, z .most);
+    }
 
 same-length : tie.Need-same-length
 same-length c = c .before .before .before .before .before .before .before .before .before .before .before .before .cross .kept .0
@@ -62,9 +64,9 @@ returns c =
     let cross = c .before .before .before .before .before .before .before .before .before .before .before .before .cross in
     let start = c .before .before .before .before .before .before .before .before .before .before .before .before .before .before .before .before .before .before .before .before .before .before .before .before in
     let a = start .args in
-    let z = start .pre .0 in
+    let z = start .pre in
     let crossed = cross .ensures in
-    (crossed, settled-free (a .r .0) (a .w .0) (a .placement .now) (z .3) (z .0) crossed (c .before .before .settle .kept .0) (c .before .before .settle .ensures))
+    record { crosses = crossed; below = settled-free (a .r .0) (a .w .0) (a .placement .now) (z .placed) (z .carrier-there) crossed (c .before .before .settle .kept .0) (c .before .before .settle .ensures) }
 
 pub step-in-spec : {M : Type 1} → statement M
 step-in-spec =
