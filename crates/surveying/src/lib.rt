@@ -6,7 +6,7 @@ use yard::Opened;
 use yard::Yard;
 ghost use mathlib.Core.Path.{_≡_};
 ghost use Rattle.survey.specs.Survey.{firstThree};
-ghost use Rattle.surveying.specs.Says.{testedOf, AcceptSays, TakeSays, SettleSays, ReadSays, WriteSays};
+ghost use Rattle.surveying.specs.Says.{testedOf, Refuses, AcceptSays, TakeSays, SettleSays, ReadSays, WriteSays};
 
 // The ends of a yard with the most rails.
 pub const ENDS: usize = 2 * Yard::RAILS;
@@ -36,8 +36,9 @@ fn test(bays: u64, rails: &[u16]) -> Tested
     Tested::Passed
 }
 
+// A refusal tells no bays.
 fn refused(r: Refusal) -> Survey
-    ensures { λ s. ⌜ (s .bays ≡ 0) × (s .verdict ≡ Verdict.Denied r) ⌝ }
+    ensures { λ s. ⌜ Refuses r s ⌝ }
 {
     Survey {
         bays: 0,
