@@ -31,7 +31,6 @@ pub mod Determined
 pub mod Fed
 pub mod Fields
 pub mod Stepping
-pub mod Buffering
 pub mod Digits
 pub mod Lines
 pub mod Printing

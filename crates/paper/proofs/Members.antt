@@ -312,9 +312,6 @@ module _ (q : ℕ → Bool) where
       (λ z k. let m = some-same (rw (e, k) at h) in rw (← m) (min-either (λ a. In a (x ∷ xs)) x z (In-head x xs) (In-tail z x xs (lowest-in xs k)))))
       (λ e. In-tail y x xs (lowest-in xs (rw e at h)))
 
-  pub lowest-none : (xs : List ℕ) → lowestOf q xs ≡ none → (a : ℕ) → In a xs → q a ≡ false
-  lowest-none xs h a i = by-cases (q a) (λ e. let r = lowest-some xs a i e in never-some (r .0) (sym h ∙ r .1)) (λ e. e)
-
 -- ## A search that goes up and ends at the first that it finds
 
 -- of the numbers below e, the lowest that passes; n while there is none
