@@ -12,13 +12,12 @@ use borrow.Author.Tests.{ltb-true, lt-ltb, le-ltb, eqb-true}
 use Rattle.paper.specs.Basics.{_and_, _or_, filter, elem, countFrom, upTo}
 use Rattle.paper.specs.Yard.{Bay, Placement, occupied}
 use Rattle.paper.proofs.Tests.{by-cases, not-both, and-left, and-right, and-both}
-use Rattle.paper.proofs.Members.{filter-in, filter-passes, in-filter, in-count, count-high, count-low}
+use Rattle.paper.proofs.Members.{elem-last, filter-in, filter-passes, in-filter, in-count, count-high, count-low}
 use Rattle.paper.proofs.Admitted.{same-filter, filter-nothing}
 use Rattle.words.specs.Sets.{mem, members, words, span}
 use Rattle.words.proofs.Sets.{count-split, filter-append, or-false}
 use Rattle.words.proofs.Besides.{equal-tests}
 use Rattle.occupancy.specs.Standing.{Occupies}
-use Rattle.first_bad.proofs.Places.{elem-last}
 
 -- bay b is one of the n, and one of the list
 abbrev pub stands : ℕ → List Bay → Bay → Bool

@@ -9,7 +9,7 @@ use native.Mathlib.Omega.{arith}
 use lib.ListN.{take}
 use lib.Dec.{eqb, ltb}
 use borrow.Author.Tests.{not-true, eqb-true, eqb-false, eq-eqb, ltb-true, ltb-false}
-use Rattle.paper.specs.Basics.{without, filter, any, find, firstOf, elem, countFrom, In, NoDup, Out, upTo, lowestOf}
+use Rattle.paper.specs.Basics.{_or_, without, filter, any, find, firstOf, elem, countFrom, In, NoDup, Out, upTo, lowestOf}
 use Rattle.paper.proofs.Tests.{some-same, by-cases, by-option, not-both, never-some}
 
 module _ {A : Type 0} (q : A → Bool) where
@@ -36,6 +36,12 @@ In-nil x h = not-both h refl
 
 pub In-one : (x y : ℕ) → In x (y ∷ []) → x ≡ y
 In-one x y h = In-cases x y [] h (λ e. e) (λ e. In-nil x e)
+
+-- what one member more changes
+pub elem-last : (b : ℕ) (xs : List ℕ) (x : ℕ) → elem b (xs ++ (x ∷ [])) ≡ elem b xs or eqb b x
+unfolding elem _or_
+elem-last b [] x = by-cases (eqb b x) (λ e. rw e) (λ e. rw e)
+elem-last b (y ∷ xs) x = by-cases (eqb b y) (λ e. rw e) (λ e. rw e (elem-last b xs x))
 
 pub In-append-left : (x : ℕ) (xs ys : List ℕ) → In x xs → In x (xs ++ ys)
 In-append-left x [] ys h = In-nil x h
