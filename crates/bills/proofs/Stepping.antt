@@ -76,7 +76,7 @@ highest-with (s ∷ ss) (m ∷ ms) (suc i) h len =
     let ih = highest-with ss ms i (omega arith) (omega arith) in by-cases (done m) (λ e. rw e (omega arith)) (λ e. rw e ih)
 
 -- a carrier's place is within the list of all places
-places-move : (p : Placement) (x : Crossing) → x .carrier < length p → places (move p x) ≡ move (places p) x
+pub places-move : (p : Placement) (x : Crossing) → x .carrier < length p → places (move p x) ≡ move (places p) x
 places-move p x h = rw (length-set p (x .carrier) (x .to)) (sym (set-append-left p _ (x .carrier) (x .to) h))
 
 pub record-step : (starts : Placement) (xs : List Crossing) (ms : List ℕ) (i : ℕ) → length ms ≡ length xs → InOrder xs ms → i < length xs

@@ -2,8 +2,8 @@
 use mathlib.Core.Path.{_≡_, refl, sym, _∙_, ap}
 use mathlib.Core.Bool.{true, false}
 use mathlib.Core.List.{List, [], _∷_, _++_, append-nil, append-assoc}
-use mathlib.Core.Option.{none, some}
-use Prim.Native.Nat.{ℕ, suc, _+_, _-_, _*_, _≤_}
+use mathlib.Core.Option.{some}
+use Prim.Native.Nat.{ℕ, suc, _+_, _*_, _≤_}
 use native.Mathlib.Omega.{arith}
 use native.Mathlib.Nat.{mul-le-mul, add-mul}
 use lib.Dec.{eqb, ltb, leb}
@@ -14,12 +14,12 @@ use Rattle.paper.specs.Basics.{_and_, _or_, filter, concat}
 use Rattle.paper.specs.Text.{Text, text, LF, CR, join, beginsWithLF, lines, same, all, count, isDigit, value, isNumber, Read, good, badLine, readLines}
 use Rattle.paper.specs.Map.{Grid, Due, typeDue, heightDue, widthDue, mapDue, rowDue, bayLetter, wallLetter, sideAfter, isRow, mapLine, mapEnd, readMap, cells, bayCount}
 use Rattle.paper.proofs.Tests.{by-cases, by-option, and-left, and-right, not-both, never, some-when, some-from, some-same, or-neither, by-read}
+use Rattle.paper.proofs.Members.{filter-append}
 use Rattle.sides.specs.Letters.{letter}
 use Rattle.sides.specs.Layout.{sidesRead}
 use Rattle.stores.specs.Writing.{Wrote}
 use Rattle.gridmap.specs.Cells.{letters, numbering, Reads}
 use Rattle.gridmap.specs.declared.MapRead.the-variants as read
-use Rattle.gridmap.proofs.Numbering.{filter-append}
 use Rattle.gridmap.proofs.RailEnds.{concat-append, concat-one}
 
 -- ## Line ends have no letters

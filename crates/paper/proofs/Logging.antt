@@ -115,7 +115,7 @@ all-done (x ∷ xs) (m ∷ ms) len f =
     rw (f 0 (omega arith)) (ap (λ l. x ∷ l) (all-done xs ms (omega arith) (λ i h. f (suc i) (omega arith))))
 
 -- what holds of the marks and of the names accepted, in the order accepted
-pub record Kept (Y : Yard) (starts : Placement) (xs : List Crossing) (ms got : List ℕ) : Type 0 where
+pub record RightLog (Y : Yard) (starts : Placement) (xs : List Crossing) (ms got : List ℕ) : Type 0 where
   pub long : length ms ≡ length xs
   pub bits : Bits ms
   pub order : InOrder xs ms
@@ -127,13 +127,13 @@ pub record Kept (Y : Yard) (starts : Placement) (xs : List Crossing) (ms got : L
   pub once : NoDup got
 
 module _ (Y : Yard) (starts : Placement) (xs : List Crossing) (plan-legal : legalPlan Y starts xs ≡ true) where
-  pub fine : (ms got : List ℕ) → Kept Y starts xs ms got → badMarks xs ms ≡ false
+  pub fine : (ms got : List ℕ) → RightLog Y starts xs ms got → badMarks xs ms ≡ false
   unfolding badMarks
   fine ms got k = or-neither _ _ (or-neither _ _ (ap not (eq-eqb _ _ (k .long))) (k .bits)) (order-in xs ms (k .order))
 
-  kept-fresh : Kept Y starts xs (replicate (length xs) 0) []
+  right-fresh : RightLog Y starts xs (replicate (length xs) 0) []
   unfolding legalPlan
-  kept-fresh = record {
+  right-fresh = record {
     long = length-replicate (length xs) 0;
     bits = bits-fresh (length xs);
     order = λ e i l h d q. not-both q (fresh-undone (length xs) i);
@@ -146,10 +146,10 @@ module _ (Y : Yard) (starts : Placement) (xs : List Crossing) (plan-legal : lega
   }
 
   -- one more name, not done and ready
-  kept-on : (ms got : List ℕ) (i : ℕ) → Kept Y starts xs ms got → i < length xs → isDone ms i ≡ false → Ready xs ms i
-      → Kept Y starts xs (set ms i 1) (got ++ (i ∷ []))
+  right-on : (ms got : List ℕ) (i : ℕ) → RightLog Y starts xs ms got → i < length xs → isDone ms i ≡ false → Ready xs ms i
+      → RightLog Y starts xs (set ms i 1) (got ++ (i ∷ []))
   unfolding after
-  kept-on ms got i k h d r =
+  right-on ms got i k h d r =
       let x = named xs i in
       let acc = map (named xs) got in
       let pl = placed xs ms i h (k .long) d (closed-of xs ms (k .order)) in
@@ -207,20 +207,24 @@ module _ (o : Order) (plan : List ℕ) (passes : check o plan ≡ none) where
   pub plan-lawful : legalPlan (yardOf o) (o .starts) (crossings plan) ≡ true
   plan-lawful = check-passed o plan passes .lawful
 
-  kept-run : (ms got : List ℕ) (qs : List Request) → Kept (yardOf o) (o .starts) (crossings plan) ms got
-      → Kept (yardOf o) (o .starts) (crossings plan) (marksFrom plan ms qs) (got ++ namesFrom plan ms qs)
+  right-run : (ms got : List ℕ) (qs : List Request) → RightLog (yardOf o) (o .starts) (crossings plan) ms got
+      → RightLog (yardOf o) (o .starts) (crossings plan) (marksFrom plan ms qs) (got ++ namesFrom plan ms qs)
   unfolding marksFrom namesFrom marksAfter accepts
-  kept-run ms got [] k = rw append-nil k
-  kept-run ms got (q ∷ qs) k =
+  right-run ms got [] k = rw append-nil k
+  right-run ms got (q ∷ qs) k =
       by-report (answerTo plan ms q)
       (λ e.
       let i = q .name in
       let f = accept-facts (q .order) plan ms i e in
-      let ih = kept-run (set ms i 1) (got ++ (i ∷ [])) qs (kept-on (yardOf o) (o .starts) (crossings plan) plan-lawful ms got i k (f .2) (f .3) (f .4)) in
+      let ih = right-run (set ms i 1) (got ++ (i ∷ [])) qs (right-on (yardOf o) (o .starts) (crossings plan) plan-lawful ms got i k (f .2) (f .3) (f .4)) in
       rw e (rw append-assoc at ih))
-      (λ e. rw e (kept-run ms got qs k))
-      (λ x e. rw e (kept-run ms got qs k))
+      (λ e. rw e (right-run ms got qs k))
+      (λ x e. rw e (right-run ms got qs k))
 
-  pub kept-from-fresh : (qs : List Request) → Kept (yardOf o) (o .starts) (crossings plan) (marksOf plan qs) (namesOf plan qs)
-  kept-from-fresh qs =
-      kept-run (fresh plan) [] qs (rw length-map at (kept-fresh (yardOf o) (o .starts) (crossings plan) plan-lawful))
+  pub right-from-fresh : (qs : List Request) → RightLog (yardOf o) (o .starts) (crossings plan) (marksOf plan qs) (namesOf plan qs)
+  right-from-fresh qs =
+      right-run (fresh plan) [] qs (rw length-map at (right-fresh (yardOf o) (o .starts) (crossings plan) plan-lawful))
+
+  -- So the marks pass, whatever was reported.
+  pub fine-marks : (qs : List Request) → badMarks (crossings plan) (marksOf plan qs) ≡ false
+  fine-marks qs = fine (yardOf o) (o .starts) (crossings plan) plan-lawful (marksOf plan qs) (namesOf plan qs) (right-from-fresh qs)
