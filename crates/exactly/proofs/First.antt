@@ -1,7 +1,7 @@
 -- The first of a list of tests that applies: tests that go one by one as rows say give together what the rows say in that order. It
 -- holds for answers of any kind that are told apart by a number and a value.
 use mathlib.Core.Path.{_≡_, refl, sym, _∙_, ap}
-use mathlib.Core.Bool.{Bool, true, false, not}
+use mathlib.Core.Bool.{Bool, true, false}
 use mathlib.Core.List.{List, [], _∷_, _++_}
 use mathlib.Core.Logic.{_↔_, _⊎_, inl, inr, ⊎-elim}
 use mathlib.Core.Option.{Option, none, some}

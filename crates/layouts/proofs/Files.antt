@@ -7,7 +7,7 @@ use mathlib.Core.Option.{Option, none, some}
 use Prim.Native.Nat.{ℕ, zero, suc, _+_, _≤_}
 use native.Mathlib.Omega.{arith}
 use Rattle.paper.specs.Text.{Text, good, badLine, readLines}
-use Rattle.paper.proofs.Tests.{by-option, never-some, never, good-same, bad-same, not-good}
+use Rattle.paper.proofs.Tests.{by-option, never-some, good-same, bad-same, not-good}
 use Rattle.layouts.specs.Files.{Kept, Whole, FirstBadLine}
 
 module _ {A R : Type 0} (line : A → Text → Option A) (end : A → Option R)

@@ -5,9 +5,8 @@ use mathlib.Core.List.{[], _∷_}
 use mathlib.Core.Logic.{_↔_, _⊎_, inl, inr, ⊎-elim}
 use Prim.Native.Nat.{ℕ, zero, suc}
 use native.Mathlib.Omega.{arith}
-use lib.Dec.{eqb, leb}
 use borrow.Author.Tests.{leb-true, le-leb, eqb-true, eq-eqb}
-use Rattle.paper.specs.Basics.{_and_, _or_}
+use Rattle.paper.specs.Basics.{_or_}
 use Rattle.paper.specs.Text.{Text, same, all, isDigit, isPoint, sized, isNumber}
 use Rattle.paper.proofs.Tests.{and-left, and-right, and-both, or-left, or-right, or-cases, not-both}
 use Rattle.layouts.specs.Words.{Digit, Point, Each, Sized, Number}

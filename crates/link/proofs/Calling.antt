@@ -1,17 +1,15 @@
 -- What each way out of a call says.
 use mathlib.Core.Path.{_≡_, refl, sym, _∙_, ap}
 use mathlib.Core.Bool.{true, false}
-use mathlib.Core.List.{List, [], foldl}
+use mathlib.Core.List.{List}
 use Prim.Native.Nat.{ℕ, _≤_, _<_}
 use native.Mathlib.Omega.{arith}
 use lib.ListN.{length, take, replicate}
 use lib.Seq.{sets}
 use borrow.Author.Tests.{eq-eqb, ne-eqb, le-leb, lt-leb}
 use Rattle.paper.specs.Limits.{most-carriers}
-use Rattle.paper.specs.Yard.{Bay}
 use Rattle.paper.specs.Text.{Text, Read, good, badLine}
 use Rattle.paper.specs.Map.{Grid, readMap, cells, bayCount}
-use Rattle.paper.specs.Bytes.{State, Under}
 use Rattle.paper.proofs.Tests.{never, not-both, by-read}
 use Rattle.docket.specs.declared.Refusal.the-variants as docket
 use Rattle.stores.proofs.Stores.{wrote-stands}
@@ -31,7 +29,7 @@ use Rattle.link.specs.declared.Kept.{Kept}
 use Rattle.link.specs.declared.Link.{Link}
 use Rattle.link.specs.declared.Said.the-variants as said
 use Rattle.link.specs.declared.Turn.{Turn}
-use Rattle.link.specs.Link.{piece-bytes, readingIn, carriersIn, stateIn, keptOf, keptBy, carriersBy, stepIn, linkBy, finishIn, told, verdictBy, overLink, FedSays, PieceSays, OverSays, EndSays, BeginSays}
+use Rattle.link.specs.Link.{piece-bytes, readingIn, carriersIn, stateIn, keptOf, keptBy, linkBy, finishIn, told, verdictBy, overLink, FedSays, PieceSays, OverSays, EndSays, BeginSays}
 use Rattle.scenario.proofs.Taking.{feeds-sound, ends-sound}
 use Rattle.link.proofs.Standing.{sound-in, stored-in, kept-state, carriers-broken, carriers-on, state-again, carriers-again}
 

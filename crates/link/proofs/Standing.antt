@@ -11,7 +11,7 @@ use borrow.Author.Tests.{ne-eqb}
 use Rattle.lists.proofs.Lists.{no-length}
 use Rattle.paper.specs.Limits.{most-carriers}
 use Rattle.paper.specs.Yard.{Bay}
-use Rattle.paper.specs.Bytes.{State, failed, going, Under, inVersion, inCarrier}
+use Rattle.paper.specs.Bytes.{failed, going, inVersion, inCarrier}
 use Rattle.paper.proofs.Tests.{by-cases}
 use Rattle.stores.specs.Writing.{Wrote}
 use Rattle.stores.proofs.Stores.{wrote-stands}

@@ -13,7 +13,7 @@ use Rattle.paper.specs.Yard.{Bay}
 use Rattle.paper.specs.Docket.{no-14, no-15, ended, longPiece, Verdict, granted, denied}
 use Rattle.paper.specs.Text.{Text, Read, good, badLine}
 use Rattle.paper.specs.Map.{Grid, cells}
-use Rattle.paper.specs.Bytes.{State, failed, going, Under, inVersion, inCarrier, scenarioStep, scenarioFinish, unread}
+use Rattle.paper.specs.Bytes.{State, failed, going, Under, inVersion, inCarrier, scenarioStep, scenarioFinish}
 use Rattle.gridmap.specs.Cells.{numbering, bayFound}
 use Rattle.scenario.specs.declared.Reading.{Reading}
 use Rattle.scenario.specs.Under.{countIn, stateOf, startsOf, goalsOf}

@@ -8,7 +8,7 @@ use lib.ListN.{length, take, drop, length-map}
 use lib.Seq.{take-all, length-take-le}
 use Rattle.paper.specs.Procedure.{Made, Outcome, planned, stuck}
 use Rattle.paper.specs.Yard.{pack, most-crossings}
-use Rattle.paper.specs.Answers.{parkedOf, within, beside, written}
+use Rattle.paper.specs.Answers.{parkedOf, beside, written}
 use Rattle.paper.proofs.Planning.{TooLong, within-stuck, within-fits, within-long}
 use Rattle.paper.proofs.Tests.{never}
 use Rattle.docket.specs.declared.Carrier.{Carrier as Named}

@@ -5,7 +5,7 @@ use mathlib.Core.List.{List}
 use Prim.Native.Nat.{ℕ}
 use lib.ListN.{length}
 use Rattle.paper.specs.Order.{Order}
-use Rattle.paper.specs.Answers.{plan, planParked, planEnd}
+use Rattle.paper.specs.Answers.{plan, planEnd}
 use Rattle.paper.proofs.Determined.{Determined, telling-by, determined-by}
 use Rattle.docket.proofs.Telling.{refusalFor, refusal-back}
 use Rattle.planner.specs.Statement.{Told, long, denied, told, plannedOf, uncounted, parkedBy, PlanSays, CountSays}

@@ -8,7 +8,6 @@ use lib.Dec.{ltb}
 use lib.ListN.{length}
 use lib.Seq.{sets}
 use borrow.Author.Tests.{lt-ltb, le-ltb}
-use Rattle.paper.specs.Basics.{_or_}
 use Rattle.paper.specs.Yard.{Bay}
 use Rattle.paper.specs.Docket.{room, badMap, badScenario, Verdict, granted, denied}
 use Rattle.paper.specs.Text.{Text, Read, good, badLine}

@@ -1,15 +1,14 @@
 -- What is answered and left, case by case: refused by the layout, by 1 to 3, by 8, or taken over whole.
 use mathlib.Core.Path.{_≡_, refl, sym, _∙_, ap}
-use mathlib.Core.Bool.{true, false}
 use mathlib.Core.List.{List, _++_, map}
 use mathlib.Core.Option.{Option, none, some}
-use Prim.Native.Nat.{ℕ, _+_, _-_, _*_, _≤_, _<_}
+use Prim.Native.Nat.{ℕ, _+_, _*_, _≤_, _<_}
 use native.Mathlib.Omega.{arith}
 use lib.Dec.{ltb}
 use lib.ListN.{length, take, drop, length-map}
 use lib.Seq.{sets, sets-eq, take-append-seam}
 use borrow.Author.Tests.{lt-ltb, le-ltb, ltb-true, ltb-false}
-use Rattle.paper.specs.Basics.{_or_, orElse}
+use Rattle.paper.specs.Basics.{orElse}
 use Rattle.paper.specs.Limits.{most-rails, most-crossings}
 use Rattle.paper.specs.Yard.{Bay}
 use Rattle.paper.specs.Docket.{Refusal, size, room, no-8, granted, denied, badSurvey}

@@ -3,7 +3,6 @@
 use native.Mathlib.Omega.{arith}
 use borrow.Author.Needs.{needs}
 use Rattle.paper.specs.Text.{text}
-use Rattle.paper.specs.Print.{decimal}
 use Rattle.docket.specs.Reading.{crossingOf}
 use Rattle.stores.proofs.Stores.{wrote-then}
 use Rattle.paper.proofs.Digits.{decimal-short}
