@@ -82,15 +82,15 @@ answered (refusal r) = refused r
 abbrev pub orderIn : Counts → List Bay → List Bay → List Bay → Order
 orderIn o ends starts goals = orderOf (o .bays) (take (o .ends) ends) (take (o .carriers) starts) (take (o .carriers) goals)
 
-pub data Told : Type 0 where
-  counts : ℕ → ℕ → ℕ → Told
-  refuses : Refusal → Told
+pub data OrderTold : Type 0 where
+  counts : ℕ → ℕ → ℕ → OrderTold
+  refuses : Refusal → OrderTold
 
-abbrev pub toldOf : Ordered → Told
+abbrev pub toldOf : Ordered → OrderTold
 toldOf (the.Order o) = counts (o .bays) (o .ends) (o .carriers)
 toldOf (the.Refused r) = refuses (refusalOf r)
 
-abbrev pub toldBy : Filed → Told
+abbrev pub toldBy : Filed → OrderTold
 toldBy (order n ends cs) = counts n (length ends) (length cs)
 toldBy (refusal r) = refuses r
 

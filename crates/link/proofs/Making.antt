@@ -5,8 +5,8 @@ use Prim.Native.Nat.{ℕ}
 use borrow.Author.Tests.{ne-eqb}
 use Rattle.scenario.specs.Under.{countIn}
 use Rattle.scenario.specs.declared.Reading.{Reading}
-use Rattle.link.specs.declared.Kept.{Kept}
-use Rattle.link.specs.Link.{yesOf, bitOf, readingIn, blankKept, keptOf}
+use Rattle.link.specs.declared.UnderWay.{UnderWay}
+use Rattle.link.specs.Link.{yesOf, bitOf, readingIn, blankUnderWay, underWayOf}
 
 pub yes-none : (n : ℕ) → n ≡ 0 → false ≡ yesOf n
 yes-none n e = rw e
@@ -14,7 +14,7 @@ yes-none n e = rw e
 pub yes-some : (n : ℕ) → (n ≡ 0 → ⊥) → true ≡ yesOf n
 yes-some n h = rw (ne-eqb n 0 h)
 
-pub reading-is : (k : Kept) {v f b h a w d p l g : Bool} {n : ℕ} → v ≡ yesOf (k .version) → f ≡ yesOf (k .failed) → b ≡ yesOf (k .begun) → h ≡ yesOf (k .held) → n ≡ countIn v (k .count)
+pub reading-is : (k : UnderWay) {v f b h a w d p l g : Bool} {n : ℕ} → v ≡ yesOf (k .version) → f ≡ yesOf (k .failed) → b ≡ yesOf (k .begun) → h ≡ yesOf (k .held) → n ≡ countIn v (k .count)
     → a ≡ yesOf (k .agrees) → w ≡ yesOf (k .well) → d ≡ yesOf (k .digits) → p ≡ yesOf (k .point) → l ≡ yesOf (k .plain) → g ≡ yesOf (k .figure)
     → _≡_ {A = Reading} (record {
       failed = f;
@@ -44,15 +44,15 @@ reading-is k ev ef eb eh en ea ew ed ep el eg =
     }
 
 module _ (r : Reading) {f v : ℕ} (ef : f ≡ bitOf (r .failed)) (ev : v ≡ bitOf (r .version)) where
-  pub keep-broken : r .failed ≡ true → blankKept f v (r .count) ≡ keptOf r
-  keep-broken e = let a : f ≡ 1 = ef ∙ ap bitOf e in rw e (λ i. blankKept (a i) (ev i) (r .count))
+  pub keep-broken : r .failed ≡ true → blankUnderWay f v (r .count) ≡ underWayOf r
+  keep-broken e = let a : f ≡ 1 = ef ∙ ap bitOf e in rw e (λ i. blankUnderWay (a i) (ev i) (r .count))
 
   module _ (e : r .failed ≡ false) {b h : ℕ} (eb : b ≡ bitOf (r .begun)) (eh : h ≡ bitOf (r .held)) where
     none : f ≡ 0
     none = ef ∙ ap bitOf e
 
     pub keep-version : r .version ≡ true → {g : ℕ} → g ≡ bitOf (r .text .agrees)
-        → _≡_ {A = Kept} (record {
+        → _≡_ {A = UnderWay} (record {
           sx = 0;
           sy = 0;
           gx = 0;
@@ -73,7 +73,7 @@ module _ (r : Reading) {f v : ℕ} (ef : f ≡ bitOf (r .failed)) (ev : v ≡ bi
           point = 0;
           plain = 0;
           figure = 0;
-        }) (keptOf r)
+        }) (underWayOf r)
     keep-version q eg =
         let a : v ≡ 1 = ev ∙ ap bitOf q in
         rw (e, q) (λ i. record {
@@ -100,7 +100,7 @@ module _ (r : Reading) {f v : ℕ} (ef : f ≡ bitOf (r .failed)) (ev : v ≡ bi
         })
 
     pub keep-carrier : r .version ≡ false → {w d p l g : ℕ} → w ≡ bitOf (r .past .well) → d ≡ bitOf (r .field .digits) → p ≡ bitOf (r .field .point) → l ≡ bitOf (r .field .plain) → g ≡ bitOf (r .field .figure)
-        → _≡_ {A = Kept} (record {
+        → _≡_ {A = UnderWay} (record {
           sx = r .past .sx;
           sy = r .past .sy;
           gx = r .past .gx;
@@ -121,7 +121,7 @@ module _ (r : Reading) {f v : ℕ} (ef : f ≡ bitOf (r .failed)) (ev : v ≡ bi
           point = p;
           plain = l;
           figure = g;
-        }) (keptOf r)
+        }) (underWayOf r)
     keep-carrier q ew ed ep el eg =
         let a : v ≡ 0 = ev ∙ ap bitOf q in
         rw (e, q) (λ i. record {

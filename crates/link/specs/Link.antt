@@ -18,7 +18,7 @@ use Rattle.gridmap.specs.Cells.{numbering, bayFound}
 use Rattle.scenario.specs.declared.Reading.{Reading}
 use Rattle.scenario.specs.Under.{countIn, stateOf, startsOf, goalsOf}
 use Rattle.docket.specs.Reading.{verdictOf}
-use Rattle.link.specs.declared.Kept.{Kept}
+use Rattle.link.specs.declared.UnderWay.{UnderWay}
 use Rattle.link.specs.declared.Link.{Link}
 use Rattle.link.specs.declared.Said.{Said}
 use Rattle.link.specs.declared.Said.the-variants as said
@@ -33,7 +33,7 @@ yesOf n = if eqb n 0 then false else true
 abbrev pub bitOf : Bool → ℕ
 bitOf b = if b then 1 else 0
 
-abbrev pub readingIn : Kept → Reading
+abbrev pub readingIn : UnderWay → Reading
 readingIn k = record {
   failed = yesOf (k .failed);
   version = yesOf (k .version);
@@ -55,18 +55,18 @@ pairs (s ∷ starts) (g ∷ goals) = (s, g) ∷ pairs starts goals
 
 -- the carriers that stand in the two lists
 abbrev pub carriersIn : Link → List (Bay × Bay)
-carriersIn l = let k = readingIn (l .kept) .count in pairs (take k (l .start)) (take k (l .goal))
+carriersIn l = let k = readingIn (l .line) .count in pairs (take k (l .start)) (take k (l .goal))
 
 abbrev pub stateIn : Link → State Under
-stateIn l = stateOf (readingIn (l .kept)) (carriersIn l)
+stateIn l = stateOf (readingIn (l .line)) (carriersIn l)
 
 abbrev pub isOpen : Link → Bool
 isOpen l = eqb (l .phase) 1
 
 -- ## The numbers that a call leaves: 0 where nothing of them is read any more
 
-abbrev pub blankKept : ℕ → ℕ → ℕ → Kept
-blankKept f v k = record {
+abbrev pub blankUnderWay : ℕ → ℕ → ℕ → UnderWay
+blankUnderWay f v k = record {
   sx = 0;
   sy = 0;
   gx = 0;
@@ -89,9 +89,9 @@ blankKept f v k = record {
   figure = 0;
 }
 
-abbrev pub keptOf : Reading → Kept
-keptOf r =
-    if r .failed then blankKept 1 (bitOf (r .version)) (r .count)
+abbrev pub underWayOf : Reading → UnderWay
+underWayOf r =
+    if r .failed then blankUnderWay 1 (bitOf (r .version)) (r .count)
     else if r .version then record {
       sx = 0;
       sy = 0;
@@ -138,9 +138,9 @@ keptOf r =
     }
 
 -- the same, of the paper's state
-abbrev pub keptBy : State Under → Kept
-keptBy (failed n) = blankKept 1 (bitOf (eqb n 1)) (n - 2)
-keptBy (going n begun held (inVersion m)) = record {
+abbrev pub underWayBy : State Under → UnderWay
+underWayBy (failed n) = blankUnderWay 1 (bitOf (eqb n 1)) (n - 2)
+underWayBy (going n begun held (inVersion m)) = record {
   sx = 0;
   sy = 0;
   gx = 0;
@@ -162,7 +162,7 @@ keptBy (going n begun held (inVersion m)) = record {
   plain = 0;
   figure = 0;
 }
-keptBy (going n begun held (inCarrier cs p m)) = record {
+underWayBy (going n begun held (inCarrier cs p m)) = record {
   sx = p .sx;
   sy = p .sy;
   gx = p .gx;
@@ -208,7 +208,7 @@ begunLink G = record {
   start = replicate most-carriers 0;
   goal = replicate most-carriers 0;
   cells = sets (replicate 4096 0) 0 (numbering 0 (cells G));
-  kept = keptBy (going 1 false false (inVersion (record { place = 0; agrees = true })));
+  line = underWayBy (going 1 false false (inVersion (record { place = 0; agrees = true })));
   phase = 1;
   height = G .height;
   width = G .width;
@@ -235,7 +235,7 @@ linkBy l s = record {
   start = sets (l .start) 0 (startsOf (carriersBy s));
   goal = sets (l .goal) 0 (goalsOf (carriersBy s));
   cells = l .cells;
-  kept = keptBy s;
+  line = underWayBy s;
   phase = l .phase;
   height = l .height;
   width = l .width;
@@ -286,7 +286,7 @@ overLink l r = record {
   start = sets (l .start) 0 (startsOf (carriersRead r));
   goal = sets (l .goal) 0 (goalsOf (carriersRead r));
   cells = l .cells;
-  kept = l .kept;
+  line = l .line;
   phase = 2;
   height = l .height;
   width = l .width;

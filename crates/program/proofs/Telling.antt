@@ -23,7 +23,7 @@ use Rattle.print_room.proofs.Telling.{by-answer}
 use Rattle.program.specs.Planning.{verdictIn, PlannedIn}
 
 -- the planner's words for an answer, and the verdict that says the same
-abbrev spoken : planner.Told → Told
+abbrev spoken : planner.PlanTold → Told
 spoken (planner.long m) = granted m
 spoken (planner.denied r) = denied r
 

@@ -15,7 +15,7 @@ use Rattle.paper.specs.Text.{Text, Read, good, badLine}
 use Rattle.paper.specs.Scenario.{readScenario}
 use Rattle.stores.specs.Writing.{Wrote}
 use Rattle.paper.specs.Bytes.{scenarioFinish, State, failed, going, Under, inVersion, inCarrier, lineClosed, beginLine, closeLine, scenarioStep, inLine, release}
-use Rattle.fields.specs.Kept.{matchOf, seenOf, pastOf}
+use Rattle.fields.specs.ReadAs.{matchOf, seenOf, pastOf}
 use Rattle.gridmap.specs.Cells.{bayFound}
 use Rattle.gridmap.specs.declared.Grid.{Grid}
 use Rattle.scenario.specs.declared.Reading.{Reading}

@@ -9,7 +9,7 @@ ghost use mathlib.Core.Path.{_≡_};
 ghost use mathlib.Core.Bool.{true, false};
 ghost use Prim.Native.Nat.{_<_};
 ghost use Rattle.paper.specs.Bytes.{carrierOf};
-ghost use Rattle.fields.specs.Kept.{pastOf};
+ghost use Rattle.fields.specs.ReadAs.{pastOf};
 ghost use Rattle.scenario.specs.Under.{bayBy, Sound, countIn, takenAs, carrierIs, dueOf, Broken, Closes, Steps, On, Released, Marked, Finishes, answerOf, answerBy, kept, FeedsOn, EndsOn, Feeds, Ends, Ended, Reads};
 
 // The scenario under way: whether it broke its layout, whether the version is due, whether the line has begun, whether a CR is held
