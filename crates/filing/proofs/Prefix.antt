@@ -1,33 +1,31 @@
 -- 4,264 bytes of a map and 49,036 of a scenario decide what the program prints: the longest good files are one byte shorter.
-use mathlib.Core.Path.{_≡_, refl, sym, _∙_, ap}
+use mathlib.Core.Path.{_≡_, refl, _∙_, ap}
 use mathlib.Core.Bool.{true}
 use mathlib.Core.List.{List, [], _∷_, _++_}
 use mathlib.Core.Option.{Option, none, some}
 use Prim.Native.Nat.{ℕ, suc, _+_, _-_, _*_, _≤_, _<_}
 use native.Mathlib.Omega.{arith}
 use native.Mathlib.Nat.{mul-le-mul, add-mul}
-use lib.Dec.{eqb, ltb, leb}
-use lib.ListN.{length, getD, take, drop, length-append, take-append-drop, drop-of-length-le}
+use lib.Dec.{eqb, ltb}
+use lib.ListN.{length, getD, take, drop, length-append, drop-of-length-le}
 use lib.Seq.{drop-cons}
-use borrow.Author.Tests.{ltb-true, leb-true, eqb-true, eq-eqb}
+use borrow.Author.Tests.{ltb-true, leb-true, eqb-true}
 use Rattle.paper.specs.Basics.{_and_, _or_}
 use Rattle.paper.specs.Limits.{most-carriers}
 use Rattle.paper.specs.Yard.{Bay}
-use Rattle.paper.specs.Text.{Text, text, TAB, join, split, same, value, sized, isNumber, Read, good, badLine}
+use Rattle.paper.specs.Text.{Text, text, TAB, join, split, same, sized, isNumber, Read, good, badLine}
 use Rattle.paper.specs.Map.{Grid, Due, typeDue, heightDue, widthDue, mapDue, rowDue, sideAfter, isRow, mapLine, mapEnd, readMap, bayIn}
 use Rattle.paper.specs.Scenario.{Listed, versionDue, carriers, isLength, nineFields, carrierLine, scenarioLine, scenarioEnd, readScenario}
 use Rattle.paper.specs.Print.{printed}
 use Rattle.paper.specs.Program.{readFile, scenarioRead, programAnswer, program}
-use Rattle.paper.proofs.Tests.{by-cases, and-left, and-right, not-both, never, or-cases, some-when, some-from, some-same}
-use Rattle.lines.proofs.Words.{same-other}
+use Rattle.paper.proofs.Tests.{by-cases, and-left, and-right, never, or-cases, some-when, some-from, some-same}
+use Rattle.paper.proofs.Lines.{same-exactly}
+use Rattle.gridmap.proofs.Good.{sided}
 use Rattle.filing.specs.Filing.{map-bytes, scenario-bytes}
 use Rattle.filing.proofs.Enough.{decided}
 
 same-sized : (l w : Text) → same l w ≡ true → length l ≡ length w
-same-sized l w h =
-    by-cases (eqb (length l) (length w))
-    (λ e. eqb-true (length l) (length w) e)
-    (λ e. not-both h (sym (same-other l w (λ q. let z : eqb (length l) (length w) ≡ true = rw q (eq-eqb (length w) (length w) refl) in not-both z e))))
+same-sized l w h = ap length (same-exactly l w .0 h)
 
 -- ## The map
 abbrev mapMost : Due → ℕ
@@ -36,22 +34,6 @@ mapMost heightDue = 4250
 mapMost (widthDue h) = 15 + h * 66
 mapMost (mapDue h w) = 5 + h * (w + 2)
 mapMost (rowDue h w rs) = (h - length rs) * (w + 2)
-
-record Sided (word l : Text) (n : ℕ) : Type 0 where
-  short : length l ≤ length word + 2
-  most : n ≤ 64
-
-sided : (word l : Text) (n : ℕ) → sideAfter word l ≡ some n → Sided word l n
-unfolding sideAfter isNumber sized
-sided word l n e =
-    let q = some-when (same (take (length word) l) word and isNumber 2 (drop (length word) l) and leb 1 (value (drop (length word) l)) and leb (value (drop (length word) l)) 64) (value (drop (length word) l)) e in
-    let b = and-left _ _ (and-left _ _ (q .0)) in
-    let t : length (take (length word) l) ≡ length word = same-sized (take (length word) l) word (and-left _ _ b) in
-    let s : length (drop (length word) l) ≤ 2 = leb-true _ _ (and-right _ _ (and-left _ _ (and-right _ _ b))) in
-    let c : length (take (length word) l) + length (drop (length word) l) ≡ length l = sym (length-append (take (length word) l) (drop (length word) l)) ∙ ap length (take-append-drop (length word) l) in
-    let k : value (drop (length word) l) ≤ 64 = leb-true _ _ (and-right _ _ (q .0)) in
-    let v : value (drop (length word) l) ≡ n = q .1 in
-    record { short = omega arith; most = omega arith }
 
 row-bounded : (h w : ℕ) (rs : List Text) (l : Text) → length rs < h → isRow w l ≡ true → length l + 2 + (h - length (rs ++ (l ∷ []))) * (w + 2) ≤ (h - length rs) * (w + 2)
 unfolding isRow

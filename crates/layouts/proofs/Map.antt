@@ -14,10 +14,11 @@ use Rattle.paper.specs.Yard.{Bay}
 use Rattle.paper.specs.Text.{Text, text, lines, same, value, isNumber, good, badLine}
 use Rattle.paper.specs.Map.{most-side, sideAfter, bayLetter, wallLetter, isRow, Grid, Due, typeDue, heightDue, widthDue, mapDue, rowDue, mapLine, mapEnd, readMap, cells, bayAt, numberAt, bayIn}
 use Rattle.paper.proofs.Tests.{and-left, and-right, and-both, or-left, or-right, or-cases, some-when, some-from, never-some}
+use Rattle.paper.proofs.Lines.{same-exactly}
 use Rattle.layouts.specs.Files.{Whole, FirstBadLine}
 use Rattle.layouts.specs.Words.{Side, BayLetter, WallLetter, at, O, T, W, RowOf, KeepsMap, EndsMap, BayAt}
 use Rattle.layouts.proofs.Files.{good-exactly, bad-exactly, bad-from-one}
-use Rattle.layouts.proofs.Words.{same-exactly, all-exactly, number-exactly}
+use Rattle.layouts.proofs.Words.{all-exactly, number-exactly}
 
 -- ## Letters and rows
 

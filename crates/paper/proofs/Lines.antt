@@ -2,17 +2,36 @@
 use mathlib.Core.Path.{_≡_, refl, sym, _∙_, ap}
 use mathlib.Core.Bool.{Bool, true, false, not}
 use mathlib.Core.List.{List, [], _∷_, _++_}
+use mathlib.Core.Logic.{_↔_}
 use Prim.Native.Nat.{ℕ, _≤_}
 use native.Mathlib.Omega.{arith}
 use lib.Dec.{eqb, leb}
-use borrow.Author.Tests.{eqb-true, ne-eqb, not-true, leb-true}
+use borrow.Author.Tests.{eqb-true, eq-eqb, ne-eqb, not-true, leb-true}
 use Rattle.paper.specs.Basics.{_and_}
-use Rattle.paper.specs.Text.{Text, LF, CR, join, lines, split, all, isDigit}
+use Rattle.paper.specs.Text.{Text, LF, CR, join, lines, split, same, all, isDigit}
 use Rattle.paper.specs.Print.{decimal, ended}
 use Rattle.paper.proofs.Tests.{by-cases, and-left, and-right, and-both, not-both}
 use Rattle.paper.proofs.Fields.{and-assoc}
 use Rattle.paper.proofs.Stepping.{split-some}
 use Rattle.paper.proofs.Digits.{decimal-digits}
+
+-- ## One text
+pub same-exactly : (l w : Text) → (same l w ≡ true) ↔ (l ≡ w)
+unfolding same
+same-exactly l w = (to l w, λ e. rw e (from w))
+  where
+    to : (l w : Text) → same l w ≡ true → l ≡ w
+    to [] [] h = refl
+    to [] (c ∷ w) h = not-both h refl
+    to (b ∷ l) [] h = not-both h refl
+    to (b ∷ l) (c ∷ w) h =
+        let e = eqb-true b c (and-left _ _ h) in
+        let f = to l w (and-right _ _ h) in
+        rw (e, f)
+
+    from : (w : Text) → same w w ≡ true
+    from [] = refl
+    from (c ∷ w) = and-both _ _ (eq-eqb c c refl) (from w)
 
 -- ## Pieces
 abbrev pub Without : ℕ → Text → Type 0
