@@ -20,7 +20,7 @@ use Rattle.scenario.specs.declared.Reading.{Reading}
 use Rattle.scenario.specs.Under.{Sound, stateOf, startsOf, goalsOf, Stored}
 use Rattle.link.specs.declared.UnderWay.{UnderWay}
 use Rattle.link.specs.declared.Link.{Link}
-use Rattle.link.specs.Link.{yesOf, bitOf, readingIn, pairs, carriersIn, underWayOf, blankUnderWay, underWayBy, carriersBy}
+use Rattle.link.specs.Link.{yesOf, bitOf, readingIn, pairs, carriersIn, inBroken, underWayOf, underWayBy, carriersBy}
 
 -- ## Numbers
 pub yes-bit : (b : Bool) → yesOf (bitOf b) ≡ b
@@ -90,7 +90,7 @@ module _ (r : Reading) (o : Sound r) (cs : List (Bay × Bay)) where
       (λ f.
       let q : false ≡ eqb (suc (suc (r .count))) 1 = sym (ne-eqb (suc (suc (r .count))) 1 (λ z. omega arith)) in
       let p : r .count ≡ suc (suc (r .count)) - 2 = omega arith in
-      rw (e, f) (λ i. blankUnderWay 1 (bitOf (q i)) (p i))))
+      rw (e, f) (λ i. inBroken (p i) 1 (bitOf (q i)))))
       (λ e. by-cases (r .version) (λ f. rw (e, f, o .first f)) (λ f. rw (e, f, h)))
 
   pub carriers-broken : r .failed ≡ true → carriersBy (stateOf r cs) ≡ []

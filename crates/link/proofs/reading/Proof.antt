@@ -2,7 +2,6 @@
 -- Assumes nothing.
 use borrow.Author.Needs.{needs}
 use Rattle.link.proofs.Making.{reading-is}
-use Rattle.link.proofs.Making.{reading-is}
 use Rattle.link.proofs.reading.Statement.{statement}
 use Rattle.link.proofs.reading.Tie as tie
 use Rattle.link.proofs.reading.Reads as reads

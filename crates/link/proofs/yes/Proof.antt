@@ -1,7 +1,6 @@
 -- `link::yes` meets its contract.
 -- Assumes nothing.
 use Rattle.link.proofs.Making.{yes-none, yes-some}
-use Rattle.link.proofs.Making.{yes-none, yes-some}
 use Rattle.link.proofs.yes.Statement.{statement}
 use Rattle.link.proofs.yes.Tie as tie
 use Rattle.link.proofs.yes.Reads as reads
