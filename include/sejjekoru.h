@@ -15,8 +15,8 @@
  *
  * Nothing is kept between calls and nothing is allocated: threads may call at the same time, each with its own of what may be written.
  *
- * Stack, measured on x86-64 and on ARM and rounded up: sejjekoru_plan needs 820 KiB where a yard is crowded and the plan long, and less elsewhere: 36 KiB
- * on a grid of 64 bays that is half full, 100 KiB on one of 256; sejjekoru_plan_lean 40 KiB at most; sejjekoru_program and sejjekoru_program_timed 1,280
+ * Stack, measured on x86-64 and on ARM and rounded up: sejjekoru_plan needs 820 KiB where a yard is crowded and the plan long, and less elsewhere: 48 KiB
+ * on a grid of 64 bays that is half full, 112 KiB on one of 256; sejjekoru_plan_lean 48 KiB at most; sejjekoru_program and sejjekoru_program_timed 1,280
  * KiB; sejjekoru_shorten 800 KiB, and 64 KiB for a plan of at most 4,096 crossings; sejjekoru_agrees and sejjekoru_report_billed 40 KiB; the functions on
  * a link 28 KiB; sejjekoru_open 24 KiB; all others 16 KiB or less. Threads with 512 KiB of stack, as some systems give by default, cannot plan for every
  * yard with sejjekoru_plan: give them a megabyte or more, and two for the program; or call sejjekoru_plan_lean. tests/stack measures it again.

@@ -16,7 +16,7 @@ A map and a scenario are read from their bytes: `read_scenario(map_file, scenari
 
 The library is looked for in the file that SEJJEKORU_LIBRARY names, then in build/ beside this folder (./build-library writes it), then where the system
 keeps its libraries. Planning uses about 800 KiB of stack: see threading.stack_size before you plan in a thread with less, or call
-plan_lean, which needs 40 KiB.
+plan_lean, which needs 48 KiB.
 """
 
 import ctypes

@@ -36,7 +36,7 @@ static const char *const names[CALLS] = {"plan", "check", "slots", "report", "sh
                                          "compare", "placement", "map", "scenario", "link_begin", "link_piece", "link_end", "reverse",
                                          "slots_of", "program", "program_timed", "print_plan", "read_plan", "read_reports", "read_survey",
                                          "write_survey", "plan_lean"};
-static const size_t promised[CALLS] = {820, 16, 16, 16, 800, 24, 40, 40, 4, 16, 16, 16, 28, 28, 28, 4, 16, 1280, 1280, 4, 4, 4, 16, 16, 40}; /* KiB */
+static const size_t promised[CALLS] = {820, 16, 16, 16, 800, 24, 40, 40, 4, 16, 16, 16, 28, 28, 28, 4, 16, 1280, 1280, 4, 4, 4, 16, 16, 48}; /* KiB */
 
 static void *call(void *which)
 {
@@ -139,7 +139,7 @@ int main(void)
     static const unsigned sides[] = {0, 4, 8, 16, 16};
     static const size_t counts[] = {0, 6, 32, 128, 240};
     /* what planning needs on each, in KiB */
-    static const size_t planning[] = {20, 36, 36, 100, 820};
+    static const size_t planning[] = {20, 48, 48, 112, 820};
     size_t most[CALLS] = {0}, base, need;
     int size, which, bad = 0;
     /* the first thread of all needs more than others, to find the functions that it calls */

@@ -6,7 +6,7 @@ use mathlib.Core.Option.{Option, none, some}
 use Prim.Native.Nat.{ℕ, _≤_, _<_, _+_}
 use native.Mathlib.Omega.{arith}
 use lib.ListN.{length, length-append, length-map}
-use Rattle.acting.specs.Acting.{AsFar, FilledIn, Filling, Counts, Tallied, Within, Acts, Tries, Proceeds}
+use Rattle.acting.specs.Acting.{nothing, AsFar, FilledIn, parks, Counts, Tallied, Within, Acts, Tries, Proceeds}
 use Rattle.paper.specs.Basics.{upTo, In}
 use Rattle.paper.specs.Procedure.{Made, only, together, parking, vacate}
 use Rattle.paper.specs.Yard.{Bay, Yard, Crossing, pack, after}
@@ -17,9 +17,10 @@ use Rattle.paper.proofs.Vacating.{vacate-parks, filled-inside}
 use Rattle.words.specs.Sets.{span}
 use Rattle.moving.specs.Placed.{Placed, Played, Unchanged}
 use Rattle.rings.specs.Search.{Shown}
-use Rattle.vacate.specs.Answer.{countAfter, filled, vacating, Vacates}
-use Rattle.vacate.proofs.Answers.{answered-count}
+use Rattle.vacate.specs.Answer.{countAfter, filled, Vacates}
+use Rattle.vacate.proofs.Answers.{answered-failed, answered-count}
 use Rattle.moving.proofs.Playing.{stored-none, stored-then}
+use Rattle.acting.proofs.Junctions.{parks-few}
 use Rattle.acting.specs.declared.Tally.{Tally}
 use Rattle.acting.specs.declared.Tried.the-variants.{Done}
 use Rattle.acting.specs.declared.Tried.the-variants.{Failed}
@@ -47,17 +48,29 @@ tallied-only w e = record {
   few = λ h. omega (arith, h, e, w .counted);
 }
 
+-- the same, stored from a place in the list on
+pub tallied-from : {xs : List Crossing} {n : ℕ} {p p′ standing′ empty′ out out′ : List ℕ} {made r : ℕ} (parked : ℕ)
+    → Played xs n p p′ standing′ empty′ out made out′ r
+    → Tallied (only xs) n p p′ standing′ empty′ out (record { crossings = made; parked = parked }) out′ (record { crossings = r; parked = parked })
+tallied-from parked w = tallied-only w refl
+
+few-filled : (parked most crossings many : ℕ) → parked ≡ most → most ≤ 1 → crossings ≡ 0 + many → 0 < many → parked ≤ crossings
+few-filled parked most crossings many a b c d = omega (arith, a, b, c, d)
+
+as-far-same : (j k : ℕ) → j ≡ k → AsFar j (0 + k)
+as-far-same j k e = omega (arith, e)
+
 -- a vacate that filled bay e
-pub tallied-filled : {xs : List Crossing} {n : ℕ} {p p′ standing′ empty′ out out′ : List ℕ} {at r : Tally} (Y : Yard) (e : Bay)
-    → Played xs n p p′ standing′ empty′ out (at .crossings) out′ (r .crossings) → 0 < length xs → Filling Y e (at .parked) (r .parked)
-    → Tallied (record { moves = xs; parked = parking Y e }) n p p′ standing′ empty′ out at out′ r
+pub tallied-filled : {xs : List Crossing} {n : ℕ} {p p′ standing′ empty′ out out′ : List ℕ} {r : Tally} (Y : Yard) (e : Bay)
+    → Played xs n p p′ standing′ empty′ out 0 out′ (r .crossings) → 0 < length xs → r .parked ≡ parks Y e
+    → Tallied (record { moves = xs; parked = parking Y e }) n p p′ standing′ empty′ out nothing out′ r
 tallied-filled Y e w some-crossed f = record {
   moved = w .moved;
   placed = w .placed;
   stored = w .stored;
   counted = w .counted;
-  parks = f .0;
-  few = λ h. omega (arith, h, f .1, some-crossed, w .counted);
+  parks = as-far-same _ _ f;
+  few = λ h. few-filled _ _ _ _ f (parks-few Y e) (w .counted) some-crossed;
 }
 
 -- nothing made
@@ -135,24 +148,23 @@ module _ {o : Option Made} {n : ℕ} {p standing empty out : List ℕ} {at : Tal
 
 -- ## Vacating, by its tally
 
-counted-after : (Y : Yard) (at : Tally) (v : Vacated) (r : Tally) → Counts Y at v (Done r) → countAfter (at .crossings) v ≡ some (r .crossings)
-counted-after Y at Empty r c = let same : at ≡ r = cc in rw same
-counted-after Y at (Filled e m) r c = let same : c .0 ≡ r = let z = c .1 in cc in let z = rw same at (c .2) in rw z
-counted-after Y at NotVacated r c = never (cc)
+counted-after : (Y : Yard) (v : Vacated) (r : Tally) → Counts Y v (Done r) → countAfter v ≡ some (r .crossings)
+counted-after Y Empty r c = let same : nothing ≡ r = cc in ap (λ (z : Tally). some (z .crossings)) same
+counted-after Y (Filled e m) r c = let same : c .0 ≡ r = let z = c .1 in cc in let z = rw same at (c .2) in rw z
+counted-after Y NotVacated r c = never (cc)
 
-module _ {n : ℕ} {table held : List ℕ} {s : Shown n table held} {x : Bay} {p standing empty out : List ℕ} (at : Tally) {p′ standing′ empty′ out′ : List ℕ} where
+module _ {n : ℕ} {table held : List ℕ} {s : Shown n table held} {x : Bay} {p standing empty out p′ standing′ empty′ out′ : List ℕ} where
   -- what is made, up to the tally that the answer carries
-  room-made : (v : Vacated) (r : Tally) → Vacates s x p standing empty out (at .crossings) p′ standing′ empty′ out′ v → countAfter (at .crossings) v ≡ some (r .crossings) → Counts (s .yard) at v (Done r)
-      → (m : Made) × (vacate (s .yard) (s .bays) x p ≡ some m) × Tallied m n p p′ standing′ empty′ out at out′ r
+  room-made : (v : Vacated) (r : Tally) → Vacates s x p standing empty out p′ standing′ empty′ out′ v → countAfter v ≡ some (r .crossings) → Counts (s .yard) v (Done r)
+      → (m : Made) × (vacate (s .yard) (s .bays) x p ≡ some m) × Tallied m n p p′ standing′ empty′ out nothing out′ r
   room-made Empty r h e c =
       let w = answered-count h e in
       let f = some-from (λ (m : Made). m .moves) (vacate (s .yard) (s .bays) x p) (w .1) in
       let m = f .0 in
       let none-parked : m .parked ≡ 0 = vacate-parks (s .yard) (s .bays) x p m (f .1) ∙ rw (← (h .fills)) in
-      let same : at ≡ r = cc in
-      let same-parked : at .parked ≡ r .parked = ap (λ (z : Tally). z .parked) same in
-      let same-crossings : at .crossings ≡ r .crossings = ap (λ (z : Tally). z .crossings) same in
-      let k : Played (m .moves) n p p′ standing′ empty′ out (at .crossings) out′ (r .crossings) = rw (f .2) (w .2) in (
+      let same : nothing ≡ r = cc in
+      let same-parked : 0 ≡ r .parked = ap (λ (z : Tally). z .parked) same in
+      let k : Played (m .moves) n p p′ standing′ empty′ out 0 out′ (r .crossings) = rw (f .2) (w .2) in (
         m,
         f .1,
         record {
@@ -161,7 +173,7 @@ module _ {n : ℕ} {table held : List ℕ} {s : Shown n table held} {x : Bay} {p
           stored = k .stored;
           counted = k .counted;
           parks = omega (arith, same-parked, none-parked);
-          few = λ l. omega (arith, l, same-parked, same-crossings);
+          few = λ l. omega (arith, same-parked);
         },
       )
   room-made (Filled e c₀) r h e₀ c =
@@ -170,10 +182,9 @@ module _ {n : ℕ} {table held : List ℕ} {s : Shown n table held} {x : Bay} {p
       let m = f .0 in
       let parked : m .parked ≡ parking (s .yard) (e .0) = vacate-parks (s .yard) (s .bays) x p m (f .1) ∙ rw (← (h .fills)) refl in
       let same : c .0 ≡ r = let z = c .1 in cc in
-      let k : Played (m .moves) n p p′ standing′ empty′ out (at .crossings) out′ (r .crossings) = rw (f .2) (w .2) in
+      let k : Played (m .moves) n p p′ standing′ empty′ out 0 out′ (r .crossings) = rw (f .2) (w .2) in
       let filling = rw same at (c .3) in
-      let some-crossed = h .some-moved (e .0) refl (w .0) (w .1) in
-      let many : r .crossings ≡ at .crossings + length (w .0) = w .2 .counted in (
+      let some-crossed = h .some-moved (e .0) refl (w .0) (w .1) in (
         m,
         f .1,
         record {
@@ -181,29 +192,29 @@ module _ {n : ℕ} {table held : List ℕ} {s : Shown n table held} {x : Bay} {p
           placed = k .placed;
           stored = k .stored;
           counted = k .counted;
-          parks = rw parked (filling .0);
-          few = λ l. omega (arith, l, filling .1, some-crossed, many);
+          parks = rw parked (as-far-same _ _ filling);
+          few = λ l. few-filled _ _ _ _ filling (parks-few (s .yard) (e .0)) (w .2 .counted) some-crossed;
         },
       )
   room-made NotVacated r h e c = never-some (r .crossings) e
 
-  not-made : (v : Vacated) → Vacates s x p standing empty out (at .crossings) p′ standing′ empty′ out′ v → Counts (s .yard) at v Failed → vacate (s .yard) (s .bays) x p ≡ none
+  not-made : (v : Vacated) → Vacates s x p standing empty out p′ standing′ empty′ out′ v → Counts (s .yard) v Failed → vacate (s .yard) (s .bays) x p ≡ none
   not-made Empty h c = never (cc)
   not-made (Filled e m) h c = let z = c .1 in never (cc)
-  not-made NotVacated h c = none-from (λ (m : Made). m .moves) _ (none-from (λ xs. at .crossings + length xs) (vacating s x p standing empty out (at .crossings)) (sym (h .counts)))
+  not-made NotVacated h c = none-from (λ (m : Made). m .moves) _ (answered-failed h)
 
-  pub room-acts : (v : Vacated) (r : Tried) → Vacates s x p standing empty out (at .crossings) p′ standing′ empty′ out′ v → Counts (s .yard) at v r → Acts (vacate (s .yard) (s .bays) x p) n p standing empty out at p′ standing′ empty′ out′ r
+  pub room-acts : (v : Vacated) (r : Tried) → Vacates s x p standing empty out p′ standing′ empty′ out′ v → Counts (s .yard) v r → Acts (vacate (s .yard) (s .bays) x p) n p standing empty out nothing p′ standing′ empty′ out′ r
   room-acts v Failed h c = let z = not-made v h c in acts-none z (h .acted .fails (rw z))
-  room-acts v (Done r) h c = let w = room-made v r h (counted-after (s .yard) at v r c) c in acts-some (w .1) (w .2)
+  room-acts v (Done r) h c = let w = room-made v r h (counted-after (s .yard) v r c) c in acts-some (w .1) (w .2)
 
-  pub room-within : n ≤ span → (v : Vacated) (r : Tried) → Vacates s x p standing empty out (at .crossings) p′ standing′ empty′ out′ v → Counts (s .yard) at v r → Within at span r
+  pub room-within : n ≤ span → (v : Vacated) (r : Tried) → Vacates s x p standing empty out p′ standing′ empty′ out′ v → Counts (s .yard) v r → Within nothing span r
   room-within most v Failed h c = tt
   room-within most v (Done r) h c =
-      let w = answered-count h (counted-after (s .yard) at v r c) in
+      let w = answered-count h (counted-after (s .yard) v r c) in
       omega (arith, most, w .2 .counted, h .short (w .0) (w .1))
 
   -- the bay that was filled is among the n
-  pub filled-in : (v : Vacated) → Apart p → x < n → Vacates s x p standing empty out (at .crossings) p′ standing′ empty′ out′ v → FilledIn n v
+  pub filled-in : (v : Vacated) → Apart p → x < n → Vacates s x p standing empty out p′ standing′ empty′ out′ v → FilledIn n v
   filled-in Empty apart hx h = tt
   filled-in (Filled e m) apart hx h =
       let hb : n ≡ s .yard .bays = sym (s .joins .bays) in

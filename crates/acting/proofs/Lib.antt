@@ -1,3 +1,4 @@
 pub mod Acting
 pub mod Junctions
 pub mod Holding
+pub mod Lending

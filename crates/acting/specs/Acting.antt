@@ -13,7 +13,7 @@ use Rattle.words.specs.Sets.{mem, words, span}
 use Rattle.yard.specs.Table.{Table}
 use Rattle.levels.specs.Levels.{Levelled}
 use Rattle.rings.specs.Search.{Shown}
-use Rattle.moving.specs.Bounds.{vacate-most, room-vacate}
+use Rattle.moving.specs.Bounds.{vacate-most}
 use Rattle.moving.specs.Placed.{Placed, Stored, Unchanged}
 use Rattle.vacate.specs.declared.Vacated.{Vacated}
 use Rattle.vacate.specs.declared.Vacated.the-variants.{Empty, Filled, Failed as NotVacated}
@@ -61,9 +61,9 @@ pub record Added (at more r : Tally) : Type 0 where
 abbrev pub filledWith : Yard → Crossing → Bay → Made
 filledWith Y x e = record { moves = x ∷ []; parked = parking Y e }
 
--- the vacate that filled bay e is counted, if it is one of three rails or more
-abbrev pub Filling : Yard → Bay → ℕ → ℕ → Type 0
-Filling Y e before after = AsFar after (before + parking Y e) × (after ≤ before + 1)
+-- what a vacate that filled bay e counts: one if three rails or more lead there
+abbrev pub parks : Yard → Bay → ℕ
+parks Y e = parking Y e
 
 -- the bay that was filled is among the n
 abbrev pub FilledIn : ℕ → Vacated → Type 0
@@ -71,11 +71,11 @@ FilledIn n Empty = Unit {0}
 FilledIn n (Filled e m) = e .0 < n
 FilledIn n NotVacated = Unit {0}
 
--- the tally after vacating
-abbrev pub Counts : Yard → Tally → Vacated → Tried → Type 0
-Counts Y at Empty r = r ≡ Done at
-Counts Y at (Filled e m) r = (k : Tally) × (r ≡ Done k) × (k .crossings ≡ m) × Filling Y (e .0) (at .parked) (k .parked)
-Counts Y at NotVacated r = r ≡ Failed
+-- the tally of a vacate
+abbrev pub Counts : Yard → Vacated → Tried → Type 0
+Counts Y Empty r = r ≡ Done nothing
+Counts Y (Filled e m) r = (k : Tally) × (r ≡ Done k) × (k .crossings ≡ m) × (k .parked ≡ parks Y (e .0))
+Counts Y NotVacated r = r ≡ Failed
 
 -- What is made was played on p, counted from `at` on, and stored where there is room for all of it.
 pub record Tallied (m : Made) (n : ℕ) (p p′ standing′ empty′ out : List ℕ) (at : Tally) (out′ : List ℕ) (r : Tally) : Type 0 where
@@ -133,26 +133,23 @@ junctions Y v = junction Y v
 -- ## What is asked, what is said
 
 -- vacating x
-abbrev pub RoomAsks : (table held : List ℕ) → Bay → (standing : List ℕ) → Tally → Type 0
-RoomAsks table held x standing at =
-    (x < length standing)
-    × (length held ≡ words)
-    × (at .crossings < room-vacate)
-    × Shown (length standing) table held
+pub record RoomAsks (table held : List ℕ) (x : Bay) (standing : List ℕ) : Type 0 where
+  pub inside : x < length standing
+  pub held-size : length held ≡ words
+  pub shown : Shown (length standing) table held
 
-abbrev pub RoomSays : (table held : List ℕ) → Bay → (p standing empty out : List ℕ) → Tally → (p′ standing′ empty′ out′ : List ℕ) → Tried → Type 0
-RoomSays table held x p standing empty out at p′ standing′ empty′ out′ r =
-    Within at vacate-most r
-    × ((s : Shown (length standing) table held)
-    → Acts (vacate (s .yard) (s .bays) x p) (length standing) p standing empty out at p′ standing′ empty′ out′ r)
+pub record RoomSays (table held : List ℕ) (x : Bay) (p standing empty out p′ standing′ empty′ out′ : List ℕ) (r : Tried) : Type 0 where
+  pub few : Within nothing vacate-most r
+  pub acts : (s : Shown (length standing) table held)
+      → Acts (vacate (s .yard) (s .bays) x p) (length standing) p standing empty out nothing p′ standing′ empty′ out′ r
 
 -- the crossing from a to b is the only one
-abbrev pub CrossCounts : Bay → Bay → (p standing out : List ℕ) → Tally → (p′ standing′ empty′ out′ : List ℕ) → Tally → Type 0
-CrossCounts a b p standing out at p′ standing′ empty′ out′ r =
-    Tallied (only (crossing (carrierAt p a) a b ∷ [])) (length standing) p p′ standing′ empty′ out at out′ r
+abbrev pub CrossCounts : Bay → Bay → (p standing out p′ standing′ empty′ out′ : List ℕ) → Tally → Type 0
+CrossCounts a b p standing out p′ standing′ empty′ out′ r =
+    Tallied (only (crossing (carrierAt p a) a b ∷ [])) (length standing) p p′ standing′ empty′ out nothing out′ r
 
 -- it is a vacate that filled b
-abbrev pub FillCounts : Bay → Bay → (table p standing out : List ℕ) → Tally → (p′ standing′ empty′ out′ : List ℕ) → Tally → Type 0
-FillCounts a b table p standing out at p′ standing′ empty′ out′ r =
+abbrev pub FillCounts : Bay → Bay → (table p standing out p′ standing′ empty′ out′ : List ℕ) → Tally → Type 0
+FillCounts a b table p standing out p′ standing′ empty′ out′ r =
     (t : Tabled (length standing) table)
-    → Tallied (filledWith (t .yard) (crossing (carrierAt p a) a b) b) (length standing) p p′ standing′ empty′ out at out′ r
+    → Tallied (filledWith (t .yard) (crossing (carrierAt p a) a b) b) (length standing) p p′ standing′ empty′ out nothing out′ r

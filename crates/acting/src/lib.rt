@@ -1,13 +1,14 @@
-// What every action is lent and what it answers: a tally, and vacating and crossing counted by it.
+// What every action is lent and what it answers: it is lent the rest of the list, counts from nothing, and answers a tally of what it made. Here too:
+// vacating and crossing counted so.
 use docket::Bay;
 use vacate::Vacated;
 ghost use mathlib.Core.Path.{_≡_};
-ghost use Prim.Native.Nat.{_+_, _*_, _≤_, _<_};
+ghost use Prim.Native.Nat.{min, _+_, _*_, _≤_, _<_};
 ghost use lib.ListN.{length};
 ghost use Rattle.words.specs.Sets.{words, span};
 ghost use Rattle.moving.specs.Bounds.{room-crossing};
 ghost use Rattle.moving.specs.Placed.{CrossAsks};
-ghost use Rattle.acting.specs.Acting.{Tabled, Ready, AsFar, Added, FilledIn, Filling, Counts, junctions, RoomAsks, RoomSays, CrossCounts, FillCounts};
+ghost use Rattle.acting.specs.Acting.{Tabled, Ready, AsFar, Added, FilledIn, parks, Counts, junctions, RoomAsks, RoomSays, CrossCounts, FillCounts};
 
 // What is counted: crossings, and the vacates that filled a bay of three rails or more. Whoever takes a tally out of an answer makes it anew from its two
 // numbers: they are then read one by one, as they were written. Copied whole, both are read at once, which waits until both are stored.
@@ -16,7 +17,13 @@ pub struct Tally {
     pub parked: usize,
 }
 
-// What is counted afterwards, or that it could not be done.
+// Nothing is made yet.
+pub const NOTHING: Tally = Tally {
+    crossings: 0,
+    parked: 0,
+};
+
+// What was made, or that it could not be done.
 pub enum Tried {
     Done(Tally),
     Failed,
@@ -60,35 +67,44 @@ pub fn add(at: Tally, more: Tally) -> Tally
     }
 }
 
-// The tally after a vacate that filled bay e, with so many crossings afterwards.
-pub fn tally_filled(table: &[u64], n: usize, e: Bay, crossings: usize, at: Tally) -> Tally
+// The place where the list goes on after so many crossings, or its end. What comes next is lent the list from there.
+pub fn place_in(out: &[u64], made: usize) -> usize
+    ensures { λ r. ⌜ r ≡ min made (length (now (out .entry))) ⌝ }
+{
+    if made < out.len() {
+        return made;
+    }
+    out.len()
+}
+
+// The tally of a vacate that filled bay e by so many crossings.
+fn tally_filled(table: &[u64], n: usize, e: Bay, crossings: usize) -> Tally
     requires { ⌜ (n ≤ span) × (e .0 < n) × (n * words ≤ length (now table)) ⌝ }
     ensures { λ r. ⌜
         (r .crossings ≡ crossings)
-        × ((t : Tabled n (now (table .entry))) → Filling (t .yard) (e .0) (at .parked) (r .parked))
+        × ((t : Tabled n (now (table .entry))) → r .parked ≡ parks (t .yard) (e .0))
         ⌝ }
 {
-    let before = at.parked;
     if is_junction(table, n, e) {
         return Tally {
             crossings,
-            parked: add_parked(before, 1),
+            parked: 1,
         };
     }
     Tally {
         crossings,
-        parked: before,
+        parked: 0,
     }
 }
 
-// Vacating, by the tally afterwards.
-fn counted(table: &[u64], n: usize, answer: Vacated, at: Tally) -> Tried
+// Vacating, by its tally.
+fn counted(table: &[u64], n: usize, answer: Vacated) -> Tried
     requires { ⌜ (n ≤ span) × (n * words ≤ length (now table)) × FilledIn n answer ⌝ }
-    ensures { λ r. ⌜ ((t : Tabled n (now (table .entry))) → Counts (t .yard) at answer r) ⌝ }
+    ensures { λ r. ⌜ ((t : Tabled n (now (table .entry))) → Counts (t .yard) answer r) ⌝ }
 {
     match answer {
-        Vacated::Empty => Tried::Done(at),
-        Vacated::Filled(e, m) => Tried::Done(tally_filled(table, n, e, m, at)),
+        Vacated::Empty => Tried::Done(NOTHING),
+        Vacated::Filled(e, m) => Tried::Done(tally_filled(table, n, e, m)),
         Vacated::Failed => Tried::Failed,
     }
 }
@@ -102,20 +118,18 @@ pub fn make_room(
     standing: &mut [u16],
     empty: &mut [u64],
     out: &mut [u64],
-    at: Tally,
 ) -> Tried
     requires { ⌜ Ready (now table) (now placement) (now standing) (now empty) ⌝ }
-    requires { ⌜ RoomAsks (now table) (now held) (x .0) (now standing) at ⌝ }
+    requires { ⌜ RoomAsks (now table) (now held) (x .0) (now standing) ⌝ }
     ensures { λ r. ⌜
         RoomSays (now (table .entry)) (now (held .entry)) (x .0)
-        (now (placement .entry)) (now (standing .entry)) (now (empty .entry)) (now (out .entry)) at
+        (now (placement .entry)) (now (standing .entry)) (now (empty .entry)) (now (out .entry))
         (now (placement .exit)) (now (standing .exit)) (now (empty .exit)) (now (out .exit)) r
         ⌝ }
 {
     let n = standing.len();
-    let before = at.crossings;
-    let answer = vacate::vacate(table, held, x, placement, standing, empty, out, before);
-    counted(table, n, answer, at)
+    let answer = vacate::vacate(table, held, x, placement, standing, empty, out);
+    counted(table, n, answer)
 }
 
 // The carrier at bay a crosses to the empty bay b.
@@ -126,18 +140,18 @@ pub fn cross(
     a: Bay,
     b: Bay,
     out: &mut [u64],
-    at: Tally,
 ) -> Tally
-    requires { ⌜ CrossAsks (a .0) (b .0) (now placement) (now standing) (now empty) (at .crossings) ⌝ }
+    requires { ⌜ CrossAsks (a .0) (b .0) (now placement) (now standing) (now empty) 0 ⌝ }
     ensures { λ r. ⌜
-        CrossCounts (a .0) (b .0) (now (placement .entry)) (now (standing .entry)) (now (out .entry)) at
+        CrossCounts (a .0) (b .0) (now (placement .entry)) (now (standing .entry)) (now (out .entry))
         (now (placement .exit)) (now (standing .exit)) (now (empty .exit)) (now (out .exit)) r
         ⌝ }
 {
-    let before = at.crossings;
-    let parked = at.parked;
-    let crossings = moving::cross(placement, standing, empty, a, b, out, before);
-    Tally { crossings, parked }
+    let crossings = moving::cross(placement, standing, empty, a, b, out, 0);
+    Tally {
+        crossings,
+        parked: 0,
+    }
 }
 
 // The carrier at bay a crosses to the empty bay b beside it, by which a is vacated.
@@ -149,17 +163,15 @@ pub fn fill(
     a: Bay,
     b: Bay,
     out: &mut [u64],
-    at: Tally,
 ) -> Tally
-    requires { ⌜ CrossAsks (a .0) (b .0) (now placement) (now standing) (now empty) (at .crossings) ⌝ }
+    requires { ⌜ CrossAsks (a .0) (b .0) (now placement) (now standing) (now empty) 0 ⌝ }
     requires { ⌜ length (now standing) * words ≤ length (now table) ⌝ }
     ensures { λ r. ⌜
-        FillCounts (a .0) (b .0) (now (table .entry)) (now (placement .entry)) (now (standing .entry)) (now (out .entry)) at
+        FillCounts (a .0) (b .0) (now (table .entry)) (now (placement .entry)) (now (standing .entry)) (now (out .entry))
         (now (placement .exit)) (now (standing .exit)) (now (empty .exit)) (now (out .exit)) r
         ⌝ }
 {
     let n = standing.len();
-    let before = at.crossings;
-    let crossings = moving::cross(placement, standing, empty, a, b, out, before);
-    tally_filled(table, n, b, crossings, at)
+    let crossings = moving::cross(placement, standing, empty, a, b, out, 0);
+    tally_filled(table, n, b, crossings)
 }

@@ -11,7 +11,6 @@ ghost use Rattle.paper.specs.Dependence.{done, doneOf};
 ghost use Rattle.paper.specs.OnePass.{Fits};
 ghost use Rattle.bills.specs.Billing.{untouched};
 ghost use Rattle.afresh.specs.Working.{Led, Billed};
-use bills::UNTOUCHED;
 use yard::Yard;
 
 // How many crossings are done.

@@ -3,7 +3,7 @@ use mathlib.Core.Path.{_≡_, refl, sym, _∙_, ap}
 use mathlib.Core.List.{List, [], _∷_, _++_}
 use Prim.Native.Nat.{ℕ, zero, suc, _<_, _-_}
 use native.Mathlib.Omega.{arith}
-use lib.ListN.{length, set, drop, replicate, length-set, length-map}
+use lib.ListN.{length, drop, replicate, length-set, length-map}
 use Rattle.paper.specs.Limits.{most-bays}
 use Rattle.paper.specs.Yard.{Placement, Crossing, crossings, named, after, move}
 use Rattle.paper.specs.Dependence.{done, doneOf, placementBy}
@@ -11,6 +11,7 @@ use Rattle.paper.specs.OnePass.{Fits}
 use Rattle.paper.proofs.Tests.{by-cases}
 use Rattle.paper.proofs.Packing.{named-is}
 use Rattle.bills.specs.Billing.{places}
+use Rattle.bills.proofs.Stepping.{places-move}
 use Rattle.agreeing.specs.Statements.{Fit}
 
 drop-zeros : (k m : ℕ) → drop {A = ℕ} k (replicate m 0) ≡ replicate (m - k) 0
@@ -22,16 +23,6 @@ drop-zeros (suc k) (suc m) = let e : m - k ≡ suc m - suc k = omega arith in dr
 pub over-zeros : (p : Placement) (at : List ℕ) → at ≡ replicate most-bays 0 → p ++ drop (length p) at ≡ places p
 over-zeros p at z = ap (λ l. p ++ l) (ap (drop (length p)) z ∙ drop-zeros (length p) most-bays)
 
-set-left : (p q : List ℕ) (i v : ℕ) → i < length p → set (p ++ q) i v ≡ set p i v ++ q
-set-left [] q i v h = absurd (omega arith)
-set-left (x ∷ p) q zero v h = refl
-set-left (x ∷ p) q (suc i) v h = ap {B = List ℕ} (λ r. x ∷ r) (set-left p q i v (omega arith))
-
-pub places-move : (p : Placement) (x : Crossing) → x .carrier < length p → move (places p) x ≡ places (move p x)
-places-move p x h =
-    set-left p (replicate (most-bays - length p) 0) (x .carrier) (x .to) h
-    ∙ ap (λ k. set p (x .carrier) (x .to) ++ replicate (most-bays - k) 0) (sym (length-set p (x .carrier) (x .to)))
-
 -- each crossing's carrier is there
 abbrev There : ℕ → List Crossing → Type 0
 There k xs = (i : ℕ) → i < length xs → named xs i .carrier < k
@@ -42,7 +33,7 @@ after-places p [] ms f = refl
 after-places p (x ∷ xs) [] f = refl
 after-places p (x ∷ xs) (m ∷ ms) f =
     by-cases (done m)
-    (λ e. rw e (ap (λ q. after q (doneOf xs ms)) (places-move p x (f 0 (omega arith)))
+    (λ e. rw e (ap (λ q. after q (doneOf xs ms)) (sym (places-move p x (f 0 (omega arith))))
     ∙ after-places (move p x) xs ms (λ i h. rw length-set (f (suc i) (omega arith)))))
     (λ e. rw e (after-places p xs ms (λ i h. f (suc i) (omega arith))))
 

@@ -97,7 +97,7 @@ pub fn up_to_eleven(
     if let Checked::Refused(r) = checked {
         return Checked::Refused(r);
     }
-    if marks::bad_marks(plan, marks) {
+    if mark_order::bad_marks(plan, marks) {
         return Checked::Refused(Refusal::Mismarked);
     }
     Checked::Passed

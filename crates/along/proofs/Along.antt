@@ -3,11 +3,11 @@
 use mathlib.Core.Path.{_≡_, sym, _∙_, ap, refl}
 use mathlib.Core.Bool.{true, false}
 use mathlib.Core.List.{List, [], _∷_, dropLast}
-use mathlib.Core.Option.{none, some}
+use mathlib.Core.Option.{Option, none, some}
 use Prim.Native.Nat.{ℕ, zero, suc, _≤_, _<_, _-_, _+_, _*_}
 use native.Mathlib.Omega.{arith}
 use native.Mathlib.Numerals.{add-one}
-use lib.ListN.{length, drop, take, length-drop}
+use lib.ListN.{length, drop, take, length-take, length-drop}
 use lib.Dec.{eqb}
 use lib.Seq.{take-suc, take-nil, length-take-le}
 use Rattle.paper.specs.Basics.{_or_, if_then_else_}
@@ -21,16 +21,20 @@ use Rattle.go.specs.Going.{planOf, Linked}
 use Rattle.words.specs.Sets.{mem, span, words}
 use Rattle.words.proofs.Sets.{zeros}
 use Rattle.rings.specs.Search.{Shown}
-use Rattle.rings.specs.Ways.{PathFound, pathOf as pathsOf}
+use Rattle.rings.specs.Ways.{PathFound, pathLength, pathOf as pathsOf}
 use Rattle.rings.specs.declared.Path.{Path}
+use Rattle.rings.specs.declared.Path.the-variants.{First}
 use Rattle.rings.proofs.Searching.{elem-append, elem-one}
 use Rattle.moving.specs.Bounds.{swap-most}
 use Rattle.moving.specs.Placed.{Placed}
-use Rattle.acting.specs.Acting.{Tabled, Tallied, nothing}
+use Rattle.acting.specs.Acting.{Tabled, Ready, Tallied, Tries, nothing}
 use Rattle.acting.specs.declared.Tally.{Tally}
+use Rattle.acting.specs.declared.Tried.the-variants.{Done}
+use Rattle.acting.proofs.Acting.{tried-done}
 use Rattle.clear_on.proofs.Attempting.{in-bays}
 use Rattle.step.specs.Asking.{Loopless, BaysBelow}
-use Rattle.along.specs.Along.{Goals, HomeBelow, Bound, EndsAt, OnPath, PathPast, Goes, Arrives}
+use Rattle.along.specs.Along.{Goals, HomeBelow, EndsAt, OnPath, PathPast, PathPastSays, TurnAsks, GoalAsks, Goes, Arrives}
+use Rattle.along.specs.declared.ToGoal.{ToGoal}
 use Rattle.along.specs.declared.Gone.the-variants.{There, Nowhere}
 
 -- ## The path in its room
@@ -46,9 +50,6 @@ part-ahead (suc k) room = let e : suc k - 1 ≡ k = omega arith in rw e (plain r
 
 pub ahead-length : (k : ℕ) (room : List ℕ) → k ≤ length room → length (drop 1 (take k room)) ≡ k - 1
 ahead-length k room h = length-drop 1 (take k room) ∙ ap (λ (j : ℕ). j - 1) (length-take-le k room h)
-
-pub part-length : (k : ℕ) (room : List ℕ) → k ≤ length room → length (take (k - 1) (drop 1 room)) ≡ k - 1
-part-length k room h = ap length (part-ahead k room) ∙ ahead-length k room h
 
 -- ## The bays of the finished carriers
 
@@ -137,7 +138,7 @@ module _ {Y : Yard} {goals : Placement} {r : Carrier} {n : ℕ} {p out p′ stan
     there = λ j b d.
         let same : k ≡ j = cc in
         let same-m : m ≡ b = cc in
-        rw (← same, ← same-m) (short, a, rw (part-ahead k room) at e, w);
+        rw (← same, ← same-m) (record { path = short; made = a; goes = rw (part-ahead k room) at e; played = w });
     nowhere = λ d. never (cc);
   }
 
@@ -158,24 +159,48 @@ module _ {n : ℕ} {r : Carrier} {p settled : List ℕ} where
   pub arrives-nowhere : Arrives n r p settled Nowhere
   arrives-nowhere = record { fits = λ j b d. never (cc); few = λ j b d. never (cc); below = λ j b d. never (cc) }
 
--- the path that is found leads to r's goal
-module _ {n : ℕ} {table : List ℕ} (t : Tabled n table) (most : n ≤ span) (loopless : Loopless n table) (r : Carrier) (p : Placement) {standing empty : List ℕ} (k : Placed n p standing empty)
-    (hr : r < length p) {v : Bay} (b : Bound n p r v) where
-  pub way-there : {settled room : List ℕ} {z : Path} (s : BaysBelow r p settled) → PathPast (settledShown t r p s) (bayOf p r) v room z → pathsOf z room ≡ pathOf (t .yard) (b .goals) r p
-  way-there s f = f .same ∙ ap (λ (w : Bay). pathBetween (t .yard) (if carousel (t .yard) then take r p else []) (bayOf p r) w) (sym (b .own))
+-- whoever tried is among the bays afterwards
+pub bay-after : {o : Option Made} {n : ℕ} {p out : List ℕ} {at m : Tally} {p′ standing′ empty′ out′ : List ℕ} → Tries o n p out at p′ standing′ empty′ out′ (Done m)
+    → (c : Carrier) → c < length p′ → bayOf p′ c < n
+bay-after tries = tried-done tries .2 .placed .inside
 
-  module _ (room : List ℕ) (m : ℕ) (short : some (take m room) ≡ pathOf (t .yard) (b .goals) r p) where
-    pub way-of : OnPath n table (bayOf p r) (bayOf (b .goals) r) (take m room)
-    way-of = on-path t most loopless (b .goals) r p k (b .each) hr (b .below) (take m room) short
+-- ## The path that is found leads to the carrier's goal
 
-    pub ahead-of : drop 1 (take m room) ≡ way-of .ahead
-    ahead-of = ap (drop 1) (way-of .starts)
+module _ {table p standing settled : List ℕ} (t : Tabled (length standing) table) {to : ToGoal} (turn : TurnAsks to table p standing settled) where
+  abbrev r : Carrier
+  r = to .carrier .0
 
-    pub linked-of : Linked n table (bayOf p r) (take (m - 1) (drop 1 room))
-    linked-of = rw (part-ahead m room, ahead-of) (way-of .linked)
+  pub way-there : (b : GoalAsks to p standing) {room : List ℕ} {z : Path} → PathPastSays (length standing) table settled (bayOf p r) (to .goal .0) room z
+      → pathsOf z room ≡ pathOf (t .yard) (b .goals) r p
+  way-there b past =
+      past (settledShown t r p (turn .below)) .same
+      ∙ ap (λ (w : Bay). pathBetween (t .yard) (if carousel (t .yard) then take r p else []) (bayOf p r) w) (sym (b .own))
 
-    pub long-of : 1 ≤ length (take m room)
-    long-of = let e = ap length (way-of .starts) in omega arith
+  pub way-fits : {room : List ℕ} {z : Path} → PathPastSays (length standing) table settled (bayOf p r) (to .goal .0) room z → pathLength z ≤ length standing
+  way-fits past = past (settledShown t r p (turn .below)) .fits
 
-    pub gone-stuck : planOf (go (t .yard) (b .goals) r (take (m - 1) (drop 1 room)) p) ≡ none → carry (t .yard) (b .goals) r p ≡ stuck r
-    gone-stuck e = carried-stuck (t .yard) (b .goals) r p (way-of .starts) short (rw (part-ahead m room, ahead-of) at e)
+  pub way-short : {room : List ℕ} {m : ℕ} → PathPastSays (length standing) table settled (bayOf p r) (to .goal .0) room (First m)
+      → length (take (m - 1) (drop 1 room)) ≤ m
+  way-short {room} {m} past = omega (arith, length-take (m - 1) (drop 1 room))
+
+  module _ {empty : List ℕ} (ready : Ready table p standing empty) (b : GoalAsks to p standing) where
+    module _ (room : List ℕ) (m : ℕ) (short : some (take m room) ≡ pathOf (t .yard) (b .goals) r p) where
+      pub way-of : OnPath (length standing) table (bayOf p r) (bayOf (b .goals) r) (take m room)
+      way-of = on-path t (ready .most) (turn .loopless) (b .goals) r p (ready .placed) (b .each) (turn .carrier-there) (b .below) (take m room) short
+
+    -- the path that was found has m bays
+    module _ {room : List ℕ} {m : ℕ} (past : PathPastSays (length standing) table settled (bayOf p r) (to .goal .0) room (First m)) where
+      abbrev found : OnPath (length standing) table (bayOf p r) (bayOf (b .goals) r) (take m room)
+      found = way-of room m (way-there b past)
+
+      ahead-is : take (m - 1) (drop 1 room) ≡ found .ahead
+      ahead-is = part-ahead m room ∙ ap (drop 1) (found .starts)
+
+      pub way-long : 1 ≤ m
+      way-long = let e = ap length (found .starts) in omega (arith, e, length-take m room)
+
+      pub way-linked : Linked (length standing) table (bayOf p r) (take (m - 1) (drop 1 room))
+      way-linked = rw ahead-is (found .linked)
+
+      pub way-stuck : planOf (go (t .yard) (b .goals) r (take (m - 1) (drop 1 room)) p) ≡ none → carry (t .yard) (b .goals) r p ≡ stuck r
+      way-stuck e = carried-stuck (t .yard) (b .goals) r p (found .starts) (way-there b past) (rw ahead-is at e)

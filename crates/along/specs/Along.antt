@@ -65,23 +65,30 @@ pub record PathPast {n : ℕ} {table held : List ℕ} (s : Shown n table held) (
 
 -- ## What is asked, what is said
 
+abbrev pub PathPastSays : ℕ → (table held : List ℕ) → (u v : Bay) → (path : List ℕ) → Path → Type 0
+PathPastSays n table held u v path r = (s : Shown n table held) → PathPast s u v path r
+
 -- a carrier's turn: the set has the finished carriers' bays
-abbrev pub TurnAsks : ToGoal → (table p standing settled : List ℕ) → Type 0
-TurnAsks to table p standing settled =
-    (to .carrier .0 < length p)
-    × Loopless (length standing) table
-    × BaysBelow (to .carrier .0) p settled
-    × KindTold (length standing) table (to .in_carousel)
+pub record TurnAsks (to : ToGoal) (table p standing settled : List ℕ) : Type 0 where
+  pub carrier-there : to .carrier .0 < length p
+  pub loopless : Loopless (length standing) table
+  pub kind : KindTold (length standing) table (to .in_carousel)
+  pub below : BaysBelow (to .carrier .0) p settled
 
 -- there are goals of which its own is the one told
 abbrev pub GoalAsks : ToGoal → (p standing : List ℕ) → Type 0
 GoalAsks to p standing = Bound (length standing) p (to .carrier .0) (to .goal .0)
 
--- carrier r has gone the path that it takes, whose bays are the first k in the room lent; or it is stuck
+-- carrier r has gone the path that it takes, whose bays are the first k in the room lent
+pub record GoesThere (Y : Yard) (goals : Placement) (r : Carrier) (n : ℕ) (p out p′ standing′ empty′ out′ room : List ℕ) (k : ℕ) (m : Tally) : Type 0 where
+  pub path : some (take k room) ≡ way Y goals r p
+  pub made : Made
+  pub goes : planOf (go Y goals r (drop 1 (take k room)) p) ≡ some made
+  pub played : Tallied made n p p′ standing′ empty′ out nothing out′ m
+
+-- it has gone there, or it is stuck
 pub record Goes (Y : Yard) (goals : Placement) (r : Carrier) (n : ℕ) (p out p′ standing′ empty′ out′ room : List ℕ) (z : Gone) : Type 0 where
-  pub there : (k : ℕ) (m : Tally) → z ≡ There k m
-      → (some (take k room) ≡ way Y goals r p)
-      × (made : Made) × (planOf (go Y goals r (drop 1 (take k room)) p) ≡ some made) × Tallied made n p p′ standing′ empty′ out nothing out′ m
+  pub there : (k : ℕ) (m : Tally) → z ≡ There k m → GoesThere Y goals r n p out p′ standing′ empty′ out′ room k m
   pub nowhere : z ≡ Nowhere → carry Y goals r p ≡ stuck r
 
 -- r is finished then, and the path is no longer than there are bays
@@ -90,8 +97,7 @@ pub record Arrives (n : ℕ) (r : Carrier) (p settled : List ℕ) (z : Gone) : T
   pub few : (k : ℕ) (m : Tally) → z ≡ There k m → m .crossings ≤ swap-most * k
   pub below : (k : ℕ) (m : Tally) → z ≡ There k m → BaysBelow (r + 1) p settled
 
-abbrev pub GoAlongSays : ToGoal → (table p standing out p′ standing′ empty′ settled′ out′ room : List ℕ) → Gone → Type 0
-GoAlongSays to table p standing out p′ standing′ empty′ settled′ out′ room z =
-    Arrives (length standing) (to .carrier .0) p′ settled′ z
-    × ((t : Tabled (length standing) table) (b : GoalAsks to p standing)
-    → Goes (t .yard) (b .goals) (to .carrier .0) (length standing) p out p′ standing′ empty′ out′ room z)
+pub record GoAlongSays (to : ToGoal) (table p standing out p′ standing′ empty′ settled′ out′ room : List ℕ) (z : Gone) : Type 0 where
+  pub arrives : Arrives (length standing) (to .carrier .0) p′ settled′ z
+  pub goes : (t : Tabled (length standing) table) (b : GoalAsks to p standing)
+      → Goes (t .yard) (b .goals) (to .carrier .0) (length standing) p out p′ standing′ empty′ out′ room z

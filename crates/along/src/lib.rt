@@ -5,12 +5,11 @@ use docket::Bay;
 use docket::Carrier;
 use rings::Path;
 ghost use mathlib.Core.Path.{_≡_};
-ghost use Prim.Native.Nat.{_*_, _≤_, _<_};
 ghost use lib.ListN.{length};
-ghost use Rattle.words.specs.Sets.{words, span};
-ghost use Rattle.rings.specs.Search.{Shown};
+ghost use Rattle.words.specs.Sets.{span};
+ghost use Rattle.rings.specs.Ways.{PathAsks};
 ghost use Rattle.acting.specs.Acting.{Ready};
-ghost use Rattle.along.specs.Along.{KindTold, PathPast, TurnAsks, GoalAsks, GoAlongSays};
+ghost use Rattle.along.specs.Along.{KindTold, PathPastSays, TurnAsks, GoalAsks, GoAlongSays};
 
 // A carrier whose turn it is: those below it are finished. With its goal, and whether the yard is a carousel, where its path leads past the finished
 // carriers.
@@ -36,19 +35,9 @@ fn path_past(
     v: Bay,
     path: &mut [u16],
 ) -> Path
-    requires { ⌜
-        (n ≤ span)
-        × (u .0 < n)
-        × (v .0 < n)
-        × (n * words ≤ length (now table))
-        × (length (now settled) ≡ words)
-        × (n ≤ length (now path))
-        × Shown n (now table) (now settled)
-        × KindTold n (now table) in_carousel
-        ⌝ }
-    ensures { λ r. ⌜
-        ((s : Shown n (now (table .entry)) (now (settled .entry))) → PathPast s (u .0) (v .0) (now (path .exit)) r)
-        ⌝ }
+    requires { ⌜ PathAsks n (now table) (now settled) (now path) (u .0) (v .0) ⌝ }
+    requires { ⌜ KindTold n (now table) in_carousel ⌝ }
+    ensures { λ r. ⌜ PathPastSays n (now (table .entry)) (now (settled .entry)) (u .0) (v .0) (now (path .exit)) r ⌝ }
 {
     let none = [0u64; words::WORDS];
     if in_carousel {
@@ -70,10 +59,10 @@ pub fn go_along(
 ) -> Gone
     requires { ⌜ Ready (now table) (now placement) (now standing) (now empty) ⌝ }
     requires { ⌜ TurnAsks to (now table) (now placement) (now standing) (now settled) ⌝ }
-    requires { ⌜ GoalAsks to (now placement) (now standing) × (length (now path) ≡ span) ⌝ }
+    requires { ⌜ GoalAsks to (now placement) (now standing) ⌝ }
+    requires { ⌜ length (now path) ≡ span ⌝ }
     ensures { λ z. ⌜
-        GoAlongSays to
-        (now (table .entry)) (now (placement .entry)) (now (standing .entry)) (now (out .entry))
+        GoAlongSays to (now (table .entry)) (now (placement .entry)) (now (standing .entry)) (now (out .entry))
         (now (placement .exit)) (now (standing .exit)) (now (empty .exit)) (now (settled .exit)) (now (out .exit)) (now (path .exit)) z
         ⌝ }
 {
@@ -88,16 +77,8 @@ pub fn go_along(
     if k < 1 {
         return Gone::Nowhere;
     }
-    let gone = go::go(
-        table,
-        &path[1..k],
-        r,
-        placement,
-        standing,
-        empty,
-        settled,
-        out,
-    );
+    let ahead = &path[1..k];
+    let gone = go::go(table, ahead, r, placement, standing, empty, settled, out);
     let Tried::Done(done) = gone else {
         return Gone::Nowhere;
     };

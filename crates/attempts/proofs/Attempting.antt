@@ -32,6 +32,8 @@ use Rattle.bring.specs.Bringing.{entering}
 use Rattle.keeping.specs.Keeping.{from}
 use Rattle.keeping.specs.declared.Kept.{Kept}
 use Rattle.keeping.specs.declared.Kept.the-variants.{One, Nothing}
+use Rattle.attempts.specs.Asking.{KeptAsks}
+use Rattle.attempts.specs.declared.OneKept.{OneKept}
 use Rattle.attempts.specs.Attempting.{AtJunction, wayOf, Logged, Attempts, FirstKept, Others}
 
 -- ## Copies
@@ -57,6 +59,9 @@ ready-copy {table} {placement} {standing} {empty} x p w f e d l g = rw (e, d) (r
   tabled = x .tabled;
   levelled = x .levelled;
 })
+
+pub kept-copy : {one : OneKept} {placement standing : List ℕ} (p w : List ℕ) → p ≡ placement → w ≡ standing → KeptAsks one placement standing → KeptAsks one p w
+kept-copy p w e d k = rw (e, d) k
 
 pub in-bays : {n : ℕ} {table : List ℕ} (t : Tabled n table) {x : ℕ} → x < n → In x (upTo (t .yard .bays))
 in-bays t {x} h = in-count 0 (t .yard .bays) x (omega arith) (omega (arith, t .joins .bays))
@@ -127,7 +132,7 @@ module _ {n : ℕ} {table : List ℕ} (t : Tabled n table) {L M : Carrier} (diff
         let ends : entering M L b (after (after p (entering L M e p .moves)) (ms .moves)) ≡ entering M L b q′ = rw (← (forth .moved), ← (d .2 .moved)) in
         rw w (tries-some (runs ∙ ap (λ (z : Made). some (together (entering L M e p) (together ms z))) ends) (tallied-then forth (tallied-then (d .2) back)))
 
-  pub round-fails : (v : Bay) {q′ standing₂ empty₂ out₂ : List ℕ} → AtJunction L M v b p → Tries (aside (t .yard) v e b x q) n q out₁ a q′ standing₂ empty₂ out₂ Failed
+  pub round-fails : (v : Bay) {lent q′ standing₂ empty₂ rest : List ℕ} → AtJunction L M v b p → Tries (aside (t .yard) v e b x q) n q lent nothing q′ standing₂ empty₂ rest Failed
       → around (t .yard) L M v b e x p ≡ none
   round-fails v j s =
       let w : v ≡ bayOf p L = sym (j .at-v) in
@@ -136,22 +141,19 @@ module _ {n : ℕ} {table : List ℕ} (t : Tabled n table) {L M : Carrier} (diff
 
 -- ## Logged
 
+-- what was counted from nothing was logged
+pub tallied-logged : {made : Made} {n : ℕ} {p log₀ p′ standing′ empty′ log : List ℕ} {m : Tally} → Tallied made n p p′ standing′ empty′ log₀ nothing log m → Logged made log m
+tallied-logged {made = made} {m = m} w =
+    let many : 0 + length (map pack (made .moves)) ≡ m .crossings = omega (arith, w .counted, length-map (made .moves) pack) in
+    record {
+      counted = omega (arith, w .counted);
+      stored = λ h. rw many at (w .stored .front (omega (arith, many, h, w .stored .long)));
+      parks = omega (arith, w .parks);
+      few = w .few (omega arith);
+    }
+
 pub attempted : {o : Option Made} {n : ℕ} {p log₀ p′ standing′ empty′ log : List ℕ} {r : Tried} → Tries o n p log₀ nothing p′ standing′ empty′ log r → Attempts o log r
-attempted {log₀ = log₀} {log = log} t = record {
-  fails = λ z. tried-failed (rw z at t);
-  done = λ m z.
-      let d = tried-done (rw z at t) in
-      let many : 0 + length (map pack (d .0 .moves)) ≡ m .crossings = omega (arith, d .2 .counted, length-map (d .0 .moves) pack) in (
-        d .0,
-        d .1,
-        record {
-          counted = omega (arith, d .2 .counted);
-          stored = λ h. rw many at (d .2 .stored .front (omega (arith, many, h, d .2 .stored .long)));
-          parks = omega (arith, d .2 .parks);
-          few = d .2 .few (omega arith);
-        },
-      );
-}
+attempted t = record { fails = λ z. tried-failed (rw z at t); done = λ m z. let d = tried-done (rw z at t) in (d .0, d .1, tallied-logged (d .2)) }
 
 -- ## The first that succeeds
 

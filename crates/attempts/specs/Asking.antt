@@ -10,10 +10,10 @@ use Rattle.paper.specs.Basics.{Out}
 use Rattle.paper.specs.Procedure.{Action, Cleared, firstKept, goOn}
 use Rattle.paper.specs.Yard.{Bay, Yard, Placement}
 use Rattle.words.specs.Sets.{mem, words}
-use Rattle.moving.specs.Bounds.{attempt-most, room-step}
+use Rattle.moving.specs.Bounds.{attempt-most}
 use Rattle.acting.specs.Acting.{Tabled, nothing, Within, Tries}
-use Rattle.acting.specs.declared.Tally.{Tally}
 use Rattle.acting.specs.declared.Tried.{Tried}
+use Rattle.bring.specs.Bringing.{Coupled}
 use Rattle.keeping.specs.Keeping.{Among, from}
 use Rattle.keeping.specs.declared.Kept.{Kept}
 use Rattle.attempts.specs.Attempting.{AtJunction, wayOf, Attempts, KeptWithin, FirstKept, Others}
@@ -38,55 +38,49 @@ goOnWith Y one p = goOn Y (one .lead .couple .leader .0) (one .lead .couple .fol
 -- ## What is asked, what is said
 
 -- leader and follower are two, the bays are in the yard, and the kept one is empty
-abbrev pub KeptAsks : OneKept → (p standing : List ℕ) → Type 0
-KeptAsks one p standing =
-    (one .lead .couple .leader .0 < length p)
-    × (one .lead .couple .follower .0 < length p)
-    × (one .lead .couple .follower .0 ≡ one .lead .couple .leader .0 → ⊥)
-    × (one .lead .junction .0 < length standing)
-    × (one .behind .0 < length standing)
-    × (one .kept .0 < length standing)
-    × Out (one .kept .0) p
+pub record KeptAsks (one : OneKept) (p standing : List ℕ) : Type 0 where
+  pub coupled : Coupled (one .lead .couple) p
+  pub junction : one .lead .junction .0 < length standing
+  pub behind : one .behind .0 < length standing
+  pub kept : one .kept .0 < length standing
+  pub free : Out (one .kept .0) p
+
+-- an attempt with x
+pub record AttemptAsks (one : OneKept) (x : Bay) (p standing : List ℕ) : Type 0 where
+  pub around : KeptAsks one p standing
+  pub inside : x < length standing
 
 -- the second way with x, on a placement that is used up
-abbrev pub AroundAsks : OneKept → (x : Bay) (p standing : List ℕ) → Tally → Type 0
-AroundAsks one x p standing at = KeptAsks one p standing × (x < length standing) × (at .crossings < room-step)
-
-abbrev pub AroundSays : OneKept → (x : Bay) (table p standing out : List ℕ) → Tally → (p′ standing′ empty′ out′ : List ℕ) → Tried → Type 0
-AroundSays one x table p standing out at p′ standing′ empty′ out′ r =
-    Within at attempt-most r
-    × ((t : Tabled (length standing) table)
-    → Arrived (one .lead) (one .behind .0) p
-    → Tries (wayWith true (t .yard) one x p) (length standing) p out at p′ standing′ empty′ out′ r)
+pub record AroundSays (one : OneKept) (x : Bay) (table p standing out p′ standing′ empty′ out′ : List ℕ) (r : Tried) : Type 0 where
+  pub few : Within nothing attempt-most r
+  pub tries : (t : Tabled (length standing) table)
+      → Arrived (one .lead) (one .behind .0) p
+      → Tries (wayWith true (t .yard) one x p) (length standing) p out nothing p′ standing′ empty′ out′ r
 
 -- an attempt, logged from the log's start
-abbrev pub AttemptAsks : OneKept → (x : Bay) (p standing : List ℕ) → Type 0
-AttemptAsks one x p standing = KeptAsks one p standing × (x < length standing)
-
-abbrev pub AttemptSays : Bool → OneKept → (x : Bay) (table p standing log′ : List ℕ) → Tried → Type 0
-AttemptSays second one x table p standing log′ r =
-    Within nothing attempt-most r
-    × ((t : Tabled (length standing) table)
-    → Arrived (one .lead) (one .behind .0) p
-    → Attempts (wayWith second (t .yard) one x p) log′ r)
+pub record AttemptSays (second : Bool) (one : OneKept) (x : Bay) (table p standing log′ : List ℕ) (r : Tried) : Type 0 where
+  pub few : Within nothing attempt-most r
+  pub attempts : (t : Tabled (length standing) table)
+      → Arrived (one .lead) (one .behind .0) p
+      → Attempts (wayWith second (t .yard) one x p) log′ r
 
 -- attempts with each of the others
-abbrev pub OthersAsk : (others : List ℕ) → OneKept → (p standing : List ℕ) → Type 0
-OthersAsk others one p standing = KeptAsks one p standing × (length others ≡ words) × Among (length standing) others
+pub record OthersAsk (others : List ℕ) (one : OneKept) (p standing : List ℕ) : Type 0 where
+  pub around : KeptAsks one p standing
+  pub others-size : length others ≡ words
+  pub among : Among (length standing) others
 
 -- the first of the others whose attempt succeeds
-abbrev pub FirstKeptSays : Bool → (others : List ℕ) → OneKept → (table p standing log′ : List ℕ) → Kept → Type 0
-FirstKeptSays second others one table p standing log′ r =
-    KeptWithin attempt-most r
-    × ((t : Tabled (length standing) table)
-    → Arrived (one .lead) (one .behind .0) p
-    → FirstKept (firstKept (t .yard) (wayWith second (t .yard) one) (one .kept .0) (from (mem others) 0 (length standing)) p) (one .kept .0) log′ r)
+pub record FirstKeptSays (second : Bool) (others : List ℕ) (one : OneKept) (table p standing log′ : List ℕ) (r : Kept) : Type 0 where
+  pub few : KeptWithin attempt-most r
+  pub keeps : (t : Tabled (length standing) table)
+      → Arrived (one .lead) (one .behind .0) p
+      → FirstKept (firstKept (t .yard) (wayWith second (t .yard) one) (one .kept .0) (from (mem others) 0 (length standing)) p) (one .kept .0) log′ r
 
 -- where the others are the junction's neighbours except the bay behind and the kept one: one way or the other
-abbrev pub EitherSays : (others : List ℕ) → OneKept → (table p standing log′ : List ℕ) → Kept → Type 0
-EitherSays others one table p standing log′ r =
-    KeptWithin attempt-most r
-    × ((t : Tabled (length standing) table)
-    → Arrived (one .lead) (one .behind .0) p
-    → Others (t .yard) (one .lead .junction .0) (one .behind .0) (one .kept .0) (length standing) others
-    → FirstKept (goOnWith (t .yard) one p) (one .kept .0) log′ r)
+pub record EitherSays (others : List ℕ) (one : OneKept) (table p standing log′ : List ℕ) (r : Kept) : Type 0 where
+  pub few : KeptWithin attempt-most r
+  pub keeps : (t : Tabled (length standing) table)
+      → Arrived (one .lead) (one .behind .0) p
+      → Others (t .yard) (one .lead .junction .0) (one .behind .0) (one .kept .0) (length standing) others
+      → FirstKept (goOnWith (t .yard) one p) (one .kept .0) log′ r

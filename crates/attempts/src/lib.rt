@@ -10,7 +10,7 @@ ghost use mathlib.Core.Path.{_≡_};
 ghost use Prim.Native.Nat.{_≤_};
 ghost use lib.ListN.{length, take};
 ghost use Rattle.acting.specs.Acting.{Ready};
-ghost use Rattle.attempts.specs.Asking.{AroundAsks, AroundSays, AttemptAsks, AttemptSays, OthersAsk, FirstKeptSays, EitherSays};
+ghost use Rattle.attempts.specs.Asking.{AroundSays, AttemptAsks, AttemptSays, OthersAsk, FirstKeptSays, EitherSays};
 
 // A leader with its follower, and the junction to which it leads.
 pub struct Lead {
@@ -35,45 +35,45 @@ fn go_round(
     standing: &mut [u16],
     empty: &mut [u64],
     out: &mut [u64],
-    at: Tally,
 ) -> Tried
     requires { ⌜ Ready (now table) (now placement) (now standing) (now empty) ⌝ }
-    requires { ⌜ AroundAsks one (x .0) (now placement) (now standing) at ⌝ }
+    requires { ⌜ AttemptAsks one (x .0) (now placement) (now standing) ⌝ }
     ensures { λ r. ⌜
         AroundSays one (x .0)
-        (now (table .entry)) (now (placement .entry)) (now (standing .entry)) (now (out .entry)) at
+        (now (table .entry)) (now (placement .entry)) (now (standing .entry)) (now (out .entry))
         (now (placement .exit)) (now (standing .exit)) (now (empty .exit)) (now (out .exit)) r
         ⌝ }
 {
-    let forth = bring::enter(
-        one.lead.couple,
-        one.kept,
-        placement,
-        standing,
-        empty,
-        out,
-        at,
-    );
-    let junction = one.lead.junction;
+    let couple = one.lead.couple;
     let held = one.kept;
+    let forth = bring::enter(couple, held, placement, standing, empty, out);
+    let junction = one.lead.junction;
     let emptied = one.behind;
     let aside = Aside {
         junction,
         held,
         emptied,
     };
-    let vacated = aside::vacate_both(table, aside, x, placement, standing, empty, out, forth);
-    let Tried::Done(done) = vacated else {
+    let from = acting::place_in(out, forth.crossings);
+    let vacated = aside::vacate_both(
+        table,
+        aside,
+        x,
+        placement,
+        standing,
+        empty,
+        &mut out[from..],
+    );
+    let Tried::Done(more) = vacated else {
         return Tried::Failed;
     };
-    let c = Tally {
-        crossings: done.crossings,
-        parked: done.parked,
-    };
+    let made = acting::add(forth, more);
     let leader = one.lead.couple.follower;
     let follower = one.lead.couple.leader;
-    let back = Couple { leader, follower };
-    Tried::Done(bring::enter(back, emptied, placement, standing, empty, out, c))
+    let turned = Couple { leader, follower };
+    let end = acting::place_in(out, made.crossings);
+    let back = bring::enter(turned, emptied, placement, standing, empty, &mut out[end..]);
+    Tried::Done(acting::add(made, back))
 }
 
 // The list begins with the other one.
@@ -114,10 +114,6 @@ fn attempt(
     words::keep(&mut unused, 0, empty);
     let k = placement.len();
     let n = standing.len();
-    let from = Tally {
-        crossings: 0,
-        parked: 0,
-    };
     if second {
         return go_round(
             table,
@@ -127,7 +123,6 @@ fn attempt(
             &mut carriers[..n],
             &mut unused,
             log,
-            from,
         );
     }
     let junction = one.lead.junction;
@@ -145,7 +140,6 @@ fn attempt(
         &mut carriers[..n],
         &mut unused,
         log,
-        from,
     )
 }
 

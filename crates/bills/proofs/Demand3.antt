@@ -1,17 +1,16 @@
 -- Demand 3 over record, lines and marks together, for any sequence of reports on a plan that passes the check. A report that is accepted
 -- is one that the paper's report accepts, and any other changes nothing: so the run is the paper's run of the reports that were accepted.
 use mathlib.Core.Path.{_≡_, refl, sym, _∙_, ap}
-use mathlib.Core.Bool.{Bool, true, false}
-use mathlib.Core.Logic.{_↔_}
+use mathlib.Core.Bool.{true, false}
 use mathlib.Core.List.{List, [], _∷_, map}
 use mathlib.Core.Option.{none}
 use Prim.Native.Nat.{ℕ, suc, _<_}
 use native.Mathlib.Omega.{arith}
-use lib.ListN.{length, getD, set, length-map}
-use Rattle.paper.specs.Basics.{if_then_else_, In, NoDup}
-use Rattle.paper.specs.Yard.{Carrier, Yard, Placement, Crossing, after, legalPlan, pack, unpack, crossings, named}
+use lib.ListN.{length, getD, length-map}
+use Rattle.paper.specs.Basics.{if_then_else_}
+use Rattle.paper.specs.Yard.{Carrier, Yard, Placement, Crossing, after, legalPlan, pack, unpack, crossings}
 use Rattle.paper.specs.Order.{Order}
-use Rattle.paper.specs.Dependence.{isDone, doneOf, countOf, placementBy}
+use Rattle.paper.specs.Dependence.{doneOf, countOf}
 use Rattle.paper.specs.Docket.{yardOf}
 use Rattle.paper.specs.Answers.{accept, accepts, check, marksAfter, accepted, plan as planned}
 use Rattle.paper.specs.Log.{Request, answerTo, marksBy, marksFrom, namesFrom}
@@ -20,8 +19,8 @@ use Rattle.paper.proofs.Commuting.{done-set}
 use Rattle.paper.proofs.Marking.{closed-of}
 use Rattle.paper.proofs.Checking.{check-passed}
 use Rattle.paper.proofs.Reporting.{tell-facts, done-already, facts-accept}
-use Rattle.paper.proofs.Logging.{Kept, fine, some-ready, all-done, plan-lawful, kept-from-fresh}
-use Rattle.paper.proofs.Handing.{handed-passes}
+use Rattle.laws.proofs.Logging.{RightLog, fine, some-ready, all-done, plan-lawful, right-from-fresh}
+use Rattle.laws.proofs.Handing.{handed-passes}
 use Rattle.bills.specs.Billing.{places, untouched, noLine}
 use Rattle.bills.specs.Answering.{marksThen}
 use Rattle.bills.specs.Keeping.{Books, answerOn, booksBy, freshBooks, booksFrom, billedFrom}
@@ -96,17 +95,17 @@ module _ (plan : List ℕ) where
 -- ## The demand
 
 module _ (o : Order) (plan : List ℕ) (passes : check o plan ≡ none) where
-  kept-on-books : (qs : List Request) → Kept (yardOf o) (o .starts) (crossings plan) (booksEnd (o .starts) plan qs .marks) (namesBilled (o .starts) plan qs)
-  kept-on-books qs =
+  right-on-books : (qs : List Request) → RightLog (yardOf o) (o .starts) (crossings plan) (booksEnd (o .starts) plan qs .marks) (namesBilled (o .starts) plan qs)
+  right-on-books qs =
       let e = run-is plan (freshBooks plan (o .starts)) qs in
-      rw (e .0, e .1) (kept-from-fresh o plan passes (heard plan (freshBooks plan (o .starts)) qs))
+      rw (e .0, e .1) (right-from-fresh o plan passes (heard plan (freshBooks plan (o .starts)) qs))
 
   pub demand-3-billed : (qs : List Request) → Demand3Billed o plan qs
   demand-3-billed qs =
       let Y = yardOf o in
       let xs = crossings plan in
       let b = booksEnd (o .starts) plan qs in
-      let k = kept-on-books qs in
+      let k = right-on-books qs in
       let legal = plan-lawful o plan passes in
       let ok = fine Y (o .starts) xs legal (b .marks) (namesBilled (o .starts) plan qs) k in
       let f = ends-afresh plan Y (o .starts) legal (freshBooks plan (o .starts)) qs (refl, refl) in

@@ -1,12 +1,11 @@
 -- What a biller relies on, derived from the demand's record alone: each law cites its fields, so a record that said less would not do.
-use mathlib.Core.Path.{_≡_, refl, sym, _∙_, ap}
+use mathlib.Core.Path.{_≡_, _∙_, ap}
 use mathlib.Core.Bool.{true, false}
-use mathlib.Core.Logic.{_↔_}
 use mathlib.Core.List.{List}
 use Prim.Native.Nat.{ℕ, _<_}
 use lib.ListN.{length, getD}
 use Rattle.paper.specs.Basics.{In, NoDup}
-use Rattle.paper.specs.Yard.{Carrier, after, legalPlan, crossings}
+use Rattle.paper.specs.Yard.{Carrier, legalPlan, crossings}
 use Rattle.paper.specs.Order.{Order}
 use Rattle.paper.specs.Dependence.{isDone, countOf, placementBy}
 use Rattle.paper.specs.Docket.{yardOf}
@@ -14,7 +13,7 @@ use Rattle.paper.specs.Answers.{accept, already}
 use Rattle.paper.specs.Log.{Request}
 use Rattle.bills.specs.Billing.{places, untouched, noLine, recordOf}
 use Rattle.bills.specs.Keeping.{answerOn, booksBy}
-use Rattle.bills.specs.Demand.{Afresh, allBilled, lastOf, booksEnd, namesBilled, crossingsBilled, asked, AllBilled, Demand3Billed}
+use Rattle.bills.specs.Demand.{allBilled, lastOf, booksEnd, namesBilled, crossingsBilled, asked, Demand3Billed}
 
 module _ (o : Order) (plan : List ℕ) (qs : List Request) (d : Demand3Billed o plan qs) where
   -- the record says where the accepted crossings left the carriers, which is where the marks say, and legal crossings led there

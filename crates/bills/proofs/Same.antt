@@ -9,7 +9,6 @@ use borrow.Author.Tests.{eqb-true, eq-eqb}
 use Rattle.paper.specs.Yard.{crossings}
 use Rattle.paper.specs.Order.{Order}
 use Rattle.paper.proofs.Tests.{by-cases, not-both, and-left, and-right, and-both}
-use Rattle.bills.specs.Billing.{recordOf, linesOf}
 use Rattle.bills.specs.Answering.{sameNumbers, sameRecord, sameLine, sameLines, agree}
 pub use Rattle.bills.specs.Demand.{Afresh}
 use Rattle.bills.specs.declared.Record.{Record}

@@ -13,6 +13,7 @@ use Rattle.paper.specs.Basics.{_and_, upTo, countFrom}
 use Rattle.paper.specs.Yard.{Bay, Carrier, Placement, Yard, Crossing, move, named, after, legalPlan}
 use Rattle.paper.specs.Dependence.{done, isDone, doneOf, countOf, slots}
 use Rattle.paper.proofs.Tests.{by-cases}
+use Rattle.paper.proofs.Reach.{count-length}
 use Rattle.paper.proofs.Playing.{after-length, plan-head, plan-tail, legal-facts}
 use Rattle.paper.proofs.Commuting.{AllIndep, Closed}
 use Rattle.paper.proofs.Marking.{InOrder, closed-of}
@@ -75,7 +76,7 @@ highest-with (s ∷ ss) (m ∷ ms) (suc i) h len =
     let ih = highest-with ss ms i (omega arith) (omega arith) in by-cases (done m) (λ e. rw e (omega arith)) (λ e. rw e ih)
 
 -- a carrier's place is within the list of all places
-places-move : (p : Placement) (x : Crossing) → x .carrier < length p → places (move p x) ≡ move (places p) x
+pub places-move : (p : Placement) (x : Crossing) → x .carrier < length p → places (move p x) ≡ move (places p) x
 places-move p x h = rw (length-set p (x .carrier) (x .to)) (sym (set-append-left p _ (x .carrier) (x .to) h))
 
 pub record-step : (starts : Placement) (xs : List Crossing) (ms : List ℕ) (i : ℕ) → length ms ≡ length xs → InOrder xs ms → i < length xs
@@ -150,14 +151,9 @@ count-at f a zero j d h = absurd (omega arith)
 count-at f a (suc k) zero d h = ap f (omega arith)
 count-at f a (suc k) (suc j) d h = count-at f (suc a) k j d (omega arith) ∙ ap f (omega arith)
 
-pub count-long : (a k : ℕ) → length (countFrom a k) ≡ k
-unfolding countFrom
-count-long a zero = refl
-count-long a (suc k) = ap suc (count-long (suc a) k)
-
 -- "The line list has exactly k entries", and line c is carrier c's.
 pub lines-long : (k : ℕ) (xs : List Crossing) (ms : List ℕ) → length (linesOf k xs ms) ≡ k
-lines-long k xs ms = length-map (upTo k) (lineOf xs ms) ∙ count-long 0 k
+lines-long k xs ms = length-map (upTo k) (lineOf xs ms) ∙ count-length 0 k
 
 pub line-at : (k : ℕ) (xs : List Crossing) (ms : List ℕ) (c : Carrier) (d : Line) → c < k → getD (linesOf k xs ms) c d ≡ lineOf xs ms c
 line-at k xs ms c d h = count-at (lineOf xs ms) 0 k c d h ∙ ap (lineOf xs ms) (omega arith)

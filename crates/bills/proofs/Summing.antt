@@ -12,7 +12,6 @@ use Rattle.paper.specs.Dependence.{doneOf, countOf}
 use Rattle.paper.proofs.Tests.{by-cases}
 use Rattle.bills.specs.Billing.{lineOf, linesOf}
 unfoldable pub use Rattle.bills.specs.Demand.{allBilled}
-use Rattle.bills.specs.declared.Line.{Line}
 
 -- the counts of the carriers from a on, k of them
 counts : ℕ → ℕ → List Crossing → ℕ

@@ -23,9 +23,10 @@ use Rattle.words.specs.Sets.{mem}
 use Rattle.moving.specs.Placed.{Placed}
 use Rattle.moving.proofs.Playing.{carrier-is}
 use Rattle.paper.proofs.Making.{same-made, together-assoc, together-none, none-together}
-use Rattle.acting.specs.Acting.{Tabled, Tallied, Acts, Tries}
+use Rattle.acting.specs.Acting.{Tabled, nothing, Tallied, Acts, Tries}
 use Rattle.bring.specs.Bringing.{entering}
 use Rattle.acting.specs.declared.Tally.{Tally}
+use Rattle.acting.proofs.Lending.{RestLent, on-the-rest}
 use Rattle.acting.proofs.Acting.{tallied-none, tallied-then, tries-some, tried-done, tried-failed, acts-some, acted-done}
 use Rattle.acting.specs.declared.Tried.the-variants.{Done}
 use Rattle.acting.specs.declared.Tried.the-variants.{Failed}
@@ -119,16 +120,16 @@ module _ (Y : Yard) (L M : Carrier) (x : Bay) (p : Placement) (apart : Apart p) 
 -- ## All bays of the path
 
 -- what has been brought so far, and what is still to be done
-pub record Bringing (Y : Yard) (L M : Carrier) (path : List Bay) (n : ℕ) (p : Placement) (out : List ℕ) (at : Tally) (i : ℕ) (p′ standing′ empty′ out′ : List ℕ) (m : Tally) : Type 0 where
+pub record Bringing (Y : Yard) (L M : Carrier) (path : List Bay) (n : ℕ) (p : Placement) (out : List ℕ) (i : ℕ) (p′ standing′ empty′ out′ : List ℕ) (m : Tally) : Type 0 where
   pub xs : Made
-  pub played : Tallied xs n p p′ standing′ empty′ out at out′ m
+  pub played : Tallied xs n p p′ standing′ empty′ out nothing out′ m
   pub answer : bring Y L M path p ≡ ahead xs (bring Y L M (drop i path) p′)
 
-pub bringing-none : (Y : Yard) (L M : Carrier) (path : List Bay) (n : ℕ) (p standing empty out : List ℕ) (at : Tally) → Placed n p standing empty
-    → Bringing Y L M path n p out at 0 p standing empty out at
-bringing-none Y L M path n p standing empty out at k = record {
+pub bringing-none : (Y : Yard) (L M : Carrier) (path : List Bay) (n : ℕ) (p standing empty out : List ℕ) → Placed n p standing empty
+    → Bringing Y L M path n p out 0 p standing empty out nothing
+bringing-none Y L M path n p standing empty out k = record {
   xs = only [];
-  played = tallied-none n p standing empty out at k;
+  played = tallied-none n p standing empty out nothing k;
   answer = plain (bring Y L M path p);
 }
   where
@@ -140,9 +141,9 @@ ahead-ahead : (xs ys : Made) (o : Option Made) → ahead xs (ahead ys o) ≡ ahe
 ahead-ahead xs ys none = refl
 ahead-ahead xs ys (some zs) = ap some (sym (together-assoc xs ys zs))
 
-pub bringing-all : (Y : Yard) (L M : Carrier) (path : List Bay) (n : ℕ) (p out : List ℕ) (at : Tally) (i : ℕ) (p′ standing′ empty′ out′ : List ℕ) (m : Tally)
-    → Bringing Y L M path n p out at i p′ standing′ empty′ out′ m → length path ≤ i → Tries (bring Y L M path p) n p out at p′ standing′ empty′ out′ (Done m)
-bringing-all Y L M path n p out at i p′ standing′ empty′ out′ m b h =
+pub bringing-all : {Y : Yard} {L M : Carrier} {path : List Bay} {n : ℕ} {p out : List ℕ} {i : ℕ} {p′ standing′ empty′ out′ : List ℕ} {m : Tally}
+    → Bringing Y L M path n p out i p′ standing′ empty′ out′ m → length path ≤ i → Tries (bring Y L M path p) n p out nothing p′ standing′ empty′ out′ (Done m)
+bringing-all {Y} {L} {M} {path} {p = p} {p′ = p′} b h =
     let nil : bring Y L M [] p′ ≡ some (only []) = unfold bring in refl in
     let e : bring Y L M path p ≡ some (b .xs) = b .answer ∙ rw (drop-of-length-le path h, nil) (ap some (together-none (b .xs))) in
     tries-some e (b .played)
@@ -210,20 +211,21 @@ module _ (Y : Yard) (L M : Carrier) (x : Bay) (p : Placement) (apart : Apart p) 
       let z : bring Y L M (x ∷ []) p ≡ some here = bring-on Y L M x p apart hL hM differ hx vs made [] ∙ rw nil (ap some (together-none here)) in
       never-some here (sym e ∙ z))
 
-module _ {Y : Yard} {L M : Carrier} {path : List Bay} {n : ℕ} {p out : List ℕ} {at : Tally} {i : ℕ} {p′ standing′ empty′ out′ : List ℕ} {m : Tally} (b : Bringing Y L M path n p out at i p′ standing′ empty′ out′ m)
-    (here : i < length path) (hL : L < length p′) (hM : M < length p′) (differ : M ≡ L → ⊥) (hx : getD path i 0 < Y .bays) where
-  pub bringing-more : {q standing″ empty″ out″ : List ℕ} {r : Tally} → Tries (bring Y L M (getD path i 0 ∷ []) p′) n p′ out′ m q standing″ empty″ out″ (Done r)
-      → Bringing Y L M path n p out at (i + 1) q standing″ empty″ out″ r
-  bringing-more t =
+module _ {Y : Yard} {L M : Carrier} {path : List Bay} {n : ℕ} {p out : List ℕ} {i : ℕ} {p′ standing′ empty′ out′ : List ℕ} {m : Tally} (b : Bringing Y L M path n p out i p′ standing′ empty′ out′ m)
+    (here : i < length path) (hL : L < length p′) (hM : M < length p′) (differ : M ≡ L → ⊥) (hx : getD path i 0 < Y .bays) {lent rest : List ℕ} {q standing″ empty″ : List ℕ} where
+  -- one bay more, in the rest of the list
+  pub bringing-more : {out″ : List ℕ} {more sum : Tally} → RestLent out′ m rest more out″ sum → Tries (bring Y L M (getD path i 0 ∷ []) p′) n p′ lent nothing q standing″ empty″ rest (Done more)
+      → Bringing Y L M path n p out (i + 1) q standing″ empty″ out″ sum
+  bringing-more l t =
       let s = tried-done t in
       record {
         xs = together (b .xs) (s .0);
-        played = tallied-then (b .played) (s .2);
+        played = tallied-then (b .played) (on-the-rest l (s .2));
         answer =
             b .answer
             ∙ rw (drop-cons path i 0, bring-then Y L M (getD path i 0) p′ (b .played .placed .apart) hL hM differ hx (drop (suc i) path) (s .0) (s .1), ahead-ahead, ← add-one, ← (s .2 .moved));
       }
 
-  pub bringing-stops : {q standing″ empty″ out″ : List ℕ} → Tries (bring Y L M (getD path i 0 ∷ []) p′) n p′ out′ m q standing″ empty″ out″ Failed → bring Y L M path p ≡ none
+  pub bringing-stops : Tries (bring Y L M (getD path i 0 ∷ []) p′) n p′ lent nothing q standing″ empty″ rest Failed → bring Y L M path p ≡ none
   bringing-stops t =
       b .answer ∙ rw (drop-cons path i 0, bring-stops Y L M (getD path i 0) p′ (b .played .placed .apart) hL hM differ hx (drop (suc i) path) (tried-failed t))

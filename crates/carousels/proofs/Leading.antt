@@ -2,7 +2,7 @@
 -- which of the two one starts from.
 use mathlib.Core.Path.{_≡_, refl, sym, _∙_, ap}
 use mathlib.Core.Bool.{true}
-use mathlib.Core.List.{List, [], _++_}
+use mathlib.Core.List.{List, _++_}
 use lib.ListN.{length}
 use Rattle.paper.specs.Yard.{Yard, Placement, Crossing, reverseOf, after, legalPlan}
 use Rattle.paper.proofs.Playing.{Apart, Sound, Good, after-append, after-length, plan-append}
@@ -11,10 +11,6 @@ use Rattle.paper.proofs.Carrying.{plan-good}
 use Rattle.carousels.specs.Leads.{Leads}
 
 module _ (Y : Yard) where
-  pub leads-same : (p : Placement) → Leads Y p p
-  unfolding after legalPlan
-  leads-same p = record { list = []; legal = refl; ends = refl }
-
   pub leads-by : (p : Placement) (xs : List Crossing) → legalPlan Y p xs ≡ true → Leads Y p (after p xs)
   leads-by p xs h = record { list = xs; legal = h; ends = refl }
 

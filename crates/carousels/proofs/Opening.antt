@@ -6,15 +6,13 @@ use mathlib.Core.Logic.{_⊎_, inl, inr, ⊎-elim}
 use mathlib.Core.List.{List}
 use Prim.Native.Nat.{ℕ, _<_, _≤_}
 use native.Mathlib.Omega.{arith}
-use lib.ListN.{length, take, length-take}
-use lib.Seq.{getD-take}
-use Rattle.paper.specs.Basics.{elem, In, Out}
-use Rattle.paper.specs.Yard.{Bay, Carrier, Yard, Placement, bayOf, carrierAt}
+use lib.ListN.{length, take}
+use Rattle.paper.specs.Basics.{elem, Out}
+use Rattle.paper.specs.Yard.{Bay, Carrier, Yard, Placement, bayOf}
 use Rattle.paper.specs.Path.{Free, Way}
-use Rattle.paper.proofs.Tests.{by-cases}
 use Rattle.paper.proofs.Rings.{Walk}
 use Rattle.paper.proofs.Nearest.{walk-way}
-use Rattle.paper.proofs.Playing.{Sound, Good, bay-in, placeOf-bay, placeOf-there}
+use Rattle.paper.proofs.Playing.{Sound, Good, whose, out-finished}
 use Rattle.carousels.specs.Round.{Round}
 use Rattle.carousels.specs.Due.{Due}
 use Rattle.carousels.specs.Order.{Before}
@@ -23,22 +21,6 @@ use Rattle.carousels.proofs.Leading.{leads-length, leads-good}
 use Rattle.carousels.proofs.Ordering.{low, Three, order-kept}
 use Rattle.carousels.proofs.Mirroring.{mirror, mirror-ahead}
 use Rattle.carousels.proofs.Seeing.{Met, first-met, one-place, far, onBay, far-low, far-own, far-same, far-on, on-far, on-none, walk-on}
-
--- ## The bays of finished carriers
-
-module _ (r : Carrier) (p : Placement) (hr : r ≤ length p) where
-  pub in-finished : (c : Carrier) → c < r → In (bayOf p c) (take r p)
-  in-finished c h = rw (getD-take r p c 0 h) at (bay-in (take r p) c (rw length-take (omega arith)))
-
-  -- such a bay is some finished carrier's
-  pub whose : (b : Bay) → In b (take r p) → (c : Carrier) × (c < r) × (bayOf p c ≡ b)
-  whose b i =
-      let c = carrierAt (take r p) b in
-      let k : c < r = let z = rw length-take at (placeOf-there (take r p) b i) in omega arith in
-      (c, k, sym (getD-take r p c 0 k) ∙ placeOf-bay (take r p) b i)
-
-  pub out-finished : (b : Bay) → ((c : Carrier) → c < r → bayOf p c ≡ b → ⊥) → Out b (take r p)
-  out-finished b f = by-cases (elem b (take r p)) (λ i. let w = whose b i in absurd (f (w .0) (w .1) (w .2))) (λ e. e)
 
 -- ## What is known when it is r's turn
 
@@ -77,7 +59,7 @@ module _ (Y : Yard) (sound : Sound Y) (goals : Placement) (r : Carrier) (p : Pla
   home-place o c h = ap (o .place) (sym (due .home c h))
 
   pub own-free : Free Y (take r p) (bayOf p r)
-  own-free = (due .good .inside r (due .turn), out-finished r p (omega (arith, due .turn)) (bayOf p r) not-own)
+  own-free = (due .good .inside r (due .turn), out-finished r p (bayOf p r) not-own)
 
   -- ## One way round
 
@@ -103,7 +85,7 @@ module _ (Y : Yard) (sound : Sound Y) (goals : Placement) (r : Carrier) (p : Pla
         let u = bayOf p r in
         let g = bayOf goals r in
         let hg = then-low r (due .turn) in
-        let (f, hf, is-f) = whose r p (omega (arith, due .turn)) (onBay Y o u (m .at)) (m .hit) in
+        let (f, hf, is-f) = whose r p (onBay Y o u (m .at)) (m .hit) in
         let met : far Y o u (bayOf p f) ≡ m .at = ap (far Y o u) is-f ∙ far-on Y o u own-low (m .at) (omega (arith, m .within, far-low Y o u own-low g hg)) in
         let apart : far Y o u (bayOf p f) ≡ far Y o u g → ⊥ =
         λ z. not-goal f hf (far-same Y o u own-low (bayOf p f) g (now-low f (finished-there f hf)) hg z) in

@@ -17,13 +17,13 @@ use Rattle.paper.proofs.Tests.{by-cases, by-option, not-both, never-some}
 use Rattle.paper.proofs.Members.{Out-head, Out-tail, out-cons}
 use Rattle.paper.proofs.Rings.{Walk}
 use Rattle.paper.proofs.Nearest.{walk-way, none-near-exactly}
-use Rattle.paper.proofs.Playing.{Sound}
+use Rattle.paper.proofs.Playing.{Sound, in-finished, whose}
 use Rattle.carousels.specs.Round.{Next, Round}
 use Rattle.carousels.specs.Due.{Due}
 use Rattle.carousels.proofs.Ordering.{low, next-place}
 use Rattle.carousels.proofs.Mirroring.{mirror, mirror-next}
 use Rattle.carousels.proofs.Seeing.{first-met, far, onBay, far-own, far-some, far-same, far-next, far-on, on-far, walk-on}
-use Rattle.carousels.proofs.Opening.{in-finished, whose, now-low, own-low, finished-there}
+use Rattle.carousels.proofs.Opening.{now-low, own-low, finished-there}
 use Rattle.carousels.proofs.Counting.{not-all-taken, not-all-between}
 
 -- there is an answer
@@ -121,7 +121,7 @@ module _ (Y : Yard) (sound : Sound Y) (goals : Placement) (r : Carrier) (p : Pla
           (λ clear. find-gap n (omega arith) (λ j a b. clear j a (omega arith)) (not-all-taken Y sound goals r p due o roomy))
           (λ m.
           let hm : m .at < n = omega (arith, m .within, m .some) in
-          let (f, hf, is-f) = whose r p (omega (arith, due .turn)) (onBay Y o u (m .at)) (m .hit) in
+          let (f, hf, is-f) = whose r p (onBay Y o u (m .at)) (m .hit) in
           let far-f : far-to (bayOf p f) ≡ m .at = ap far-to is-f ∙ far-on Y o u own (m .at) hm in
           let w-not-f = free-not-f f hf w free-w in
           let goal = route-stays f hf w rest (bayOf goals r) free-w (omega (arith, m .some, far-w)) route in

@@ -16,13 +16,12 @@ use Rattle.paper.specs.Path.{Free, Route}
 use Rattle.paper.specs.Procedure.{Made, only, together, vacate, cross, step, holding, planned, onward, orStuck, Stage, _next_, go}
 use Rattle.paper.proofs.Tests.{by-option, not-both, never-some, none-both}
 use Rattle.paper.proofs.Members.{Out-head, Out-tail, out-cons}
-use Rattle.paper.proofs.Playing.{Sound, after-length}
+use Rattle.paper.proofs.Playing.{Sound, in-finished, after-length}
 use Rattle.paper.proofs.Actions.{then-runs}
 use Rattle.paper.proofs.Carrying.{plan-good, Stepped, step-steps}
 use Rattle.carousels.specs.Round.{Round}
 use Rattle.carousels.specs.Due.{Due}
 use Rattle.carousels.proofs.Leading.{leads-by, leads-on, leads-back, leads-length}
-use Rattle.carousels.proofs.Opening.{in-finished}
 use Rattle.carousels.proofs.Room.{Some, room-ahead}
 
 -- a route that does not come to u goes on where u is held

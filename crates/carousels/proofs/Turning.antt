@@ -11,30 +11,24 @@ use lib.Dec.{eqb, ltb}
 use lib.ListN.{length, take, drop, length-take}
 use lib.Seq.{getD-take}
 use borrow.Author.Tests.{not-true, ltb-true, eqb-true, eqb-false, eq-eqb}
-use Rattle.paper.specs.Basics.{_and_, In, Out, NoDup}
+use Rattle.paper.specs.Basics.{_and_, In, NoDup}
 use Rattle.paper.specs.Yard.{Bay, Carrier, Yard, Placement, bayOf, carrierAt, after, carousel}
 use Rattle.paper.specs.Path.{Free, Route, Shortest}
 use Rattle.paper.specs.Procedure.{Made, only, together, planned, avoided, pathOf, go, homeAt, wayHome, along, carry}
 use Rattle.paper.proofs.Tests.{by-cases, by-option, not-both, and-left, and-right}
-use Rattle.paper.proofs.Members.{In-cases, In-nil}
-use Rattle.paper.proofs.Playing.{Sound, Good}
+use Rattle.paper.proofs.Playing.{Sound, Good, in-finished, out-finished}
 use Rattle.paper.proofs.Shortest.{no-path-exactly}
 use Rattle.paper.proofs.Swapping.{way-tail}
-use Rattle.paper.proofs.Carrying.{go-goes, path-short, pair-in, placeOf-in}
+use Rattle.paper.proofs.Carrying.{go-goes, path-short, route-out, pair-in, placeOf-in}
 use Rattle.carousels.specs.Round.{Round}
 use Rattle.carousels.specs.Leads.{Leads}
 use Rattle.carousels.specs.Due.{Due}
-use Rattle.carousels.proofs.Opening.{in-finished, out-finished, way-open}
+use Rattle.carousels.proofs.Opening.{way-open}
 use Rattle.carousels.proofs.Stepping.{home-held, next-runs, go-planned}
 
 -- the carriers below r are home
 abbrev pub Home : Placement → ℕ → Placement → Type 0
 Home goals r p = (c : Carrier) → c < r → bayOf p c ≡ bayOf goals c
-
--- no bay of a route is held
-route-out : (Y : Yard) (held : List Bay) (u : Bay) (l : List Bay) (v b : Bay) → Route Y held u l v → In b l → Out b held
-route-out Y held u [] v b route i = In-nil b i
-route-out Y held u (x ∷ l) v b route i = In-cases b x l i (λ e. rw e (route .1 .1)) (λ k. route-out Y held x l v b (route .2) k)
 
 -- ## With everybody home there is nothing to do on the way home
 
@@ -73,13 +67,13 @@ module _ (Y : Yard) (sound : Sound Y) (round : carousel Y ≡ true) (goals : Pla
   from-free : Free Y (take r p) (bayOf p r)
   from-free = (
     good .inside r hr,
-    out-finished r p (omega arith) (bayOf p r) (λ c h e. let z = good .apart c r (omega arith) hr e in omega arith),
+    out-finished r p (bayOf p r) (λ c h e. let z = good .apart c r (omega arith) hr e in omega arith),
   )
 
   goal-free : Free Y (take r p) (bayOf goals r)
   goal-free = (
     goals-good .inside r (omega arith),
-    out-finished r p (omega arith) (bayOf goals r)
+    out-finished r p (bayOf goals r)
         (λ c h e. let z = goals-good .apart c r (omega arith) (omega arith) (sym (home c h) ∙ e) in omega arith),
   )
 

@@ -21,18 +21,19 @@ use Rattle.paper.proofs.Swapping.{Chain}
 use Rattle.paper.proofs.Tests.{by-cases, never, never-some, some-same}
 use Rattle.go.specs.Going.{planOf, Linked}
 use Rattle.words.specs.Sets.{span}
-use Rattle.go.proofs.Lending.{RestLent, on-the-rest}
+use Rattle.acting.proofs.Lending.{RestLent, on-the-rest}
 use Rattle.home.specs.Homing.{Stages}
 use Rattle.paper.proofs.Making.{together-assoc, together-none, none-together}
 use Rattle.moving.specs.Placed.{Placed}
-use Rattle.acting.specs.Acting.{Tabled, Tallied, nothing}
+use Rattle.acting.specs.Acting.{Tabled, Ready, Tallied, nothing}
 use Rattle.acting.specs.declared.Tally.{Tally}
 use Rattle.acting.proofs.Acting.{tallied-none, tallied-then}
 use Rattle.clear_on.proofs.Attempting.{in-bays}
 use Rattle.step.specs.Asking.{Loopless, BaysBelow}
 use Rattle.home.proofs.Homing.{stages-done}
 use Rattle.home.proofs.Settling.{Settled, Homeward}
-use Rattle.along.specs.Along.{Goals, HomeBelow, Bound, EndsAt, OnPath}
+use Rattle.along.specs.Along.{Goals, HomeBelow, EndsAt, OnPath, TurnAsks, GoalAsks, GoesThere}
+use Rattle.along.specs.declared.ToGoal.{ToGoal}
 use Rattle.along.proofs.Along.{ahead-length, carry-is, way-of}
 use Rattle.carry.specs.Carrying.{Settles}
 use Rattle.home.specs.declared.Staged.the-variants.{Planned}
@@ -153,32 +154,41 @@ module _ {n : ℕ} {table : List ℕ} (t : Tabled n table) (most : n ≤ span) (
 
 -- ## The path that was found
 
-module _ {n : ℕ} {table : List ℕ} (t : Tabled n table) (most : n ≤ span) (loopless : Loopless n table) (r : Carrier) (p : Placement) {standing empty : List ℕ} (k : Placed n p standing empty)
-    (hr : r < length p) {v : Bay} (b : Bound n p r v) (room : List ℕ) (m : ℕ) (short : some (take m room) ≡ pathOf (t .yard) (b .goals) r p) where
+module _ {table p standing empty settled : List ℕ} (t : Tabled (length standing) table) (ready : Ready table p standing empty) {to : ToGoal}
+    (turn : TurnAsks to table p standing settled) (b : GoalAsks to p standing)
+    {out q standing₁ empty₁ out₁ room : List ℕ} {m : ℕ} {c : Tally} (g : GoesThere (t .yard) (b .goals) (to .carrier .0) (length standing) p out q standing₁ empty₁ out₁ room m c) where
+  abbrev n : ℕ
+  n = length standing
+
+  abbrev r : Carrier
+  r = to .carrier .0
+
   abbrev there : OnPath n table (bayOf p r) (bayOf (b .goals) r) (take m room)
-  there = way-of t most loopless r p k hr b room m short
+  there = way-of t turn ready b room m (g .path)
 
   ahead-there : drop 1 (take m room) ≡ there .ahead
   ahead-there = ap (drop 1) (there .starts)
 
-  module _ (a : Made) (e : planOf (go (t .yard) (b .goals) r (drop 1 (take m room)) p) ≡ some a) where
-    went : planOf (go (t .yard) (b .goals) r (there .ahead) p) ≡ some a
-    went = rw ahead-there at e
+  went : planOf (go (t .yard) (b .goals) r (there .ahead) p) ≡ some (g .made)
+  went = rw ahead-there at (g .goes)
 
-    pub gone-homeward : (q : Placement) → q ≡ after p (a .moves) → 2 ≤ length (take m room) → Homeward n table (b .goals) (r + 1) (between m room) q
-    gone-homeward q moved long =
-        let l = ap length (there .starts) in
-        rw (ap dropLast ahead-there) (homeward t most loopless (b .goals) r p k (b .each) hr (b .below) (take m room) there a went q moved (omega arith))
+  pub gone-homeward : 2 ≤ length (take m room) → Homeward n table (b .goals) (r + 1) (between m room) q
+  gone-homeward long =
+      let l = ap length (there .starts) in
+      rw (ap dropLast ahead-there)
+      (homeward t (ready .most) (turn .loopless) (b .goals) r p (ready .placed) (b .each) (turn .carrier-there) (b .below) (take m room) there (g .made) went q (g .played .moved) (omega arith))
 
-    pub gone-short : {out : List ℕ} {at : Tally} {p′ standing′ empty′ out′ : List ℕ} {c : Tally} → length (take m room) < 3 → Tallied a n p p′ standing′ empty′ out at out′ c
-        → Stages (carry (t .yard) (b .goals) r p) n p out at p′ standing′ empty′ out′ (Planned c)
-    gone-short h w =
-        let l = ap length (there .starts) in
-        carried-short t most loopless (b .goals) r p k (b .each) hr (b .below) (take m room) there short a went (omega arith) w
+  pub gone-short : length (take m room) < 3 → Stages (carry (t .yard) (b .goals) r p) n p out nothing q standing₁ empty₁ out₁ (Planned c)
+  gone-short h =
+      let l = ap length (there .starts) in
+      carried-short t (ready .most) (turn .loopless) (b .goals) r p (ready .placed) (b .each) (turn .carrier-there) (b .below) (take m room) there (g .path) (g .made) went
+      (omega arith) (g .played)
 
-    pub gone-home : {out out₁ : List ℕ} {at c : Tally} {q standing₁ empty₁ p′ standing′ empty′ out′ : List ℕ} {z : Staged} → Tallied a n p q standing₁ empty₁ out at out₁ c
-        → Stages (wayHome (t .yard) (b .goals) (r + 1) (between m room) q) n q out₁ c p′ standing′ empty′ out′ z → Stages (carry (t .yard) (b .goals) r p) n p out at p′ standing′ empty′ out′ z
-    gone-home w s = carried-home t most loopless (b .goals) r p k (b .each) hr (b .below) (take m room) there short a went w (rw (ap dropLast ahead-there) at s)
+  pub gone-home : {p′ standing′ empty′ out′ : List ℕ} {z : Staged} → Stages (wayHome (t .yard) (b .goals) (r + 1) (between m room) q) n q out₁ c p′ standing′ empty′ out′ z
+      → Stages (carry (t .yard) (b .goals) r p) n p out nothing p′ standing′ empty′ out′ z
+  gone-home s =
+      carried-home t (ready .most) (turn .loopless) (b .goals) r p (ready .placed) (b .each) (turn .carrier-there) (b .below) (take m room) there (g .path) (g .made) went (g .played)
+      (rw (ap dropLast ahead-there) at s)
 
 -- ## All carriers
 

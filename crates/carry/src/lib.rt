@@ -6,12 +6,9 @@ use docket::Bay;
 use docket::Carrier;
 use home::HomeBay;
 use home::Staged;
-ghost use lib.ListN.{length};
 ghost use Rattle.acting.specs.Acting.{Ready};
-ghost use Rattle.step.specs.Asking.{Loopless, BaysBelow};
-ghost use Rattle.home.specs.Homing.{Owners};
-ghost use Rattle.along.specs.Along.{Goals, TurnAsks};
-ghost use Rattle.carry.specs.Carrying.{Reaching, OwnedAsks, CarrySays, CarryAllSays};
+ghost use Rattle.along.specs.Along.{TurnAsks};
+ghost use Rattle.carry.specs.Carrying.{OwnedAsks, CarrySays, CarryAllAsks, CarryAllSays};
 
 // Carrier r goes its path, then those that it displaced go home: at the bays of the path one after the other, the last of them first. Each is lent the
 // rest of the list.
@@ -29,30 +26,18 @@ fn carry(
     requires { ⌜ TurnAsks to (now table) (now placement) (now standing) (now settled) ⌝ }
     requires { ⌜ OwnedAsks to (now owner) (now placement) (now standing) ⌝ }
     ensures { λ z. ⌜
-        CarrySays to (now (owner .entry))
-        (now (table .entry)) (now (placement .entry)) (now (standing .entry)) (now (out .entry))
+        CarrySays to (now (owner .entry)) (now (table .entry)) (now (placement .entry)) (now (standing .entry)) (now (out .entry))
         (now (placement .exit)) (now (standing .exit)) (now (empty .exit)) (now (settled .exit)) (now (out .exit)) z
         ⌝ }
 {
     let r = to.carrier;
     let mut path = [0u16; words::SPAN];
-    let gone = along::go_along(
-        table,
-        to,
-        placement,
-        standing,
-        empty,
-        settled,
-        out,
-        &mut path,
-    );
+    let room = &mut path[..];
+    let gone = along::go_along(table, to, placement, standing, empty, settled, out, room);
     let Gone::There(k, done) = gone else {
         return Staged::Stuck(r);
     };
-    let mut count = Tally {
-        crossings: done.crossings,
-        parked: done.parked,
-    };
+    let mut count = done;
     if k < 3 {
         return Staged::Planned(count);
     }
@@ -61,7 +46,7 @@ fn carry(
     while 0 < i {
         let bay = Bay(path[i]);
         let v = HomeBay { finished, bay };
-        let from = clear_on::place_in(out, count.crossings);
+        let from = acting::place_in(out, count.crossings);
         let rest = &mut out[from..];
         let homed = home::home_at(table, owner, v, placement, standing, empty, settled, rest);
         let Staged::Planned(made) = homed else {
@@ -85,24 +70,14 @@ pub fn carry_all(
     out: &mut [u64],
 ) -> Staged
     requires { ⌜ Ready (now table) (now placement) (now standing) (now empty) ⌝ }
-    requires { ⌜
-        Goals (length (now standing)) (now goals) (now placement)
-        × Loopless (length (now standing)) (now table)
-        × Reaching (length (now standing)) (now table)
-        × Owners (length (now standing)) (now goals) (now owner)
-        × BaysBelow 0 (now placement) (now settled)
-        ⌝ }
+    requires { ⌜ CarryAllAsks (now goals) (now owner) (now table) (now placement) (now standing) (now settled) ⌝ }
     ensures { λ z. ⌜
-        CarryAllSays (now (goals .entry))
-        (now (table .entry)) (now (placement .entry)) (now (standing .entry)) (now (out .entry))
+        CarryAllSays (now (goals .entry)) (now (table .entry)) (now (placement .entry)) (now (standing .entry)) (now (out .entry))
         (now (placement .exit)) (now (standing .exit)) (now (empty .exit)) (now (settled .exit)) (now (out .exit)) z
         ⌝ }
 {
     let in_carousel = kinds::is_carousel(table, standing.len());
-    let mut count = Tally {
-        crossings: 0,
-        parked: 0,
-    };
+    let mut count = acting::NOTHING;
     let mut r = 0;
     while r < goals.len() {
         let number = r as u32;
@@ -111,7 +86,7 @@ pub fn carry_all(
             goal: Bay(goals[r]),
             in_carousel,
         };
-        let from = clear_on::place_in(out, count.crossings);
+        let from = acting::place_in(out, count.crossings);
         let rest = &mut out[from..];
         let carried = carry(table, owner, to, placement, standing, empty, settled, rest);
         let Staged::Planned(made) = carried else {

@@ -1,19 +1,18 @@
 -- A bay's row names its neighbours and no bay above the yard's: so the members of the row are the bay's rails.
 -- Assumes nothing.
 use mathlib.Core.Path.{_≡_, refl, sym, ap, _∙_}
-use mathlib.Core.Bool.{Bool}
 use mathlib.Core.List.{List, [], _++_}
 use Prim.Native.Nat.{ℕ, _+_, _-_, _*_, _/_, _%_, _≤_, _<_}
 use native.Mathlib.Omega.{arith}
-use lib.ListN.{length, getD, take, drop, length-drop}
+use lib.ListN.{length, getD, take, drop, length-append, length-drop}
 use lib.Seq.{length-take-le, getD-take, getD-drop}
 use Rattle.paper.specs.Basics.{filter, elem, countFrom, upTo}
 use Rattle.paper.specs.Yard.{Bay, Yard, joined, neighbours, railsAt}
 use Rattle.paper.proofs.Admitted.{same-filter, filter-nothing}
-use Rattle.paper.proofs.Members.{nothing-in-nil, count-low, count-high}
+use Rattle.paper.proofs.Members.{nothing-in-nil, filter-append, count-low, count-high}
 use Rattle.paper.proofs.Tests.{by-cases}
 use Rattle.words.specs.Sets.{on, mem, memRow, members, words, span}
-use Rattle.words.proofs.Sets.{mem-row, filter-append, count-split}
+use Rattle.words.proofs.Sets.{mem-row, count-split}
 use Rattle.yard.specs.Table.{Table}
 use Rattle.choice.specs.Taking.{rails}
 
@@ -50,5 +49,5 @@ module _ {Y : Yard} {n : ℕ} {table : List ℕ} (t : Table Y n table) (most : n
       let all : n + (span - n) ≡ span = omega arith in
       let from : 0 + n ≡ n = omega arith in
       let split : upTo span ≡ upTo n ++ countFrom n (span - n) = rw (all, from) at (count-split 0 n (span - n)) in
-      let count : rails table v ≡ length (filter (joined Y v) (upTo n)) = rw (split, filter-append, rails-below, rails-above) (omega arith) in
+      let count : rails table v ≡ length (filter (joined Y v) (upTo n)) = rw (split, filter-append, length-append, rails-below, rails-above) (omega arith) in
       count ∙ rw (t .bays)

@@ -82,6 +82,18 @@ pub fn common(table: &[u64], s: &[u64], a: usize, t: &[u64], b: usize) -> usize
     of_set(table, &both)
 }
 
+// The choice among the wanted bays of a ring, which is row d; SPAN where there is none.
+pub fn in_ring(table: &[u64], rows: &[u64], d: usize, wanted: &[u64]) -> usize
+    requires { ⌜
+        (d * words + words ≤ length (now rows))
+        × (length (now wanted) ≡ words)
+        × Rowed (now table) (λ x. memRow (now rows) d x and memRow (now wanted) 0 x)
+        ⌝ }
+    ensures { λ r. ⌜ Taken (now (table .entry)) (λ x. memRow (now (rows .entry)) d x and memRow (now (wanted .entry)) 0 x) r ⌝ }
+{
+    common(table, rows, d, wanted, 0)
+}
+
 // The choice among the bays of row a of the table that are wanted and not held; SPAN where there is none.
 pub fn free(table: &[u64], a: usize, wanted: &[u64], held: &[u64]) -> usize
     requires { ⌜

@@ -18,7 +18,7 @@ use Rattle.words.specs.Sets.{mem, span, memRow, Lowest}
 use Rattle.words.proofs.Sets.{row-zero}
 use Rattle.moving.specs.Placed.{Placed}
 use Rattle.docket.specs.declared.Bay.{Bay as Numbered}
-use Rattle.acting.specs.Acting.{Tabled}
+use Rattle.acting.specs.Acting.{Tabled, nothing}
 use Rattle.acting.specs.declared.Tally.{Tally}
 use Rattle.acting.proofs.Acting.{tallied-none, tallied-then}
 use Rattle.keeping.specs.Keeping.{Among, Stuck, KeepsOne, Clears, from}
@@ -37,10 +37,10 @@ first-none Y v b others n p most s =
     clearing-none Y v b [] (omega arith) (mem others) p 0 n (omega arith) (λ y k l m. s y k (omega arith) m) in
     ap (λ (c : Cleared). c .kept) e
 
-pub first-then : {Y : Yard} {v b : Bay} {others : List ℕ} {n : ℕ} {p out q standing₁ empty₁ out₁ p′ standing′ empty′ out′ : List ℕ} {at : Tally} {x : ℕ} {m : Tally} {r : Two}
-    → KeepsOne Y (v ∷ b ∷ []) others 0 n p out at q standing₁ empty₁ out₁ x m
+pub first-then : {Y : Yard} {v b : Bay} {others : List ℕ} {n : ℕ} {p out q standing₁ empty₁ out₁ p′ standing′ empty′ out′ : List ℕ} {x : ℕ} {m : Tally} {r : Two}
+    → KeepsOne Y (v ∷ b ∷ []) others 0 n p out q standing₁ empty₁ out₁ x m
     → Clears (clearing Y v b (x ∷ []) (from (mem others) (x + 1) n) q) n q out₁ m p′ standing′ empty′ out′ r
-    → Clears (clearing Y v b [] (from (mem others) 0 n) p) n p out at p′ standing′ empty′ out′ r
+    → Clears (clearing Y v b [] (from (mem others) 0 n) p) n p out nothing p′ standing′ empty′ out′ r
 first-then {Y} {v} {b} {others} {n} {p} {q = q} {x = x} f s =
     let e : clearing Y v b [] (from (mem others) 0 n) p ≡ following (f .made) (clearing Y v b (x ∷ []) (from (mem others) (x + 1) n) q) =
     clearing-one Y v b [] (omega arith) (mem others) p 0 n x (f .made) (f .above) (f .low) (f .other) (f .stuck) (f .vacated) ∙ rw (f .played .moved) in
@@ -165,11 +165,11 @@ pub lowest-free : {n : ℕ} {empty p standing : List ℕ} {x : ℕ} (others : Li
 lowest-free {empty = empty} {p = p} {x = x} others k l h most =
     not-true (elem x p) (sym (k .empties x h) ∙ sym (row-zero empty x) ∙ and-right _ _ (l .hit (omega arith)))
 
-pub kept-free : {n : ℕ} {table : List ℕ} (t : Tabled n table) {held : List Bay} {others : List ℕ} {a : ℕ} {p standing empty out p′ standing′ empty′ out′ : List ℕ} {at : Tally} {x : ℕ} {m : Tally} → Placed n p standing empty
-    → KeepsOne (t .yard) held others a n p out at p′ standing′ empty′ out′ x m → Out x p′
+pub kept-free : {n : ℕ} {table : List ℕ} (t : Tabled n table) {held : List Bay} {others : List ℕ} {a : ℕ} {p standing empty out p′ standing′ empty′ out′ : List ℕ} {x : ℕ} {m : Tally} → Placed n p standing empty
+    → KeepsOne (t .yard) held others a n p out p′ standing′ empty′ out′ x m → Out x p′
 kept-free t {held = held} {p = p} {x = x} k o =
     rw (o .played .moved) (vacate-vacates (t .yard) held x p (o .made) (k .apart) (in-count 0 (t .yard .bays) x (omega arith) (omega (arith, t .joins .bays, o .low))) (o .vacated) .empties)
 
-pub clears-both : {c : Cleared} {x y : Numbered} → c ≡ record { made = only []; kept = x .0 ∷ y .0 ∷ [] } → {n : ℕ} {p standing empty : List ℕ} (out : List ℕ) (at : Tally) → Placed n p standing empty
-    → Clears c n p out at p standing empty out (Both x y at)
-clears-both e {n} {p} {standing} {empty} out at k = clears-two (ap (λ (c : Cleared). c .kept) e) (rw (ap (λ (c : Cleared). c .made) e) (tallied-none n p standing empty out at k))
+pub clears-both : {c : Cleared} {x y : Numbered} → c ≡ record { made = only []; kept = x .0 ∷ y .0 ∷ [] } → {n : ℕ} {p standing empty : List ℕ} (out : List ℕ) → Placed n p standing empty
+    → Clears c n p out nothing p standing empty out (Both x y nothing)
+clears-both e {n} {p} {standing} {empty} out k = clears-two (ap (λ (c : Cleared). c .kept) e) (rw (ap (λ (c : Cleared). c .made) e) (tallied-none n p standing empty out nothing k))

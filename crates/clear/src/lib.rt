@@ -1,16 +1,11 @@
 // Clear, once through the neighbours of the junction other than the follower's bay: two of them are kept empty, the empty ones first,
 // then those that can be vacated, in rising order.
-use acting::Tally;
 use docket::Bay;
 use keeping::First;
 use keeping::Kept;
-use keeping::Round;
 use keeping::Two;
-ghost use Prim.Native.Nat.{_<_};
-ghost use lib.ListN.{length};
-ghost use Rattle.moving.specs.Bounds.{room-clear};
 ghost use Rattle.acting.specs.Acting.{Ready};
-ghost use Rattle.clear.specs.Clearing.{ClearSays};
+ghost use Rattle.clear.specs.Clearing.{ClearAsks, ClearSays};
 
 // Clear, at the junction v with the follower at b.
 pub fn clear(
@@ -21,13 +16,12 @@ pub fn clear(
     standing: &mut [u16],
     empty: &mut [u64],
     out: &mut [u64],
-    at: Tally,
 ) -> Two
     requires { ⌜ Ready (now table) (now placement) (now standing) (now empty) ⌝ }
-    requires { ⌜ (v .0 < length (now standing)) × (b .0 < length (now standing)) × (at .crossings < room-clear) ⌝ }
+    requires { ⌜ ClearAsks (v .0) (b .0) (now standing) ⌝ }
     ensures { λ r. ⌜
         ClearSays (v .0) (b .0)
-        (now (table .entry)) (now (placement .entry)) (now (standing .entry)) (now (out .entry)) at
+        (now (table .entry)) (now (placement .entry)) (now (standing .entry)) (now (out .entry))
         (now (placement .exit)) (now (standing .exit)) (now (empty .exit)) (now (out .exit)) r
         ⌝ }
 {
@@ -42,38 +36,38 @@ pub fn clear(
         words::remove(&mut others, x);
         let y = words::lowest_common(&others, 0, empty, 0);
         if y < words::SPAN {
-            return Two::Both(Bay(x as u16), Bay(y as u16), at);
+            return Two::Both(Bay(x as u16), Bay(y as u16), acting::NOTHING);
         }
         let kept = Bay(x as u16);
-        let round = Round { from: 0, at };
         return keeping::keep_second(
             table,
             &others,
             &mut held,
-            First { kept, round },
+            First { kept, from: 0 },
             placement,
             standing,
             empty,
             out,
         );
     }
-    let all = Round { from: 0, at };
-    let first = keeping::keep_one(table, &others, &held, all, placement, standing, empty, out);
-    let Kept::One(kept, m) = first else {
+    let first = keeping::keep_one(table, &others, &held, 0, placement, standing, empty, out);
+    let Kept::One(kept, made) = first else {
         return Two::Short;
     };
-    let round = Round {
+    let next = First {
+        kept,
         from: kept.0 as usize + 1,
-        at: m,
     };
-    keeping::keep_second(
+    let place = acting::place_in(out, made.crossings);
+    let rest = keeping::keep_second(
         table,
         &others,
         &mut held,
-        First { kept, round },
+        next,
         placement,
         standing,
         empty,
-        out,
-    )
+        &mut out[place..],
+    );
+    keeping::after(made, rest)
 }

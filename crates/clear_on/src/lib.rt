@@ -6,26 +6,26 @@ use attempts::OneKept;
 use docket::Bay;
 use keeping::Kept;
 use keeping::Two;
-ghost use mathlib.Core.Path.{_≡_};
-ghost use Prim.Native.Nat.{min};
-ghost use lib.ListN.{length};
 ghost use Rattle.acting.specs.Acting.{Ready};
-ghost use Rattle.clear_on.specs.Asking.{GoOnAsks, GoOnSays, ClearTwoAsks, ClearTwoSays};
+ghost use Rattle.attempts.specs.Asking.{KeptAsks};
+ghost use Rattle.clear_on.specs.Going.{After, AfterAsks};
+ghost use Rattle.clear_on.specs.Asking.{GoOnSays, ClearTwoAsks, ClearTwoSays};
 
-// The two bays that are kept, with the tally afterwards, or that there are not two.
+// The two bays that are kept, with what was made for them, or that there are not two.
 pub enum Pair {
     Both(Bay, Bay, Tally),
     Missing,
 }
 
-// The place where the list goes on, or its end.
-pub fn place_in(out: &[u64], at: usize) -> usize
-    ensures { λ r. ⌜ r ≡ min at (length (now (out .entry))) ⌝ }
+// The bays kept by what is lent the rest of the list, after so much was made.
+pub fn after(made: Tally, rest: Pair) -> Pair
+    requires { ⌜ AfterAsks made rest ⌝ }
+    ensures { λ r. ⌜ After made rest r ⌝ }
 {
-    if at < out.len() {
-        return at;
+    match rest {
+        Pair::Both(x, y, more) => Pair::Both(x, y, acting::add(made, more)),
+        Pair::Missing => Pair::Missing,
     }
-    out.len()
 }
 
 // Clearing goes on around the junction with the one kept bay.
@@ -36,13 +36,12 @@ pub fn go_on(
     standing: &[u16],
     empty: &[u64],
     out: &mut [u64],
-    at: Tally,
 ) -> Pair
     requires { ⌜ Ready (now table) (now placement) (now standing) (now empty) ⌝ }
-    requires { ⌜ GoOnAsks one (now placement) (now standing) at ⌝ }
+    requires { ⌜ KeptAsks one (now placement) (now standing) ⌝ }
     ensures { λ r. ⌜
         GoOnSays one
-        (now (table .entry)) (now (placement .entry)) (now (standing .entry)) (now (out .entry)) at (now (out .exit)) r
+        (now (table .entry)) (now (placement .entry)) (now (standing .entry)) (now (out .exit)) r
         ⌝ }
 {
     let e = one.kept;
@@ -50,20 +49,11 @@ pub fn go_on(
     words::join_row(&mut others, table, one.lead.junction.0 as usize);
     words::remove(&mut others, one.behind.0 as usize);
     words::remove(&mut others, e.0 as usize);
-    let from = place_in(out, at.crossings);
-    let found = attempts::either_way(
-        table,
-        &others,
-        one,
-        placement,
-        standing,
-        empty,
-        &mut out[from..],
-    );
-    let Kept::One(x, c) = found else {
+    let found = attempts::either_way(table, &others, one, placement, standing, empty, out);
+    let Kept::One(x, made) = found else {
         return Pair::Missing;
     };
-    Pair::Both(x, e, acting::add(at, c))
+    Pair::Both(x, e, made)
 }
 
 // Clear, with the leader at the junction and the follower at b: once through the neighbours, and on from there with one kept bay. The placement
@@ -76,26 +66,27 @@ pub fn clear_two(
     standing: &mut [u16],
     empty: &mut [u64],
     out: &mut [u64],
-    at: Tally,
 ) -> Pair
     requires { ⌜ Ready (now table) (now placement) (now standing) (now empty) ⌝ }
-    requires { ⌜ ClearTwoAsks lead (b .0) (now placement) (now standing) at ⌝ }
+    requires { ⌜ ClearTwoAsks lead (b .0) (now placement) (now standing) ⌝ }
     ensures { λ r. ⌜
         ClearTwoSays lead (b .0)
-        (now (table .entry)) (now (placement .entry)) (now (standing .entry)) (now (out .entry)) at
+        (now (table .entry)) (now (placement .entry)) (now (standing .entry))
         (now (placement .exit)) (now (out .exit)) r
         ⌝ }
 {
-    let cleared = clear::clear(table, lead.junction, b, placement, standing, empty, out, at);
+    let cleared = clear::clear(table, lead.junction, b, placement, standing, empty, out);
     match cleared {
-        Two::Both(x, y, c) => Pair::Both(x, y, c),
-        Two::Single(e, c) => {
+        Two::Both(x, y, made) => Pair::Both(x, y, made),
+        Two::Single(kept, made) => {
             let one = OneKept {
                 lead,
                 behind: b,
-                kept: e,
+                kept,
             };
-            go_on(table, one, placement, standing, empty, out, c)
+            let from = acting::place_in(out, made.crossings);
+            let rest = go_on(table, one, placement, standing, empty, &mut out[from..]);
+            after(made, rest)
         }
         Two::Short => Pair::Missing,
     }

@@ -21,7 +21,8 @@ use Rattle.docket.specs.declared.Refusal.the-variants.{Size, Start, Room}
 use Rattle.comparing.specs.Comparing.{firstAbove, refusal, comparison, equalLeading, difference, differences, differencesBy}
 use Rattle.paper.specs.Docket.{granted}
 use Rattle.paper.proofs.Reach.{count-length}
-use Rattle.comparing.specs.Statements.{Counts, CountSays, FillSays, DifferSays}
+use Rattle.differences.specs.Filled.{FillSays}
+use Rattle.comparing.specs.Statements.{Counts, CountSays, DifferSays}
 use Rattle.comparing.specs.declared.Counted.{Counted}
 use Rattle.docket.specs.declared.Verdict.the-variants.{Granted, Denied}
 use Rattle.comparing.proofs.Exchanged.{Passed, passed-granted}

@@ -4,7 +4,7 @@ use mathlib.Core.Path.{_≡_}
 use mathlib.Core.List.{List}
 use mathlib.Core.Option.{Option, none, some}
 use Prim.Native.Nat.{ℕ, _<_}
-use lib.IntN.{ℤ, pos, _-ℤ_}
+use lib.IntN.{ℤ}
 use lib.ListN.{length, getD}
 use Rattle.paper.specs.Limits.{most-carriers}
 use Rattle.paper.specs.Yard.{Carrier, crossings}
@@ -27,11 +27,6 @@ Counts list counts = (c : Carrier) → c < most-carriers → getD counts c 0 ≡
 pub record CountSays (list : List ℕ) (answer : Counted) (counts : List ℕ) : Type 0 where
   pub answers : countedOf answer ≡ firstAbove list
   pub counted : countedOf answer ≡ none → Counts list counts
-
--- place by place the one count less the other
-pub record FillSays (seconds firsts : List ℕ) (filled : List ℤ) : Type 0 where
-  pub long : length filled ≡ most-carriers
-  pub less : (c : Carrier) → c < most-carriers → getD filled c (pos 0) ≡ pos (getD seconds c 0) -ℤ pos (getD firsts c 0)
 
 module _ (first second : List ℕ) (lent : List ℤ) where
   pub record DifferSays (answer : Held) (lent′ : List ℤ) : Type 0 where

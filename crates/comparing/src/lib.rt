@@ -2,14 +2,13 @@
 // All is tested and counted before anything is written, so a refusal leaves the differences as they were.
 ghost use mathlib.Core.Path.{_≡_};
 ghost use Prim.Native.Nat.{_≤_};
-ghost use lib.IntN.{pos, _-ℤ_};
 ghost use lib.ListN.{length, replicate};
 ghost use Rattle.paper.specs.Basics.{orElse};
 ghost use Rattle.paper.specs.Limits.{most-carriers};
 ghost use Rattle.paper.specs.Yard.{most-crossings};
 ghost use Rattle.comparing.specs.Comparing.{numberBy, valueBy};
 ghost use Rattle.docket.specs.Reading.{verdictOf};
-ghost use Rattle.comparing.specs.Statements.{countedOf, CountSays, FillSays, DifferSays, CompareSays};
+ghost use Rattle.comparing.specs.Statements.{countedOf, CountSays, DifferSays, CompareSays};
 use docket::Carrier;
 use docket::Refusal;
 use docket::Verdict;
@@ -50,25 +49,6 @@ fn earlier(one: Counted, other: Counted) -> Counted
     }
 }
 
-// The one count less the other, with its sign.
-fn less(count: u32, other: u32) -> i64
-    ensures { λ r. ⌜ r ≡ pos count -ℤ pos other ⌝ }
-{
-    count as i64 - other as i64
-}
-
-// Second less first, carrier by carrier.
-fn fill(firsts: &[u32; Yard::CARRIERS], seconds: &[u32; Yard::CARRIERS], differences: &mut [i64])
-    requires { ⌜ length (now differences) ≡ most-carriers ⌝ }
-    ensures { λ _. ⌜ FillSays (now (seconds .entry)) (now (firsts .entry)) (now (differences .exit)) ⌝ }
-{
-    let mut c = 0;
-    while c < Yard::CARRIERS {
-        differences[c] = less(seconds[c], firsts[c]);
-        c += 1;
-    }
-}
-
 // The number of equal leading crossings, with the differences written, or why there is none.
 fn differ(first: &[u64], second: &[u64], differences: &mut [i64]) -> Verdict
     ensures { λ r. ⌜ DifferSays (now (first .entry)) (now (second .entry)) (now (differences .entry)) r (now (differences .exit)) ⌝ }
@@ -90,7 +70,7 @@ fn differ(first: &[u64], second: &[u64], differences: &mut [i64]) -> Verdict
     if differences.len() != Yard::CARRIERS {
         return Verdict::Denied(Refusal::Room(Yard::CARRIERS as u64));
     }
-    fill(&firsts, &seconds, differences);
+    differences::fill(&firsts, &seconds, differences);
     Verdict::Granted(leading::equal_leading(first, second) as u64)
 }
 

@@ -1,25 +1,24 @@
 -- The user's demands, which specs/Demands states, as theorems about the definitions. Their proofs cite the laws; here they are in one place and in order.
 use mathlib.Core.Path.{_≡_, _∙_, ap}
 use mathlib.Core.List.{List, map}
-use mathlib.Core.Option.{none, some}
+use mathlib.Core.Option.{none}
 use Prim.Native.Nat.{ℕ, suc}
 use native.Mathlib.Omega.{arith}
 use lib.ListN.{length, length-map}
 use Rattle.paper.specs.Yard.{Crossing, after, unpack, crossings, pack}
 use Rattle.paper.specs.Order.{Order}
-use Rattle.paper.specs.Procedure.{procedure}
-use Rattle.paper.specs.Dependence.{countOf, slots}
-use Rattle.paper.specs.Docket.{yardOf, stopped, room}
-use Rattle.paper.specs.Answers.{check, accept, already, report, accepted, refused, plan, written, slotsEnd}
-use Rattle.paper.specs.Log.{Request, answerTo, marksOf, namesOf}
+use Rattle.paper.specs.Dependence.{countOf}
+use Rattle.paper.specs.Docket.{yardOf}
+use Rattle.paper.specs.Answers.{check, report, accepted, plan, written, slotsEnd}
+use Rattle.paper.specs.Log.{Request, answerTo, marksOf}
 pub use Rattle.demands.specs.Demands.{Demand1, Demand2, Demand3}
 use Rattle.paper.proofs.Tests.{not-both}
 use Rattle.paper.proofs.Planning.{accepted-exactly, stopped-exactly, room-exactly, accepted-right, plan-written}
 use Rattle.paper.proofs.Slotting.{slots-rise, slots-lowest}
 use Rattle.paper.proofs.Checking.{check-passed}
 use Rattle.paper.proofs.Reporting.{accept-facts, facts-accept, done-already, report-accepts}
-use Rattle.paper.proofs.Logging.{fine, some-ready, all-done, unaccepted, plan-lawful, kept-from-fresh}
-use Rattle.paper.proofs.Handing.{handed-passes}
+use Rattle.laws.proofs.Logging.{fine-marks, some-ready, all-done, unaccepted, plan-lawful, right-from-fresh}
+use Rattle.laws.proofs.Handing.{handed-passes}
 
 pub demand-1 : (o : Order) → Demand1 o
 unfolding written slotsEnd
@@ -48,9 +47,9 @@ module _ (o : Order) (plan : List ℕ) (passes : check o plan ≡ none) where
       let Y = yardOf o in
       let xs = crossings plan in
       let ms = marksOf plan qs in
-      let k = kept-from-fresh o plan passes qs in
+      let k = right-from-fresh o plan passes qs in
       let lawful = plan-lawful o plan passes in
-      let ok = fine Y (o .starts) xs lawful ms (namesOf plan qs) k in
+      let ok = fine-marks o plan passes qs in
       let len : length xs ≡ length plan = length-map plan unpack in
       record {
         lawful = k .lawful;

@@ -12,7 +12,7 @@ use Rattle.paper.specs.Yard.{Bay}
 use Rattle.paper.specs.Text.{Text, text}
 use Rattle.paper.specs.Bytes.{State, failed, going, lineClosed}
 use Rattle.survey.specs.Survey.{Surveyed, headDue, railsDue, taken}
-use Rattle.survey.specs.Bytes.{Line, fresh, comment, broken, inWord, inFirst, inSecond, Under, beginLine, closeLine}
+use Rattle.survey.specs.Bytes.{LineUnderWay, fresh, comment, broken, inWord, inFirst, inSecond, Under, beginLine, closeLine}
 use Rattle.edge_lines.specs.declared.Due.{Due}
 use Rattle.edge_lines.specs.declared.Due.the-variants.{Head, Rails}
 use Rattle.edge_lines.specs.declared.Part.{Part}
@@ -22,7 +22,7 @@ use Rattle.edge_lines.specs.declared.Reading.{Reading}
 -- ## The state
 
 -- the line under way, whose word is w
-abbrev pub partOf : Text → Part → Line
+abbrev pub partOf : Text → Part → LineUnderWay
 partOf w Fresh = fresh
 partOf w Comment = comment
 partOf w BrokenPart = broken
@@ -34,7 +34,7 @@ abbrev pub wordBy : Due → Text
 wordBy Head = text "p edge "
 wordBy (Rails n m k) = text "e "
 
-abbrev pub partBy : Due → Part → Line
+abbrev pub partBy : Due → Part → LineUnderWay
 partBy d p = partOf (wordBy d) p
 
 -- how many ends were read

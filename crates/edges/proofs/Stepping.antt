@@ -13,7 +13,7 @@ use Rattle.paper.specs.Yard.{Bay}
 use Rattle.paper.specs.Bytes.{State, failed, going, release, feed, lineClosed, ending, endAfter, finishFile}
 use Rattle.paper.proofs.Tests.{by-cases, never}
 use Rattle.survey.specs.Survey.{Surveyed, surveyEnd}
-use Rattle.survey.specs.Bytes.{Line, fresh, lineByte, Under, beginLine, inLine, closeLine, endLine, surveyStep, surveyFinish}
+use Rattle.survey.specs.Bytes.{LineUnderWay, fresh, lineByte, Under, beginLine, inLine, closeLine, endLine, surveyStep, surveyFinish}
 use Rattle.edge_lines.specs.Lines.{partBy, wordBy, countOf, dueOf, underOf, stateOf, endsAfter, Marked, Closes}
 use Rattle.edges.specs.Held.{Steps, dueRead, readOf, Finishes}
 use Rattle.edge_lines.specs.declared.Due.{Due}
@@ -22,18 +22,18 @@ use Rattle.edge_lines.specs.declared.Part.{Part}
 use Rattle.edge_lines.specs.declared.Reading.{Reading}
 use Rattle.edge_lines.proofs.Closing.{same-ends}
 
-abbrev at : Due → List Bay → Line → Under
+abbrev at : Due → List Bay → LineUnderWay → Under
 at d ends l = record { due = dueOf d ends; line = l }
 
-byte-is : (d : Due) (ends : List Bay) (l : Line) (b : ℕ) → inLine (at d ends l) b ≡ at d ends (lineByte (wordBy d) l b)
+byte-is : (d : Due) (ends : List Bay) (l : LineUnderWay) (b : ℕ) → inLine (at d ends l) b ≡ at d ends (lineByte (wordBy d) l b)
 unfolding inLine
 byte-is Head ends l b = refl
 byte-is (Rails n m k) ends l b = refl
 
-abbrev lineAfter : Due → Bool → Line → Line
+abbrev lineAfter : Due → Bool → LineUnderWay → LineUnderWay
 lineAfter d held l = if held then lineByte (wordBy d) l 13 else l
 
-release-is : (d : Due) (ends : List Bay) (held : Bool) (l : Line) → release inLine held (at d ends l) ≡ at d ends (lineAfter d held l)
+release-is : (d : Due) (ends : List Bay) (held : Bool) (l : LineUnderWay) → release inLine held (at d ends l) ≡ at d ends (lineAfter d held l)
 unfolding release
 release-is d ends true l = byte-is d ends l 13
 release-is d ends false l = refl

@@ -9,7 +9,7 @@ use Rattle.paper.specs.Basics.{orElse, elem, _and_}
 use Rattle.paper.specs.Yard.{crossings, after}
 use Rattle.paper.specs.Order.{Order}
 use Rattle.paper.specs.Docket.{Refusal, number, carried, yardOf, no-11}
-use Rattle.paper.specs.Answers.{check, slotsRefusal, accept, refuse}
+use Rattle.paper.specs.Answers.{check, slotsRefusal}
 use Rattle.exactly.specs.First.{NoneOf, Given, distinct}
 use Rattle.exactly.specs.Rows.{checkRows, slotsRows, markRows}
 use Rattle.exactly.proofs.First.{after-it, exactly, nothing-exactly}

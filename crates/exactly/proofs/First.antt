@@ -1,7 +1,7 @@
 -- The first of a list of tests that applies: tests that go one by one as rows say give together what the rows say in that order. It
 -- holds for answers of any kind that are told apart by a number and a value.
 use mathlib.Core.Path.{_≡_, refl, sym, _∙_, ap}
-use mathlib.Core.Bool.{Bool, true, false, not}
+use mathlib.Core.Bool.{Bool, true, false}
 use mathlib.Core.List.{List, [], _∷_, _++_}
 use mathlib.Core.Logic.{_↔_, _⊎_, inl, inr, ⊎-elim}
 use mathlib.Core.Option.{Option, none, some}
@@ -158,11 +158,11 @@ module _ {A : Type 0} (number : A → ℕ) (value : A → Option ℕ) where
   nothing-exactly r = (r .passed, nothing-given r)
 
   -- number and value tell this answer from any other
-  abbrev pub Told : A → Type 0
-  Told a = (c : A) → number a ≡ number c → value a ≡ value c → a ≡ c
+  abbrev pub ToldApart : A → Type 0
+  ToldApart a = (c : A) → number a ≡ number c → value a ≡ value c → a ≡ c
 
   -- a test that carries nothing
-  pub plain-test : (P : Type 0) (b : Bool) (a : A) → Told a → value a ≡ none → (b ≡ true) ↔ P → Reads (when b a) (plain (number a) P ∷ [])
+  pub plain-test : (P : Type 0) (b : Bool) (a : A) → ToldApart a → value a ≡ none → (b ≡ true) ↔ P → Reads (when b a) (plain (number a) P ∷ [])
   plain-test P b a tells v f = record {
     given = λ c e.
         let w = some-when b a e in
@@ -175,7 +175,7 @@ module _ {A : Type 0} (number : A → ℕ) (value : A → Option ℕ) where
   }
 
   -- a test that carries what it finds
-  pub carrying-test : (W : ℕ → Type 0) (o : Option ℕ) (make : ℕ → A) (k : ℕ) → ((v : ℕ) → Told (make v)) → ((v : ℕ) → number (make v) ≡ k) → ((v : ℕ) → value (make v) ≡ some v)
+  pub carrying-test : (W : ℕ → Type 0) (o : Option ℕ) (make : ℕ → A) (k : ℕ) → ((v : ℕ) → ToldApart (make v)) → ((v : ℕ) → number (make v) ≡ k) → ((v : ℕ) → value (make v) ≡ some v)
       → ((v : ℕ) → (o ≡ some v) ↔ W v) → Reads (o >>= λ v. some (make v)) (carrying k W ∷ [])
   carrying-test W o make k tells n c f = record {
     given = λ a e.
@@ -189,7 +189,7 @@ module _ {A : Type 0} (number : A → ℕ) (value : A → Option ℕ) where
   }
 
   -- a test that carries a number known before
-  pub known-test : (W : ℕ → Type 0) (b : Bool) (make : ℕ → A) (known : ℕ) (k : ℕ) → Told (make known) → number (make known) ≡ k → value (make known) ≡ some known
+  pub known-test : (W : ℕ → Type 0) (b : Bool) (make : ℕ → A) (known : ℕ) (k : ℕ) → ToldApart (make known) → number (make known) ≡ k → value (make known) ≡ some known
       → (b ≡ true → W known) → ((v : ℕ) → W v → (b ≡ true) × (v ≡ known)) → Reads (when b (make known)) (carrying k W ∷ [])
   known-test W b make known k tells n c f g = record {
     given = λ a e.

@@ -10,7 +10,7 @@ use lib.ListN.{length, getD, take}
 use Rattle.paper.specs.Basics.{any, find, firstBad, upTo}
 use Rattle.paper.proofs.Tests.{by-cases, not-both}
 use Rattle.paper.proofs.Members.{find-exactly}
-use Rattle.paper.proofs.Firsts.{first-bad-exactly}
+use Rattle.laws.proofs.Firsts.{first-bad-exactly}
 use Rattle.exactly.specs.First.{FirstOf}
 
 module _ {A : Type 0} (q : A → Bool) (pad : A) where

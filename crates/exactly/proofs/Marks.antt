@@ -1,15 +1,15 @@
 -- 11 to 13 in words: marks in order, names in the plan, and the lowest undone name that a crossing depends on.
 use mathlib.Core.Path.{_≡_, refl, ap}
-use mathlib.Core.Bool.{Bool, true, false, not}
+use mathlib.Core.Bool.{Bool, true, not}
 use mathlib.Core.List.{List, [], _∷_}
 use mathlib.Core.Logic.{_↔_}
-use mathlib.Core.Option.{none, some}
+use mathlib.Core.Option.{some}
 use Prim.Native.Nat.{ℕ, _<_}
 use native.Mathlib.Omega.{arith}
 use lib.Dec.{eqb, leb}
 use lib.ListN.{length}
 use borrow.Author.Tests.{not-true, leb-true, le-leb, eqb-true, eqb-false, eq-eqb, ne-eqb}
-use Rattle.paper.specs.Basics.{_and_, _or_, any, upTo}
+use Rattle.paper.specs.Basics.{_and_, _or_, upTo}
 use Rattle.paper.specs.Yard.{Crossing, named}
 use Rattle.paper.specs.Dependence.{depend, isDone, undoneBefore, outOfOrder}
 use Rattle.paper.specs.Docket.{number, carried, mismarked, unknown, early, badMarks, no-11, no-12, no-13}

@@ -2,15 +2,15 @@
 use mathlib.Core.Path.{_≡_, refl, ap}
 use mathlib.Core.Bool.{true, not}
 use mathlib.Core.List.{List, [], _∷_}
-use mathlib.Core.Logic.{_↔_, _⊎_, inl, inr, ⊎-elim}
+use mathlib.Core.Logic.{_↔_, inl, inr, ⊎-elim}
 use mathlib.Core.Option.{Option, none, some}
 use Prim.Native.Nat.{ℕ, zero, suc, _<_, _≤_}
 use native.Mathlib.Omega.{arith}
-use lib.Dec.{eqb, ltb}
+use lib.Dec.{ltb}
 use lib.ListN.{length, take}
 use borrow.Author.Tests.{not-true, ltb-true, lt-ltb, eqb-true, eq-eqb}
-use Rattle.paper.specs.Basics.{_and_, _or_, _>>=_, elem}
-use Rattle.paper.specs.Yard.{Bay, Carrier, Yard, Placement, Crossing, most-crossings, bayOf, move, after, joined, legal, legalPlan, named}
+use Rattle.paper.specs.Basics.{_or_, _>>=_, elem}
+use Rattle.paper.specs.Yard.{Bay, Carrier, Yard, Placement, Crossing, most-crossings, bayOf, move, after, legal, legalPlan, named}
 use Rattle.paper.specs.Procedure.{Outcome, planned, stuck}
 use Rattle.paper.specs.Docket.{number, carried, stopped, room, illegal, missed, firstIllegal, notHome, no-7, no-8, no-9, no-10}
 use Rattle.paper.proofs.Tests.{by-cases, and-left, and-right, and-both, or-left, or-right, or-cases, not-both, never}

@@ -6,7 +6,7 @@ use mathlib.Core.Logic.{_↔_}
 use mathlib.Core.Option.{Option, none, some}
 use Prim.Native.Nat.{ℕ}
 use native.Mathlib.Omega.{arith}
-use lib.Dec.{eqb, leb}
+use lib.Dec.{leb}
 use lib.ListN.{length}
 use borrow.Author.Tests.{eqb-true, eq-eqb}
 use Rattle.paper.specs.Basics.{_>>=_, orElse, when, elem, _and_}
@@ -19,7 +19,7 @@ use Rattle.paper.proofs.Tests.{by-option, by-cases, never, not-both}
 use Rattle.exactly.specs.First.{Row, plain, carrying, NoneOf, Given, numbersOf, distinct}
 use Rattle.exactly.specs.Words.{mark, NotInPlan, LowestUndone}
 use Rattle.exactly.specs.Rows.{already-number, reportNumber, reportValue, reportRows}
-use Rattle.exactly.proofs.First.{Reads, Told, after-it, exactly, nothing-exactly, never-given, plain-test, retold, otherwise, otherwise-exactly, other-exactly}
+use Rattle.exactly.proofs.First.{Reads, ToldApart, after-it, exactly, nothing-exactly, never-given, plain-test, retold, otherwise, otherwise-exactly, other-exactly}
 use Rattle.paper.proofs.Determined.{not-in-table}
 use Rattle.exactly.proofs.Six.{Refuses}
 use Rattle.exactly.proofs.Marks.{reads-12, reads-13}
@@ -29,7 +29,7 @@ use Rattle.exactly.proofs.Checking.{marks-read}
 abbrev pub Reports : Option Report → List Row → Type 0
 Reports t rows = Reads reportNumber reportValue t rows
 
-already-told : Told reportNumber reportValue already
+already-told : ToldApart reportNumber reportValue already
 unfolding elem
 already-told accept n v = absurd (omega arith)
 already-told already n v = refl

@@ -1,16 +1,16 @@
 -- 1 to 6 in words, and in their order.
 use mathlib.Core.Path.{_≡_, refl, sym, _∙_, ap}
-use mathlib.Core.Bool.{true, false, not}
+use mathlib.Core.Bool.{true, not}
 use mathlib.Core.List.{List, [], _∷_}
 use mathlib.Core.Logic.{_↔_, inl, inr, ⊎-elim}
 use mathlib.Core.Option.{Option, none, some}
 use Prim.Native.Nat.{ℕ, zero, suc, _<_, _+_}
 use native.Mathlib.Omega.{arith}
-use lib.Dec.{eqb, ltb, leb}
+use lib.Dec.{eqb, ltb}
 use lib.ListN.{length, getD, take}
 use lib.Seq.{length-take-le, getD-take}
 use borrow.Author.Tests.{not-true, ltb-true, lt-ltb, leb-true, le-leb, eqb-true, eqb-false, eq-eqb, ne-eqb}
-use Rattle.paper.specs.Basics.{_and_, _or_, when, any, elem, firstBad}
+use Rattle.paper.specs.Basics.{_and_, _or_, elem, firstBad}
 use Rattle.paper.specs.Yard.{Bay, Carrier, Rail, Yard, Placement, kept-empty, joined}
 use Rattle.paper.specs.Order.{Order}
 use Rattle.paper.specs.Docket.{Refusal, size, rail, apart, crowd, start, goal, number, carried, railsOf, yardOf, badSize, badRail, badPlace, apartBay, no-1, no-2, no-3, no-4, no-5, no-6}

@@ -6,7 +6,7 @@ use native.Mathlib.Omega.{arith}
 use lib.Dec.{eqb, ltb, leb}
 use lib.ListN.{getD, List·getD-eq-default}
 use borrow.Author.Tests.{leb-true, ltb-true, ne-eqb, lt-ltb, le-ltb, le-leb}
-use Rattle.paper.specs.Basics.{if_then_else_, _and_, _or_}
+use Rattle.paper.specs.Basics.{if_then_else_, _and_}
 use Rattle.paper.proofs.Tests.{and-left, and-right}
 use Rattle.paper.specs.Text.{isDigit, text}
 use native.Mathlib.Numerals.{add-one}

@@ -7,7 +7,7 @@ ghost use lib.Dec.{ltb, leb};
 ghost use Rattle.paper.specs.Basics.{if_then_else_, _and_, _or_};
 ghost use Rattle.paper.specs.Text.{isDigit, isPoint, text};
 ghost use Rattle.paper.specs.Bytes.{matchByte, matched, grow, tally, sizedField, numberField, lengthField, keepAt, wellField, see as seeByte, fieldPast as pastField};
-ghost use Rattle.fields.specs.Kept.{matchOf, seenOf, pastOf};
+ghost use Rattle.fields.specs.ReadAs.{matchOf, seenOf, pastOf};
 
 // The version line under way: how many bytes, and whether they agree so far.
 pub struct TextSeen {

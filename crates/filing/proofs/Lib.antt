@@ -1,4 +1,2 @@
 pub mod Joining
-pub mod Enough
-pub mod Prefix
 pub mod Fitting

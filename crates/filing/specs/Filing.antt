@@ -1,13 +1,12 @@
 -- The two files as an order, what each file gives first, and what an order leaves in the lent lists.
 -- Assumes nothing.
 use mathlib.Core.Bool.{Bool, true, false}
-use mathlib.Core.List.{List, map}
+use mathlib.Core.List.{List}
 use mathlib.Core.Option.{Option, none, some}
 use mathlib.Core.Path.{_≡_}
-use Prim.Native.Nat.{ℕ, _+_, _*_}
+use Prim.Native.Nat.{ℕ}
 use lib.ListN.{length, take}
 use lib.Seq.{sets}
-use Rattle.paper.specs.Limits.{most-carriers}
 use Rattle.paper.specs.Yard.{Bay}
 use Rattle.paper.specs.Order.{Order, order as orderOf}
 use Rattle.paper.specs.Docket.{Refusal, no-14, no-15}
@@ -30,14 +29,6 @@ use Rattle.filing.specs.declared.Ordered.the-variants as the
 abbrev pub fileOf : Bool → Text → Option Text
 fileOf true bytes = some bytes
 fileOf false bytes = none
-
--- one byte more than the longest map and the longest scenario that keep their layout: 64 rows of 64 letters, and most-carriers carriers with each
--- field at its longest, all lines with CR LF
-abbrev pub map-bytes : ℕ
-map-bytes = 4264
-
-abbrev pub scenario-bytes : ℕ
-scenario-bytes = 14 + most-carriers * 193
 
 -- ## Each file
 
@@ -82,15 +73,15 @@ answered (refusal r) = refused r
 abbrev pub orderIn : Counts → List Bay → List Bay → List Bay → Order
 orderIn o ends starts goals = orderOf (o .bays) (take (o .ends) ends) (take (o .carriers) starts) (take (o .carriers) goals)
 
-pub data Told : Type 0 where
-  counts : ℕ → ℕ → ℕ → Told
-  refuses : Refusal → Told
+pub data OrderTold : Type 0 where
+  counts : ℕ → ℕ → ℕ → OrderTold
+  refuses : Refusal → OrderTold
 
-abbrev pub toldOf : Ordered → Told
+abbrev pub toldOf : Ordered → OrderTold
 toldOf (the.Order o) = counts (o .bays) (o .ends) (o .carriers)
 toldOf (the.Refused r) = refuses (refusalOf r)
 
-abbrev pub toldBy : Filed → Told
+abbrev pub toldBy : Filed → OrderTold
 toldBy (order n ends cs) = counts n (length ends) (length cs)
 toldBy (refusal r) = refuses r
 

@@ -3,19 +3,7 @@ use docket::Refusal;
 use gridmap::Grid;
 use gridmap::MapRead;
 use scenario::ScenarioRead;
-ghost use mathlib.Core.Path.{_≡_};
-ghost use Rattle.filing.specs.Filing.{map-bytes, scenario-bytes, fileOf, MapFiled, ScenarioFiled, Files};
-
-// So many first bytes of a map and of a scenario decide what they read as, however long the files are.
-pub const MAP_BYTES: usize = 4264;
-
-pub const SCENARIO_BYTES: usize = 14 + paper::CARRIERS * 193;
-
-// They are those of the theorem: this function does nothing, its statement says it.
-pub fn limits()
-    ensures map { λ _. do ⌜ (← ⟦MAP_BYTES⟧ .entry) ≡ map-bytes ⌝ }
-    ensures scenario { λ _. do ⌜ (← ⟦SCENARIO_BYTES⟧ .entry) ≡ scenario-bytes ⌝ }
-{}
+ghost use Rattle.filing.specs.Filing.{fileOf, MapFiled, ScenarioFiled, Files};
 
 // How many bays, ends of rails and carriers an order has.
 pub struct Order {

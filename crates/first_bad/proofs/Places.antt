@@ -1,7 +1,7 @@
 -- The set of used bays is the placement so far, so a bay in it is one that is already used.
 use mathlib.Core.Path.{_≡_, refl, sym, ap, _∙_}
 use mathlib.Core.Bool.{Bool, true, false}
-use mathlib.Core.List.{List, [], _∷_, _++_}
+use mathlib.Core.List.{List}
 use Prim.Native.Nat.{ℕ, _+_, _≤_, _<_}
 use native.Mathlib.Numerals.{add-one}
 use native.Mathlib.Omega.{arith}
@@ -12,13 +12,9 @@ use borrow.Author.Tests.{le-leb, lt-leb}
 use Rattle.paper.specs.Basics.{_or_, elem}
 use Rattle.paper.specs.Yard.{Bay, Placement}
 use Rattle.paper.specs.Docket.{badPlace}
-use Rattle.paper.proofs.Tests.{by-cases, or-left}
+use Rattle.paper.proofs.Tests.{or-left}
+use Rattle.paper.proofs.Members.{elem-last}
 use Rattle.words.specs.Sets.{mem, span}
-
-pub elem-last : (b : Bay) (xs : List Bay) (x : Bay) → elem b (xs ++ (x ∷ [])) ≡ elem b xs or eqb b x
-unfolding elem _or_
-elem-last b [] x = by-cases (eqb b x) (λ e. rw e) (λ e. rw e)
-elem-last b (y ∷ xs) x = by-cases (eqb b y) (λ e. rw e) (λ e. rw e (elem-last b xs x))
 
 -- the set holds the bays of the first c carriers
 pub record Used (place : Placement) (c : ℕ) (used : List ℕ) : Type 0 where

@@ -8,8 +8,8 @@ use Rattle.paper.specs.Docket.{edition}
 use Rattle.paper.specs.Answers.{refused}
 use Rattle.paper.specs.Text.{Text}
 use Rattle.paper.specs.Print.{printed}
-use Rattle.filing.specs.Filing.{map-bytes, scenario-bytes}
-use Rattle.filing.proofs.Prefix.{shortened, answer-decided}
+use Rattle.file_room.specs.Room.{map-bytes, scenario-bytes}
+use Rattle.file_room.proofs.Prefix.{shortened, answer-decided}
 use Rattle.print_room.specs.Short.{shortAnswer, shortOr, programShort}
 use Rattle.editions.specs.Editions.{isKnown}
 use Rattle.timed_handing.specs.Timed.{printedTimed, programTimed}

@@ -2,10 +2,10 @@
 -- are the whole.
 -- Assumes nothing.
 use mathlib.Core.Path.{_≡_, sym, _∙_, ap, refl}
-use mathlib.Core.Bool.{true}
 use mathlib.Core.List.{List, [], _∷_, _++_}
 use mathlib.Core.Option.{Option, none, some}
 use Prim.Native.Nat.{ℕ, suc, _≤_, _<_, _+_}
+use native.Mathlib.Omega.{arith}
 use native.Mathlib.Numerals.{add-one}
 use lib.ListN.{length, getD, drop, drop-of-length-le}
 use lib.Seq.{drop-cons}
@@ -13,14 +13,14 @@ use Rattle.paper.specs.Procedure.{Made, only, together, step, Outcome, planned,
 use Rattle.paper.specs.Yard.{Bay, Carrier, Yard, Placement, bayOf, after}
 use Rattle.step.proofs.Settling.{stepped-of}
 use Rattle.go.specs.Going.{planOf, Linked}
-use Rattle.words.specs.Sets.{span, memRow}
+use Rattle.words.specs.Sets.{span}
 use Rattle.paper.proofs.Making.{together-assoc, together-none, none-together}
 use Rattle.moving.specs.Placed.{Placed}
 use Rattle.acting.specs.Acting.{Tabled, nothing, Tallied, Proceeds, Tries}
 use Rattle.acting.specs.declared.Tally.{Tally}
 use Rattle.acting.proofs.Acting.{tallied-none, tallied-then, tries-some, tried-done, tried-failed}
-use Rattle.step.specs.Asking.{Loopless}
-use Rattle.go.proofs.Lending.{RestLent, on-the-rest}
+use Rattle.step.specs.Asking.{Loopless, CanStep}
+use Rattle.acting.proofs.Lending.{RestLent, on-the-rest}
 use Rattle.acting.specs.declared.Tried.the-variants.{Done}
 use Rattle.acting.specs.declared.Tried.the-variants.{Failed}
 
@@ -89,11 +89,24 @@ module _ {Y : Yard} {goals : Placement} {r : Carrier} {ahead : List Bay} {n : �
 
 -- ## The links
 
-pub linked-here : (n : ℕ) (table : List ℕ) (u : Bay) (ahead : List Bay) (i : ℕ) → i < length ahead → Linked n table u (drop i ahead)
-    → (getD ahead i 0 < n) × (memRow table u (getD ahead i 0) ≡ true) × Linked n table (getD ahead i 0) (drop (i + 1) ahead)
-linked-here n table u ahead i h l = rw add-one (rw (drop-cons ahead i 0) at l)
+module _ (n : ℕ) (table : List ℕ) (r : Carrier) (p : Placement) (ahead : List Bay) (i : ℕ) (here : i < length ahead) (linked : Linked n table (bayOf p r) (drop i ahead)) where
+  linked-here : Linked n table (bayOf p r) (getD ahead i 0 ∷ drop (suc i) ahead)
+  linked-here = rw (drop-cons ahead i 0) at linked
 
-module _ {n : ℕ} {table : List ℕ} (t : Tabled n table) (most : n ≤ span) (loopless : Loopless n table) (finished : ℕ) (r : Carrier) (w : Bay) (p : Placement)
-    {standing empty : List ℕ} (k : Placed n p standing empty) (hr : r < length p) (hf : finished ≤ length p) (hw : w < n) (rail : memRow table (bayOf p r) w ≡ true) where
+  pub linked-on : Linked n table (getD ahead i 0) (drop (i + 1) ahead)
+  linked-on = rw add-one (linked-here .2)
+
+  -- the next of the bays ahead can be stepped to
+  pub can-go : r < length p → Loopless n table → CanStep n table r r (getD ahead i 0) p
+  can-go there loopless = record {
+    carrier-there = there;
+    finished-there = omega (arith, there);
+    bay-there = linked-here .0;
+    rail = linked-here .1;
+    loopless = loopless;
+  }
+
+module _ {n : ℕ} {table : List ℕ} (t : Tabled n table) (most : n ≤ span) {finished : ℕ} {r : Carrier} {w : Bay} {p : Placement} (can : CanStep n table finished r w p)
+    {standing empty : List ℕ} (k : Placed n p standing empty) where
   pub arrived : {out : List ℕ} {at b : Tally} {p′ standing′ empty′ out′ : List ℕ} → Proceeds (step (t .yard) finished r w p) n p out at p′ standing′ empty′ out′ (Done b) → bayOf p′ r ≡ w
-  arrived a = let s = tried-done (a .tries) in rw (s .2 .moved) (stepped-of t most loopless finished r w p k hr hf hw rail (s .0) (s .1) .arrives)
+  arrived a = let s = tried-done (a .tries) in rw (s .2 .moved) (stepped-of t most can k (s .0) (s .1) .arrives)

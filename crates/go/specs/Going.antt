@@ -24,19 +24,19 @@ abbrev pub planOf : Outcome → Option Made
 planOf (planned m) = some m
 planOf (stuck c) = none
 
+-- ## What is asked, what is said
+
 -- the bays ahead are linked from the carrier's own on, and the set has the finished carriers' bays
-abbrev pub GoAsks : Carrier → List Bay → (table p standing settled : List ℕ) → Type 0
-GoAsks r ahead table p standing settled =
-    (r < length p)
-    × Linked (length standing) table (getD p r 0) ahead
-    × Loopless (length standing) table
-    × (length ahead ≤ span)
-    × BaysBelow r p settled
+pub record GoAsks (r : Carrier) (ahead : List Bay) (table p standing settled : List ℕ) : Type 0 where
+  pub carrier-there : r < length p
+  pub linked : Linked (length standing) table (getD p r 0) ahead
+  pub short : length ahead ≤ span
+  pub loopless : Loopless (length standing) table
+  pub below : BaysBelow r p settled
 
 -- the paper's go, whatever the goals, and the set has the finished carriers' bays after it
-abbrev pub GoSays : Carrier → List Bay → (table p standing out p′ standing′ empty′ settled′ out′ : List ℕ) → Tried → Type 0
-GoSays r ahead table p standing out p′ standing′ empty′ settled′ out′ z =
-    Within nothing (swap-most * length ahead) z
-    × ((t : Tabled (length standing) table) (goals : List ℕ)
-    → Tries (planOf (go (t .yard) goals r ahead p)) (length standing) p out nothing p′ standing′ empty′ out′ z)
-    × BaysBelow r p′ settled′
+pub record GoSays (r : Carrier) (ahead : List Bay) (table p standing out p′ standing′ empty′ settled′ out′ : List ℕ) (z : Tried) : Type 0 where
+  pub few : Within nothing (swap-most * length ahead) z
+  pub tries : (t : Tabled (length standing) table) (goals : List ℕ)
+      → Tries (planOf (go (t .yard) goals r ahead p)) (length standing) p out nothing p′ standing′ empty′ out′ z
+  pub below : BaysBelow r p′ settled′

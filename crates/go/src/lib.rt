@@ -1,5 +1,4 @@
 // A carrier goes its path: it steps through the bays ahead, one after the other.
-use acting::Tally;
 use acting::Tried;
 use docket::Bay;
 use docket::Carrier;
@@ -21,8 +20,7 @@ fn advance(
     requires { ⌜ Ready (now table) (now placement) (now standing) (now empty) ⌝ }
     requires { ⌜ StepAsks next (now table) (now placement) (now standing) (now settled) ⌝ }
     ensures { λ z. ⌜
-        StepSettles next
-        (now (table .entry)) (now (placement .entry)) (now (standing .entry)) (now (out .entry))
+        StepSettles next (now (table .entry)) (now (placement .entry)) (now (standing .entry)) (now (out .entry))
         (now (placement .exit)) (now (standing .exit)) (now (empty .exit)) (now (settled .exit)) (now (out .exit)) z
         ⌝ }
 {
@@ -55,10 +53,7 @@ pub fn go(
         ⌝ }
 {
     let finished = r.0 as usize;
-    let mut count = Tally {
-        crossings: 0,
-        parked: 0,
-    };
+    let mut count = acting::NOTHING;
     let mut i = 0;
     while i < ahead.len() {
         let w = Bay(ahead[i]);
@@ -67,16 +62,9 @@ pub fn go(
             carrier: r,
             to: w,
         };
-        let from = clear_on::place_in(out, count.crossings);
-        let one = advance(
-            table,
-            next,
-            placement,
-            standing,
-            empty,
-            settled,
-            &mut out[from..],
-        );
+        let from = acting::place_in(out, count.crossings);
+        let rest = &mut out[from..];
+        let one = advance(table, next, placement, standing, empty, settled, rest);
         let Tried::Done(made) = one else {
             return Tried::Failed;
         };

@@ -2,8 +2,8 @@
 use mathlib.Core.Path.{_≡_, refl, sym, _∙_, ap}
 use mathlib.Core.Bool.{true, false}
 use mathlib.Core.List.{List, [], _∷_, _++_, append-nil, append-assoc}
-use mathlib.Core.Option.{none, some}
-use Prim.Native.Nat.{ℕ, suc, _+_, _-_, _*_, _≤_}
+use mathlib.Core.Option.{some}
+use Prim.Native.Nat.{ℕ, suc, _+_, _*_, _≤_}
 use native.Mathlib.Omega.{arith}
 use native.Mathlib.Nat.{mul-le-mul, add-mul}
 use lib.Dec.{eqb, ltb, leb}
@@ -11,15 +11,16 @@ use lib.ListN.{length, take, drop, length-append, take-append-drop}
 use lib.Seq.{sets}
 use borrow.Author.Tests.{eqb-true, leb-true, ne-eqb}
 use Rattle.paper.specs.Basics.{_and_, _or_, filter, concat}
-use Rattle.paper.specs.Text.{Text, text, LF, CR, join, beginsWithLF, lines, same, all, count, isDigit, value, isNumber, Read, good, badLine, readLines}
+use Rattle.paper.specs.Text.{Text, text, LF, CR, join, beginsWithLF, lines, same, all, count, isDigit, value, sized, isNumber, Read, good, badLine, readLines}
 use Rattle.paper.specs.Map.{Grid, Due, typeDue, heightDue, widthDue, mapDue, rowDue, bayLetter, wallLetter, sideAfter, isRow, mapLine, mapEnd, readMap, cells, bayCount}
-use Rattle.paper.proofs.Tests.{by-cases, by-option, and-left, and-right, not-both, never, some-when, some-from, some-same, or-neither, by-read}
+use Rattle.paper.proofs.Tests.{by-cases, by-option, and-left, and-right, never, some-when, some-from, some-same, or-neither, by-read}
+use Rattle.paper.proofs.Members.{filter-append}
+use Rattle.laws.proofs.Lines.{same-exactly}
 use Rattle.sides.specs.Letters.{letter}
 use Rattle.sides.specs.Layout.{sidesRead}
 use Rattle.stores.specs.Writing.{Wrote}
 use Rattle.gridmap.specs.Cells.{letters, numbering, Reads}
 use Rattle.gridmap.specs.declared.MapRead.the-variants as read
-use Rattle.gridmap.proofs.Numbering.{filter-append}
 use Rattle.gridmap.proofs.RailEnds.{concat-append, concat-one}
 
 -- ## Line ends have no letters
@@ -75,13 +76,6 @@ letters-lines (b ∷ bs) =
     (λ f. rw (e, f) (letters-join b bs ih)))
 
 -- ## What a line adds
-same-is : (l w : Text) → same l w ≡ true → l ≡ w
-unfolding same
-same-is [] [] h = refl
-same-is [] (c ∷ w) h = not-both h refl
-same-is (b ∷ l) [] h = not-both h refl
-same-is (b ∷ l) (c ∷ w) h = λ i. eqb-true b c (and-left (eqb b c) (same l w) h) i ∷ same-is l w (and-right (eqb b c) (same l w) h) i
-
 digit-none : (b : ℕ) → isDigit b ≡ true → letter b ≡ false
 unfolding isDigit bayLetter wallLetter
 digit-none b h =
@@ -103,24 +97,29 @@ row-all (b ∷ l) h =
     rw (and-left (letter b) (all letter l) h) (ap (λ m. b ∷ m) (row-all l (and-right (letter b) (all letter l) h)))
 
 -- what a side's line says
-record Sided (w l : Text) (n : ℕ) : Type 0 where
-  none-in : letters w ≡ [] → letters l ≡ []
-  most : n ≤ 64
+pub record Sided (w l : Text) (n : ℕ) : Type 0 where
+  pub none-in : letters w ≡ [] → letters l ≡ []
+  pub short : length l ≤ length w + 2
+  pub most : n ≤ 64
 
-sided : (w l : Text) (n : ℕ) → sideAfter w l ≡ some n → Sided w l n
-unfolding sideAfter isNumber
+pub sided : (w l : Text) (n : ℕ) → sideAfter w l ≡ some n → Sided w l n
+unfolding sideAfter isNumber sized
 sided w l n e =
-    let d = drop (length w) l in
-    let q = some-when (same (take (length w) l) w and isNumber 2 (drop (length w) l) and leb 1 (value (drop (length w) l)) and leb (value (drop (length w) l)) 64) (value (drop (length w) l)) e in
-    let a = and-left (same (take (length w) l) w and isNumber 2 (drop (length w) l) and leb 1 (value (drop (length w) l))) (leb (value (drop (length w) l)) 64) (q .0) in
-    let b = and-left (same (take (length w) l) w and isNumber 2 (drop (length w) l)) (leb 1 (value (drop (length w) l))) a in
-    let most : value (drop (length w) l) ≤ 64 = leb-true _ _ (and-right (same (take (length w) l) w and isNumber 2 (drop (length w) l) and leb 1 (value (drop (length w) l))) (leb (value (drop (length w) l)) 64) (q .0)) in
+    let rest = drop (length w) l in
+    let q = some-when (same (take (length w) l) w and isNumber 2 rest and leb 1 (value rest) and leb (value rest) 64) (value rest) e in
+    let b = and-left _ _ (and-left _ _ (q .0)) in
+    let begins : take (length w) l ≡ w = same-exactly (take (length w) l) w .0 (and-left _ _ b) in
+    let number = and-right _ _ b in
+    let few : length rest ≤ 2 = leb-true _ _ (and-right _ _ (and-left _ _ number)) in
+    let whole : length (take (length w) l) + length rest ≡ length l = sym (length-append (take (length w) l) rest) ∙ ap length (take-append-drop (length w) l) in
+    let most : value rest ≤ 64 = leb-true _ _ (and-right _ _ (q .0)) in
     record {
       none-in = λ z.
           ap letters (sym (take-append-drop (length w) l))
-          ∙ filter-append letter (take (length w) l) (drop (length w) l)
-          ∙ ap (λ m. m ++ letters (drop (length w) l)) (ap letters (same-is (take (length w) l) w (and-left (same (take (length w) l) w) (isNumber 2 (drop (length w) l)) b)) ∙ z)
-          ∙ digits-none (drop (length w) l) (and-right _ _ (and-right (same (take (length w) l) w) (isNumber 2 (drop (length w) l)) b));
+          ∙ filter-append letter (take (length w) l) rest
+          ∙ ap (λ m. m ++ letters rest) (ap letters begins ∙ z)
+          ∙ digits-none rest (and-right _ _ number);
+      short = omega (arith, ap length begins);
       most = omega (arith, q .1);
     }
 
@@ -183,7 +182,7 @@ adds : (d : Due) (l : Text) (d′ : Due) → mapLine d l ≡ some d′ → Adds 
 unfolding mapLine
 adds typeDue l d′ e =
     let q = some-when (same l (text "type octile")) heightDue e in
-    rw (← q .1) (adds-none typeDue heightDue l concat-none concat-none (ap letters (same-is l (text "type octile") (q .0)) ∙ type-none) (λ f. tt))
+    rw (← q .1) (adds-none typeDue heightDue l concat-none concat-none (ap letters (same-exactly l (text "type octile") .0 (q .0)) ∙ type-none) (λ f. tt))
 adds heightDue l d′ e =
     let q = some-from widthDue (sideAfter (text "height ") l) e in
     let s = sided (text "height ") l (q .0) (q .1) in
@@ -196,7 +195,7 @@ adds (widthDue h) l d′ e =
     rw (← g) (adds-none (widthDue h) (mapDue h (q .0)) l concat-none concat-none (s .none-in width-none) (λ f. (f, s .most)))
 adds (mapDue h w) l d′ e =
     let q = some-when (same l (text "map")) (rowDue h w []) e in
-    rw (← q .1) (adds-none (mapDue h w) (rowDue h w []) l concat-none concat-none (ap letters (same-is l (text "map") (q .0)) ∙ map-none) (λ f. (f .0, (f .1, rw concat-none (omega arith)))))
+    rw (← q .1) (adds-none (mapDue h w) (rowDue h w []) l concat-none concat-none (ap letters (same-exactly l (text "map") .0 (q .0)) ∙ map-none) (λ f. (f .0, (f .1, rw concat-none (omega arith)))))
 adds (rowDue h w rs) l d′ e =
     let q = some-when (ltb (length rs) h and isRow w l) (rowDue h w (rs ++ (l ∷ []))) e in
     rw (← q .1) (adds-row h w rs l (and-right (ltb (length rs) h) (isRow w l) (q .0)))

@@ -2,7 +2,7 @@
 use mathlib.Core.Path.{_≡_, refl, sym, _∙_, ap}
 use mathlib.Core.Bool.{Bool, true, false}
 use mathlib.Core.List.{List, [], _∷_, _++_, append-nil}
-use Prim.Native.Nat.{ℕ, _+_, _-_, _≤_, _<_}
+use Prim.Native.Nat.{ℕ, _+_, _≤_, _<_}
 use native.Mathlib.Omega.{arith}
 use native.Mathlib.Numerals.{add-one}
 use lib.ListN.{length, set, take, drop, getD, length-append, take-append-drop}
@@ -11,15 +11,11 @@ use Rattle.paper.specs.Basics.{filter}
 use Rattle.paper.specs.Text.{Text, count}
 use Rattle.paper.specs.Map.{bayLetter}
 use Rattle.paper.proofs.Tests.{by-cases}
+use Rattle.paper.proofs.Members.{filter-append}
 use Rattle.sides.specs.Letters.{letter}
 use Rattle.stores.specs.Writing.{Wrote}
 use Rattle.stores.proofs.Stores.{wrote-one}
 use Rattle.gridmap.specs.Cells.{letters, markOf, countWith, numbering}
-
-pub filter-append : (q : ℕ → Bool) (a b : Text) → filter q (a ++ b) ≡ filter q a ++ filter q b
-unfolding filter
-filter-append q [] b = refl
-filter-append q (x ∷ a) b = rw (filter-append q a b) (by-cases (q x) (λ e. rw e) (λ e. rw e))
 
 filter-one : (q : ℕ → Bool) (x : ℕ) → q x ≡ true → filter q (x ∷ []) ≡ x ∷ []
 unfolding filter

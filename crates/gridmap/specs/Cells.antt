@@ -7,7 +7,7 @@ use Prim.Native.Nat.{ℕ, zero, suc, _+_, _-_, _*_, _%_}
 use lib.Dec.{eqb, ltb}
 use lib.ListN.{getD}
 use lib.Seq.{sets}
-use Rattle.paper.specs.Basics.{if_then_else_, _or_, filter, concat, upTo}
+use Rattle.paper.specs.Basics.{if_then_else_, filter, concat, upTo}
 use Rattle.paper.specs.Yard.{Bay}
 use Rattle.paper.specs.Text.{Text, Read, good, badLine}
 use Rattle.paper.specs.Map.{Grid, bayLetter, readMap, cells, bayCount}

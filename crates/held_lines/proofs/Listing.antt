@@ -11,9 +11,10 @@ use Rattle.paper.specs.Basics.{upTo}
 use Rattle.paper.specs.Limits.{most-bays}
 use Rattle.paper.specs.Yard.{Carrier, Crossing}
 use Rattle.paper.specs.Dependence.{doneOf, countOf}
+use Rattle.paper.proofs.Reach.{count-length}
 use Rattle.bills.specs.Billing.{noLine, untouched, lastDone, linesOf, lineOf}
 use Rattle.bills.specs.declared.Line.{Line}
-use Rattle.bills.proofs.Stepping.{count-at, count-long, line-at, lines-long, line-parts}
+use Rattle.bills.proofs.Stepping.{count-at, line-at, lines-long, line-parts}
 use Rattle.held_lines.specs.Lines.{noLines, heldOf, topOf, listed, gathered}
 use Rattle.held_lines.proofs.Laid.{readTo, none-read, one-more-read, all-read}
 
@@ -22,7 +23,7 @@ module _ (k : ℕ) (billed last : List ℕ) where
   lineFor c = record { carrier = c; billed = getD billed c 0; last = getD last c 0 }
 
   pub listed-long : length (listed k billed last) ≡ k
-  listed-long = length-map (upTo k) lineFor ∙ count-long 0 k
+  listed-long = length-map (upTo k) lineFor ∙ count-length 0 k
 
   pub listed-at : (c : Carrier) → c < k → getD (listed k billed last) c noLine ≡ lineFor c
   listed-at c h = count-at lineFor 0 k c noLine h ∙ ap lineFor (omega arith)

@@ -22,7 +22,7 @@ use Rattle.acting.specs.declared.Tally.{Tally}
 use Rattle.acting.proofs.Acting.{tallied-none, tallied-then, tried-done, tried-failed}
 use Rattle.step.specs.Asking.{Loopless}
 use Rattle.go.specs.Going.{Linked}
-use Rattle.go.proofs.Lending.{RestLent, on-the-rest}
+use Rattle.acting.proofs.Lending.{RestLent, on-the-rest}
 use Rattle.home.proofs.Settling.{Settled, Homeward, due, homed}
 use Rattle.acting.specs.declared.Tried.the-variants.{Done}
 use Rattle.acting.specs.declared.Tried.the-variants.{Failed}

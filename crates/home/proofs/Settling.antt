@@ -23,7 +23,7 @@ use Rattle.paper.proofs.Tests.{by-cases, not-both, and-left, and-right, and-bot
 use Rattle.words.specs.Sets.{span, memRow}
 use Rattle.moving.specs.Placed.{Placed}
 use Rattle.acting.specs.Acting.{Tabled}
-use Rattle.step.specs.Asking.{Loopless}
+use Rattle.step.specs.Asking.{Loopless, CanStep}
 use Rattle.go.specs.Going.{Linked}
 use Rattle.step.proofs.Settling.{stepped-of}
 
@@ -105,7 +105,14 @@ module _ (goals : Placement) (goals-apart : Apart goals) (finished : ℕ) (hf : 
         let low : whose < finished = ltb-true whose finished (and-left _ _ e) in
         let away : eqb (bayOf p whose) v ≡ false = not-true (eqb (bayOf p whose) v) (and-right _ _ e) in
         let rail = due n table linked .beside low (eqb-false (bayOf p whose) v away) in
-        let s = stepped-of t most loopless finished whose v p k (omega arith) (omega arith) hv rail m (or-stop whose (step (t .yard) finished whose v p) m (rw e at h)) in
+        let can : CanStep n table finished whose v p = record {
+          carrier-there = omega (arith, low, hf, len);
+          finished-there = omega (arith, hf, len);
+          bay-there = hv;
+          rail = rail;
+          loopless = loopless;
+        } in
+        let s = stepped-of t most can k m (or-stop whose (step (t .yard) finished whose v p) m (rw e at h)) in
         still (after p (m .moves))
         (λ c j ne. ⊎-elim (λ i. i) (λ i. absurd (nobody-else c j ne (i .0))) (s .others c j ne))
         (λ j. s .arrives))

@@ -43,21 +43,17 @@ pub record Due (table : List ℕ) (c finished : ℕ) (v : Bay) (p : Placement) :
 -- ## What is asked, what is said
 
 -- a finished carrier whose goal is the bay is due, and the set has the finished carriers' bays
-abbrev pub HomeAsks : HomeBay → (owner table p standing settled : List ℕ) → Type 0
-HomeAsks home owner table p standing settled =
-    (home .finished ≤ length p)
-    × (home .bay .0 < length standing)
-    × (length standing ≤ length owner)
-    × Loopless (length standing) table
-    × Due table (getD owner (home .bay .0) 0) (home .finished) (home .bay .0) p
-    × BaysBelow (home .finished) p settled
+pub record HomeAsks (home : HomeBay) (owner table p standing settled : List ℕ) : Type 0 where
+  pub finished-there : home .finished ≤ length p
+  pub bay-there : home .bay .0 < length standing
+  pub owner-size : length standing ≤ length owner
+  pub loopless : Loopless (length standing) table
+  pub due : Due table (getD owner (home .bay .0) 0) (home .finished) (home .bay .0) p
+  pub below : BaysBelow (home .finished) p settled
 
 -- the paper's stage at the bay, for all goals whose owners these are, and the set has the finished carriers' bays after it
-abbrev pub HomeSays : HomeBay → (owner table p standing out p′ standing′ empty′ settled′ out′ : List ℕ) → Staged → Type 0
-HomeSays home owner table p standing out p′ standing′ empty′ settled′ out′ z =
-    AtMost swap-most z
-    × ((t : Tabled (length standing) table) (goals : Placement)
-    → home .finished ≤ length goals
-    → Owners (length standing) goals owner
-    → Stages (homeAt (t .yard) goals (home .finished) (home .bay .0) p) (length standing) p out nothing p′ standing′ empty′ out′ z)
-    × BaysBelow (home .finished) p′ settled′
+pub record HomeSays (home : HomeBay) (owner table p standing out p′ standing′ empty′ settled′ out′ : List ℕ) (z : Staged) : Type 0 where
+  pub at-most : AtMost swap-most z
+  pub stages : (t : Tabled (length standing) table) (goals : Placement) → home .finished ≤ length goals → Owners (length standing) goals owner
+      → Stages (homeAt (t .yard) goals (home .finished) (home .bay .0) p) (length standing) p out nothing p′ standing′ empty′ out′ z
+  pub below : BaysBelow (home .finished) p′ settled′

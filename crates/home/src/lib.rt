@@ -33,8 +33,7 @@ pub fn home_at(
     requires { ⌜ Ready (now table) (now placement) (now standing) (now empty) ⌝ }
     requires { ⌜ HomeAsks home (now owner) (now table) (now placement) (now standing) (now settled) ⌝ }
     ensures { λ z. ⌜
-        HomeSays home (now (owner .entry))
-        (now (table .entry)) (now (placement .entry)) (now (standing .entry)) (now (out .entry))
+        HomeSays home (now (owner .entry)) (now (table .entry)) (now (placement .entry)) (now (standing .entry)) (now (out .entry))
         (now (placement .exit)) (now (standing .exit)) (now (empty .exit)) (now (settled .exit)) (now (out .exit)) z
         ⌝ }
 {
@@ -62,9 +61,5 @@ pub fn home_at(
     let Tried::Done(done) = one else {
         return Staged::Stuck(f);
     };
-    let made = Tally {
-        crossings: done.crossings,
-        parked: done.parked,
-    };
-    Staged::Planned(made)
+    Staged::Planned(done)
 }

@@ -19,11 +19,12 @@ use Rattle.paper.proofs.Tests.{by-cases, not-both, never}
 use Rattle.words.specs.Sets.{mem, span, Lowest}
 use Rattle.moving.specs.Placed.{Placed, Unchanged}
 use Rattle.docket.specs.declared.Bay.{Bay as Numbered}
-use Rattle.acting.specs.Acting.{Tallied, Acts}
+use Rattle.acting.specs.Acting.{nothing, Added, Tallied, Acts}
 use Rattle.acting.specs.declared.Tally.{Tally}
 use Rattle.acting.specs.declared.Tried.the-variants.{Done, Failed}
 use Rattle.acting.proofs.Acting.{tallied-none, acted-done, acted-failed}
-use Rattle.keeping.specs.Keeping.{Stuck, KeepsOne, KeepsNone, TwoBy, KeptAlone, Clears, from}
+use Rattle.acting.proofs.Lending.{RestLent, on-the-rest}
+use Rattle.keeping.specs.Keeping.{Stuck, KeepsOne, KeepsNone, TwoBy, KeptAlone, Clears, After, from}
 use Rattle.keeping.specs.declared.Two.{Two}
 use Rattle.keeping.specs.declared.Two.the-variants.{Both, Single, Short}
 
@@ -33,9 +34,9 @@ same-again s a =
     let u = a .fails (acted-failed a) .1 in
     record { same-placement = u .same-placement ∙ s .same-placement; same-standing = u .same-standing ∙ s .same-standing; same-empty = u .same-empty ∙ s .same-empty; same-list = u .same-list ∙ s .same-list }
 
-pub unchanged-played : {n : ℕ} {p standing empty out p′ standing′ empty′ out′ : List ℕ} {at : Tally} → Placed n p standing empty → Unchanged p standing empty out p′ standing′ empty′ out′
-    → Tallied (only []) n p p′ standing′ empty′ out at out′ at
-unchanged-played {n} {p} {standing} {empty} {out} {at = at} k s = rw (s .same-placement, s .same-standing, s .same-empty, s .same-list) (tallied-none n p standing empty out at k)
+pub unchanged-played : {n : ℕ} {p standing empty out p′ standing′ empty′ out′ : List ℕ} → Placed n p standing empty → Unchanged p standing empty out p′ standing′ empty′ out′
+    → Tallied (only []) n p p′ standing′ empty′ out nothing out′ nothing
+unchanged-played {n} {p} {standing} {empty} {out} k s = rw (s .same-placement, s .same-standing, s .same-empty, s .same-list) (tallied-none n p standing empty out nothing k)
 
 pub stuck-none : (Y : Yard) (held : List Bay) (others : List ℕ) (a x : ℕ) (p : Placement) → Lowest (mem others) a span x → Stuck Y held others a x p
 stuck-none Y held others a x p l y h k m = not-both m (l .before y h k)
@@ -50,9 +51,9 @@ stuck-more Y held others a x x′ p s e l y h k m = elim (decLt y x) [
   ]
 ]
 
-pub keeps-here : {Y : Yard} {held : List Bay} {others : List ℕ} {a x n : ℕ} {p standing empty out q standing₁ empty₁ out₁ p′ standing′ empty′ out′ : List ℕ} {at m : Tally}
+pub keeps-here : {Y : Yard} {held : List Bay} {others : List ℕ} {a x n : ℕ} {p standing empty out q standing₁ empty₁ out₁ p′ standing′ empty′ out′ : List ℕ} {m : Tally}
     → a ≤ x → x < n → mem others x ≡ true → Stuck Y held others a x p → Unchanged p standing empty out q standing₁ empty₁ out₁
-    → Acts (vacate Y held x q) n q standing₁ empty₁ out₁ at p′ standing′ empty′ out′ (Done m) → KeepsOne Y held others a n p out at p′ standing′ empty′ out′ x m
+    → Acts (vacate Y held x q) n q standing₁ empty₁ out₁ nothing p′ standing′ empty′ out′ (Done m) → KeepsOne Y held others a n p out p′ standing′ empty′ out′ x m
 keeps-here h k o s same acts =
     let d = acted-done (rw (same .same-placement, same .same-list) at acts) in
     record {
@@ -65,39 +66,77 @@ keeps-here h k o s same acts =
       played = d .2;
     }
 
-pub two-short : (at : Tally) (k : ℕ) → TwoBy at k Short
-two-short at k = record { few = λ x y m e. never (cc); single = λ x m e. never (cc) }
+pub two-short : (k : ℕ) → TwoBy k Short
+two-short k = record { few = λ x y m e. never (cc); single = λ x m e. never (cc) }
 
-pub two-both : {at : Tally} {k : ℕ} {m : Tally} {x y : Numbered} → x .0 < span → y .0 < span → m .crossings ≤ at .crossings + k → at .crossings ≤ m .crossings → TwoBy at k (Both x y m)
-two-both {at} {k} {m} {x} {y} hx hy h l = record {
+pub two-both : {k : ℕ} {m : Tally} {x y : Numbered} → x .0 < span → y .0 < span → m .crossings ≤ k → TwoBy k (Both x y m)
+two-both {k} {m} {x} {y} hx hy h = record {
   few = λ u v w e.
       let a : x ≡ u = cc in
       let b : y ≡ v = cc in
       let c : m ≡ w = cc in
-      (rw a at hx, rw b at hy, rw c at h, rw c at l);
+      (rw a at hx, rw b at hy, rw c at h);
   single = λ u w e. never (cc);
 }
 
-pub two-single : {at : Tally} {k : ℕ} {m : Tally} {x : Numbered} → x .0 < span → m .crossings ≤ at .crossings + k → at .crossings ≤ m .crossings → TwoBy at k (Single x m)
-two-single {at} {k} {m} {x} hx h l = record {
+pub two-single : {k : ℕ} {m : Tally} {x : Numbered} → x .0 < span → m .crossings ≤ k → TwoBy k (Single x m)
+two-single {k} {m} {x} hx h = record {
   few = λ u v w e. never (cc);
   single = λ u w e.
       let a : x ≡ u = cc in
       let c : m ≡ w = cc in
-      (rw a at hx, rw c at h, rw c at l);
+      (rw a at hx, rw c at h);
 }
 
--- counted from an earlier count
-pub two-from : {at m : Tally} {k : ℕ} {r : Two} (d : ℕ) → at .crossings ≤ m .crossings → m .crossings ≤ at .crossings + d → TwoBy m k r → TwoBy at (d + k) r
-two-from d l h b = record {
-  few = λ x y k e. let f = b .few x y k e in (f .0, f .1, omega (arith, f .2), omega (arith, f .3));
-  single = λ x k e. let f = b .single x k e in (f .0, omega (arith, f .1), omega (arith, f .2));
-}
-
-pub two-within : {at : Tally} {k d : ℕ} {r : Two} → k ≤ d → TwoBy at k r → TwoBy at d r
+pub two-within : {k d : ℕ} {r : Two} → k ≤ d → TwoBy k r → TwoBy d r
 two-within h b = record {
-  few = λ x y k e. let f = b .few x y k e in (f .0, f .1, omega (arith, f .2), f .3);
-  single = λ x k e. let f = b .single x k e in (f .0, omega (arith, f .1), f .2);
+  few = λ x y k e. let f = b .few x y k e in (f .0, f .1, omega (arith, h, f .2));
+  single = λ x k e. let f = b .single x k e in (f .0, omega (arith, h, f .1));
+}
+
+-- ## After so much was made
+
+pub after-both : {made more sum : Tally} {x y : Numbered} → Added made more sum → After made (Both x y more) (Both x y sum)
+after-both {more = more} {sum = sum} {x = x} {y = y} a = record {
+  both = λ u v w e.
+      let d : x ≡ u = cc in
+      let f : y ≡ v = cc in
+      let k : sum ≡ w = cc in
+      (more, rw (d, f), rw k at a);
+  single = λ u w e. never (cc);
+  short = λ e. never (cc);
+}
+
+pub after-single : {made more sum : Tally} {x : Numbered} → Added made more sum → After made (Single x more) (Single x sum)
+after-single {more = more} {sum = sum} {x = x} a = record {
+  both = λ u v w e. never (cc);
+  single = λ u w e.
+      let d : x ≡ u = cc in
+      let k : sum ≡ w = cc in
+      (more, rw d, rw k at a);
+  short = λ e. never (cc);
+}
+
+pub after-short : {made : Tally} → After made Short Short
+after-short = record { both = λ u v w e. never (cc); single = λ u w e. never (cc); short = λ e. refl }
+
+pub two-after : {made : Tally} {d k : ℕ} {rest r : Two} → made .crossings ≤ d → TwoBy k rest → After made rest r → TwoBy (d + k) r
+two-after h b a = record {
+  few = λ x y sum e. let s = a .both x y sum e in let f = b .few x y (s .0) (s .1) in (f .0, f .1, omega (arith, h, f .2, s .2 .crossings));
+  single = λ x sum e. let s = a .single x sum e in let f = b .single x (s .0) (s .1) in (f .0, omega (arith, h, f .1, s .2 .crossings));
+}
+
+-- what was kept in the rest of the list stands in the whole
+pub clears-after : {c : Cleared} {n : ℕ} {p lent p′ standing′ empty′ log out out′ : List ℕ} {made : Tally} {rest r : Two}
+    → ((more sum : Tally) → Added made more sum → RestLent out made log more out′ sum) → Clears c n p lent nothing p′ standing′ empty′ log rest → After made rest r
+    → Clears c n p out made p′ standing′ empty′ out′ r
+clears-after l h a = record {
+  both = λ x y sum e. let s = a .both x y sum e in let k = h .both x y (s .0) (s .1) in (k .0, on-the-rest (l (s .0) sum (s .2)) (k .1));
+  single = λ x sum e.
+      let s = a .single x sum e in
+      let k = h .single x (s .0) (s .1) in
+      record { kept = k .kept; low = k .low; free = k .free; played = on-the-rest (l (s .0) sum (s .2)) (k .played) };
+  short = λ e. h .short (a .short e);
 }
 
 pub clears-two : {c : Cleared} {n : ℕ} {p out : List ℕ} {at : Tally} {p′ standing′ empty′ out′ : List ℕ} {x y : Numbered} {m : Tally} → c .kept ≡ x .0 ∷ y .0 ∷ [] → Tallied (c .made) n p p′ standing′ empty′ out at out′ m
@@ -169,18 +208,18 @@ clearing-full Y v b x y [] p = refl
 clearing-full Y v b x y (z ∷ xs) p = refl
 
 -- the second bay kept
-pub second-both : {Y : Yard} {v b : Bay} {x y : Numbered} {others : List ℕ} {a n : ℕ} {p out p′ standing′ empty′ out′ : List ℕ} {at m : Tally}
-    → KeepsOne Y (clearingHeld v b (x .0 ∷ [])) others a n p out at p′ standing′ empty′ out′ (y .0) m
-    → Clears (clearing Y v b (x .0 ∷ []) (from (mem others) a n) p) n p out at p′ standing′ empty′ out′ (Both x y m)
+pub second-both : {Y : Yard} {v b : Bay} {x y : Numbered} {others : List ℕ} {a n : ℕ} {p out p′ standing′ empty′ out′ : List ℕ} {m : Tally}
+    → KeepsOne Y (clearingHeld v b (x .0 ∷ [])) others a n p out p′ standing′ empty′ out′ (y .0) m
+    → Clears (clearing Y v b (x .0 ∷ []) (from (mem others) a n) p) n p out nothing p′ standing′ empty′ out′ (Both x y m)
 second-both {Y} {v} {b} {x} {y} {others} {a} {n} {p} k =
     let e : clearing Y v b (x .0 ∷ []) (from (mem others) a n) p ≡ record { made = together (k .made) (only []); kept = x .0 ∷ y .0 ∷ [] } =
     clearing-one Y v b (x .0 ∷ []) (omega arith) (mem others) p a n (y .0) (k .made) (k .above) (k .low) (k .other) (k .stuck) (k .vacated)
     ∙ ap (following (k .made)) (clearing-full Y v b (x .0) (y .0) (from (mem others) (y .0 + 1) n) (after p (k .made .moves))) in
     clears-two (ap (λ (c : Cleared). c .kept) e) (rw (ap (λ (c : Cleared). c .made) e ∙ together-none (k .made)) (k .played))
 
-pub second-single : {Y : Yard} {v b : Bay} {x : Numbered} {others : List ℕ} {a n : ℕ} {p out p′ standing′ empty′ out′ : List ℕ} {at : Tally} → a ≤ n → n ≤ span → x .0 < n → Out (x .0) p
-    → KeepsNone Y (v ∷ b ∷ x .0 ∷ []) others a n p out at p′ standing′ empty′ out′
-    → Clears (clearing Y v b (x .0 ∷ []) (from (mem others) a n) p) n p out at p′ standing′ empty′ out′ (Single x at)
+pub second-single : {Y : Yard} {v b : Bay} {x : Numbered} {others : List ℕ} {a n : ℕ} {p out p′ standing′ empty′ out′ : List ℕ} → a ≤ n → n ≤ span → x .0 < n → Out (x .0) p
+    → KeepsNone Y (v ∷ b ∷ x .0 ∷ []) others a n p out p′ standing′ empty′ out′
+    → Clears (clearing Y v b (x .0 ∷ []) (from (mem others) a n) p) n p out nothing p′ standing′ empty′ out′ (Single x nothing)
 unfolding after
 second-single {Y} {v} {b} {x} {others} {a} {n} {p} h most low o k =
     let e : clearing Y v b (x .0 ∷ []) (from (mem others) a n) p ≡ record { made = only []; kept = x .0 ∷ [] } =

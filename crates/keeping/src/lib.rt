@@ -2,86 +2,69 @@
 use acting::Tally;
 use acting::Tried;
 use docket::Bay;
-ghost use mathlib.Core.Path.{_≡_};
-ghost use Prim.Native.Nat.{_≤_, _<_};
-ghost use lib.ListN.{length};
-ghost use Rattle.paper.specs.Basics.{Out};
-ghost use Rattle.words.specs.Sets.{words, span};
-ghost use Rattle.rings.specs.Search.{Shown};
-ghost use Rattle.moving.specs.Bounds.{room-vacate};
-ghost use Rattle.acting.specs.Acting.{Ready, HoldsTwo};
-ghost use Rattle.keeping.specs.Keeping.{Among, KeepSays, KeepSecondSays};
+ghost use Rattle.acting.specs.Acting.{Ready};
+ghost use Rattle.keeping.specs.Keeping.{After, AfterAsks, KeepAsks, KeepSays, KeepSecondAsks, KeepSecondSays};
 
-// One more bay that is kept, with the tally afterwards.
+// One more bay that is kept, with what was made for it.
 pub enum Kept {
     One(Bay, Tally),
     Nothing,
 }
 
-// The two bays that are kept, or the only one, with the tally afterwards; or none is.
+// The two bays that are kept, or the only one, with what was made for them; or none is.
 pub enum Two {
     Both(Bay, Bay, Tally),
     Single(Bay, Tally),
     Short,
 }
 
-// A round through the others: from which bay on, and the tally before it.
-pub struct Round {
-    pub from: usize,
-    pub at: Tally,
-}
-
-// The bay that is kept first, and the round in which a second is looked for.
+// The bay that is kept first, and from which bay on a second one is looked for.
 pub struct First {
     pub kept: Bay,
-    pub round: Round,
+    pub from: usize,
 }
 
-// The first of the others in the round that can be vacated is vacated.
+// The bays kept by what is lent the rest of the list, after so much was made.
+pub fn after(made: Tally, rest: Two) -> Two
+    requires { ⌜ AfterAsks made rest ⌝ }
+    ensures { λ r. ⌜ After made rest r ⌝ }
+{
+    match rest {
+        Two::Both(x, y, more) => Two::Both(x, y, acting::add(made, more)),
+        Two::Single(x, more) => Two::Single(x, acting::add(made, more)),
+        Two::Short => Two::Short,
+    }
+}
+
+// The first of the others from a bay on that can be vacated is vacated.
 pub fn keep_one(
     table: &[u64],
     others: &[u64],
     held: &[u64],
-    round: Round,
+    from: usize,
     placement: &mut [u16],
     standing: &mut [u16],
     empty: &mut [u64],
     out: &mut [u64],
 ) -> Kept
     requires { ⌜ Ready (now table) (now placement) (now standing) (now empty) ⌝ }
-    requires { ⌜
-        (length (now others) ≡ words)
-        × (length (now held) ≡ words)
-        × (round .from ≤ span)
-        × Among (length (now standing)) (now others)
-        × (round .at .crossings < room-vacate)
-        × Shown (length (now standing)) (now table) (now held)
-        ⌝ }
+    requires { ⌜ KeepAsks (now table) (now others) (now held) from (now standing) ⌝ }
     ensures { λ r. ⌜
-        KeepSays (now (table .entry)) (now (others .entry)) (now (held .entry)) round
+        KeepSays (now (table .entry)) (now (others .entry)) (now (held .entry)) from
         (now (placement .entry)) (now (standing .entry)) (now (out .entry))
         (now (placement .exit)) (now (standing .exit)) (now (empty .exit)) (now (out .exit)) r
         ⌝ }
 {
-    let mut x = words::next_from(others, round.from);
+    let mut x = words::next_from(others, from);
     while x < words::SPAN {
         let bay = Bay(x as u16);
-        let vacated = acting::make_room(
-            table,
-            held,
-            bay,
-            placement,
-            standing,
-            empty,
-            out,
-            round.at,
-        );
+        let vacated = acting::make_room(table, held, bay, placement, standing, empty, out);
         if let Tried::Done(done) = vacated {
-            let m = Tally {
+            let made = Tally {
                 crossings: done.crossings,
                 parked: done.parked,
             };
-            return Kept::One(bay, m);
+            return Kept::One(bay, made);
         }
         x = words::next_from(others, x + 1);
     }
@@ -100,16 +83,7 @@ pub fn keep_second(
     out: &mut [u64],
 ) -> Two
     requires { ⌜ Ready (now table) (now placement) (now standing) (now empty) ⌝ }
-    requires { ⌜
-        (length (now others) ≡ words)
-        × (length (now held) ≡ words)
-        × (first .round .from ≤ length (now standing))
-        × (first .kept .0 < length (now standing))
-        × Among (length (now standing)) (now others)
-        × (first .round .at .crossings < room-vacate)
-        × HoldsTwo (now held)
-        × Out (first .kept .0) (now placement)
-        ⌝ }
+    requires { ⌜ KeepSecondAsks (now others) (now held) first (now placement) (now standing) ⌝ }
     ensures { λ r. ⌜
         KeepSecondSays (now (table .entry)) (now (others .entry)) (now (held .entry)) first
         (now (placement .entry)) (now (standing .entry)) (now (out .entry))
@@ -122,15 +96,14 @@ pub fn keep_second(
         table,
         others,
         held,
-        first.round,
+        first.from,
         placement,
         standing,
         empty,
         out,
     );
     let Kept::One(y, m) = second else {
-        let at = first.round.at;
-        return Two::Single(x, at);
+        return Two::Single(x, acting::NOTHING);
     };
     Two::Both(x, y, m)
 }

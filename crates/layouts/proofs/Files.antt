@@ -7,8 +7,8 @@ use mathlib.Core.Option.{Option, none, some}
 use Prim.Native.Nat.{ℕ, zero, suc, _+_, _≤_}
 use native.Mathlib.Omega.{arith}
 use Rattle.paper.specs.Text.{Text, good, badLine, readLines}
-use Rattle.paper.proofs.Tests.{by-option, never-some, never, good-same, bad-same, not-good}
-use Rattle.layouts.specs.Files.{Kept, Whole, FirstBadLine}
+use Rattle.paper.proofs.Tests.{by-option, never-some, good-same, bad-same, not-good}
+use Rattle.layouts.specs.Files.{AllKeep, Whole, FirstBadLine}
 
 module _ {A R : Type 0} (line : A → Text → Option A) (end : A → Option R)
     (Keeps : A → Text → A → Type 0) (Ends : A → R → Type 0)
@@ -39,7 +39,7 @@ module _ {A R : Type 0} (line : A → Text → Option A) (end : A → Option R)
       (λ e. not-good (sym (rw e at h)))
       (λ b e. let w = read-whole (suc n) b ls r (rw e at h) in (w .0, (b, keeps a l b .0 e, w .1), w .2))
 
-  whole-read : (n : ℕ) (a : A) (ls : List Text) (r : R) (b : A) → Kept Keeps Ends a ls b → Ends b r → readLines line end n a ls ≡ good r
+  whole-read : (n : ℕ) (a : A) (ls : List Text) (r : R) (b : A) → AllKeep Keeps Ends a ls b → Ends b r → readLines line end n a ls ≡ good r
   unfolding readLines
   whole-read n a [] r b k e = let z : end a ≡ some r = ends a r .1 (rw k e) in rw z
   whole-read n a (l ∷ ls) r b k e =

@@ -11,13 +11,14 @@ use lib.Seq.{take-append-seam, drop-append-seam}
 use borrow.Author.Tests.{ltb-true, lt-ltb, leb-true, le-leb, eqb-true, eq-eqb}
 use Rattle.paper.specs.Basics.{_and_, _or_, _>>=_, when}
 use Rattle.paper.specs.Yard.{Bay}
-use Rattle.paper.specs.Text.{Text, text, lines, same, all, value, isNumber, good, badLine}
+use Rattle.paper.specs.Text.{Text, text, lines, same, value, isNumber, good, badLine}
 use Rattle.paper.specs.Map.{most-side, sideAfter, bayLetter, wallLetter, isRow, Grid, Due, typeDue, heightDue, widthDue, mapDue, rowDue, mapLine, mapEnd, readMap, cells, bayAt, numberAt, bayIn}
 use Rattle.paper.proofs.Tests.{and-left, and-right, and-both, or-left, or-right, or-cases, some-when, some-from, never-some}
+use Rattle.laws.proofs.Lines.{same-exactly}
 use Rattle.layouts.specs.Files.{Whole, FirstBadLine}
 use Rattle.layouts.specs.Words.{Side, BayLetter, WallLetter, at, O, T, W, RowOf, KeepsMap, EndsMap, BayAt}
 use Rattle.layouts.proofs.Files.{good-exactly, bad-exactly, bad-from-one}
-use Rattle.layouts.proofs.Words.{same-exactly, all-exactly, number-exactly}
+use Rattle.layouts.proofs.Words.{all-exactly, number-exactly}
 
 -- ## Letters and rows
 

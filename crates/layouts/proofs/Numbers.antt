@@ -1,6 +1,6 @@
 -- "numbered row by row": a bay's number is the number of bays before its cell, so numbers rise from cell to cell, and every number below the bay count is one cell's.
 use mathlib.Core.Path.{_≡_, refl, sym, _∙_, ap}
-use mathlib.Core.Bool.{true, false}
+use mathlib.Core.Bool.{true}
 use mathlib.Core.List.{List, [], _∷_}
 use mathlib.Core.Logic.{_⊎_, ⊎-elim}
 use mathlib.Core.Option.{some}

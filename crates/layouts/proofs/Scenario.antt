@@ -5,20 +5,21 @@ use mathlib.Core.List.{List, [], _∷_, _++_}
 use mathlib.Core.Logic.{_↔_, _⊎_, inl, inr, ⊎-elim}
 use mathlib.Core.Option.{Option, some}
 use Prim.Native.Nat.{ℕ, suc, _≤_}
-use lib.Dec.{eqb, ltb, leb}
+use lib.Dec.{ltb}
 use lib.ListN.{length, getD}
 use borrow.Author.Tests.{ltb-true, lt-ltb, leb-true, le-leb, eqb-true, eq-eqb}
-use Rattle.paper.specs.Basics.{_and_, _or_, when, any}
+use Rattle.paper.specs.Basics.{_or_}
 use Rattle.paper.specs.Limits.{most-carriers}
 use Rattle.paper.specs.Yard.{Bay}
-use Rattle.paper.specs.Text.{Text, text, TAB, lines, split, same, all, isDigit, isPoint, value, sized, good, badLine}
+use Rattle.paper.specs.Text.{Text, text, TAB, lines, split, same, isDigit, isPoint, value, good, badLine}
 use Rattle.paper.specs.Scenario.{isLength, Listed, versionDue, carriers, nineFields, startAndGoal, carrierLine, scenarioLine, scenarioEnd, readScenario}
-use Rattle.paper.proofs.Tests.{by-cases, by-option, and-left, and-right, and-both, or-left, or-right, or-cases, some-when, some-from, never-some, some-same, never}
+use Rattle.paper.proofs.Tests.{by-cases, by-option, and-left, and-right, and-both, or-left, or-right, or-cases, some-when, some-from, never-some, some-same}
+use Rattle.laws.proofs.Lines.{same-exactly}
 use Rattle.exactly.proofs.Lists.{any-exactly}
 use Rattle.layouts.specs.Files.{Whole, FirstBadLine}
 use Rattle.layouts.specs.Words.{Digit, Point, Length, CarrierLine, KeepsScenario, EndsScenario}
 use Rattle.layouts.proofs.Files.{good-exactly, bad-exactly, bad-from-one}
-use Rattle.layouts.proofs.Words.{same-exactly, all-exactly, digit-exactly, digit-or-point, sized-exactly, number-exactly}
+use Rattle.layouts.proofs.Words.{all-exactly, digit-exactly, digit-or-point, sized-exactly, number-exactly}
 
 pub length-exactly : (l : Text) → (isLength l ≡ true) ↔ Length l
 unfolding isLength

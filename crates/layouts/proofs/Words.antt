@@ -5,29 +5,11 @@ use mathlib.Core.List.{[], _∷_}
 use mathlib.Core.Logic.{_↔_, _⊎_, inl, inr, ⊎-elim}
 use Prim.Native.Nat.{ℕ, zero, suc}
 use native.Mathlib.Omega.{arith}
-use lib.Dec.{eqb, leb}
 use borrow.Author.Tests.{leb-true, le-leb, eqb-true, eq-eqb}
-use Rattle.paper.specs.Basics.{_and_, _or_}
-use Rattle.paper.specs.Text.{Text, same, all, isDigit, isPoint, sized, isNumber}
-use Rattle.paper.proofs.Tests.{and-left, and-right, and-both, or-left, or-right, or-cases, not-both}
+use Rattle.paper.specs.Basics.{_or_}
+use Rattle.paper.specs.Text.{Text, all, isDigit, isPoint, sized, isNumber}
+use Rattle.paper.proofs.Tests.{and-left, and-right, and-both, or-left, or-right, or-cases}
 use Rattle.layouts.specs.Words.{Digit, Point, Each, Sized, Number}
-
-pub same-exactly : (l w : Text) → (same l w ≡ true) ↔ (l ≡ w)
-unfolding same
-same-exactly l w = (to l w, λ e. rw e (from w))
-  where
-    to : (l w : Text) → same l w ≡ true → l ≡ w
-    to [] [] h = refl
-    to [] (c ∷ w) h = not-both h refl
-    to (b ∷ l) [] h = not-both h refl
-    to (b ∷ l) (c ∷ w) h =
-        let e = eqb-true b c (and-left _ _ h) in
-        let f = to l w (and-right _ _ h) in
-        rw (e, f)
-
-    from : (w : Text) → same w w ≡ true
-    from [] = refl
-    from (c ∷ w) = and-both _ _ (eq-eqb c c refl) (from w)
 
 -- each byte passes
 pub all-exactly : (q : ℕ → Bool) (P : ℕ → Type 0) → ((b : ℕ) → (q b ≡ true) ↔ P b) → (l : Text) → (all q l ≡ true) ↔ Each P l

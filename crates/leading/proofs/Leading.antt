@@ -2,7 +2,7 @@
 -- is the length of both; and what is handed back is, with the equal ones before it, the longer list.
 use mathlib.Core.Path.{_≡_, refl, sym, _∙_, ap, ap₂}
 use mathlib.Core.List.{List, [], _∷_, _++_}
-use Prim.Native.Nat.{ℕ, suc, _+_, _<_, _≤_}
+use Prim.Native.Nat.{ℕ, suc, _<_, _≤_}
 use native.Mathlib.Omega.{arith}
 use borrow.Author.Tests.{eq-eqb, eqb-true, eqb-false, ne-eqb, ltb-true, ltb-false}
 use lib.Dec.{eqb, ltb}

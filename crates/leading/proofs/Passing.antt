@@ -1,6 +1,5 @@
 -- A pass over the two lists: the equal ones passed, with those to come, are the whole.
 use mathlib.Core.Path.{_≡_, refl, _∙_, ap, ap₂}
-use mathlib.Core.Bool.{true, false}
 use mathlib.Core.List.{List, [], _∷_}
 use Prim.Native.Nat.{ℕ, zero, suc, _≤_, _<_, _+_, min}
 use native.Mathlib.Omega.{arith}

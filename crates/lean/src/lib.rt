@@ -4,9 +4,7 @@ use outcome::Handed;
 use yard::Yard;
 ghost use Prim.Native.Nat.{_≤_};
 ghost use lib.ListN.{length};
-ghost use Rattle.acting.specs.Acting.{Tabled};
-ghost use Rattle.carry.specs.Carrying.{procedures};
-ghost use Rattle.play.specs.Playing.{Admitted};
+ghost use Rattle.play.specs.Playing.{Admitted, OfProcedure};
 ghost use Rattle.outcome.specs.Handing.{Due, Hands, HandsIfKept};
 
 // Crossings that the least room holds.
@@ -22,8 +20,7 @@ fn hand_out_by_rails(
 ) -> Handed
     requires { ⌜ Admitted n (now table) (now start) (now goal) ⌝ }
     ensures { λ r. ⌜
-        ((t : Tabled n (now (table .entry)))
-        → HandsIfKept (procedures (t .yard) (now (goal .entry)) (now (start .entry))) (now (out .entry)) r (now (out .exit)))
+        OfProcedure n (now (table .entry)) (now (start .entry)) (now (goal .entry)) (λ o. HandsIfKept o (now (out .entry)) r (now (out .exit)))
         ⌝ }
 {
     let mut kept = [0u64; LEAST];
@@ -43,9 +40,8 @@ fn hand_out_again_by_rails(
 ) -> Counted
     requires { ⌜ Admitted n (now table) (now start) (now goal) × (m ≤ length (now out)) ⌝ }
     ensures { λ r. ⌜
-        ((t : Tabled n (now (table .entry)))
-        → Due (procedures (t .yard) (now (goal .entry)) (now (start .entry))) (now (out .entry)) m parked
-        → Hands (procedures (t .yard) (now (goal .entry)) (now (start .entry))) (now (out .entry)) r (now (out .exit)))
+        OfProcedure n (now (table .entry)) (now (start .entry)) (now (goal .entry))
+        (λ o. Due o (now (out .entry)) m parked → Hands o (now (out .entry)) r (now (out .exit)))
         ⌝ }
 {
     play::play_by_rails(table, n, start, goal, &mut out[..m]);
@@ -62,7 +58,7 @@ pub fn hand_out_lean(
 ) -> Counted
     requires { ⌜ Admitted n (now table) (now start) (now goal) ⌝ }
     ensures { λ r. ⌜
-        ((t : Tabled n (now (table .entry))) → Hands (procedures (t .yard) (now (goal .entry)) (now (start .entry))) (now (out .entry)) r (now (out .exit)))
+        OfProcedure n (now (table .entry)) (now (start .entry)) (now (goal .entry)) (λ o. Hands o (now (out .entry)) r (now (out .exit)))
         ⌝ }
 {
     let handed = hand_out_by_rails(table, n, start, goal, out);

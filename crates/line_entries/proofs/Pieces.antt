@@ -1,9 +1,9 @@
 -- An action's words are the pieces between spaces, and they are cut off one by one; what the words say is what the paper reads.
 use mathlib.Core.Path.{_≡_, refl, sym, _∙_, ap}
 use mathlib.Core.Bool.{true, false}
-use mathlib.Core.List.{List, [], _∷_, _++_, append-assoc, append-nil}
+use mathlib.Core.List.{List, [], _∷_, append-assoc, append-nil}
 use mathlib.Core.Option.{Option, none, some}
-use Prim.Native.Nat.{ℕ, suc, _+_, _-_, _≤_, _<_}
+use Prim.Native.Nat.{ℕ, suc, _+_, _≤_, _<_}
 use native.Mathlib.Omega.{arith}
 use native.Mathlib.Numerals.{add-one}
 use lib.Dec.{eqb, leb, ltb}
@@ -16,6 +16,7 @@ use Rattle.paper.specs.Text.{Text, text, SPACE, join, split, same}
 use Rattle.paper.specs.Print.{numberAfter, readAction}
 use Rattle.paper.proofs.Tests.{by-cases, by-option}
 use Rattle.paper.proofs.Fields.{and-false}
+use Rattle.laws.proofs.Lines.{attach}
 use Rattle.paper.proofs.Stepping.{split-some}
 use Rattle.line_entries.specs.Entries.{most-carrier, most-bay, fits, entryOf, planEntry}
 use Rattle.line_entries.specs.Steps.{capped, Cut, toEntry, left, fromEntry, moved, carrierEntry, wordsEntry}
@@ -25,10 +26,6 @@ use Rattle.line_entries.specs.declared.Figure.the-variants.{Spells, Noth
 use Rattle.line_entries.proofs.Numbers.{rest, rest-is}
 
 -- ## Cutting
--- the bytes before the first piece
-abbrev pub attach : Text → List Text → List Text
-attach a [] = []
-attach a (l ∷ ls) = (a ++ l) ∷ ls
 
 module _ (t : ℕ) (l : Text) where
   -- no such byte among the first i

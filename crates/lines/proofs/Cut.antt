@@ -12,7 +12,7 @@ use borrow.Author.Tests.{ne-eqb, not-true}
 use Rattle.paper.specs.Basics.{if_then_else_, _and_}
 use Rattle.paper.specs.Text.{Text, LF, CR, join, beginsWithLF, lines, all}
 use Rattle.paper.proofs.Tests.{by-cases, and-left, and-right, and-both}
-use Rattle.lines.specs.declared.Line.the-variants as the
+use Rattle.lines.specs.declared.FoundLine.the-variants as the
 use Rattle.lines.specs.Lines.{part, noLF, EndOf, TextAt, LineAt}
 
 -- without a CR at the end

@@ -8,8 +8,8 @@ use lib.Dec.{eqb}
 use lib.ListN.{length, take, drop, getD}
 use Rattle.paper.specs.Basics.{_and_}
 use Rattle.paper.specs.Text.{Text, LF, lines, all}
-use Rattle.lines.specs.declared.Line.{Line}
-use Rattle.lines.specs.declared.Line.the-variants as the
+use Rattle.lines.specs.declared.FoundLine.{FoundLine}
+use Rattle.lines.specs.declared.FoundLine.the-variants as the
 
 -- the bytes of a file from one place up to another
 abbrev pub part : Text → ℕ → ℕ → Text
@@ -32,7 +32,7 @@ pub record TextAt (file : Text) (from end next : ℕ) : Type 0 where
   pub within : next ≤ length file
   pub reads : lines (drop from file) ≡ part file from end ∷ lines (drop next file)
 
-pub record LineAt (file : Text) (from : ℕ) (r : Line) : Type 0 where
+pub record LineAt (file : Text) (from : ℕ) (r : FoundLine) : Type 0 where
   pub line : (end next : ℕ) → r ≡ the.Text end next → TextAt file from end next
   pub none : r ≡ the.End → lines (drop from file) ≡ []
 

@@ -4,7 +4,7 @@ ghost use Rattle.paper.specs.Text.{same};
 ghost use Rattle.lines.specs.Lines.{EndOf, LineAt, begins};
 
 // A line's text ends at `end`, and the next line begins at `next`; or there is no line any more.
-pub enum Line {
+pub enum FoundLine {
     Text { end: usize, next: usize },
     End,
 }
@@ -24,35 +24,35 @@ fn line_end(file: &[u8], at: usize) -> usize
 }
 
 // The line that begins at `at`. A CR right before the LF belongs to the end.
-pub fn next_line(file: &[u8], at: usize) -> Line
+pub fn next_line(file: &[u8], at: usize) -> FoundLine
     ensures { λ r. ⌜ LineAt (now (file .entry)) at r ⌝ }
 {
     let end = line_end(file, at);
     if end < file.len() {
         if at < end {
             if file[end - 1] == 13 {
-                return Line::Text {
+                return FoundLine::Text {
                     end: end - 1,
                     next: end + 1,
                 };
             }
-            return Line::Text {
+            return FoundLine::Text {
                 end: end,
                 next: end + 1,
             };
         }
-        return Line::Text {
+        return FoundLine::Text {
             end: end,
             next: end + 1,
         };
     }
     if at < end {
-        return Line::Text {
+        return FoundLine::Text {
             end: end,
             next: end,
         };
     }
-    Line::End
+    FoundLine::End
 }
 
 // Whether a text begins with the word.

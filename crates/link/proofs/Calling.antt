@@ -1,17 +1,15 @@
 -- What each way out of a call says.
 use mathlib.Core.Path.{_≡_, refl, sym, _∙_, ap}
 use mathlib.Core.Bool.{true, false}
-use mathlib.Core.List.{List, [], foldl}
+use mathlib.Core.List.{List}
 use Prim.Native.Nat.{ℕ, _≤_, _<_}
 use native.Mathlib.Omega.{arith}
 use lib.ListN.{length, take, replicate}
 use lib.Seq.{sets}
 use borrow.Author.Tests.{eq-eqb, ne-eqb, le-leb, lt-leb}
 use Rattle.paper.specs.Limits.{most-carriers}
-use Rattle.paper.specs.Yard.{Bay}
 use Rattle.paper.specs.Text.{Text, Read, good, badLine}
 use Rattle.paper.specs.Map.{Grid, readMap, cells, bayCount}
-use Rattle.paper.specs.Bytes.{State, Under}
 use Rattle.paper.proofs.Tests.{never, not-both, by-read}
 use Rattle.docket.specs.declared.Refusal.the-variants as docket
 use Rattle.stores.proofs.Stores.{wrote-stands}
@@ -27,50 +25,50 @@ use Rattle.scenario.proofs.Ending.{answer-is, read-good}
 use Rattle.docket.specs.declared.Verdict.the-variants as verdict
 use Rattle.paper.specs.Docket.{granted}
 use Rattle.readers.proofs.Whole.{map-bad}
-use Rattle.link.specs.declared.Kept.{Kept}
+use Rattle.link.specs.declared.UnderWay.{UnderWay}
 use Rattle.link.specs.declared.Link.{Link}
 use Rattle.link.specs.declared.Said.the-variants as said
 use Rattle.link.specs.declared.Turn.{Turn}
-use Rattle.link.specs.Link.{piece-bytes, readingIn, carriersIn, stateIn, keptOf, keptBy, carriersBy, stepIn, linkBy, finishIn, told, verdictBy, overLink, FedSays, PieceSays, OverSays, EndSays, BeginSays}
+use Rattle.link.specs.Link.{piece-bytes, readingIn, carriersIn, stateIn, underWayOf, underWayBy, linkBy, finishIn, told, verdictBy, overLink, FedSays, PieceSays, OverSays, EndSays, BeginSays}
 use Rattle.scenario.proofs.Taking.{feeds-sound, ends-sound}
-use Rattle.link.proofs.Standing.{sound-in, stored-in, kept-state, carriers-broken, carriers-on, state-again, carriers-again}
+use Rattle.link.proofs.Standing.{sound-in, stored-in, under-way-state, carriers-broken, carriers-on, state-again, carriers-again}
 
 abbrev gridOf : Link → Held
 gridOf l = record { height = l .height; width = l .width; bays = 0 }
 
 -- the link with another line under way, and other carriers
-abbrev withKept : Link → Kept → List ℕ → List ℕ → Link
-withKept l k starts goals = record { start = starts; goal = goals; cells = l .cells; kept = k; phase = l .phase; height = l .height; width = l .width }
+abbrev withUnderWay : Link → UnderWay → List ℕ → List ℕ → Link
+withUnderWay l k starts goals = record { start = starts; goal = goals; cells = l .cells; line = k; phase = l .phase; height = l .height; width = l .width }
 
 -- ## A piece
-module _ (l : Link) (bytes : Text) (m : length (l .start) ≡ most-carriers) (n : length (l .goal) ≡ most-carriers) (s r : Reading) {starts goals : List ℕ} (e : s ≡ readingIn (l .kept))
-    (w : Feeds (l .cells) (gridOf l) s bytes r (l .start) starts (l .goal) goals) (k : Kept) (q : k ≡ keptOf r) where
+module _ (l : Link) (bytes : Text) (m : length (l .start) ≡ most-carriers) (n : length (l .goal) ≡ most-carriers) (s r : Reading) {starts goals : List ℕ} (e : s ≡ readingIn (l .line))
+    (w : Feeds (l .cells) (gridOf l) s bytes r (l .start) starts (l .goal) goals) (k : UnderWay) (q : k ≡ underWayOf r) where
   came : Came (l .cells) (gridOf l) (stateIn l) bytes r (l .start) starts (l .goal) goals
   came =
-      let v : Feeds (l .cells) (gridOf l) (readingIn (l .kept)) bytes r (l .start) starts (l .goal) goals = rw e at w in
-      feeds-sound (l .cells) (gridOf l) (readingIn (l .kept)) (sound-in (l .kept)) r bytes v (carriersIn l) (l .start) (l .goal) (stored-in l m n)
+      let v : Feeds (l .cells) (gridOf l) (readingIn (l .line)) bytes r (l .start) starts (l .goal) goals = rw e at w in
+      feeds-sound (l .cells) (gridOf l) (readingIn (l .line)) (sound-in (l .line)) r bytes v (carriersIn l) (l .start) (l .goal) (stored-in l m n)
 
-  kept-is : k ≡ keptBy (stateOf r (came .carriers))
-  kept-is = q ∙ kept-state r (came .sound) (came .carriers) (came .stored .count)
+  under-way-is : k ≡ underWayBy (stateOf r (came .carriers))
+  under-way-is = q ∙ under-way-state r (came .sound) (came .carriers) (came .stored .count)
 
-  pub fed-broken : r .failed ≡ true → FedSays l bytes (withKept l k (l .start) (l .goal))
+  pub fed-broken : r .failed ≡ true → FedSays l bytes (withUnderWay l k (l .start) (l .goal))
   fed-broken f =
       let none = carriers-broken r (came .sound) (came .carriers) f in
-      let same : withKept l k (l .start) (l .goal) ≡ linkBy l (stateOf r (came .carriers)) =
-      λ i. withKept l (kept-is i) (sym (ap (λ cs. sets (l .start) 0 (startsOf cs)) none) i) (sym (ap (λ cs. sets (l .goal) 0 (goalsOf cs)) none) i) in
+      let same : withUnderWay l k (l .start) (l .goal) ≡ linkBy l (stateOf r (came .carriers)) =
+      λ i. withUnderWay l (under-way-is i) (sym (ap (λ cs. sets (l .start) 0 (startsOf cs)) none) i) (sym (ap (λ cs. sets (l .goal) 0 (goalsOf cs)) none) i) in
       record {
         leaves = same ∙ ap (linkBy l) (came .state);
-        means = ap (λ x. stateIn (withKept l x (l .start) (l .goal))) q ∙ state-again r (came .sound) (came .carriers) _ (λ g v. not-both f g) ∙ came .state;
+        means = ap (λ x. stateIn (withUnderWay l x (l .start) (l .goal))) q ∙ state-again r (came .sound) (came .carriers) _ (λ g v. not-both f g) ∙ came .state;
       }
 
-  pub fed-on : r .failed ≡ false → FedSays l bytes (withKept l k starts goals)
+  pub fed-on : r .failed ≡ false → FedSays l bytes (withUnderWay l k starts goals)
   fed-on f =
       let all = carriers-on r (came .sound) (came .carriers) f (came .stored .count) in
-      let same : withKept l k starts goals ≡ linkBy l (stateOf r (came .carriers)) =
-      λ i. withKept l (kept-is i) ((came .stored .startsWrote .left ∙ sym (ap (λ cs. sets (l .start) 0 (startsOf cs)) all)) i) ((came .stored .goalsWrote .left ∙ sym (ap (λ cs. sets (l .goal) 0 (goalsOf cs)) all)) i) in
+      let same : withUnderWay l k starts goals ≡ linkBy l (stateOf r (came .carriers)) =
+      λ i. withUnderWay l (under-way-is i) ((came .stored .startsWrote .left ∙ sym (ap (λ cs. sets (l .start) 0 (startsOf cs)) all)) i) ((came .stored .goalsWrote .left ∙ sym (ap (λ cs. sets (l .goal) 0 (goalsOf cs)) all)) i) in
       record {
         leaves = same ∙ ap (linkBy l) (came .state);
-        means = ap (λ x. stateIn (withKept l x starts goals)) q
+        means = ap (λ x. stateIn (withUnderWay l x starts goals)) q
             ∙ state-again r (came .sound) (came .carriers) _ (λ g v. carriers-again r (came .sound) (came .carriers) (came .stored) m n g v) ∙ came .state;
       }
 
@@ -94,14 +92,14 @@ module _ (l : Link) (bytes : Text) where
 
 -- ## The end
 abbrev ended : Link → List ℕ → List ℕ → Link
-ended l starts goals = record { start = starts; goal = goals; cells = l .cells; kept = l .kept; phase = 2; height = l .height; width = l .width }
+ended l starts goals = record { start = starts; goal = goals; cells = l .cells; line = l .line; phase = 2; height = l .height; width = l .width }
 
-module _ (l : Link) (m : length (l .start) ≡ most-carriers) (n : length (l .goal) ≡ most-carriers) (s r : Reading) {starts goals : List ℕ} (e : s ≡ readingIn (l .kept))
+module _ (l : Link) (m : length (l .start) ≡ most-carriers) (n : length (l .goal) ≡ most-carriers) (s r : Reading) {starts goals : List ℕ} (e : s ≡ readingIn (l .line))
     (w : Ends (l .cells) (gridOf l) s r (l .start) starts (l .goal) goals) (found : ScenarioRead) (a : answerOf found ≡ answerBy r) where
   done : Over (l .cells) (gridOf l) (stateIn l) r (l .start) starts (l .goal) goals
   done =
-      let v : Ends (l .cells) (gridOf l) (readingIn (l .kept)) r (l .start) starts (l .goal) goals = rw e at w in
-      ends-sound (l .cells) (gridOf l) (readingIn (l .kept)) (sound-in (l .kept)) r v (carriersIn l) (l .start) (l .goal) (stored-in l m n)
+      let v : Ends (l .cells) (gridOf l) (readingIn (l .line)) r (l .start) starts (l .goal) goals = rw e at w in
+      ends-sound (l .cells) (gridOf l) (readingIn (l .line)) (sound-in (l .line)) r v (carriersIn l) (l .start) (l .goal) (stored-in l m n)
 
   counted : answerOf found ≡ countRead (readOf r (done .carriers))
   counted = a ∙ answer-is r (done .carriers) (done .stored .count)
@@ -150,17 +148,17 @@ module _ {map before table : List ℕ} {x : MapRead} (w : Reads map before x tab
   pub begin-bad : (b : ℕ) → x ≡ map-read.Bad b → BeginSays (readMap map) l (record { said = said.Told (verdict.Denied (docket.BadMap b)); link = l })
   begin-bad b e = let q = map-bad w b e in rw q (record { answers = refl; leaves = refl })
 
-  pub begin-good : (g : Held) → x ≡ map-read.Grid g → before ≡ replicate 4096 0 → (s : Reading) → s ≡ dueOf true 0 0 0 → (k : Kept) → k ≡ keptOf s
-      → BeginSays (readMap map) l (record { said = said.Told (verdict.Granted 0); link = record { start = replicate most-carriers 0; goal = replicate most-carriers 0; cells = table; kept = k; phase = 1; height = g .height; width = g .width } })
+  pub begin-good : (g : Held) → x ≡ map-read.Grid g → before ≡ replicate 4096 0 → (s : Reading) → s ≡ dueOf true 0 0 0 → (k : UnderWay) → k ≡ underWayOf s
+      → BeginSays (readMap map) l (record { said = said.Told (verdict.Granted 0); link = record { start = replicate most-carriers 0; goal = replicate most-carriers 0; cells = table; line = k; phase = 1; height = g .height; width = g .width } })
   begin-good g e z s f k q =
       by-read (readMap map)
       (λ G p.
       let y : _≡_ {A = Read (ℕ × ℕ × ℕ)} (good (g .height, g .width, g .bays)) (good (G .height, G .width, bayCount G)) = rw (e, p) at (w .answer) in
       let t : _≡_ {A = ℕ × ℕ × ℕ} (g .height, g .width, g .bays) (G .height, G .width, bayCount G) = cc in
       let numbers : table ≡ sets (replicate 4096 0) 0 (numbering 0 (cells G)) = rw (p, z) at (w .numbers) in
-      let new : k ≡ keptOf (dueOf true 0 0 0) = q ∙ ap keptOf f in
+      let new : k ≡ underWayOf (dueOf true 0 0 0) = q ∙ ap underWayOf f in
       rw p (record {
         answers = refl;
-        leaves = λ i. record { start = replicate most-carriers 0; goal = replicate most-carriers 0; cells = numbers i; kept = new i; phase = 1; height = t i .0; width = t i .1 };
+        leaves = λ i. record { start = replicate most-carriers 0; goal = replicate most-carriers 0; cells = numbers i; line = new i; phase = 1; height = t i .0; width = t i .1 };
       }))
       (λ b p. let y : _≡_ {A = Read (ℕ × ℕ × ℕ)} (good (g .height, g .width, g .bays)) (badLine b) = rw (e, p) at (w .answer) in never (cc))

@@ -24,10 +24,10 @@ use Rattle.paper.proofs.Tests.{never, by-read}
 use Rattle.gridmap.specs.Cells.{numbering, bayFound}
 use Rattle.gridmap.proofs.Good.{map-sized}
 use Rattle.scenario.proofs.OfMap.{reads-of-map}
-use Rattle.readers.specs.Reading.{Listing, listed, unlisted, listing, listingIn}
+use Rattle.listing.specs.Reading.{Listing, listed, unlisted, listing, listingIn}
 use Rattle.link.specs.declared.Link.{Link}
 use Rattle.link.specs.declared.Turn.{Turn}
-use Rattle.link.specs.Link.{piece-bytes, stateIn, isOpen, stepIn, linkBy, finishIn, verdictBy, carriersRead, Saying, told, sayingOf, beginLink, begunLink, pieceLink, endSaying, Holds, BeginSays, PieceLeaves, EndLeaves, EndSays}
+use Rattle.link.specs.Link.{piece-bytes, stateIn, isOpen, stepIn, linkBy, finishIn, verdictBy, carriersRead, Saying, told, sayingOf, beginLink, begunLink, endSaying, Holds, BeginSays, PieceLeaves, EndLeaves, EndSays}
 
 -- a run of pieces, each at most 256 bytes: each call has the link that the last one left
 pub data Run : Link → List Text → Link → Type 0 where

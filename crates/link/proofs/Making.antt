@@ -3,10 +3,11 @@ use mathlib.Core.Path.{_≡_, _∙_, ap}
 use mathlib.Core.Bool.{Bool, true, false}
 use Prim.Native.Nat.{ℕ}
 use borrow.Author.Tests.{ne-eqb}
-use Rattle.scenario.specs.Under.{countIn}
+use Rattle.fields.specs.ReadAs.{seenOf, pastOf}
+use Rattle.carrier_lists.specs.Counting.{countIn}
 use Rattle.scenario.specs.declared.Reading.{Reading}
-use Rattle.link.specs.declared.Kept.{Kept}
-use Rattle.link.specs.Link.{yesOf, bitOf, readingIn, blankKept, keptOf}
+use Rattle.link.specs.declared.UnderWay.{UnderWay}
+use Rattle.link.specs.Link.{yesOf, bitOf, readingIn, inVersionLine, inCarrierLine, inBroken, underWayOf}
 
 pub yes-none : (n : ℕ) → n ≡ 0 → false ≡ yesOf n
 yes-none n e = rw e
@@ -14,7 +15,7 @@ yes-none n e = rw e
 pub yes-some : (n : ℕ) → (n ≡ 0 → ⊥) → true ≡ yesOf n
 yes-some n h = rw (ne-eqb n 0 h)
 
-pub reading-is : (k : Kept) {v f b h a w d p l g : Bool} {n : ℕ} → v ≡ yesOf (k .version) → f ≡ yesOf (k .failed) → b ≡ yesOf (k .begun) → h ≡ yesOf (k .held) → n ≡ countIn v (k .count)
+pub reading-is : (k : UnderWay) {v f b h a w d p l g : Bool} {n : ℕ} → v ≡ yesOf (k .version) → f ≡ yesOf (k .failed) → b ≡ yesOf (k .begun) → h ≡ yesOf (k .held) → n ≡ countIn v (k .count)
     → a ≡ yesOf (k .agrees) → w ≡ yesOf (k .well) → d ≡ yesOf (k .digits) → p ≡ yesOf (k .point) → l ≡ yesOf (k .plain) → g ≡ yesOf (k .figure)
     → _≡_ {A = Reading} (record {
       failed = f;
@@ -44,105 +45,21 @@ reading-is k ev ef eb eh en ea ew ed ep el eg =
     }
 
 module _ (r : Reading) {f v : ℕ} (ef : f ≡ bitOf (r .failed)) (ev : v ≡ bitOf (r .version)) where
-  pub keep-broken : r .failed ≡ true → blankKept f v (r .count) ≡ keptOf r
-  keep-broken e = let a : f ≡ 1 = ef ∙ ap bitOf e in rw e (λ i. blankKept (a i) (ev i) (r .count))
+  pub keep-broken : r .failed ≡ true → inBroken (r .count) f v ≡ underWayOf r
+  keep-broken e = let a : f ≡ 1 = ef ∙ ap bitOf e in rw e (λ i. inBroken (r .count) (a i) (ev i))
 
   module _ (e : r .failed ≡ false) {b h : ℕ} (eb : b ≡ bitOf (r .begun)) (eh : h ≡ bitOf (r .held)) where
     none : f ≡ 0
     none = ef ∙ ap bitOf e
 
-    pub keep-version : r .version ≡ true → {g : ℕ} → g ≡ bitOf (r .text .agrees)
-        → _≡_ {A = Kept} (record {
-          sx = 0;
-          sy = 0;
-          gx = 0;
-          gy = 0;
-          number = 0;
-          count = r .count;
-          failed = f;
-          version = v;
-          begun = b;
-          held = h;
-          place = r .text .place;
-          agrees = g;
-          index = 0;
-          well = 0;
-          spare = 0;
-          size = 0;
-          digits = 0;
-          point = 0;
-          plain = 0;
-          figure = 0;
-        }) (keptOf r)
+    pub keep-version : r .version ≡ true → {g : ℕ} → g ≡ bitOf (r .text .agrees) → inVersionLine (r .count) f v b h (r .text .place) g ≡ underWayOf r
     keep-version q eg =
         let a : v ≡ 1 = ev ∙ ap bitOf q in
-        rw (e, q) (λ i. record {
-          sx = 0;
-          sy = 0;
-          gx = 0;
-          gy = 0;
-          number = 0;
-          count = r .count;
-          failed = none i;
-          version = a i;
-          begun = eb i;
-          held = eh i;
-          place = r .text .place;
-          agrees = eg i;
-          index = 0;
-          well = 0;
-          spare = 0;
-          size = 0;
-          digits = 0;
-          point = 0;
-          plain = 0;
-          figure = 0;
-        })
+        rw (e, q) (λ i. inVersionLine (r .count) (none i) (a i) (eb i) (eh i) (r .text .place) (eg i))
 
-    pub keep-carrier : r .version ≡ false → {w d p l g : ℕ} → w ≡ bitOf (r .past .well) → d ≡ bitOf (r .field .digits) → p ≡ bitOf (r .field .point) → l ≡ bitOf (r .field .plain) → g ≡ bitOf (r .field .figure)
-        → _≡_ {A = Kept} (record {
-          sx = r .past .sx;
-          sy = r .past .sy;
-          gx = r .past .gx;
-          gy = r .past .gy;
-          number = r .field .number;
-          count = r .count;
-          failed = f;
-          version = v;
-          begun = b;
-          held = h;
-          place = 0;
-          agrees = 0;
-          index = r .past .index;
-          well = w;
-          spare = 0;
-          size = r .field .place;
-          digits = d;
-          point = p;
-          plain = l;
-          figure = g;
-        }) (keptOf r)
+    pub keep-carrier : r .version ≡ false → {w d p l g : ℕ} → w ≡ bitOf (r .past .well) → d ≡ bitOf (r .field .digits) → p ≡ bitOf (r .field .point)
+        → l ≡ bitOf (r .field .plain) → g ≡ bitOf (r .field .figure)
+        → inCarrierLine (r .count) f v b h (pastOf (r .past)) w (seenOf (r .field)) d p l g ≡ underWayOf r
     keep-carrier q ew ed ep el eg =
         let a : v ≡ 0 = ev ∙ ap bitOf q in
-        rw (e, q) (λ i. record {
-          sx = r .past .sx;
-          sy = r .past .sy;
-          gx = r .past .gx;
-          gy = r .past .gy;
-          number = r .field .number;
-          count = r .count;
-          failed = none i;
-          version = a i;
-          begun = eb i;
-          held = eh i;
-          place = 0;
-          agrees = 0;
-          index = r .past .index;
-          well = ew i;
-          spare = 0;
-          size = r .field .place;
-          digits = ed i;
-          point = ep i;
-          plain = el i;
-          figure = eg i;
-        })
+        rw (e, q) (λ i. inCarrierLine (r .count) (none i) (a i) (eb i) (eh i) (pastOf (r .past)) (ew i) (seenOf (r .field)) (ed i) (ep i) (el i) (eg i))

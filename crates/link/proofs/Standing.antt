@@ -11,23 +11,23 @@ use borrow.Author.Tests.{ne-eqb}
 use Rattle.lists.proofs.Lists.{no-length}
 use Rattle.paper.specs.Limits.{most-carriers}
 use Rattle.paper.specs.Yard.{Bay}
-use Rattle.paper.specs.Bytes.{State, failed, going, Under, inVersion, inCarrier}
+use Rattle.paper.specs.Bytes.{failed, going, inVersion, inCarrier}
 use Rattle.paper.proofs.Tests.{by-cases}
 use Rattle.stores.specs.Writing.{Wrote}
 use Rattle.stores.proofs.Stores.{wrote-stands}
-use Rattle.scenario.proofs.Taking.{count-few, count-same}
+use Rattle.carrier_lists.proofs.Counting.{count-few, count-same}
 use Rattle.scenario.specs.declared.Reading.{Reading}
 use Rattle.scenario.specs.Under.{Sound, stateOf, startsOf, goalsOf, Stored}
-use Rattle.link.specs.declared.Kept.{Kept}
+use Rattle.link.specs.declared.UnderWay.{UnderWay}
 use Rattle.link.specs.declared.Link.{Link}
-use Rattle.link.specs.Link.{yesOf, bitOf, readingIn, pairs, carriersIn, keptOf, blankKept, keptBy, carriersBy}
+use Rattle.link.specs.Link.{yesOf, bitOf, readingIn, pairs, carriersIn, inBroken, underWayOf, underWayBy, carriersBy}
 
 -- ## Numbers
 pub yes-bit : (b : Bool) → yesOf (bitOf b) ≡ b
 yes-bit true = refl
 yes-bit false = refl
 
-pub sound-in : (k : Kept) → Sound (readingIn k)
+pub sound-in : (k : UnderWay) → Sound (readingIn k)
 sound-in k = record { first = λ v. rw v; few = count-few (yesOf (k .version)) (k .count) }
 
 -- ## Starts and goals side by side
@@ -67,30 +67,30 @@ wrote-first : (k : ℕ) (l t : List ℕ) → k ≤ length l → t ≡ take k l �
 wrote-first k l t h e = record { left = sym (ap (sets l 0) e ∙ sets-same k l h); counted = omega (arith, ap length e, length-take-le k l h) }
 
 -- the carriers that a link says stand in its lists
-pub stored-in : (l : Link) → length (l .start) ≡ most-carriers → length (l .goal) ≡ most-carriers → Stored (carriersIn l) (readingIn (l .kept)) (l .start) (l .start) (l .goal) (l .goal)
+pub stored-in : (l : Link) → length (l .start) ≡ most-carriers → length (l .goal) ≡ most-carriers → Stored (carriersIn l) (readingIn (l .line)) (l .start) (l .start) (l .goal) (l .goal)
 stored-in l a b =
-    let k : ℕ = readingIn (l .kept) .count in
-    let f : readingIn (l .kept) .count ≤ most-carriers = count-few (yesOf (l .kept .version)) (l .kept .count) in
-    let h : readingIn (l .kept) .count ≤ length (l .start) = omega (arith, a, f) in
-    let i : readingIn (l .kept) .count ≤ length (l .goal) = omega (arith, b, f) in
+    let k : ℕ = readingIn (l .line) .count in
+    let f : readingIn (l .line) .count ≤ most-carriers = count-few (yesOf (l .line .version)) (l .line .count) in
+    let h : readingIn (l .line) .count ≤ length (l .start) = omega (arith, a, f) in
+    let i : readingIn (l .line) .count ≤ length (l .goal) = omega (arith, b, f) in
     record {
-      count = pairs-length (readingIn (l .kept) .count) (l .start) (l .goal) h i;
-      startsWrote = wrote-first (readingIn (l .kept) .count) (l .start) _ h (pairs-starts (readingIn (l .kept) .count) (l .start) (l .goal) h i);
-      goalsWrote = wrote-first (readingIn (l .kept) .count) (l .goal) _ i (pairs-goals (readingIn (l .kept) .count) (l .start) (l .goal) h i);
+      count = pairs-length (readingIn (l .line) .count) (l .start) (l .goal) h i;
+      startsWrote = wrote-first (readingIn (l .line) .count) (l .start) _ h (pairs-starts (readingIn (l .line) .count) (l .start) (l .goal) h i);
+      goalsWrote = wrote-first (readingIn (l .line) .count) (l .goal) _ i (pairs-goals (readingIn (l .line) .count) (l .start) (l .goal) h i);
     }
 
 -- ## What a reading leaves
 module _ (r : Reading) (o : Sound r) (cs : List (Bay × Bay)) where
   -- it is what the state asks for,
-  pub kept-state : length cs ≡ r .count → keptOf r ≡ keptBy (stateOf r cs)
-  kept-state h =
+  pub under-way-state : length cs ≡ r .count → underWayOf r ≡ underWayBy (stateOf r cs)
+  under-way-state h =
       by-cases (r .failed)
       (λ e. by-cases (r .version)
       (λ f. rw (e, f, o .first f))
       (λ f.
       let q : false ≡ eqb (suc (suc (r .count))) 1 = sym (ne-eqb (suc (suc (r .count))) 1 (λ z. omega arith)) in
       let p : r .count ≡ suc (suc (r .count)) - 2 = omega arith in
-      rw (e, f) (λ i. blankKept 1 (bitOf (q i)) (p i))))
+      rw (e, f) (λ i. inBroken (p i) 1 (bitOf (q i)))))
       (λ e. by-cases (r .version) (λ f. rw (e, f, o .first f)) (λ f. rw (e, f, h)))
 
   pub carriers-broken : r .failed ≡ true → carriersBy (stateOf r cs) ≡ []
@@ -100,7 +100,7 @@ module _ (r : Reading) (o : Sound r) (cs : List (Bay × Bay)) where
   carriers-on e h = by-cases (r .version) (λ f. rw (e, f) (sym (no-length cs (h ∙ o .first f)))) (λ f. rw (e, f))
 
   -- and stands for it again
-  pub state-again : (ds : List (Bay × Bay)) → (r .failed ≡ false → r .version ≡ false → ds ≡ cs) → stateOf (readingIn (keptOf r)) ds ≡ stateOf r cs
+  pub state-again : (ds : List (Bay × Bay)) → (r .failed ≡ false → r .version ≡ false → ds ≡ cs) → stateOf (readingIn (underWayOf r)) ds ≡ stateOf r cs
   state-again ds h =
       by-cases (r .failed)
       (λ e. by-cases (r .version) (λ f. rw (e, f)) (λ f. rw (e, f) (ap (λ n. failed (suc (suc n))) (count-same (r .count) (o .few)))))
@@ -115,9 +115,9 @@ module _ (r : Reading) (o : Sound r) (cs : List (Bay × Bay)) where
 
   -- the carriers stored are those that the numbers say
   pub carriers-again : {a b a′ b′ : List ℕ} → Stored cs r a b a′ b′ → length a ≡ most-carriers → length a′ ≡ most-carriers → r .failed ≡ false → r .version ≡ false
-      → pairs (take (readingIn (keptOf r) .count) b) (take (readingIn (keptOf r) .count) b′) ≡ cs
+      → pairs (take (readingIn (underWayOf r) .count) b) (take (readingIn (underWayOf r) .count) b′) ≡ cs
   carriers-again {a} {b} {a′} {b′} w m n e f =
-      let c : readingIn (keptOf r) .count ≡ r .count = rw (e, f) (count-same (r .count) (o .few)) in
+      let c : readingIn (underWayOf r) .count ≡ r .count = rw (e, f) (count-same (r .count) (o .few)) in
       (λ i. pairs (take (c i) b) (take (c i) b′))
       ∙ ap₂ pairs (wrote-stands (w .startsWrote) (omega (arith, m, o .few))) (wrote-stands (w .goalsWrote) (omega (arith, n, o .few)))
       ∙ pairs-of cs

@@ -13,12 +13,14 @@ use Rattle.paper.specs.Yard.{Bay}
 use Rattle.paper.specs.Docket.{no-14, no-15, ended, longPiece, Verdict, granted, denied}
 use Rattle.paper.specs.Text.{Text, Read, good, badLine}
 use Rattle.paper.specs.Map.{Grid, cells}
-use Rattle.paper.specs.Bytes.{State, failed, going, Under, inVersion, inCarrier, scenarioStep, scenarioFinish, unread}
+use Rattle.paper.specs.Bytes.{Field, Past, State, failed, going, Under, inVersion, inCarrier, scenarioStep, scenarioFinish}
 use Rattle.gridmap.specs.Cells.{numbering, bayFound}
+use Rattle.fields.specs.ReadAs.{seenOf, pastOf}
 use Rattle.scenario.specs.declared.Reading.{Reading}
-use Rattle.scenario.specs.Under.{countIn, stateOf, startsOf, goalsOf}
+use Rattle.carrier_lists.specs.Counting.{countIn}
+use Rattle.scenario.specs.Under.{stateOf, startsOf, goalsOf}
 use Rattle.docket.specs.Reading.{verdictOf}
-use Rattle.link.specs.declared.Kept.{Kept}
+use Rattle.link.specs.declared.UnderWay.{UnderWay}
 use Rattle.link.specs.declared.Link.{Link}
 use Rattle.link.specs.declared.Said.{Said}
 use Rattle.link.specs.declared.Said.the-variants as said
@@ -33,7 +35,7 @@ yesOf n = if eqb n 0 then false else true
 abbrev pub bitOf : Bool → ℕ
 bitOf b = if b then 1 else 0
 
-abbrev pub readingIn : Kept → Reading
+abbrev pub readingIn : UnderWay → Reading
 readingIn k = record {
   failed = yesOf (k .failed);
   version = yesOf (k .version);
@@ -55,30 +57,31 @@ pairs (s ∷ starts) (g ∷ goals) = (s, g) ∷ pairs starts goals
 
 -- the carriers that stand in the two lists
 abbrev pub carriersIn : Link → List (Bay × Bay)
-carriersIn l = let k = readingIn (l .kept) .count in pairs (take k (l .start)) (take k (l .goal))
+carriersIn l = let k = readingIn (l .line) .count in pairs (take k (l .start)) (take k (l .goal))
 
 abbrev pub stateIn : Link → State Under
-stateIn l = stateOf (readingIn (l .kept)) (carriersIn l)
+stateIn l = stateOf (readingIn (l .line)) (carriersIn l)
 
 abbrev pub isOpen : Link → Bool
 isOpen l = eqb (l .phase) 1
 
 -- ## The numbers that a call leaves: 0 where nothing of them is read any more
 
-abbrev pub blankKept : ℕ → ℕ → ℕ → Kept
-blankKept f v k = record {
+-- in the version line, with the other numbers at 0
+abbrev pub inVersionLine : ℕ → ℕ → ℕ → ℕ → ℕ → ℕ → ℕ → UnderWay
+inVersionLine count f v b h place agrees = record {
   sx = 0;
   sy = 0;
   gx = 0;
   gy = 0;
   number = 0;
-  count = k;
+  count = count;
   failed = f;
   version = v;
-  begun = 0;
-  held = 0;
-  place = 0;
-  agrees = 0;
+  begun = b;
+  held = h;
+  place = place;
+  agrees = agrees;
   index = 0;
   well = 0;
   spare = 0;
@@ -89,101 +92,48 @@ blankKept f v k = record {
   figure = 0;
 }
 
-abbrev pub keptOf : Reading → Kept
-keptOf r =
-    if r .failed then blankKept 1 (bitOf (r .version)) (r .count)
-    else if r .version then record {
-      sx = 0;
-      sy = 0;
-      gx = 0;
-      gy = 0;
-      number = 0;
-      count = r .count;
-      failed = 0;
-      version = 1;
-      begun = bitOf (r .begun);
-      held = bitOf (r .held);
-      place = r .text .place;
-      agrees = bitOf (r .text .agrees);
-      index = 0;
-      well = 0;
-      spare = 0;
-      size = 0;
-      digits = 0;
-      point = 0;
-      plain = 0;
-      figure = 0;
-    }
-    else record {
-      sx = r .past .sx;
-      sy = r .past .sy;
-      gx = r .past .gx;
-      gy = r .past .gy;
-      number = r .field .number;
-      count = r .count;
-      failed = 0;
-      version = 0;
-      begun = bitOf (r .begun);
-      held = bitOf (r .held);
-      place = 0;
-      agrees = 0;
-      index = r .past .index;
-      well = bitOf (r .past .well);
-      spare = 0;
-      size = r .field .place;
-      digits = bitOf (r .field .digits);
-      point = bitOf (r .field .point);
-      plain = bitOf (r .field .plain);
-      figure = bitOf (r .field .figure);
-    }
-
--- the same, of the paper's state
-abbrev pub keptBy : State Under → Kept
-keptBy (failed n) = blankKept 1 (bitOf (eqb n 1)) (n - 2)
-keptBy (going n begun held (inVersion m)) = record {
-  sx = 0;
-  sy = 0;
-  gx = 0;
-  gy = 0;
-  number = 0;
-  count = 0;
-  failed = 0;
-  version = 1;
-  begun = bitOf begun;
-  held = bitOf held;
-  place = m .place;
-  agrees = bitOf (m .agrees);
-  index = 0;
-  well = 0;
-  spare = 0;
-  size = 0;
-  digits = 0;
-  point = 0;
-  plain = 0;
-  figure = 0;
-}
-keptBy (going n begun held (inCarrier cs p m)) = record {
+-- in a carrier's line, with the fields past and the field under way, whose yes and no are numbers of their own
+abbrev pub inCarrierLine : ℕ → ℕ → ℕ → ℕ → ℕ → Past → ℕ → Field → ℕ → ℕ → ℕ → ℕ → UnderWay
+inCarrierLine count f v b h p well m digits point plain figure = record {
   sx = p .sx;
   sy = p .sy;
   gx = p .gx;
   gy = p .gy;
   number = m .number;
-  count = length cs;
-  failed = 0;
-  version = 0;
-  begun = bitOf begun;
-  held = bitOf held;
+  count = count;
+  failed = f;
+  version = v;
+  begun = b;
+  held = h;
   place = 0;
   agrees = 0;
   index = p .index;
-  well = bitOf (p .well);
+  well = well;
   spare = 0;
   size = m .place;
-  digits = bitOf (m .digits);
-  point = bitOf (m .point);
-  plain = bitOf (m .plain);
-  figure = bitOf (m .figure);
+  digits = digits;
+  point = point;
+  plain = plain;
+  figure = figure;
 }
+
+-- the layout is broken
+abbrev pub inBroken : ℕ → ℕ → ℕ → UnderWay
+inBroken count f v = inVersionLine count f v 0 0 0 0
+
+abbrev pub underWayOf : Reading → UnderWay
+underWayOf r =
+    if r .failed then inBroken (r .count) 1 (bitOf (r .version))
+    else if r .version then inVersionLine (r .count) 0 1 (bitOf (r .begun)) (bitOf (r .held)) (r .text .place) (bitOf (r .text .agrees))
+    else inCarrierLine (r .count) 0 0 (bitOf (r .begun)) (bitOf (r .held)) (pastOf (r .past)) (bitOf (r .past .well)) (seenOf (r .field))
+    (bitOf (r .field .digits)) (bitOf (r .field .point)) (bitOf (r .field .plain)) (bitOf (r .field .figure))
+
+-- the same, of the paper's state
+abbrev pub underWayBy : State Under → UnderWay
+underWayBy (failed n) = inBroken (n - 2) 1 (bitOf (eqb n 1))
+underWayBy (going n begun held (inVersion m)) = inVersionLine 0 0 1 (bitOf begun) (bitOf held) (m .place) (bitOf (m .agrees))
+underWayBy (going n begun held (inCarrier cs p m)) =
+    inCarrierLine (length cs) 0 0 (bitOf begun) (bitOf held) p (bitOf (p .well)) m (bitOf (m .digits)) (bitOf (m .point)) (bitOf (m .plain)) (bitOf (m .figure))
 
 -- the carriers of a state whose layout is not broken
 abbrev pub carriersBy : State Under → List (Bay × Bay)
@@ -208,7 +158,7 @@ begunLink G = record {
   start = replicate most-carriers 0;
   goal = replicate most-carriers 0;
   cells = sets (replicate 4096 0) 0 (numbering 0 (cells G));
-  kept = keptBy (going 1 false false (inVersion (record { place = 0; agrees = true })));
+  line = underWayBy (going 1 false false (inVersion (record { place = 0; agrees = true })));
   phase = 1;
   height = G .height;
   width = G .width;
@@ -235,7 +185,7 @@ linkBy l s = record {
   start = sets (l .start) 0 (startsOf (carriersBy s));
   goal = sets (l .goal) 0 (goalsOf (carriersBy s));
   cells = l .cells;
-  kept = keptBy s;
+  line = underWayBy s;
   phase = l .phase;
   height = l .height;
   width = l .width;
@@ -286,7 +236,7 @@ overLink l r = record {
   start = sets (l .start) 0 (startsOf (carriersRead r));
   goal = sets (l .goal) 0 (goalsOf (carriersRead r));
   cells = l .cells;
-  kept = l .kept;
+  line = l .line;
   phase = 2;
   height = l .height;
   width = l .width;

@@ -6,7 +6,7 @@ use fields::FieldsPast;
 use fields::TextSeen;
 use scenario::Reading;
 ghost use mathlib.Core.Path.{_≡_};
-ghost use Rattle.link.specs.Link.{yesOf, bitOf, readingIn, keptOf};
+ghost use Rattle.link.specs.Link.{yesOf, bitOf, readingIn, underWayOf};
 
 // The bytes of the longest piece.
 pub const PIECE: usize = 256;
@@ -14,7 +14,7 @@ pub const PIECE: usize = 256;
 // What is known of the line under way. A number that says yes or no says no where it is 0. The spare byte is 0: with it the struct has no gaps,
 // so that a caller may compare two states byte by byte.
 #[repr(C)]
-pub struct Kept {
+pub struct UnderWay {
     pub sx: u32,
     pub sy: u32,
     pub gx: u32,
@@ -44,7 +44,7 @@ pub struct Link {
     pub start: [u16; paper::CARRIERS],
     pub goal: [u16; paper::CARRIERS],
     pub cells: [u16; 4096],
-    pub kept: Kept,
+    pub line: UnderWay,
     pub phase: u16,
     pub height: u8,
     pub width: u8,
@@ -75,7 +75,7 @@ fn bit(b: bool) -> u8
 }
 
 // The reading that the numbers stand for.
-pub fn reading(k: Kept) -> Reading
+pub fn reading(k: UnderWay) -> Reading
     ensures { λ r. ⌜ r ≡ readingIn k ⌝ }
 {
     let version = yes(k.version);
@@ -84,7 +84,7 @@ pub fn reading(k: Kept) -> Reading
         version: version,
         begun: yes(k.begun),
         held: yes(k.held),
-        count: scenario::counted(version, k.count),
+        count: carrier_lists::counted(version, k.count),
         start: 0,
         goal: 0,
         text: TextSeen {
@@ -111,10 +111,10 @@ pub fn reading(k: Kept) -> Reading
 }
 
 // The numbers of a reading, 0 where nothing of it is read any more.
-pub fn keep(r: Reading) -> Kept
-    ensures { λ k. ⌜ k ≡ keptOf r ⌝ }
+pub fn keep(r: Reading) -> UnderWay
+    ensures { λ k. ⌜ k ≡ underWayOf r ⌝ }
 {
-    let mut k = Kept {
+    let mut k = UnderWay {
         sx: 0,
         sy: 0,
         gx: 0,

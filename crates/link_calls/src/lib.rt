@@ -26,7 +26,7 @@ pub fn begin(link: Link, map: &[u8]) -> Turn
                     start: start,
                     goal: goal,
                     cells: cells,
-                    kept: link::keep(scenario::start()),
+                    line: link::keep(scenario::start()),
                     phase: 1,
                     height: grid.height,
                     width: grid.width,
@@ -53,7 +53,7 @@ fn fed(link: Link, bytes: &[u8]) -> Link
         bays: 0,
     };
     let r = scenario::feed(
-        link::reading(link.kept),
+        link::reading(link.line),
         bytes,
         grid,
         &cells,
@@ -62,7 +62,7 @@ fn fed(link: Link, bytes: &[u8]) -> Link
     );
     let k = link::keep(r);
     let mut next = link;
-    next.kept = k;
+    next.line = k;
     if r.failed {
         return next;
     }
@@ -106,7 +106,7 @@ fn over(link: Link) -> Turn
         bays: 0,
     };
     let r = scenario::finish(
-        link::reading(link.kept),
+        link::reading(link.line),
         grid,
         &cells,
         &mut starts,

@@ -1,3 +1,2 @@
-pub mod Ordering
 pub mod Telling
 pub mod Back

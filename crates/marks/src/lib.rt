@@ -1,92 +1,19 @@
-// The marks of a plan that has passed the check: whether they are in order, what a report on them answers, and the one mark that it changes.
-// Each step is one pass over the plan. The plan's carriers and bays are below BAYS, so what a pass remembers of them are two small arrays.
+// The marks of a plan that has passed the check: what a report on them answers, and the one mark that it changes.
 ghost use mathlib.Core.Path.{_≡_};
 ghost use mathlib.Core.Bool.{not};
 ghost use Prim.Native.Nat.{_≤_, _<_};
-ghost use lib.Dec.{eqb};
 ghost use lib.ListN.{length};
-ghost use Rattle.paper.specs.Basics.{_and_, _or_, any, find, upTo};
+ghost use Rattle.paper.specs.Basics.{_and_, find, upTo};
 ghost use Rattle.paper.specs.Limits.{most-bays};
 ghost use Rattle.paper.specs.Yard.{crossings, named};
-ghost use Rattle.paper.specs.Dependence.{depend, isDone, outOfOrder};
-ghost use Rattle.paper.specs.Docket.{badMarks};
+ghost use Rattle.paper.specs.Dependence.{depend, isDone};
 ghost use Rattle.paper.specs.Answers.{accept, tell as told, marksAfter};
 ghost use Rattle.paper.specs.OnePass.{Fits};
-ghost use Rattle.paper.proofs.Marking.{flag};
 ghost use Rattle.docket.specs.Reading.{crossingOf};
 ghost use Rattle.marks.specs.Reading.{earlierOf, reportOf, toldInOrder};
 use docket::Crossing;
 use docket::Refusal;
-use paper::BAYS;
 use plans::Named;
-
-// Whether an undone crossing has touched the carrier or one of the bays.
-fn touched(carriers: &[u8; BAYS], bays: &[u8; BAYS], carrier: usize, from: usize, to: usize) -> bool
-    requires { ⌜ (carrier < most-bays) × (from < most-bays) × (to < most-bays) ⌝ }
-    ensures { λ r. ⌜ r ≡ flag (now (carriers .entry)) carrier or flag (now (bays .entry)) from or flag (now (bays .entry)) to ⌝ }
-{
-    if carriers[carrier] == 1 {
-        return true;
-    }
-    if bays[from] == 1 {
-        return true;
-    }
-    bays[to] == 1
-}
-
-// Whether a crossing is marked done before an earlier one it depends on.
-fn order_pass(plan: &[u64], marks: &[u8]) -> bool
-    requires { ⌜ (length (now marks) ≡ length (now plan)) × Fits most-bays most-bays (now plan) ⌝ }
-    ensures { λ r. ⌜ r ≡ outOfOrder (crossings (now (plan .entry))) (now (marks .entry)) ⌝ }
-{
-    let mut carriers: [u8; BAYS] = [0; BAYS];
-    let mut bays: [u8; BAYS] = [0; BAYS];
-    let mut i = 0;
-    while i < plan.len() {
-        let x = plans::crossing_at(plan, i);
-        let carrier = x.carrier.0 as usize;
-        let from = x.from.0 as usize;
-        let to = x.to.0 as usize;
-        if marks[i] == 1 {
-            if touched(&carriers, &bays, carrier, from, to) {
-                return true;
-            }
-        } else {
-            carriers[carrier] = 1;
-            bays[from] = 1;
-            bays[to] = 1;
-        }
-        i += 1;
-    }
-    false
-}
-
-// Whether a mark is neither 0 nor 1. All marks are read, which is sooner done than asking at each of them.
-fn odd_mark(marks: &[u8]) -> bool
-    ensures { λ r. ⌜ r ≡ any (λ m. not (eqb m 0 or eqb m 1)) (now (marks .entry)) ⌝ }
-{
-    let mut odd = false;
-    let mut i = 0;
-    while i < marks.len() {
-        odd = odd | (marks[i] > 1);
-        i += 1;
-    }
-    odd
-}
-
-// Whether the report is refused with 11.
-pub fn bad_marks(plan: &[u64], marks: &[u8]) -> bool
-    requires { ⌜ Fits most-bays most-bays (now plan) ⌝ }
-    ensures { λ r. ⌜ r ≡ badMarks (crossings (now (plan .entry))) (now (marks .entry)) ⌝ }
-{
-    if marks.len() != plan.len() {
-        return true;
-    }
-    if odd_mark(marks) {
-        return true;
-    }
-    order_pass(plan, marks)
-}
 
 // Whether two crossings depend on each other: the same carrier, or a bay that both touch.
 fn depends(x: Crossing, y: Crossing) -> bool
@@ -176,7 +103,7 @@ pub fn tell(plan: &[u64], marks: &[u8], name: u64) -> Reported
     requires { ⌜ Fits most-bays most-bays (now plan) ⌝ }
     ensures { λ r. ⌜ reportOf r ≡ told (crossings (now (plan .entry))) (now (marks .entry)) name ⌝ }
 {
-    if bad_marks(plan, marks) {
+    if mark_order::bad_marks(plan, marks) {
         return Reported::Refused(Refusal::Mismarked);
     }
     tell_in_order(plan, marks, name)

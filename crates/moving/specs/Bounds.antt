@@ -1,4 +1,4 @@
--- The most crossings that each part of the procedure makes, by the limit of bays, and how many may be counted where it begins.
+-- The most crossings that each part of the procedure makes, by the limit of bays, and how many may be counted where one is stored.
 -- Assumes nothing.
 use Prim.Native.Nat.{ℕ, _+_, _*_, _^_}
 use Rattle.words.specs.Sets.{span}
@@ -43,25 +43,7 @@ carrier-most = 2 * (swap-most * span)
 
 -- ## Room to count
 
--- A count has 64 bits. Where a part begins, fewer crossings are counted than its room, so that none of those below it has to stop for want of
--- bits. Each room is half the next: far more than the part makes.
-
--- for a crossing, and for a path that is shifted
+-- A count has 64 bits. Where a crossing is stored, fewer are counted than this, so that the count does not have to stop for want of bits. Each part of
+-- the procedure is lent the rest of the list and counts from nothing: no part makes as many.
 abbrev pub room-crossing : ℕ
 room-crossing = 2 ^ 63
-
--- for a vacate, and for a bring, which vacates again and again
-abbrev pub room-vacate : ℕ
-room-vacate = 2 ^ 62
-
--- for two vacates: clearing
-abbrev pub room-clear : ℕ
-room-clear = 2 ^ 61
-
--- for a trial, a swap and a step
-abbrev pub room-step : ℕ
-room-step = 2 ^ 60
-
--- for a carrier's turn
-abbrev pub room-carrier : ℕ
-room-carrier = 2 ^ 59

@@ -50,10 +50,10 @@ pub record Unchanged (p standing empty out p′ standing′ empty′ out′ : Li
   pub same-empty : empty′ ≡ empty
   pub same-list : out′ ≡ out
 
--- An action of the paper in code: where it fails nothing is changed, and else its crossings were played.
-pub record Acted (o : Option (List Crossing)) (n : ℕ) (p standing empty out : List ℕ) (at : ℕ) (p′ standing′ empty′ out′ : List ℕ) : Type 0 where
+-- An action of the paper in code: where it fails nothing is changed, and else its crossings were played from the list's front on.
+pub record Acted (o : Option (List Crossing)) (n : ℕ) (p standing empty out p′ standing′ empty′ out′ : List ℕ) : Type 0 where
   pub fails : o ≡ none → Unchanged p standing empty out p′ standing′ empty′ out′
-  pub plays : (xs : List Crossing) → o ≡ some xs → Played xs n p p′ standing′ empty′ out at out′ (at + length xs)
+  pub plays : (xs : List Crossing) → o ≡ some xs → Played xs n p p′ standing′ empty′ out 0 out′ (length xs)
 
 -- the carriers on the path can be shifted, in some yard of which the path's bays are among the n
 pub record CanShift (n : ℕ) (p path : List ℕ) : Type 0 where
@@ -65,16 +65,15 @@ pub record CanShift (n : ℕ) (p path : List ℕ) : Type 0 where
 -- ## What is asked, what is said
 
 -- a crossing from a to b: a carrier stands at a and none at b
-abbrev pub CrossAsks : Bay → Bay → (p standing empty : List ℕ) → ℕ → Type 0
-CrossAsks a b p standing empty at =
-    (a < length standing)
-    × (b < length standing)
-    × (length standing ≤ span)
-    × (length empty ≡ words)
-    × (at < room-crossing)
-    × In a p
-    × Out b p
-    × Placed (length standing) p standing empty
+pub record CrossAsks (a b : Bay) (p standing empty : List ℕ) (at : ℕ) : Type 0 where
+  pub from-inside : a < length standing
+  pub to-inside : b < length standing
+  pub most : length standing ≤ span
+  pub empty-size : length empty ≡ words
+  pub counts : at < room-crossing
+  pub full : In a p
+  pub free : Out b p
+  pub placed : Placed (length standing) p standing empty
 
 -- it is the only one that was played
 abbrev pub CrossSays : Bay → Bay → (p standing out : List ℕ) → ℕ → (p′ standing′ empty′ out′ : List ℕ) → ℕ → Type 0
@@ -82,13 +81,12 @@ CrossSays a b p standing out at p′ standing′ empty′ out′ r =
     Played (crossing (carrierAt p a) a b ∷ []) (length standing) p p′ standing′ empty′ out at out′ r
 
 -- the carriers on the path move one bay on: its last bay is empty
-abbrev pub ShiftAsks : List Bay → (p standing empty : List ℕ) → ℕ → Type 0
-ShiftAsks path p standing empty at =
-    (length standing ≤ span)
-    × (length empty ≡ words)
-    × (at + length path < room-crossing)
-    × Placed (length standing) p standing empty
-    × CanShift (length standing) p path
+pub record ShiftAsks (path : List Bay) (p standing empty : List ℕ) (at : ℕ) : Type 0 where
+  pub most : length standing ≤ span
+  pub empty-size : length empty ≡ words
+  pub counts : at + length path < room-crossing
+  pub placed : Placed (length standing) p standing empty
+  pub can-shift : CanShift (length standing) p path
 
 -- the paper's shift was played
 abbrev pub ShiftSays : List Bay → (p standing out : List ℕ) → ℕ → (p′ standing′ empty′ out′ : List ℕ) → ℕ → Type 0

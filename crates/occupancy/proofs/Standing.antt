@@ -6,19 +6,18 @@ use Prim.Native.Nat.{ℕ, zero, suc, _+_, _-_, _*_, _≤_, _<_}
 use native.Mathlib.Numerals.{add-one}
 use native.Mathlib.Omega.{arith}
 use lib.Dec.{eqb, ltb}
-use lib.ListN.{length, getD, take}
+use lib.ListN.{length, getD, take, length-append}
 use lib.Seq.{take-suc, take-all}
 use borrow.Author.Tests.{ltb-true, lt-ltb, le-ltb, eqb-true}
 use Rattle.paper.specs.Basics.{_and_, _or_, filter, elem, countFrom, upTo}
 use Rattle.paper.specs.Yard.{Bay, Placement, occupied}
 use Rattle.paper.proofs.Tests.{by-cases, not-both, and-left, and-right, and-both}
-use Rattle.paper.proofs.Members.{filter-in, filter-passes, in-filter, in-count, count-high, count-low}
+use Rattle.paper.proofs.Members.{elem-last, filter-append, filter-in, filter-passes, in-filter, in-count, count-high, count-low}
 use Rattle.paper.proofs.Admitted.{same-filter, filter-nothing}
 use Rattle.words.specs.Sets.{mem, members, words, span}
-use Rattle.words.proofs.Sets.{count-split, filter-append, or-false}
+use Rattle.words.proofs.Sets.{count-split, or-false}
 use Rattle.words.proofs.Besides.{equal-tests}
 use Rattle.occupancy.specs.Standing.{Occupies}
-use Rattle.first_bad.proofs.Places.{elem-last}
 
 -- bay b is one of the n, and one of the list
 abbrev pub stands : ℕ → List Bay → Bay → Bool
@@ -128,4 +127,4 @@ module _ (n : ℕ) (place : Placement) (set : List ℕ) (most : n ≤ span) (lon
   occupied-ones =
       let e : 64 * length set ≡ n + (span - n) = omega arith in
       let d : 0 + n ≡ n = omega arith in
-      rw (e, count-split 0 n (span - n), d, filter-append) (omega (arith, below, above))
+      rw (e, count-split 0 n (span - n), d, filter-append, length-append) (omega (arith, below, above))

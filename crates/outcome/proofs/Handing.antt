@@ -8,7 +8,7 @@ use lib.ListN.{length, take, drop, length-map}
 use lib.Seq.{take-all, length-take-le}
 use Rattle.paper.specs.Procedure.{Made, Outcome, planned, stuck}
 use Rattle.paper.specs.Yard.{pack, most-crossings}
-use Rattle.paper.specs.Answers.{parkedOf, within, beside, written}
+use Rattle.paper.specs.Answers.{parkedOf, beside, written}
 use Rattle.paper.proofs.Planning.{TooLong, within-stuck, within-fits, within-long}
 use Rattle.paper.proofs.Tests.{never}
 use Rattle.docket.specs.declared.Carrier.{Carrier as Named}
@@ -17,15 +17,15 @@ use Rattle.home.specs.declared.Staged.the-variants.{Planned, Stuck}
 use Rattle.home.specs.declared.Staged.{Staged}
 use Rattle.play.specs.Playing.{Plays}
 use Rattle.acting.specs.declared.Tally.{Tally}
-use Rattle.outcome.specs.Handing.{told, Kept, Due, Hands, HandsIfKept}
+use Rattle.outcome.specs.Handing.{told, PlanIn, Due, Hands, HandsIfKept}
 use Rattle.outcome.specs.declared.Handed.the-variants.{Done, Longer}
 use Rattle.outcome.specs.declared.Counted.the-variants.{Accepted, Refused}
 use Rattle.outcome.specs.declared.Counted.{Counted}
 
 -- ## The crossings kept
 
-pub kept-of : {o : Outcome} {kept kept′ : List ℕ} {m : Tally} {z : Staged} → Plays o kept kept′ z → z ≡ Planned m → Kept o kept′ m
-kept-of {kept′ = kept′} {m} p e =
+pub plan-in : {o : Outcome} {kept kept′ : List ℕ} {m : Tally} {z : Staged} → Plays o kept kept′ z → z ≡ Planned m → PlanIn o kept′ m
+plan-in {kept′ = kept′} {m} p e =
     let w = p .plans m e in
     let size : 0 + length (map pack (w .0 .moves)) ≡ m .crossings = omega (arith, length-map (w .0 .moves) pack, w .3) in
     record {
@@ -37,7 +37,7 @@ kept-of {kept′ = kept′} {m} p e =
     }
 
 -- copied from where it was kept
-pub copied-out : {o : Outcome} {kept out′ : List ℕ} {m : Tally} (out : List ℕ) → Kept o kept m → m .crossings ≤ length kept
+pub copied-out : {o : Outcome} {kept out′ : List ℕ} {m : Tally} (out : List ℕ) → PlanIn o kept m → m .crossings ≤ length kept
     → out′ ≡ take (m .crossings) kept ++ drop (length (take (m .crossings) kept)) out
     → (made : Made) → o ≡ planned made → out′ ≡ map pack (made .moves) ++ drop (length (made .moves)) out
 copied-out out k h e made i =
@@ -53,13 +53,13 @@ hands-stopped {lent = lent} c e =
     let w = within-stuck (length lent) (c .0) in
     rw e (record { answers = sym (ap told w); parks = rw w refl; leaves = rw w refl })
 
-pub hands-long : {o : Outcome} {kept lent : List ℕ} {m : Tally} → Kept o kept m → TooLong (length lent) (m .crossings) → Hands o lent (Refused (Room (m .crossings))) lent
+pub hands-long : {o : Outcome} {kept lent : List ℕ} {m : Tally} → PlanIn o kept m → TooLong (length lent) (m .crossings) → Hands o lent (Refused (Room (m .crossings))) lent
 unfolding written beside
 hands-long {lent = lent} k h =
     let w = within-long (length lent) (k .made) (rw (k .counted) at h) in
     rw (k .outcome, k .counted) (record { answers = sym (ap told w); parks = rw w refl; leaves = rw w refl })
 
-pub hands-plan : {o : Outcome} {kept lent lent′ : List ℕ} {m : Tally} → Kept o kept m → m .crossings ≤ length lent → m .crossings ≤ most-crossings
+pub hands-plan : {o : Outcome} {kept lent lent′ : List ℕ} {m : Tally} → PlanIn o kept m → m .crossings ≤ length lent → m .crossings ≤ most-crossings
     → ((made : Made) → o ≡ planned made → lent′ ≡ map pack (made .moves) ++ drop (length (made .moves)) lent) → Hands o lent (Accepted (m .crossings) (m .parked)) lent′
 unfolding written beside parkedOf
 hands-plan {lent = lent} k a b f =
@@ -85,7 +85,7 @@ longer-unless-kept {m = m} {parked} d = record {
 
 -- ## The plan that is played again
 
-pub due-of : {o : Outcome} {kept lent : List ℕ} {m : Tally} → Kept o kept m → m .crossings ≤ length lent → m .crossings ≤ most-crossings
+pub due-of : {o : Outcome} {kept lent : List ℕ} {m : Tally} → PlanIn o kept m → m .crossings ≤ length lent → m .crossings ≤ most-crossings
     → Due o lent (m .crossings) (m .parked)
 due-of k a b = record { made = k .made; outcome = k .outcome; counted = k .counted; parks = k .parks b; fits = a; few = b }
 
@@ -94,7 +94,7 @@ pub hands-again : {o : Outcome} {lent stored lent′ : List ℕ} {m parked : ℕ
     → lent′ ≡ stored ++ drop m lent → Hands o lent (Accepted m parked) lent′
 hands-again (Stuck c) p d e = never (let stops = p .stops c refl in let plans = d .outcome in cc)
 hands-again {lent = lent} {stored} {lent′} {m} {parked} (Planned t) p d e =
-    let k = kept-of p refl in
+    let k = plan-in p refl in
     let same : k .made ≡ d .made = let a = k .outcome in let b = d .outcome in cc in
     let long : t .crossings ≡ m = k .counted ∙ ap (λ (x : Made). length (x .moves)) same ∙ sym (d .counted) in
     let counts : t .parked ≡ parked = k .parks (omega (arith, long, d .few)) ∙ ap (λ (x : Made). x .parked) same ∙ sym (d .parks) in

@@ -16,15 +16,15 @@ use Rattle.outcome.specs.declared.Handed.{Handed}
 use Rattle.outcome.specs.declared.Handed.the-variants.{Done, Longer}
 
 -- what is told of an answer: the plan's length, for the plan itself is in the lent list; or the refusal
-pub data Told : Type 0 where
-  long : ℕ → Told
-  denied : Refusal → Told
+pub data PlanTold : Type 0 where
+  long : ℕ → PlanTold
+  denied : Refusal → PlanTold
 
-abbrev pub told : Answer → Told
+abbrev pub told : Answer → PlanTold
 told (accepted xs) = long (length xs)
 told (refused r) = denied r
 
-abbrev pub countedOf : Counted → Told
+abbrev pub countedOf : Counted → PlanTold
 countedOf (Accepted m k) = long m
 countedOf (Refused r) = denied (refusalOf r)
 
@@ -34,7 +34,7 @@ parkedBy (Accepted m k) = k
 parkedBy (Refused r) = 0
 
 -- the outcome is a plan of so many crossings, and these are the first of them; its count is exact unless the plan is too long
-pub record Kept (o : Outcome) (kept : List ℕ) (m : Tally) : Type 0 where
+pub record PlanIn (o : Outcome) (kept : List ℕ) (m : Tally) : Type 0 where
   pub made : Made
   pub outcome : o ≡ planned made
   pub counted : m .crossings ≡ length (made .moves)

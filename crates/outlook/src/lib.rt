@@ -10,7 +10,8 @@ ghost use Rattle.outlook.specs.Outlook.{AtMostTwo, OutlookAsks, OutlookS
 
 // Whether three neighbours of bay v are in the set.
 fn has_three(table: &[u64], v: Bay, seen: &[u64]) -> bool
-    requires { ⌜ (v .0 * words + words ≤ length (now table)) × (length (now seen) ≡ words) ⌝ }
+    requires { ⌜ v .0 * words + words ≤ length (now table) ⌝ }
+    requires { ⌜ length (now seen) ≡ words ⌝ }
     ensures { λ z. ⌜ (z ≡ false → AtMostTwo (now (table .entry)) (now (seen .entry)) (v .0)) ⌝ }
 {
     let mut near = [0u64; words::WORDS];

@@ -13,12 +13,12 @@ use lib.Seq.{getD-take, ext-getD}
 use borrow.Author.Tests.{not-true, ltb-true, lt-ltb, eqb-true, eqb-false, ne-eqb}
 use Rattle.paper.specs.Basics.{_and_, elem, placeOf, upTo, In, Out, NoDup}
 use Rattle.paper.specs.Yard.{Bay, Carrier, Yard, Placement, Crossing, crossing, bayOf, carrierAt, move, after, joined, carousel, legalPlan}
-use Rattle.paper.specs.Path.{Shortest, nearestFirst, shortestPath, pathBetween}
+use Rattle.paper.specs.Path.{Route, Way, Shortest, nearestFirst, shortestPath, pathBetween}
 use Rattle.paper.specs.Procedure.{Made, only, together, _then_, cross, trade, vacate, swap, step, Outcome, planned, stuck, onward, orStuck, Stage, _next_, avoided, pathOf, go, homeAt, wayHome, along, carry, carryFrom, procedure, holding}
 use Rattle.paper.proofs.Tests.{by-cases, by-option, not-both, never-some, some-when, and-left, and-right, and-both}
-use Rattle.paper.proofs.Members.{In-head, In-tail, In-append-right, out-cons, nothing-in-nil, Out-head, Out-tail}
+use Rattle.paper.proofs.Members.{In-head, In-tail, In-cases, In-nil, In-append-right, out-cons, nothing-in-nil, Out-head, Out-tail}
 use Rattle.paper.proofs.Shortest.{shortest-path}
-use Rattle.paper.proofs.Playing.{Apart, Legal, legal-facts, legal-of, after-append, after-length, plan-head, plan-tail, plan-cons, plan-append, bay-in, placeOf-bay, placeOf-there, move-self, move-other, move-apart, Sound, Good}
+use Rattle.paper.proofs.Playing.{Apart, Legal, legal-facts, legal-of, after-append, after-length, plan-head, plan-tail, plan-cons, plan-append, placeOf-bay, placeOf-there, in-finished, out-finished, move-self, move-other, move-apart, Sound, Good}
 use Rattle.paper.proofs.Vacating.{vacate-vacates, vacate-empty}
 use Rattle.paper.proofs.Trading.{traded-bay, trade-first, trade-second, trade-other}
 use Rattle.paper.proofs.Actions.{same-moves, cross-some, then-runs, then-split}
@@ -48,9 +48,6 @@ module _ (Y : Yard) (sound : Sound Y) where
 
   module _ (finished : ℕ) (r : Carrier) (w : Bay) (p : Placement) (good : Good Y p) (hr : r < length p) (hf : finished ≤ length p)
       (rail : joined Y (bayOf p r) w ≡ true) where
-    in-take : (c : Carrier) → c < finished → In (bayOf p c) (take finished p)
-    in-take c h = rw (getD-take finished p c 0 h) at (bay-in (take finished p) c (rw length-take (omega arith)))
-
     by-vacating : (m : Made) → (vacate Y (holding finished r p) w then cross r w) p ≡ some m → Stepped finished r w p (m .moves)
     unfolding after legalPlan
     by-vacating m h =
@@ -66,7 +63,7 @@ module _ (Y : Yard) (sound : Sound Y) where
         rw all (record {
           legal = plan-append Y p ms (x ∷ []) (vac .legal) (plan-cons Y (after p ms) x [] (legal-of Y (after p ms) x l) refl);
           arrives = rw after-append (move-self Y (after p ms) x l);
-          others = λ c hc ne. inl (rw after-append (move-other Y (after p ms) x l c ne ∙ vac .keeps c (omega arith) (In-tail (bayOf p c) (bayOf p r) (take finished p) (in-take c hc))));
+          others = λ c hc ne. inl (rw after-append (move-other Y (after p ms) x l c ne ∙ vac .keeps c (omega arith) (In-tail (bayOf p c) (bayOf p r) (take finished p) (in-finished finished p hf c hc))));
         }))
 
     by-swapping : (m : Made) → In w p → swap Y r (carrierAt p w) p ≡ some m → Stepped finished r w p (m .moves)
@@ -208,7 +205,7 @@ module _ (Y : Yard) (sound : Sound Y) (goals : Placement) (goals-apart : Apart g
     goal-whose : (c : Carrier) → c < finished → bayOf goals c ≡ v → (c ≡ whose) × (whose < finished)
     unfolding whose
     goal-whose c h e =
-        let i : In v (take finished goals) = rw (getD-take finished goals c 0 h ∙ e) at (bay-in (take finished goals) c (rw length-take (omega arith))) in
+        let i : In v (take finished goals) = rw e at (in-finished finished goals hf c h) in
         let t : whose < finished = let k = rw length-take at (placeOf-there (take finished goals) v i) in omega arith in
         (goals-apart c whose (omega arith) (omega arith) (e ∙ sym (whose-goal t)), t)
 
@@ -291,6 +288,15 @@ home-none : (Y : Yard) (goals : Placement) (k : ℕ) (p : Placement) (b : Made) 
 unfolding wayHome
 home-none Y goals k p b h = cc
 
+-- no bay of a route is held, and so none of a way
+pub route-out : (Y : Yard) (held : List Bay) (u : Bay) (l : List Bay) (v b : Bay) → Route Y held u l v → In b l → Out b held
+route-out Y held u [] v b route i = In-nil b i
+route-out Y held u (x ∷ l) v b route i = In-cases b x l i (λ e. rw e (route .1 .1)) (λ k. route-out Y held x l v b (route .2) k)
+
+way-out : (Y : Yard) (held : List Bay) (u : Bay) (l : List Bay) (v b : Bay) → Way Y held u l v → In b l → Out b held
+way-out Y held u l v b way i =
+    In-cases b u (way .rest) (rw (way .starts) at i) (λ e. rw e (way .free .1)) (λ k. route-out Y held u (way .rest) v b (way .route) k)
+
 module _ (Y : Yard) (sound : Sound Y) (goals : Placement) (goals-apart : Apart goals) where
   -- the carriers below r are home
   abbrev pub Home : ℕ → Placement → Type 0
@@ -344,18 +350,13 @@ module _ (Y : Yard) (sound : Sound Y) (goals : Placement) (goals-apart : Apart g
         ))
         (chain-last Y u ahead (bayOf goals r) chain)
 
-  -- what no finished carrier stands at is not avoided
+  -- "the present bays of finished carriers" are avoided in a carousel,
+  finished-avoided : (r : Carrier) (p : Placement) → r ≤ length p → carousel Y ≡ true → (c : Carrier) → c < r → In (bayOf p c) (avoided Y goals r p)
+  finished-avoided r p few round c h = rw round (in-finished r p few c h)
+
+  -- and no other bay is
   not-avoided : (r : Carrier) (p : Placement) (b : Bay) → ((c : Carrier) → c < r → bayOf p c ≡ b → ⊥) → Out b (avoided Y goals r p)
-  not-avoided r p b f = by-cases (carousel Y) (λ e. rw e not-finished) (λ e. rw e (nothing-in-nil b))
-    where
-      not-finished : Out b (take r p)
-      not-finished =
-          by-cases (elem b (take r p))
-          (λ i.
-          let c = carrierAt (take r p) b in
-          let low : c < r = let k = rw length-take at (placeOf-there (take r p) b i) in omega arith in
-          absurd (f c low (sym (getD-take r p c 0 low) ∙ placeOf-bay (take r p) b i)))
-          (λ o. o)
+  not-avoided r p b f = by-cases (carousel Y) (λ e. rw e (out-finished r p b f)) (λ e. rw e (nothing-in-nil b))
 
   -- What r's path is: the shortest past the bays avoided, and none of these is r's bay or its goal.
   pub path-short : (r : Carrier) (p : Placement) (path : List Bay) → Good Y p → length p ≡ length goals → r < length p → In (bayOf goals r) (upTo (Y .bays))
@@ -368,6 +369,14 @@ module _ (Y : Yard) (sound : Sound Y) (goals : Placement) (goals-apart : Apart g
       (good .inside r hr, not-avoided r p (bayOf p r) (λ c k i. absurd (let d = good .apart c r (omega arith) hr i in omega arith)))
       (goal-in, not-avoided r p (bayOf goals r) (λ c k i. absurd (let d = goals-apart c r (omega arith) (omega arith) (sym (at-home c k) ∙ i) in omega arith)))
       (w .0))
+
+  -- So in a carousel no finished carrier stands on it.
+  pub path-avoids : (r : Carrier) (p : Placement) (path : List Bay) → Good Y p → length p ≡ length goals → r < length p → In (bayOf goals r) (upTo (Y .bays))
+      → Home r p → pathOf Y goals r p ≡ some path → carousel Y ≡ true → (c : Carrier) → c < r → Out (bayOf p c) path
+  path-avoids r p path good len hr goal-in at-home e round c h =
+      let way = path-short r p path good len hr goal-in at-home e .way in
+      let taken = finished-avoided r p (omega arith) round c h in
+      by-cases (elem (bayOf p c) path) (λ i. not-both taken (way-out Y (avoided Y goals r p) (bayOf p r) path (bayOf goals r) (bayOf p c) way i)) (λ o. o)
 
   -- Carrier r goes to its goal and the finished ones that it displaced go home.
   pub carry-carries : (r : Carrier) (p : Placement) (m : Made) → Good Y p → length p ≡ length goals → r < length p

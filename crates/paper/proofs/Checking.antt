@@ -1,5 +1,5 @@
 -- The check passes exactly if 1 to 6 do, the plan is legal and ends at the goals; else 9 and 10 carry the first and the lowest.
-use Prim.Native.Nat.{zero, ℕ, suc, _<_, _≤_, _+_}
+use Prim.Native.Nat.{zero, ℕ, suc, _<_, _+_}
 use mathlib.Core.Logic.{_↔_}
 use mathlib.Core.Path.{_≡_, refl, sym, _∙_, ap}
 use mathlib.Core.Bool.{true, false, not, Bool}
@@ -10,15 +10,15 @@ use lib.Dec.{eqb, ltb}
 use lib.ListN.{length, take}
 use lib.Seq.{ext-getD, take-length}
 use borrow.Author.Tests.{not-true, not-false, eqb-true, eqb-false, eq-eqb, ltb-false, ltb-true, ne-eqb}
-use Rattle.paper.specs.Basics.{if_then_else_, upTo}
-use Rattle.paper.specs.Yard.{Bay, Carrier, Yard, Placement, Crossing, bayOf, move, after, joined, legal, legalPlan, crossings, named}
+use Rattle.paper.specs.Basics.{upTo}
+use Rattle.paper.specs.Yard.{Carrier, Yard, Placement, Crossing, bayOf, move, after, legal, legalPlan, crossings, named}
 use Rattle.paper.specs.Order.{Order}
-use Rattle.paper.specs.Docket.{illegal, missed, yardBy, yardOf, firstIllegal, notHome, Refusal, number}
+use Rattle.paper.specs.Docket.{illegal, missed, yardOf, firstIllegal, notHome}
 use Rattle.paper.specs.Answers.{firstSix, check}
-use Rattle.paper.proofs.Tests.{by-cases, never-some, none-both, none-from, not-both, by-option, never}
+use Rattle.paper.proofs.Tests.{by-cases, never-some, none-both, none-from, not-both, by-option}
 use Rattle.paper.proofs.Members.{in-count, find-none, none-find, find-exactly}
 use Rattle.paper.proofs.Playing.{after-length, plan-head, plan-tail}
-use Rattle.paper.proofs.Admitted.{clean-of, six-number}
+use Rattle.paper.proofs.Admitted.{clean-of}
 
 module _ (Y : Yard) where
   pub none-illegal : (p : Placement) (i : ℕ) (xs : List Crossing) → firstIllegal Y p i xs ≡ none → legalPlan Y p xs ≡ true
@@ -136,59 +136,3 @@ module _ (o : Order) (plan : List ℕ) where
   passed-check p =
       rw (p .sound, illegal-none (yardOf o) (o .starts) 0 (crossings plan) (p .lawful))
       (rw (missed-none (o .goals) (after (o .starts) (crossings plan)) (p .home)))
-
--- The legality of crossings sees the yard through its rails alone: the number of bays does not matter.
-pub illegal-bays : (n m : ℕ) (ends : List Bay) (p : Placement) (i : ℕ) (xs : List Crossing) → firstIllegal (yardBy n ends) p i xs ≡ firstIllegal (yardBy m ends) p i xs
-unfolding firstIllegal legal joined
-illegal-bays n m ends p i [] = refl
-illegal-bays n m ends p i (x ∷ xs) =
-    ap (λ r. if legal (yardBy m ends) p x then r else some i) (illegal-bays n m ends (move p x) (suc i) xs)
-
-module _ (o : Order) (plan : List ℕ) where
-  abbrev xs : List Crossing
-  xs = crossings plan
-
-  -- every way in which the check's answer comes about
-  by-check : {P : Type 0}
-      → ((r : Refusal) → number r ≤ 6 → check o plan ≡ some r → P)
-      → (firstSix o (length plan) ≡ none → (i : ℕ) → firstIllegal (yardOf o) (o .starts) 0 xs ≡ some i
-      → check o plan ≡ some (illegal i) → P)
-      → (firstSix o (length plan) ≡ none → firstIllegal (yardOf o) (o .starts) 0 xs ≡ none → (c : Carrier)
-      → notHome (o .goals) (after (o .starts) xs) ≡ some c → check o plan ≡ some (missed c) → P)
-      → (check o plan ≡ none → P)
-      → P
-  unfolding check
-  by-check six nine ten passes =
-      by-option (firstSix o (length plan))
-      (λ a. by-option (firstIllegal (yardOf o) (o .starts) 0 xs)
-      (λ b. by-option (notHome (o .goals) (after (o .starts) xs))
-      (λ c. passes (rw (a, b, c)))
-      (λ y c. ten a b y c (rw (a, b, c))))
-      (λ i b. nine a i b (rw (a, b))))
-      (λ r a. six r (six-number o (length plan) r a) (rw a))
-
-  -- 9 carries d exactly if 1 to 6 pass and d names the first illegal crossing.
-  pub nine-exactly : (d : ℕ) → (check o plan ≡ some (illegal d))
-      ↔ ((firstSix o (length plan) ≡ none) × FirstIllegal (yardOf o) (o .starts) xs d)
-  unfolding check
-  nine-exactly d = (
-    λ h. by-check
-        (λ r l e. let z : r ≡ illegal d = cc in let w = rw z at l in absurd (omega arith))
-        (λ a i b e. let z : i ≡ d = cc in (a, rw z at ((illegal-exactly (yardOf o) (o .starts) xs i) .0 b)))
-        (λ a b c k e. never (cc))
-        (λ e. never (cc)),
-    λ k. rw (k .0, (illegal-exactly (yardOf o) (o .starts) xs d) .1 (k .1)),
-  )
-
-  -- 10 carries c exactly if 1 to 6 pass, the plan is legal, and c is the lowest carrier that isn't home.
-  pub ten-exactly : (c : Carrier) → (check o plan ≡ some (missed c))
-      ↔ ((firstSix o (length plan) ≡ none) × (legalPlan (yardOf o) (o .starts) xs ≡ true) × LowestMissed (o .goals) (after (o .starts) xs) c)
-  unfolding check
-  ten-exactly c = (
-    λ h. by-check
-        (λ r l e. let z : r ≡ missed c = cc in let w = rw z at l in absurd (omega arith))
-        (λ a i b e. never (cc))
-        (λ a b y k e. let z : y ≡ c = cc in (a, none-illegal (yardOf o) (o .starts) 0 xs b, rw z at ((missed-exactly (o .goals) (after (o .starts) xs) y) .0 k)))
-        (λ e. never (cc)),
-    λ k. rw (k .0, illegal-none (yardOf o) (o .starts) 0 xs (k .1), (missed-exactly (o .goals) (after (o .starts) xs) c) .1 (k .2)),
-  )

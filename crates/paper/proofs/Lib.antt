@@ -1,6 +1,5 @@
 pub mod Tests
 pub mod Members
-pub mod Firsts
 pub mod Limits
 pub mod Choosing
 pub mod Rings
@@ -17,7 +16,6 @@ pub mod Trading
 pub mod Swapping
 pub mod Carrying
 pub mod Admitted
-pub mod WayHome
 pub mod Planning
 pub mod Commuting
 pub mod Slotting
@@ -25,14 +23,7 @@ pub mod Marking
 pub mod Checking
 pub mod Reporting
 pub mod Packing
-pub mod Logging
-pub mod Handing
 pub mod Determined
 pub mod Fed
 pub mod Fields
 pub mod Stepping
-pub mod Buffering
-pub mod Digits
-pub mod Lines
-pub mod Printing
-pub mod Railing

@@ -9,10 +9,9 @@ use lib.Dec.{eqb}
 use lib.ListN.{length, getD, set, length-set, replicate}
 use lib.Seq.{getD-set-same, getD-set-other}
 use borrow.Author.Tests.{not-true, eqb-true, eqb-false, ne-eqb}
-use Rattle.paper.specs.Basics.{_and_, _or_, any, upTo}
+use Rattle.paper.specs.Basics.{_and_, _or_, upTo}
 use Rattle.paper.specs.Yard.{Crossing, named}
 use Rattle.paper.specs.Dependence.{depend, done, isDone, outOfOrder, doneOf}
-use Rattle.paper.specs.Docket.{badMarks}
 use Rattle.paper.specs.OnePass.{put, orderPass}
 use Rattle.paper.proofs.Tests.{by-cases, not-both, and-left, and-right, and-both, or-none, or-neither}
 use Rattle.paper.proofs.Members.{any-some, any-of, in-count, count-high}
@@ -171,12 +170,6 @@ order-pass xs ms =
     same-false _ _
     (λ h. clear-pass _ _ xs ms (none-touched (doneOf xs ms)) (closed-of xs ms (in-order xs ms h)))
     (λ h. order-in xs ms (of-closed xs ms ((pass-clear _ _ xs ms h) .1)))
-
--- 11 in one pass: what code tests
-pub marks-pass : (xs : List Crossing) (ms : List ℕ)
-    → badMarks xs ms ≡ not (eqb (length ms) (length xs)) or any (λ m. not (eqb m 0 or eqb m 1)) ms or orderPass (λ c. false) (λ b. false) xs ms
-unfolding badMarks
-marks-pass xs ms = rw (order-pass xs ms)
 
 -- The tables as lists of 0 and 1, as code may hold them.
 abbrev pub flag : List ℕ → ℕ → Bool

@@ -6,10 +6,10 @@ use mathlib.Core.List.{List, [], _∷_, _++_}
 use mathlib.Core.Option.{Option, none, some}
 use Prim.Native.Nat.{ℕ, zero, suc, _<_, _≤_, _+_, min}
 use native.Mathlib.Omega.{arith}
-use lib.ListN.{take}
+use lib.ListN.{length, getD, take}
 use lib.Dec.{eqb, ltb}
 use borrow.Author.Tests.{not-true, eqb-true, eqb-false, eq-eqb, ltb-true, ltb-false}
-use Rattle.paper.specs.Basics.{without, filter, any, find, firstOf, elem, countFrom, In, NoDup, Out, upTo, lowestOf}
+use Rattle.paper.specs.Basics.{_or_, without, filter, any, find, firstOf, elem, countFrom, In, NoDup, Out, upTo, lowestOf, highestOf}
 use Rattle.paper.proofs.Tests.{some-same, by-cases, by-option, not-both, never-some}
 
 module _ {A : Type 0} (q : A → Bool) where
@@ -36,6 +36,12 @@ In-nil x h = not-both h refl
 
 pub In-one : (x y : ℕ) → In x (y ∷ []) → x ≡ y
 In-one x y h = In-cases x y [] h (λ e. e) (λ e. In-nil x e)
+
+-- what one member more changes
+pub elem-last : (b : ℕ) (xs : List ℕ) (x : ℕ) → elem b (xs ++ (x ∷ [])) ≡ elem b xs or eqb b x
+unfolding elem _or_
+elem-last b [] x = by-cases (eqb b x) (λ e. rw e) (λ e. rw e)
+elem-last b (y ∷ xs) x = by-cases (eqb b y) (λ e. rw e) (λ e. rw e (elem-last b xs x))
 
 pub In-append-left : (x : ℕ) (xs ys : List ℕ) → In x xs → In x (xs ++ ys)
 In-append-left x [] ys h = In-nil x h
@@ -162,6 +168,11 @@ pub take-in : (k : ℕ) (xs : List ℕ) (x : ℕ) → In x (take k xs) → In x 
 take-in zero xs x i = In-nil x i
 take-in (suc k) [] x i = i
 take-in (suc k) (y ∷ ys) x i = In-cases x y (take k ys) i (λ e. rw e (In-head y ys)) (λ h. In-tail x y ys (take-in k ys x h))
+
+pub filter-append : (q : ℕ → Bool) (xs ys : List ℕ) → filter q (xs ++ ys) ≡ filter q xs ++ filter q ys
+unfolding filter
+filter-append q [] ys = refl
+filter-append q (x ∷ xs) ys = rw (filter-append q xs ys) (by-cases (q x) (λ e. rw e) (λ e. rw e))
 
 pub nodup-take : (k : ℕ) (xs : List ℕ) → NoDup xs → NoDup (take k xs)
 nodup-take zero xs n = tt
@@ -312,8 +323,23 @@ module _ (q : ℕ → Bool) where
       (λ z k. let m = some-same (rw (e, k) at h) in rw (← m) (min-either (λ a. In a (x ∷ xs)) x z (In-head x xs) (In-tail z x xs (lowest-in xs k)))))
       (λ e. In-tail y x xs (lowest-in xs (rw e at h)))
 
-  pub lowest-none : (xs : List ℕ) → lowestOf q xs ≡ none → (a : ℕ) → In a xs → q a ≡ false
-  lowest-none xs h a i = by-cases (q a) (λ e. let r = lowest-some xs a i e in never-some (r .0) (sym h ∙ r .1)) (λ e. e)
+-- ## The highest
+
+-- each of some numbers is at most the highest,
+pub highest-above : (xs : List ℕ) (i : ℕ) → i < length xs → getD xs i 0 ≤ highestOf xs
+unfolding highestOf
+highest-above [] i h = absurd (omega arith)
+highest-above (x ∷ xs) zero h = omega arith
+highest-above (x ∷ xs) (suc i) h = let ih = highest-above xs i (omega arith) in omega arith
+
+-- and the highest is at most what none of them exceeds
+pub highest-below : (xs : List ℕ) (b : ℕ) → ((i : ℕ) → i < length xs → getD xs i 0 ≤ b) → highestOf xs ≤ b
+unfolding highestOf
+highest-below [] b f = omega arith
+highest-below (x ∷ xs) b f =
+    let ih = highest-below xs b (λ i h. f (suc i) (omega arith)) in
+    let l : x ≤ b = f 0 (omega arith) in
+    omega arith
 
 -- ## A search that goes up and ends at the first that it finds
 

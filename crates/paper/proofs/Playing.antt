@@ -3,11 +3,11 @@
 use mathlib.Core.Path.{_≡_, refl, sym, _∙_, ap}
 use mathlib.Core.Bool.{true, false, not}
 use mathlib.Core.List.{List, [], _∷_, _++_}
-use Prim.Native.Nat.{zero, suc, _<_}
+use Prim.Native.Nat.{ℕ, zero, suc, _<_, _≤_}
 use native.Mathlib.Omega.{arith}
 use lib.Dec.{eqb}
-use lib.ListN.{length, length-set}
-use lib.Seq.{getD-set-same, getD-set-other}
+use lib.ListN.{length, take, length-set, length-take}
+use lib.Seq.{getD-set-same, getD-set-other, getD-take}
 use borrow.Author.Tests.{not-true, eqb-true, eqb-false, eq-eqb, ltb-true, lt-ltb}
 use Rattle.paper.specs.Basics.{elem, placeOf, In, Out, upTo}
 use Rattle.paper.specs.Yard.{Bay, Carrier, Yard, Placement, Crossing, bayOf, carrierAt, move, after, joined, legal, legalPlan}
@@ -106,6 +106,22 @@ out-of p b f =
 
 pub out-no : (p : Placement) (b : Bay) → Out b p → (c : Carrier) → c < length p → bayOf p c ≡ b → ⊥
 out-no p b o c h e = not-both (rw e at (bay-in p c h)) o
+
+-- ## The bays of the finished carriers, who are the first
+
+pub in-finished : (k : ℕ) (p : Placement) → k ≤ length p → (c : Carrier) → c < k → In (bayOf p c) (take k p)
+in-finished k p hk c h = rw (getD-take k p c 0 h) at (bay-in (take k p) c (rw length-take (omega arith)))
+
+-- such a bay is some finished carrier's,
+pub whose : (k : ℕ) (p : Placement) (b : Bay) → In b (take k p) → (c : Carrier) × (c < k) × (bayOf p c ≡ b)
+whose k p b i =
+    let c = carrierAt (take k p) b in
+    let h : c < k = let z = rw length-take at (placeOf-there (take k p) b i) in omega arith in
+    (c, h, sym (getD-take k p c 0 h) ∙ placeOf-bay (take k p) b i)
+
+-- and a bay where none of them stands is not among them
+pub out-finished : (k : ℕ) (p : Placement) (b : Bay) → ((c : Carrier) → c < k → bayOf p c ≡ b → ⊥) → Out b (take k p)
+out-finished k p b f = by-cases (elem b (take k p)) (λ i. let w = whose k p b i in absurd (f (w .0) (w .1) (w .2))) (λ e. e)
 
 module _ (Y : Yard) (p : Placement) (x : Crossing) (l : Legal Y p x) where
   pub move-self : bayOf (move p x) (x .carrier) ≡ x .to

@@ -2,7 +2,7 @@
 -- pass with the last slot of each carrier and bay finds them, since slots at a bay only rise.
 use mathlib.Core.Path.{_≡_, refl, sym, _∙_, ap, ap₂, fun-ext}
 use mathlib.Core.Bool.{Bool, true, false}
-use mathlib.Core.Option.{none, some}
+use mathlib.Core.Option.{none}
 use mathlib.Core.List.{List, [], _∷_, _++_, append-nil, append-assoc}
 use Prim.Native.Nat.{ℕ, zero, suc, _<_, _≤_, _-_, max}
 use native.Mathlib.Omega.{arith}
@@ -14,7 +14,6 @@ use Rattle.paper.specs.Basics.{if_then_else_, _or_}
 use Rattle.paper.specs.Yard.{Crossing, unpack, crossings, named}
 use Rattle.paper.specs.Order.{Order}
 use Rattle.paper.specs.Dependence.{depend, highest, slotsAfter, slots}
-use Rattle.paper.specs.Docket.{Refusal}
 use Rattle.paper.specs.Answers.{slotsRefusal, slotsEnd}
 use Rattle.paper.specs.OnePass.{put, slotsPass}
 pub use Rattle.paper.specs.Dependence.{Numbering}
@@ -212,10 +211,6 @@ slots-start k n xs = rw (at-zeros k, at-zeros n) (slots-pass xs)
 
 -- The lent slot list: unchanged on a refusal; else the slots, and beyond them what stood there.
 module _ (o : Order) (plan lent : List ℕ) where
-  pub slots-refused : (r : Refusal) → slotsRefusal o plan (length lent) ≡ some r → slotsEnd o plan lent ≡ lent
-  unfolding slotsEnd
-  slots-refused r h = rw h
-
   pub slots-given : slotsRefusal o plan (length lent) ≡ none
       → (take (length plan) (slotsEnd o plan lent) ≡ slots (crossings plan))
       × (drop (length plan) (slotsEnd o plan lent) ≡ drop (length plan) lent)

@@ -1,19 +1,19 @@
 -- The scenario read byte by byte is the scenario read line by line, in whatever pieces the bytes come.
 use mathlib.Core.Path.{_≡_, refl, sym, _∙_, ap, ap₂}
 use mathlib.Core.Bool.{Bool, true, false}
-use mathlib.Core.List.{List, [], _∷_, _++_, foldl, foldl-append}
+use mathlib.Core.List.{List, [], _∷_, _++_, foldl}
 use mathlib.Core.Option.{Option, none, some}
 use Prim.Native.Nat.{ℕ}
 use native.Mathlib.Omega.{arith}
 use lib.Dec.{eqb, ltb}
 use lib.ListN.{length}
 use borrow.Author.Tests.{ne-eqb}
-use Rattle.paper.specs.Basics.{if_then_else_, _and_, _>>=_, concat, when, _or_}
+use Rattle.paper.specs.Basics.{if_then_else_, _and_, _>>=_, when, _or_}
 use Rattle.paper.specs.Limits.{most-carriers}
 use Rattle.paper.specs.Yard.{Bay}
 use Rattle.paper.specs.Text.{Text, TAB, join, split, value, sized, isNumber, text}
 use Rattle.paper.specs.Scenario.{Listed, versionDue, carriers, isLength, nineFields, startAndGoal, carrierLine, scenarioLine, scenarioEnd, readScenario}
-use Rattle.paper.specs.Bytes.{State, Match, unmatched, matchByte, Field, blank, see, fieldOf, Past, nonePast, keepAt, Under, inVersion, inCarrier, wellField, fieldPast, carrierOf, beginLine, inLine, closeLine, listedSoFar, unread, scenarioStep, scenarioFinish}
+use Rattle.paper.specs.Bytes.{Match, unmatched, matchByte, Field, blank, see, fieldOf, Past, nonePast, keepAt, inVersion, inCarrier, wellField, fieldPast, carrierOf, beginLine, inLine, closeLine, listedSoFar, unread, scenarioStep, scenarioFinish}
 use Rattle.paper.proofs.Tests.{by-cases, and-left, and-right}
 use Rattle.paper.proofs.Fed.{ByByte, Some, join-some, fed}
 use Rattle.paper.proofs.Fields.{match-is, sized-mark, number-mark, value-mark, equal-mark, length-mark, and-false}
@@ -147,9 +147,3 @@ module _ (W H : ℕ) (bay : ℕ → ℕ → Option Bay) where
   pub stepped : (bs : Text) → scenarioFinish W H bay (foldl (scenarioStep W H bay) (unread W H bay) bs) ≡ readScenario W H bay bs
   unfolding scenarioFinish scenarioStep readScenario beginLine
   stepped bs = fed _ _ _ _ _ _ by-byte 1 versionDue bs
-
-  -- Pieces, wherever they are cut, read as the whole file.
-  pub in-pieces : (s : State Under) (ps : List Text) → foldl (foldl (scenarioStep W H bay)) s ps ≡ foldl (scenarioStep W H bay) s (concat ps)
-  unfolding concat
-  in-pieces s [] = refl
-  in-pieces s (p ∷ ps) = in-pieces (foldl (scenarioStep W H bay) s p) ps ∙ sym (foldl-append (scenarioStep W H bay) s p (concat ps))

@@ -4,7 +4,7 @@ use mathlib.Core.Bool.{Bool, true, false, not}
 use mathlib.Core.List.{List, [], _∷_, _++_}
 use mathlib.Core.Option.{Option, none, some}
 use mathlib.Core.Path.{_≡_}
-use Prim.Native.Nat.{ℕ, zero, suc, min}
+use Prim.Native.Nat.{ℕ, zero, suc, min, max}
 use lib.Dec.{eqb}
 
 infix 10 if_then_else_
@@ -84,6 +84,11 @@ lowestOf q (x ∷ xs) =
     let rest = lowestOf q xs in
     let low = if-some rest then (λ y. some (min x y)) else some x in
     if q x then low else rest
+
+-- the highest of some numbers, 0 where there are none
+unfoldable pub highestOf : List ℕ → ℕ
+highestOf [] = zero
+highestOf (x ∷ xs) = max x (highestOf xs)
 
 -- x is a member
 unfoldable pub elem : ℕ → List ℕ → Bool

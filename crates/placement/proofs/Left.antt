@@ -1,6 +1,5 @@
 -- The placement is where the accepted crossings leave the carriers, in whatever order they were accepted: demand 3 says so of the done crossings in plan order.
 use mathlib.Core.Path.{_≡_, sym, _∙_, ap}
-use mathlib.Core.Bool.{false}
 use mathlib.Core.List.{List, _++_}
 use mathlib.Core.Option.{none}
 use Prim.Native.Nat.{ℕ, _≤_}
@@ -9,13 +8,12 @@ use lib.ListN.{length, take, drop}
 use lib.Seq.{take-at, drop-at}
 use Rattle.paper.specs.Yard.{Bay, Placement, crossings, after}
 use Rattle.paper.specs.Order.{Order}
-use Rattle.paper.specs.Docket.{yardOf, badMarks, granted}
+use Rattle.paper.specs.Docket.{granted}
 use Rattle.paper.specs.Dependence.{doneOf, placementBy}
 use Rattle.paper.specs.Answers.{check}
-use Rattle.paper.specs.Log.{Request, marksOf, namesOf, acceptedOf}
+use Rattle.paper.specs.Log.{Request, marksOf, acceptedOf}
 use Rattle.paper.proofs.Playing.{after-length}
-use Rattle.paper.proofs.Checking.{check-passed}
-use Rattle.paper.proofs.Logging.{fine, kept-from-fresh}
+use Rattle.laws.proofs.Logging.{fine-marks}
 use Rattle.demands.proofs.Demands.{demand-3}
 use Rattle.docket.specs.declared.Verdict.{Verdict as Held}
 use Rattle.placement.specs.Standing.{refusal, standing, standingEnd, PlacementSays}
@@ -26,14 +24,9 @@ pub record Stands (starts : Placement) (plan : List ℕ) (qs : List Request) (le
   pub behind : drop (length starts) lent′ ≡ drop (length starts) lent
 
 module _ (o : Order) (plan : List ℕ) (passes : check o plan ≡ none) (qs : List Request) where
-  in-order : badMarks (crossings plan) (marksOf plan qs) ≡ false
-  in-order =
-      fine (yardOf o) (o .starts) (crossings plan) (check-passed o plan passes .lawful) (marksOf plan qs) (namesOf plan qs)
-      (kept-from-fresh o plan passes qs)
-
   pub granted-then : (lent : ℕ) → length (o .starts) ≤ lent → standing o plan (marksOf plan qs) lent ≡ granted (length (o .starts))
   unfolding standing refusal
-  granted-then lent h = rw (passes, in-order, le-ltb lent (length (o .starts)) h)
+  granted-then lent h = rw (passes, fine-marks o plan passes qs, le-ltb lent (length (o .starts)) h)
 
   pub stands : (lent : List Bay) → length (o .starts) ≤ length lent → (answer : Held) (lent′ : List Bay)
       → PlacementSays o plan (marksOf plan qs) lent answer lent′ → Stands (o .starts) plan qs lent lent′

@@ -46,7 +46,7 @@ pub fn placement(
     if let Checked::Refused(r) = checked {
         return Verdict::Denied(r);
     }
-    if marks::bad_marks(plan, marks) {
+    if mark_order::bad_marks(plan, marks) {
         return Verdict::Denied(Refusal::Mismarked);
     }
     if at.len() < start.len() {

@@ -16,7 +16,7 @@ use Rattle.paper.specs.Yard.{Bay, Placement, bayOf, carrierAt}
 use Rattle.paper.proofs.Tests.{by-cases}
 use Rattle.paper.proofs.Playing.{Apart}
 use Rattle.words.specs.Sets.{mem}
-use Rattle.first_bad.proofs.Places.{elem-last}
+use Rattle.paper.proofs.Members.{elem-last}
 use Rattle.moving.specs.Placed.{Placed}
 use Rattle.moving.proofs.Playing.{carrier-is, carrier-none}
 use Rattle.placing.specs.Nobody.{Nobody}

@@ -2,16 +2,16 @@
 -- Assumes nothing.
 use Prim.Native.Nat.{ℕ}
 use Rattle.paper.specs.Docket.{Verdict, granted, denied as verdictDenied}
-use Rattle.planner.specs.Statement.{Told, long, denied}
+use Rattle.planner.specs.Statement.{PlanTold, long, denied}
 use Rattle.numbers.specs.Numbers.{verdictNumber, verdictValue}
 
 -- of planning, whose acceptance is known by the plan's length
-abbrev pub verdictFor : Told → Verdict
+abbrev pub verdictFor : PlanTold → Verdict
 verdictFor (long written) = granted written
 verdictFor (denied r) = verdictDenied r
 
-abbrev pub planNumber : Told → ℕ
+abbrev pub planNumber : PlanTold → ℕ
 planNumber t = verdictNumber (verdictFor t)
 
-abbrev pub planValue : Told → ℕ
+abbrev pub planValue : PlanTold → ℕ
 planValue t = verdictValue (verdictFor t)

@@ -5,16 +5,16 @@ use mathlib.Core.List.{List}
 use Prim.Native.Nat.{ℕ}
 use lib.ListN.{length}
 use Rattle.paper.specs.Order.{Order}
-use Rattle.paper.specs.Answers.{plan, planParked, planEnd}
+use Rattle.paper.specs.Answers.{plan, planEnd}
 use Rattle.paper.proofs.Determined.{Determined, telling-by, determined-by}
 use Rattle.docket.proofs.Telling.{refusalFor, refusal-back}
-use Rattle.planner.specs.Statement.{Told, long, denied, told, plannedOf, uncounted, parkedBy, PlanSays, CountSays}
+use Rattle.planner.specs.Statement.{PlanTold, long, denied, told, plannedOf, uncounted, parkedBy, PlanSays, CountSays}
 use Rattle.outcome.specs.declared.Counted.the-variants.{Accepted as Counts, Refused as Denies}
 use Rattle.outcome.specs.declared.Counted.{Counted}
 use Rattle.planner.specs.declared.Planned.the-variants.{Accepted, Refused}
 use Rattle.planner.specs.declared.Planned.{Planned}
 
-plannedFor : Told → Planned
+plannedFor : PlanTold → Planned
 plannedFor (long m) = Accepted m
 plannedFor (denied r) = Refused (refusalFor r)
 

@@ -14,7 +14,7 @@ use Rattle.paper.specs.Docket.{yardOf}
 use Rattle.paper.specs.Answers.{Answer, accepted, refused, firstSix, beside, written, plan, planParked, planEnd, check}
 use Rattle.paper.proofs.Planning.{accepted-right, plan-clean, plan-unclean}
 use Rattle.paper.proofs.Tests.{never}
-use Rattle.paper.proofs.Handing.{handed-passes}
+use Rattle.laws.proofs.Handing.{handed-passes}
 use Rattle.docket.specs.Reading.{refusalOf}
 use Rattle.docket.specs.declared.Refusal.{Refusal as Docketed}
 use Rattle.outcome.specs.Handing.{countedOf, Hands}

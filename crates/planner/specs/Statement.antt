@@ -12,13 +12,13 @@ use Rattle.paper.specs.Order.{Order}
 use Rattle.paper.specs.Docket.{yardOf}
 use Rattle.paper.specs.Answers.{plan, planParked, planEnd, check}
 use Rattle.docket.specs.Reading.{refusalOf}
-pub use Rattle.outcome.specs.Handing.{Told, long, denied, told, parkedBy}
+pub use Rattle.outcome.specs.Handing.{PlanTold, long, denied, told, parkedBy}
 use Rattle.outcome.specs.declared.Counted.{Counted}
 use Rattle.outcome.specs.declared.Counted.the-variants.{Accepted as Counts, Refused as Denies}
 use Rattle.planner.specs.declared.Planned.{Planned}
 use Rattle.planner.specs.declared.Planned.the-variants.{Accepted, Refused}
 
-abbrev pub plannedOf : Planned → Told
+abbrev pub plannedOf : Planned → PlanTold
 plannedOf (Accepted m) = long m
 plannedOf (Refused r) = denied (refusalOf r)
 

@@ -8,9 +8,7 @@ use play::GRID;
 use yard::Opened;
 use yard::Yard;
 ghost use Rattle.paper.specs.Order.{order};
-ghost use Rattle.acting.specs.Acting.{Tabled};
-ghost use Rattle.carry.specs.Carrying.{procedures};
-ghost use Rattle.play.specs.Playing.{Admitted};
+ghost use Rattle.play.specs.Playing.{Admitted, OfProcedure};
 ghost use Rattle.outcome.specs.Handing.{Hands, HandsIfKept};
 ghost use Rattle.planner.specs.Statement.{CountSays, PlanSays};
 
@@ -43,8 +41,7 @@ fn hand_out_least(
 ) -> Handed
     requires { ⌜ Admitted n (now table) (now start) (now goal) ⌝ }
     ensures { λ r. ⌜
-        ((t : Tabled n (now (table .entry)))
-        → HandsIfKept (procedures (t .yard) (now (goal .entry)) (now (start .entry))) (now (out .entry)) r (now (out .exit)))
+        OfProcedure n (now (table .entry)) (now (start .entry)) (now (goal .entry)) (λ o. HandsIfKept o (now (out .entry)) r (now (out .exit)))
         ⌝ }
 {
     let mut kept = [0u64; LEAST];
@@ -62,8 +59,7 @@ fn hand_out_less(
 ) -> Handed
     requires { ⌜ Admitted n (now table) (now start) (now goal) ⌝ }
     ensures { λ r. ⌜
-        ((t : Tabled n (now (table .entry)))
-        → HandsIfKept (procedures (t .yard) (now (goal .entry)) (now (start .entry))) (now (out .entry)) r (now (out .exit)))
+        OfProcedure n (now (table .entry)) (now (start .entry)) (now (goal .entry)) (λ o. HandsIfKept o (now (out .entry)) r (now (out .exit)))
         ⌝ }
 {
     let mut kept = [0u64; LESS];
@@ -81,8 +77,7 @@ fn hand_out_half(
 ) -> Handed
     requires { ⌜ Admitted n (now table) (now start) (now goal) ⌝ }
     ensures { λ r. ⌜
-        ((t : Tabled n (now (table .entry)))
-        → HandsIfKept (procedures (t .yard) (now (goal .entry)) (now (start .entry))) (now (out .entry)) r (now (out .exit)))
+        OfProcedure n (now (table .entry)) (now (start .entry)) (now (goal .entry)) (λ o. HandsIfKept o (now (out .entry)) r (now (out .exit)))
         ⌝ }
 {
     let mut kept = [0u64; HALF];
@@ -100,8 +95,7 @@ fn hand_out_more(
 ) -> Handed
     requires { ⌜ Admitted n (now table) (now start) (now goal) ⌝ }
     ensures { λ r. ⌜
-        ((t : Tabled n (now (table .entry)))
-        → HandsIfKept (procedures (t .yard) (now (goal .entry)) (now (start .entry))) (now (out .entry)) r (now (out .exit)))
+        OfProcedure n (now (table .entry)) (now (start .entry)) (now (goal .entry)) (λ o. HandsIfKept o (now (out .entry)) r (now (out .exit)))
         ⌝ }
 {
     let mut kept = [0u64; MORE];
@@ -119,8 +113,7 @@ fn hand_out_most(
 ) -> Handed
     requires { ⌜ Admitted n (now table) (now start) (now goal) ⌝ }
     ensures { λ r. ⌜
-        ((t : Tabled n (now (table .entry)))
-        → HandsIfKept (procedures (t .yard) (now (goal .entry)) (now (start .entry))) (now (out .entry)) r (now (out .exit)))
+        OfProcedure n (now (table .entry)) (now (start .entry)) (now (goal .entry)) (λ o. HandsIfKept o (now (out .entry)) r (now (out .exit)))
         ⌝ }
 {
     let mut kept = [0u64; Yard::CROSSINGS];
@@ -166,8 +159,7 @@ fn hand_out_likely(
 ) -> Handed
     requires { ⌜ Admitted n (now table) (now start) (now goal) ⌝ }
     ensures { λ r. ⌜
-        ((t : Tabled n (now (table .entry)))
-        → HandsIfKept (procedures (t .yard) (now (goal .entry)) (now (start .entry))) (now (out .entry)) r (now (out .exit)))
+        OfProcedure n (now (table .entry)) (now (start .entry)) (now (goal .entry)) (λ o. HandsIfKept o (now (out .entry)) r (now (out .exit)))
         ⌝ }
 {
     let carriers = start.len();
@@ -197,7 +189,7 @@ fn hand_out(
 ) -> Counted
     requires { ⌜ Admitted n (now table) (now start) (now goal) ⌝ }
     ensures { λ r. ⌜
-        ((t : Tabled n (now (table .entry))) → Hands (procedures (t .yard) (now (goal .entry)) (now (start .entry))) (now (out .entry)) r (now (out .exit)))
+        OfProcedure n (now (table .entry)) (now (start .entry)) (now (goal .entry)) (λ o. Hands o (now (out .entry)) r (now (out .exit)))
         ⌝ }
 {
     let handed = hand_out_likely(table, n, ends, start, goal, out);

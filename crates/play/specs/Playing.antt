@@ -9,11 +9,11 @@ use Rattle.paper.specs.Yard.{Placement, pack, bayOf}
 use Rattle.paper.proofs.Playing.{Apart}
 use Rattle.words.specs.Sets.{span}
 use Rattle.moving.specs.Placed.{Stored}
-use Rattle.acting.specs.Acting.{AsFar}
+use Rattle.acting.specs.Acting.{Tabled, AsFar}
 use Rattle.acting.specs.declared.Tally.{Tally}
 use Rattle.step.specs.Asking.{Loopless}
 use Rattle.along.specs.Along.{Goals}
-use Rattle.carry.specs.Carrying.{Reaching}
+use Rattle.carry.specs.Carrying.{procedures, Reaching}
 use Rattle.docket.specs.declared.Carrier.{Carrier as Named}
 use Rattle.home.specs.declared.Staged.the-variants.{Planned, Stuck}
 use Rattle.home.specs.declared.Staged.{Staged}
@@ -27,6 +27,10 @@ pub record Admitted (n : ℕ) (table : List ℕ) (s g : Placement) : Type 0 wher
   pub goals : Goals n g s
   pub loopless : Loopless n table
   pub reaching : Reaching n table
+
+-- what is said of the procedure's outcome, in any yard that has this table
+abbrev pub OfProcedure : ℕ → List ℕ → Placement → Placement → (Outcome → Type 0) → Type 0
+OfProcedure n table s g Says = (t : Tabled n table) → Says (procedures (t .yard) g s)
 
 -- the crossings of the procedure were counted, and stored where there was room; or the carrier that it names could not step
 pub record Plays (o : Outcome) (out out′ : List ℕ) (z : Staged) : Type 0 where

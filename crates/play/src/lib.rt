@@ -9,9 +9,7 @@ ghost use Prim.Native.Nat.{_≤_, _<_, _*_};
 ghost use lib.ListN.{length};
 ghost use Rattle.words.specs.Sets.{words, span};
 ghost use Rattle.levels.specs.Levels.{Levelled};
-ghost use Rattle.acting.specs.Acting.{Tabled};
-ghost use Rattle.carry.specs.Carrying.{procedures};
-ghost use Rattle.play.specs.Playing.{Admitted, Plays};
+ghost use Rattle.play.specs.Playing.{Admitted, OfProcedure, Plays};
 
 // Where this share of the bays is empty, or less, vacating has far to go, and many levels pay.
 const CROWDED: usize = 12;
@@ -57,8 +55,8 @@ fn play_on(
         × Levelled (length (now standing)) (now table)
         ⌝ }
     ensures { λ z. ⌜
-        ((t : Tabled (length (now (standing .entry))) (now (table .entry)))
-        → Plays (procedures (t .yard) (now (goal .entry)) (now (start .entry))) (now (out .entry)) (now (out .exit)) z)
+        OfProcedure (length (now (standing .entry))) (now (table .entry)) (now (start .entry)) (now (goal .entry))
+        (λ o. Plays o (now (out .entry)) (now (out .exit)) z)
         ⌝ }
 {
     let mut empty = [0u64; WORDS];
@@ -83,7 +81,7 @@ fn play_on(
 fn play_in(table: &[u64], n: usize, start: &[u16], goal: &[u16], out: &mut [u64]) -> Staged
     requires { ⌜ Admitted n (now table) (now start) (now goal) × (n * words ≤ length (now table)) × Levelled n (now table) ⌝ }
     ensures { λ z. ⌜
-        ((t : Tabled n (now (table .entry))) → Plays (procedures (t .yard) (now (goal .entry)) (now (start .entry))) (now (out .entry)) (now (out .exit)) z)
+        OfProcedure n (now (table .entry)) (now (start .entry)) (now (goal .entry)) (λ o. Plays o (now (out .entry)) (now (out .exit)) z)
         ⌝ }
 {
     let carriers = start.len();
@@ -111,7 +109,7 @@ pub fn play_by_rails(
 ) -> Staged
     requires { ⌜ Admitted n (now table) (now start) (now goal) × (n * words ≤ length (now table)) ⌝ }
     ensures { λ z. ⌜
-        ((t : Tabled n (now (table .entry))) → Plays (procedures (t .yard) (now (goal .entry)) (now (start .entry))) (now (out .entry)) (now (out .exit)) z)
+        OfProcedure n (now (table .entry)) (now (start .entry)) (now (goal .entry)) (λ o. Plays o (now (out .entry)) (now (out .exit)) z)
         ⌝ }
 {
     let rails = n * WORDS;
@@ -129,7 +127,7 @@ fn play_by_levels(
 ) -> Staged
     requires { ⌜ Admitted n (now table) (now start) (now goal) × (0 < n) × (span * words ≤ length (now wide)) ⌝ }
     ensures { λ z. ⌜
-        ((t : Tabled n (now (table .entry))) → Plays (procedures (t .yard) (now (goal .entry)) (now (start .entry))) (now (out .entry)) (now (out .exit)) z)
+        OfProcedure n (now (table .entry)) (now (start .entry)) (now (goal .entry)) (λ o. Plays o (now (out .entry)) (now (out .exit)) z)
         ⌝ }
 {
     copies::longs(wide, table);
@@ -148,7 +146,7 @@ fn play_high(
 ) -> Staged
     requires { ⌜ Admitted n (now table) (now start) (now goal) × (0 < n) ⌝ }
     ensures { λ z. ⌜
-        ((t : Tabled n (now (table .entry))) → Plays (procedures (t .yard) (now (goal .entry)) (now (start .entry))) (now (out .entry)) (now (out .exit)) z)
+        OfProcedure n (now (table .entry)) (now (start .entry)) (now (goal .entry)) (λ o. Plays o (now (out .entry)) (now (out .exit)) z)
         ⌝ }
 {
     let mut wide = [0u64; HIGH * Yard::TABLE];
@@ -165,7 +163,7 @@ fn play_low(
 ) -> Staged
     requires { ⌜ Admitted n (now table) (now start) (now goal) × (0 < n) ⌝ }
     ensures { λ z. ⌜
-        ((t : Tabled n (now (table .entry))) → Plays (procedures (t .yard) (now (goal .entry)) (now (start .entry))) (now (out .entry)) (now (out .exit)) z)
+        OfProcedure n (now (table .entry)) (now (start .entry)) (now (goal .entry)) (λ o. Plays o (now (out .entry)) (now (out .exit)) z)
         ⌝ }
 {
     let mut wide = [0u64; LOW * Yard::TABLE];
@@ -184,7 +182,7 @@ pub fn play(
 ) -> Staged
     requires { ⌜ Admitted n (now table) (now start) (now goal) ⌝ }
     ensures { λ z. ⌜
-        ((t : Tabled n (now (table .entry))) → Plays (procedures (t .yard) (now (goal .entry)) (now (start .entry))) (now (out .entry)) (now (out .exit)) z)
+        OfProcedure n (now (table .entry)) (now (start .entry)) (now (goal .entry)) (λ o. Plays o (now (out .entry)) (now (out .exit)) z)
         ⌝ }
 {
     let carriers = start.len();

@@ -11,10 +11,12 @@ use Rattle.paper.specs.Yard.{Crossing, unpack, crossings}
 use Rattle.paper.specs.Answers.{Answer, accepted}
 use Rattle.paper.specs.OnePass.{Fits}
 use Rattle.paper.specs.Print.{decimal, actionLine, costLine, ended, printed}
-use Rattle.paper.proofs.Digits.{tenTo, short}
+use Rattle.laws.proofs.Digits.{tenTo, short}
 use Rattle.docket.specs.declared.Verdict.{Verdict}
-use Rattle.printing.specs.Parts.{named, actionLines}
-use Rattle.printing.proofs.Lines.{action-parts, cost-parts, lines-none, lines-more, plan-parts}
+use Rattle.put_bytes.specs.Named.{named}
+use Rattle.printing.specs.Parts.{actionLines}
+use Rattle.plan_lines.proofs.Lines.{action-parts, cost-parts}
+use Rattle.printing.proofs.Lines.{lines-none, lines-more, plan-parts}
 use Rattle.print_room.specs.Printout.{print-room, Prints}
 use Rattle.print_room.specs.Ready.{Ready}
 use Rattle.print_room.proofs.Telling.{by-verdict, handed-is, plan-is}

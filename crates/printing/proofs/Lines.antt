@@ -1,4 +1,4 @@
--- The print is its parts one behind the other: an action is three numbers with what stands before them, lines follow lines.
+-- The print is its parts one behind the other: lines follow lines.
 use mathlib.Core.Path.{_≡_, refl, sym, _∙_, ap}
 use mathlib.Core.List.{List, [], _∷_, _++_, map, map-append, append-assoc}
 use mathlib.Core.Bool.{true, false}
@@ -14,25 +14,12 @@ use Rattle.paper.specs.Docket.{Refusal, number, carried, room}
 use Rattle.paper.specs.Answers.{refused}
 use Rattle.paper.specs.Text.{Text, text, LF}
 use Rattle.paper.proofs.Packing.{unpack-small}
-use Rattle.paper.specs.Print.{decimal, actionLine, costLine, refusedLine, ended, planLines, printPlan, printed}
+use Rattle.paper.specs.Print.{actionLine, costLine, refusedLine, ended, planLines, printPlan, printed}
 use Rattle.docket.specs.Reading.{isSome}
-use Rattle.printing.specs.Parts.{named, actionLines, handed}
-use Rattle.paper.proofs.Digits.{decimal-short}
-
-pub named-short : (t : Text) (n : ℕ) → n < 2 ^ 64 → length (named t n) ≤ length t + 20
-unfolding named
-named-short t n h = simp length-append (omega (arith, decimal-short n h))
-
-seven : (a c b f t e l : Text) → ((a ++ c) ++ (b ++ f) ++ (b ++ t)) ++ (e ++ l) ≡ ((((((a ++ c) ++ b) ++ f) ++ b) ++ t) ++ e) ++ l
-seven a c b f t e l = simp append-assoc
-
-pub action-parts : (x : Crossing) → named (text "(move c") (x .carrier) ++ named (text " b") (x .from) ++ named (text " b") (x .to) ++ text ")\n" ≡ ended (actionLine x ∷ [])
-unfolding named actionLine ended
-action-parts x = seven (text "(move c") (decimal (x .carrier)) (text " b") (decimal (x .from)) (decimal (x .to)) (text ")") (LF ∷ [])
-
-pub cost-parts : (n : ℕ) → named (text "; cost = ") n ++ text " (unit cost)\n" ≡ ended (costLine n ∷ [])
-unfolding named costLine ended
-cost-parts n = sym (append-assoc (named (text "; cost = ") n) (text " (unit cost)") (LF ∷ []))
+use Rattle.printing.specs.Parts.{actionLines, handed}
+use Rattle.put_bytes.specs.Named.{named}
+use Rattle.put_bytes.proofs.Short.{named-short}
+use Rattle.plan_lines.proofs.Lines.{action-parts}
 
 pub refusal-plain : (r : Refusal) → carried r ≡ none → named (text "; refused ") (number r) ++ text "\n" ≡ printed (refused r)
 unfolding named printed refusedLine ended

@@ -9,7 +9,7 @@ use borrow.Author.Tests.{le-leb}
 use Rattle.paper.specs.Yard.{crossings, most-crossings}
 use Rattle.paper.specs.Text.{lines}
 use Rattle.paper.specs.Print.{printPlan, printed, readPlan}
-use Rattle.paper.proofs.Printing.{print-back}
+use Rattle.laws.proofs.Printing.{print-back}
 use Rattle.stores.specs.Writing.{Wrote}
 use Rattle.stores.proofs.Stores.{wrote-stands}
 use Rattle.printing.specs.Parts.{handed}

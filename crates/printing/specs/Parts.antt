@@ -1,6 +1,6 @@
 -- The parts of the print that the code writes at once.
 -- Assumes nothing.
-use mathlib.Core.List.{List, _++_, map}
+use mathlib.Core.List.{List, map}
 use Prim.Native.Nat.{ℕ}
 use lib.Dec.{leb}
 use lib.ListN.{length}
@@ -9,11 +9,7 @@ use Rattle.paper.specs.Yard.{crossings, most-crossings}
 use Rattle.paper.specs.Docket.{room}
 use Rattle.paper.specs.Answers.{Answer, accepted, refused}
 use Rattle.paper.specs.Text.{Text}
-use Rattle.paper.specs.Print.{decimal, actionLine, ended}
-
--- a text and a number behind it
-unfoldable pub named : Text → ℕ → Text
-named t n = t ++ decimal n
+use Rattle.paper.specs.Print.{actionLine, ended}
 
 -- the lines of a lent plan, without the cost
 unfoldable pub actionLines : List ℕ → Text

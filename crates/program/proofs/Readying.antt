@@ -14,7 +14,7 @@ use Rattle.paper.specs.OnePass.{Fits}
 use Rattle.paper.specs.Program.{program-room}
 use Rattle.paper.proofs.Tests.{never}
 use Rattle.paper.proofs.Packing.{named-is}
-use Rattle.paper.proofs.Handing.{handed-passes, check-fits}
+use Rattle.laws.proofs.Handing.{handed-passes, check-fits}
 use Rattle.docket.specs.declared.Refusal.{Refusal}
 use Rattle.docket.specs.Reading.{refusalOf}
 use Rattle.docket.specs.declared.Verdict.{Verdict}

@@ -12,7 +12,7 @@ use Rattle.paper.specs.Print.{printed}
 use Rattle.paper.specs.Program.{program-room}
 use Rattle.paper.proofs.Tests.{never}
 use Rattle.paper.proofs.Planning.{accepted-exactly}
-use Rattle.paper.proofs.Handing.{handed-passes, check-fits}
+use Rattle.laws.proofs.Handing.{handed-passes, check-fits}
 use Rattle.trips.specs.Trips.{shorten}
 use Rattle.trips.proofs.Shortened.{shortened-passes}
 use Rattle.print_room.specs.Printout.{print-room}

@@ -18,7 +18,7 @@ use Rattle.paper.specs.Log.{marksFrom}
 use Rattle.paper.specs.Program.{program-room}
 use Rattle.paper.proofs.Tests.{never, or-neither}
 use Rattle.paper.proofs.Checking.{check-passed}
-use Rattle.paper.proofs.Logging.{fine, kept-from-fresh}
+use Rattle.laws.proofs.Logging.{fine-marks}
 use Rattle.docket.specs.declared.Refusal.{Refusal}
 use Rattle.docket.specs.Reading.{verdictOf}
 use Rattle.docket.specs.declared.Verdict.{Verdict}
@@ -39,7 +39,7 @@ fresh-begins-nothing (suc k) = fresh-begins-nothing k
 module _ (o : Order) (crossed : List ℕ) (passes : check o crossed ≡ none) where
   fresh-marked : badMarks (crossings crossed) (replicate (length crossed) 0) ≡ false
   unfolding marksFrom
-  fresh-marked = fine (yardOf o) (o .starts) (crossings crossed) (check-passed o crossed passes .lawful) _ _ (kept-from-fresh o crossed passes [])
+  fresh-marked = fine-marks o crossed passes []
 
   pub left-fewer : length (shorten (crossings crossed)) ≤ length crossed
   left-fewer = omega (arith, shorten-shortens (yardOf o) (o .starts) (crossings crossed) (check-passed o crossed passes .lawful) .no-longer, length-map crossed unpack)

@@ -14,7 +14,7 @@ use Rattle.paper.specs.Text.{Text, lines, good, readLines}
 use Rattle.paper.specs.Print.{printPlan, readAction, readPlan}
 use Rattle.paper.proofs.Tests.{by-cases, by-option, never-some}
 use Rattle.paper.proofs.Packing.{unpack-small, packed-back}
-use Rattle.paper.proofs.Printing.{print-back}
+use Rattle.laws.proofs.Printing.{print-back}
 use Rattle.line_entries.specs.Entries.{fits, entryOf, planEntry}
 use Rattle.readback.specs.Entries.{entryLine, readEntries}
 

@@ -2,7 +2,7 @@
 use docket::Refusal;
 use docket::Verdict;
 use line_entries::Entry;
-use lines::Line;
+use lines::FoundLine;
 ghost use mathlib.Core.Path.{_≡_};
 ghost use Prim.Native.Nat.{_+_, _<_, _^_};
 ghost use lib.ListN.{set};
@@ -58,7 +58,7 @@ fn fold(reports: bool, file: &[u8], out: &mut [u64]) -> Found
     let mut line: u64 = 1;
     let mut count = 0;
     loop {
-        let Line::Text { end: stop, next } = lines::next_line(file, at) else {
+        let FoundLine::Text { end: stop, next } = lines::next_line(file, at) else {
             return Found::Numbers(count);
         };
         let said = line_entries::of_line(reports, &file[at..stop]);

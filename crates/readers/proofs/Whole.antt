@@ -18,7 +18,7 @@ use Rattle.gridmap.proofs.Good.{map-sized}
 use Rattle.gridmap.proofs.OfMap.{rails-of-map}
 use Rattle.scenario.specs.Under.{bayBy}
 use Rattle.scenario.proofs.OfMap.{reads-of-map}
-use Rattle.readers.specs.Reading.{laid, laying, listing, listingIn}
+use Rattle.listing.specs.Reading.{laid, laying, listing, listingIn}
 
 module _ {file before table : List ℕ} {r : MapRead} (m : Reads file before r table) where
   pub map-bad : (l : ℕ) → r ≡ map-read.Bad l → readMap file ≡ badLine l

@@ -2,7 +2,7 @@
 -- and what is left of the plan, played from where the carriers are now, decides.
 use mathlib.Core.Path.{_≡_, refl, sym, _∙_, ap}
 use mathlib.Core.Bool.{Bool, true, false, not}
-use mathlib.Core.List.{List, [], _∷_, _++_}
+use mathlib.Core.List.{List, [], _∷_}
 use mathlib.Core.Option.{none, some}
 use Prim.Native.Nat.{ℕ, suc, _≤_, _<_, _+_}
 use native.Mathlib.Omega.{arith}
@@ -15,6 +15,7 @@ use Rattle.paper.specs.Basics.{_and_, _or_, elem, In}
 use Rattle.paper.specs.Yard.{Yard, Bay, Carrier, Placement, Crossing, bayOf, carrierAt, move, after, legal, crossings, named}
 use Rattle.paper.specs.Docket.{firstIllegal}
 use Rattle.paper.proofs.Tests.{by-cases, never-some, or-right, and-true, or-false}
+use Rattle.paper.proofs.Members.{elem-last}
 use Rattle.paper.proofs.Playing.{Legal, legal-facts, bay-in, placeOf-there, placeOf-bay, move-self, move-other, move-apart, move-empties, move-out}
 use Rattle.plans.proofs.Rest.{rest-next, rest-none}
 use Rattle.paper.proofs.Fields.{and-false}
@@ -37,11 +38,6 @@ module _ (occupied : List ℕ) (x : Bay) (h : x < length occupied) (b : Bay) whe
       (λ e. rw (e, getD-set-other occupied x b 0 0 (eqb-false b x e)) (sym (and-true (flag occupied b))))
 
 -- No bay is marked at first, one more with each carrier.
-elem-snoc : (b y : ℕ) (l : List ℕ) → elem b (l ++ (y ∷ [])) ≡ elem b l or eqb b y
-unfolding elem _or_
-elem-snoc b y [] = by-cases (eqb b y) (λ e. rw e) (λ e. rw e)
-elem-snoc b y (z ∷ l) = by-cases (eqb b z) (λ e. rw e) (λ e. rw e (elem-snoc b y l))
-
 abbrev pub OccupiedTo : Placement → List ℕ → ℕ → Type 0
 OccupiedTo at occupied c = Occupied (take c at) occupied
 
@@ -54,7 +50,7 @@ pub occupied-more : (at : Placement) (occupied : List ℕ) (c : ℕ) → c < len
 occupied-more at occupied c h k o = record {
   long = length-set occupied (getD at c 0) 1 ∙ o .long;
   marks = λ b l.
-      rw (add-one c, take-suc at c 0 h, elem-snoc b (getD at c 0) (take c at))
+      rw (add-one c, take-suc at c 0 h, elem-last b (take c at) (getD at c 0))
       (marked occupied (getD at c 0) (rw (o .long) k) b ∙ ap (λ v. v or eqb b (getD at c 0)) (o .marks b l));
 }
 

@@ -19,7 +19,7 @@ use Rattle.paper.proofs.Tests.{or-left, or-neither}
 use Rattle.paper.proofs.Admitted.{clean-of}
 use Rattle.paper.proofs.Checking.{check-passed}
 use Rattle.paper.proofs.Reporting.{marks-long, tell-facts}
-use Rattle.paper.proofs.Handing.{check-fits}
+use Rattle.laws.proofs.Handing.{check-fits}
 use Rattle.docket.specs.Reading.{refusalOf}
 use Rattle.docket.specs.declared.Refusal.{Refusal}
 use Rattle.docket.specs.declared.Refusal.the-variants.{Room}

@@ -1,6 +1,6 @@
 -- Opening, the agreement test and a report on record and lines answer by their rows in their order: 8 after 11; 19 after 11 and before 12.
 use mathlib.Core.Path.{_≡_, refl, sym, _∙_, ap}
-use mathlib.Core.Bool.{true, false, not}
+use mathlib.Core.Bool.{not}
 use mathlib.Core.List.{List}
 use mathlib.Core.Logic.{_↔_}
 use mathlib.Core.Option.{Option, none, some}
@@ -12,10 +12,10 @@ use Rattle.paper.specs.Basics.{_>>=_, orElse, elem, _and_}
 use Rattle.paper.specs.Yard.{crossings}
 use Rattle.paper.specs.Order.{Order}
 use Rattle.paper.specs.Docket.{Refusal, room, disagrees, number, carried}
-use Rattle.paper.specs.Answers.{Report, accept, already, refuse, tell}
+use Rattle.paper.specs.Answers.{Report, accept, already, refuse}
 use Rattle.paper.proofs.Tests.{by-option, by-cases, never}
 use Rattle.paper.proofs.Determined.{docket-tells}
-use Rattle.exactly.specs.First.{Row, plain, NoneOf, Given, distinct}
+use Rattle.exactly.specs.First.{Row, NoneOf, Given, distinct}
 use Rattle.exactly.specs.Rows.{already-number, reportNumber, reportValue, markRows}
 use Rattle.exactly.proofs.First.{after-it, exactly, nothing-exactly, never-given, plain-test, known-test, otherwise, otherwise-exactly, other-exactly}
 use Rattle.exactly.proofs.Six.{Refuses}

@@ -15,7 +15,7 @@ use Rattle.paper.specs.Yard.{Carrier, most-crossings}
 use Rattle.paper.specs.Docket.{Refusal, size, start, room, number, carried, granted, denied}
 use Rattle.paper.proofs.Tests.{by-cases, by-option, not-both, never-some, some-same, or-left, or-right, or-cases, either}
 use Rattle.paper.proofs.Determined.{docket-tells}
-use Rattle.exactly.specs.First.{plain, carrying, NoneOf, Given, distinct, FirstOf}
+use Rattle.exactly.specs.First.{NoneOf, Given, distinct, FirstOf}
 use Rattle.exactly.proofs.First.{after-it, plain-test, carrying-test, known-test}
 use Rattle.exactly.proofs.Six.{Refuses}
 use Rattle.comparing.specs.Comparing.{carrierOf, firstAbove, refusal, equalLeading, comparison}

@@ -1,7 +1,7 @@
 -- Functions that read a file first: its layout before all else, then what is tested of what was read, then the room. Each refusal exactly if its words hold and
 -- nothing before it applies.
 use mathlib.Core.Path.{_≡_, refl, sym, _∙_, ap}
-use mathlib.Core.Bool.{true, false, not}
+use mathlib.Core.Bool.{true, false}
 use mathlib.Core.List.{List}
 use mathlib.Core.Logic.{_↔_, _⊎_, inl, inr, ⊎-elim}
 use mathlib.Core.Option.{some}
@@ -9,7 +9,7 @@ use Prim.Native.Nat.{ℕ, suc, _<_, _≤_}
 use lib.Dec.{ltb, leb}
 use lib.ListN.{length}
 use borrow.Author.Tests.{ltb-true, lt-ltb, leb-true, leb-false, le-leb, lt-leb}
-use Rattle.paper.specs.Basics.{_or_, elem}
+use Rattle.paper.specs.Basics.{elem}
 use Rattle.paper.specs.Yard.{Bay, most-crossings}
 use Rattle.paper.specs.Docket.{Refusal, size, room, badMap, badScenario, badSurvey, badPlan, badReports, number, carried, granted, denied, unlessDenied}
 use Rattle.paper.specs.Text.{Text, Read, good, badLine}
@@ -20,7 +20,7 @@ use Rattle.exactly.specs.First.{Given}
 use Rattle.exactly.proofs.First.{given-number}
 use Rattle.handing.specs.Handing.{handed}
 use Rattle.readback.specs.Files.{planVerdict, reportsVerdict}
-use Rattle.readers.specs.Reading.{laying, laidVerdict, listed, listingIn, listing, short, listVerdict}
+use Rattle.listing.specs.Reading.{laying, laidVerdict, listed, listingIn, listing, short, listVerdict}
 use Rattle.survey.specs.Survey.{readSurvey, readRefusal}
 use Rattle.survey.proofs.Broken.{BreaksAfter, broken-exactly}
 use Rattle.surveying.specs.Says.{readAnswer}

@@ -8,7 +8,7 @@ use Prim.Native.Nat.{ℕ}
 use lib.Dec.{eqb}
 use lib.ListN.{length}
 use borrow.Author.Tests.{eqb-true, eq-eqb}
-use Rattle.paper.specs.Basics.{any, elem, _and_}
+use Rattle.paper.specs.Basics.{elem, _and_}
 use Rattle.paper.specs.Yard.{Crossing, crossings}
 use Rattle.paper.specs.Order.{Order}
 use Rattle.paper.specs.Docket.{Refusal, begun, number, carried}

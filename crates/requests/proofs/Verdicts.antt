@@ -6,18 +6,17 @@ use mathlib.Core.List.{List, []}
 use mathlib.Core.Logic.{_↔_}
 use mathlib.Core.Option.{Option, none, some}
 use Prim.Native.Nat.{ℕ, _<_}
-use lib.Dec.{eqb, ltb, leb}
+use lib.Dec.{ltb, leb}
 use lib.ListN.{length}
 use borrow.Author.Tests.{not-true, ltb-true, lt-ltb, le-ltb, leb-true, leb-false, eqb-false, ne-eqb}
-use Rattle.paper.specs.Basics.{orElse, when, elem, _and_, _or_}
+use Rattle.paper.specs.Basics.{orElse, when, elem, _and_}
 use Rattle.paper.specs.Yard.{Bay, crossings, most-crossings}
 use Rattle.paper.specs.Order.{Order, order}
 use Rattle.paper.specs.Docket.{Refusal, size, room, edition, number, carried, granted, denied, unlessDenied}
-use Rattle.paper.specs.Answers.{check}
 use Rattle.paper.specs.Print.{printPlan}
 use Rattle.paper.proofs.Tests.{by-cases, never, or-none, or-neither}
 use Rattle.paper.proofs.Determined.{docket-tells}
-use Rattle.exactly.specs.First.{Row, plain, NoneOf, Given, numbersOf, distinct}
+use Rattle.exactly.specs.First.{Row, NoneOf, Given, numbersOf, distinct}
 use Rattle.exactly.proofs.First.{after-it, exactly, nothing-exactly, plain-test, known-test}
 use Rattle.exactly.proofs.Six.{Refuses, reads-1, reads-2, reads-3, some-bay}
 use Rattle.exactly.proofs.Plans.{reads-8}

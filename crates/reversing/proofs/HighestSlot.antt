@@ -3,33 +3,18 @@
 -- numbering, so none of the reverse is above S; and reversing twice gives the list back, so S is not above the reverse's highest.
 use mathlib.Core.Path.{_≡_, _∙_, ap}
 use mathlib.Core.Bool.{true}
-use mathlib.Core.List.{List, [], _∷_}
-use Prim.Native.Nat.{ℕ, zero, suc, _<_, _≤_, _-_}
+use mathlib.Core.List.{List}
+use Prim.Native.Nat.{ℕ, suc, _<_, _≤_, _-_}
 use native.Mathlib.Omega.{arith}
 use lib.ListN.{length, getD}
 use Rattle.paper.specs.Yard.{Crossing, turned, reverseOf, crossings, named}
 use Rattle.paper.specs.Dependence.{depend, slots}
 use Rattle.paper.proofs.Tests.{or-left, or-right, or-cases}
+use Rattle.paper.proofs.Members.{highest-above, highest-below}
 use Rattle.paper.proofs.Commuting.{depend-sym}
 use Rattle.paper.proofs.Slotting.{Numbering, slots-length, slots-rise, slots-lowest}
-use Rattle.reversing.specs.Reversing.{reversed, highestOf, highestSlot}
+use Rattle.reversing.specs.Reversing.{reversed, highestSlot}
 use Rattle.reversing.proofs.Backwards.{reverse-of-length, reverse-of-twice, reverse-of-at, reversed-reads}
-
--- each of some numbers is at most the highest,
-pub highest-above : (ss : List ℕ) (i : ℕ) → i < length ss → getD ss i 0 ≤ highestOf ss
-unfolding highestOf
-highest-above [] i h = absurd (omega arith)
-highest-above (s ∷ ss) zero h = omega arith
-highest-above (s ∷ ss) (suc i) h = let ih = highest-above ss i (omega arith) in omega arith
-
--- and the highest is at most what none of them exceeds
-pub highest-below : (ss : List ℕ) (b : ℕ) → ((i : ℕ) → i < length ss → getD ss i 0 ≤ b) → highestOf ss ≤ b
-unfolding highestOf
-highest-below [] b f = omega arith
-highest-below (s ∷ ss) b f =
-    let ih = highest-below ss b (λ i h. f (suc i) (omega arith)) in
-    let l : s ≤ b = f 0 (omega arith) in
-    omega arith
 
 -- Exchanged crossings depend on each other as the crossings do.
 pub depend-turned : (x y : Crossing) → depend (turned x) (turned y) ≡ true → depend x y ≡ true

@@ -7,6 +7,7 @@ use Prim.Native.Nat.{ℕ, _<_, _≤_, _+_}
 use native.Mathlib.Omega.{arith}
 use lib.ListN.{length, take, drop, length-append}
 use lib.Seq.{take-at, drop-at}
+use Rattle.paper.specs.Basics.{highestOf}
 use Rattle.paper.specs.Yard.{crossings, most-crossings}
 use Rattle.paper.specs.Order.{Order, backwards}
 use Rattle.paper.specs.Answers.{check, slotsRefusal, slotsEnd}
@@ -16,7 +17,7 @@ use Rattle.paper.proofs.Slotting.{slots-given}
 use Rattle.docket.specs.declared.Refusal.the-variants.{Size, Room}
 use Rattle.docket.specs.declared.Verdict.{Verdict}
 use Rattle.docket.specs.declared.Verdict.the-variants.{Granted, Denied}
-use Rattle.reversing.specs.Reversing.{reversed, highestOf, highestSlot}
+use Rattle.reversing.specs.Reversing.{reversed, highestSlot}
 use Rattle.reversing.specs.Statement.{ReverseSays}
 use Rattle.reversing.proofs.Backwards.{reversed-length, reversed-twice, reversed-joined}
 use Rattle.reversing.proofs.Passing.{reversed-passes}

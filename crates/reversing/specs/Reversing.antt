@@ -1,11 +1,11 @@
 -- Playing a plan backwards: the reverse of a lent list, what reversing answers, and what it leaves in the lent room.
 -- Assumes nothing.
-use mathlib.Core.List.{List, [], _∷_, _++_, map}
+use mathlib.Core.List.{List, _++_, map}
 use mathlib.Core.Option.{Option}
-use Prim.Native.Nat.{ℕ, zero, max}
+use Prim.Native.Nat.{ℕ}
 use lib.Dec.{ltb}
 use lib.ListN.{length, drop}
-use Rattle.paper.specs.Basics.{if-some_then_else_, orElse, when}
+use Rattle.paper.specs.Basics.{if-some_then_else_, orElse, when, highestOf}
 use Rattle.paper.specs.Yard.{Crossing, reverseOf, pack, crossings, most-crossings}
 use Rattle.paper.specs.Dependence.{slots}
 use Rattle.paper.specs.Docket.{Refusal, size, Verdict, unlessDenied, no-8}
@@ -25,11 +25,6 @@ reversing list room = unlessDenied (reverseRefusal list room) (length list)
 -- A refusal changes no lent list; acceptance writes the reverse and nothing beyond its length.
 unfoldable pub reversingEnd : List ℕ → List ℕ → List ℕ
 reversingEnd list out = if-some reverseRefusal list (length out) then (λ r. out) else (reversed list ++ drop (length list) out)
-
--- the highest of some numbers, 0 where there are none
-unfoldable pub highestOf : List ℕ → ℕ
-highestOf [] = zero
-highestOf (s ∷ ss) = max s (highestOf ss)
 
 -- the highest slot that a list of crossings uses, 0 for the empty list
 abbrev pub highestSlot : List Crossing → ℕ

@@ -304,7 +304,7 @@ fn way_near(
         ⌝ }
 {
     let d = search(table, n, held, x, wanted, rows);
-    let b = choice::common(table, rows, d, wanted, 0);
+    let b = choice::in_ring(table, rows, d, wanted);
     if words::SPAN <= b {
         return ended(n, rows, d);
     }

@@ -5,9 +5,7 @@ use outcome::Handed;
 use yard::Yard;
 ghost use Prim.Native.Nat.{_≤_};
 ghost use lib.ListN.{length};
-ghost use Rattle.acting.specs.Acting.{Tabled};
-ghost use Rattle.carry.specs.Carrying.{procedures};
-ghost use Rattle.play.specs.Playing.{Admitted};
+ghost use Rattle.play.specs.Playing.{Admitted, OfProcedure};
 ghost use Rattle.outcome.specs.Handing.{Due, Hands, HandsIfKept};
 
 // In lent room: 7, 8 or the plan, or a plan that is longer than that room.
@@ -22,8 +20,7 @@ pub fn hand_out_in(
 ) -> Handed
     requires { ⌜ Admitted n (now table) (now start) (now goal) ⌝ }
     ensures { λ r. ⌜
-        ((t : Tabled n (now (table .entry)))
-        → HandsIfKept (procedures (t .yard) (now (goal .entry)) (now (start .entry))) (now (out .entry)) r (now (out .exit)))
+        OfProcedure n (now (table .entry)) (now (start .entry)) (now (goal .entry)) (λ o. HandsIfKept o (now (out .entry)) r (now (out .exit)))
         ⌝ }
 {
     let played = play::play(table, n, ends, start, goal, kept);
@@ -43,9 +40,8 @@ pub fn hand_out_again(
 ) -> Counted
     requires { ⌜ Admitted n (now table) (now start) (now goal) × (m ≤ length (now out)) ⌝ }
     ensures { λ r. ⌜
-        ((t : Tabled n (now (table .entry)))
-        → Due (procedures (t .yard) (now (goal .entry)) (now (start .entry))) (now (out .entry)) m parked
-        → Hands (procedures (t .yard) (now (goal .entry)) (now (start .entry))) (now (out .entry)) r (now (out .exit)))
+        OfProcedure n (now (table .entry)) (now (start .entry)) (now (goal .entry))
+        (λ o. Due o (now (out .entry)) m parked → Hands o (now (out .entry)) r (now (out .exit)))
         ⌝ }
 {
     play::play(table, n, ends, start, goal, &mut out[..m]);

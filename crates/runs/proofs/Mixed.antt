@@ -15,9 +15,9 @@ use Rattle.paper.specs.Docket.{yardOf, badMarks}
 use Rattle.paper.specs.Answers.{Report, accept, already, refuse, accepts, check, marksAfter, plan as planned, accepted}
 use Rattle.paper.specs.Log.{Request, answerTo, marksFrom, namesFrom, marksOf, namesOf}
 use Rattle.paper.proofs.Tests.{not-both}
-use Rattle.paper.proofs.Logging.{fine, plan-lawful, kept-from-fresh}
+use Rattle.laws.proofs.Logging.{fine-marks, plan-lawful}
 use Rattle.demands.proofs.Demands.{Demand3, demand-3}
-use Rattle.paper.proofs.Handing.{handed-passes}
+use Rattle.laws.proofs.Handing.{handed-passes}
 use Rattle.trips.specs.Trips.{shorten}
 use Rattle.trips.proofs.Shortened.{shortened-passes}
 use Rattle.bills.specs.Answering.{opening, marksThen}
@@ -89,11 +89,6 @@ log-of o plan qs d = record {
 }
 
 module _ (o : Order) (plan : List ℕ) (passes : check o plan ≡ none) where
-  fine-marks : (qs : List Request) → badMarks (crossings plan) (marksOf plan qs) ≡ false
-  fine-marks qs =
-      fine (yardOf o) (o .starts) (crossings plan) (plan-lawful o plan passes) (marksOf plan qs) (namesOf plan qs)
-      (kept-from-fresh o plan passes qs)
-
   open-passes : (marks : List ℕ) (lent : ℕ) → badMarks (crossings plan) marks ≡ false → lent ≡ length (o .starts) → opening o plan marks lent ≡ none
   unfolding opening
   open-passes marks lent f e = rw (eleven-exactly o plan marks .1 (passes, f), eq-eqb lent (length (o .starts)) e)
@@ -106,7 +101,7 @@ module _ (o : Order) (plan : List ℕ) (passes : check o plan ≡ none) where
       let e = booksThen plan b cs in
       let m : e .marks ≡ marksOf plan qs = r .0 ∙ ap (λ ms. marksFrom plan ms qs) start in
       let names : namesThen plan b cs ≡ namesOf plan qs = r .1 ∙ ap (λ ms. namesFrom plan ms qs) start in
-      let ok : badMarks (crossings plan) (e .marks) ≡ false = ap (badMarks (crossings plan)) m ∙ fine-marks qs in
+      let ok : badMarks (crossings plan) (e .marks) ≡ false = ap (badMarks (crossings plan)) m ∙ fine-marks o plan passes qs in
       record {
         log = rw (m, names) (log-of o plan qs (demand-3 o plan passes qs));
         unchanged = λ c h. marks-kept plan e c h;

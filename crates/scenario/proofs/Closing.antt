@@ -3,7 +3,7 @@ use mathlib.Core.Path.{_≡_, refl, sym, _∙_, ap}
 use mathlib.Core.Bool.{Bool, true, false}
 use mathlib.Core.List.{List}
 use mathlib.Core.Option.{Option, none, some}
-use Prim.Native.Nat.{ℕ, _+_, _-_, _≤_, _<_}
+use Prim.Native.Nat.{ℕ, _+_, _≤_, _<_}
 use native.Mathlib.Omega.{arith}
 use native.Mathlib.Numerals.{add-one}
 use lib.Dec.{eqb}
@@ -16,7 +16,7 @@ use Rattle.paper.specs.Yard.{Bay}
 use Rattle.paper.proofs.Tests.{not-both}
 use Rattle.paper.specs.Scenario.{startAndGoal}
 use Rattle.paper.specs.Bytes.{Past, fieldPast, carrierOf, matched, lineClosed, beginLine, closeLine}
-use Rattle.fields.specs.Kept.{matchOf, seenOf, pastOf}
+use Rattle.fields.specs.ReadAs.{matchOf, seenOf, pastOf}
 use Rattle.gridmap.specs.declared.Grid.{Grid}
 use Rattle.scenario.specs.Under.{bayBy, Sound, underOf, dueOf, Broken, Closes}
 use Rattle.scenario.specs.declared.Reading.{Reading}

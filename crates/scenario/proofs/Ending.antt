@@ -19,10 +19,11 @@ use Rattle.paper.proofs.Stepping.{stepped}
 use Rattle.stores.specs.Writing.{Wrote}
 use Rattle.stores.proofs.Stores.{wrote-one}
 use Rattle.gridmap.specs.declared.Grid.{Grid}
+use Rattle.carrier_lists.specs.Counting.{kept}
 use Rattle.scenario.specs.declared.Reading.{Reading}
 use Rattle.scenario.specs.declared.ScenarioRead.{ScenarioRead}
 use Rattle.scenario.specs.declared.ScenarioRead.the-variants as answer
-use Rattle.scenario.specs.Under.{bayBy, Sound, lineNo, stateOf, carriersAfter, dueOf, readOf, answerOf, answerBy, countRead, kept, Stored, FeedsOn, EndsOn, Ended, Reads, startsAfter, goalsAfter, Closes, Steps, Released, Finishes}
+use Rattle.scenario.specs.Under.{bayBy, Sound, lineNo, stateOf, carriersAfter, dueOf, readOf, answerOf, answerBy, countRead, Stored, FeedsOn, EndsOn, Ended, Reads, startsAfter, goalsAfter, Closes, Steps, Released, Finishes}
 
 module _ (W H : ℕ) (bay : ℕ → ℕ → Option Bay) where
   -- what a state without a line under way gives
@@ -100,15 +101,7 @@ module _ (s : Reading) where
 
 -- ## The carriers stored
 module _ (s r : Reading) where
-  pub kept-same : (x : ℕ) (l : List ℕ) → r .count ≡ s .count → l ≡ kept s r x l
-  unfolding kept
-  kept-same x l e = rw (eq-eqb (r .count) (s .count) e)
-
-  pub kept-more : (x : ℕ) (l : List ℕ) → (r .count ≡ s .count → ⊥) → set l (s .count) x ≡ kept s r x l
-  unfolding kept
-  kept-more x l n = rw (ne-eqb (r .count) (s .count) n)
-
-  module _ (f : Bay × Bay → ℕ) (cs : List (Bay × Bay)) (l₀ l l′ : List ℕ) (h : length cs ≡ s .count) (w : Wrote l₀ 0 (map f cs) l (s .count)) (e : l′ ≡ kept s r (f (r .start, r .goal)) l) where
+  module _ (f : Bay × Bay → ℕ) (cs : List (Bay × Bay)) (l₀ l l′ : List ℕ) (h : length cs ≡ s .count) (w : Wrote l₀ 0 (map f cs) l (s .count)) (e : l′ ≡ kept (s .count) (r .count) (f (r .start, r .goal)) l) where
     stored-same : eqb (r .count) (s .count) ≡ true → Wrote l₀ 0 (map f (carriersAfter s r cs)) l′ (r .count)
     unfolding kept
     stored-same t =
@@ -128,7 +121,7 @@ module _ (s r : Reading) where
     stored-on : length (carriersAfter s r cs) ≡ r .count → Wrote l₀ 0 (map f (carriersAfter s r cs)) l′ (r .count)
     stored-on i = by-cases (eqb (r .count) (s .count)) stored-same (λ t. stored-more t i)
 
-  pub stored-next : (cs : List (Bay × Bay)) {a b c a′ b′ d : List ℕ} → Stored cs s a b a′ b′ → length (carriersAfter s r cs) ≡ r .count → c ≡ kept s r (r .start) b → d ≡ kept s r (r .goal) b′ → Stored (carriersAfter s r cs) r a c a′ d
+  pub stored-next : (cs : List (Bay × Bay)) {a b c a′ b′ d : List ℕ} → Stored cs s a b a′ b′ → length (carriersAfter s r cs) ≡ r .count → c ≡ kept (s .count) (r .count) (r .start) b → d ≡ kept (s .count) (r .count) (r .goal) b′ → Stored (carriersAfter s r cs) r a c a′ d
   stored-next cs {a} {b} {c} {a′} {b′} {d} w i e f = record {
     count = i;
     startsWrote = stored-on (λ c. c .0) cs a b c (w .count) (w .startsWrote) e i;
@@ -136,18 +129,11 @@ module _ (s r : Reading) where
   }
 
 -- ## The bytes so far
-pub kept-length : (s r : Reading) (x : ℕ) (l m : List ℕ) → m ≡ kept s r x l → length m ≡ length l
-unfolding kept
-kept-length s r x l m e =
-    by-cases (eqb (r .count) (s .count))
-    (λ t. let q : m ≡ l = e ∙ rw t in ap length q)
-    (λ t. let q : m ≡ set l (s .count) x = e ∙ rw t in ap length q ∙ length-set l (s .count) x)
-
 pub feeds-none : (t : List ℕ) (G : Grid) (s : Reading) (b b′ : List ℕ) → FeedsOn t G s [] s b b b′ b′
 feeds-none t G s b b′ = record { feeds = λ o cs a a′ w. record { carriers = cs; stored = w; sound = o; state = refl } }
 
 pub feeds-next : (t : List ℕ) (G : Grid) (s₀ : Reading) (file : Text) (i : ℕ) (s r : Reading) {a b c a′ b′ d : List ℕ} → i < length file
-    → FeedsOn t G s₀ (take i file) s a b a′ b′ → (Sound s → Steps t G s (getD file i 0) r) → c ≡ kept s r (r .start) b → d ≡ kept s r (r .goal) b′ → FeedsOn t G s₀ (take (i + 1) file) r a c a′ d
+    → FeedsOn t G s₀ (take i file) s a b a′ b′ → (Sound s → Steps t G s (getD file i 0) r) → c ≡ kept (s .count) (r .count) (r .start) b → d ≡ kept (s .count) (r .count) (r .goal) b′ → FeedsOn t G s₀ (take (i + 1) file) r a c a′ d
 feeds-next t G s₀ file i s r h w f e g =
     rw (add-one i, take-suc file i 0 h) (record {
       feeds = λ o cs l l′ q.
@@ -161,7 +147,7 @@ feeds-next t G s₀ file i s r h w f e g =
           };
     })
 
-pub ends-now : (t : List ℕ) (G : Grid) (s r : Reading) {b c b′ d : List ℕ} → (Sound s → Finishes t G s r) → c ≡ kept s r (r .start) b → d ≡ kept s r (r .goal) b′ → EndsOn t G s r b c b′ d
+pub ends-now : (t : List ℕ) (G : Grid) (s r : Reading) {b c b′ d : List ℕ} → (Sound s → Finishes t G s r) → c ≡ kept (s .count) (r .count) (r .start) b → d ≡ kept (s .count) (r .count) (r .goal) b′ → EndsOn t G s r b c b′ d
 ends-now t G s r f e g = record {
   ends = λ o cs l l′ q.
       let k = f o in

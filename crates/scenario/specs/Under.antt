@@ -5,8 +5,8 @@ use mathlib.Core.List.{List, [], _∷_, _++_, map, foldl}
 use mathlib.Core.Option.{Option, none, some}
 use mathlib.Core.Path.{_≡_}
 use Prim.Native.Nat.{ℕ, suc, _+_, _≤_}
-use lib.Dec.{eqb, ltb}
-use lib.ListN.{length, set}
+use lib.Dec.{eqb}
+use lib.ListN.{length}
 use lib.Seq.{sets}
 use Rattle.paper.specs.Basics.{if_then_else_}
 use Rattle.paper.specs.Limits.{most-carriers}
@@ -14,8 +14,9 @@ use Rattle.paper.specs.Yard.{Bay}
 use Rattle.paper.specs.Text.{Text, Read, good, badLine}
 use Rattle.paper.specs.Scenario.{readScenario}
 use Rattle.stores.specs.Writing.{Wrote}
+use Rattle.carrier_lists.specs.Counting.{countIn}
 use Rattle.paper.specs.Bytes.{scenarioFinish, State, failed, going, Under, inVersion, inCarrier, lineClosed, beginLine, closeLine, scenarioStep, inLine, release}
-use Rattle.fields.specs.Kept.{matchOf, seenOf, pastOf}
+use Rattle.fields.specs.ReadAs.{matchOf, seenOf, pastOf}
 use Rattle.gridmap.specs.Cells.{bayFound}
 use Rattle.gridmap.specs.declared.Grid.{Grid}
 use Rattle.scenario.specs.declared.Reading.{Reading}
@@ -49,10 +50,6 @@ carriersAfter s r cs = if eqb (r .count) (s .count) then cs else cs ++ ((r .star
 pub record Sound (s : Reading) : Type 0 where
   pub first : s .version ≡ true → s .count ≡ 0
   pub few : s .count ≤ most-carriers
-
--- the carriers that a state says it has read, with at most 254 and none before the version
-abbrev pub countIn : Bool → ℕ → ℕ
-countIn version count = if version then 0 else if ltb count most-carriers then count else most-carriers
 
 -- what a state stands for, whatever its numbers are
 abbrev pub takenAs : Reading → Reading
@@ -155,9 +152,6 @@ countRead (good cs) = good (length cs)
 countRead (badLine n) = badLine n
 
 -- ## Storing the carriers
-unfoldable pub kept : Reading → Reading → ℕ → List ℕ → List ℕ
-kept s r x l = if eqb (r .count) (s .count) then l else set l (s .count) x
-
 abbrev pub startsOf : List (Bay × Bay) → List ℕ
 startsOf cs = map (λ c. c .0) cs
 

@@ -9,8 +9,8 @@ ghost use mathlib.Core.Path.{_≡_};
 ghost use mathlib.Core.Bool.{true, false};
 ghost use Prim.Native.Nat.{_<_};
 ghost use Rattle.paper.specs.Bytes.{carrierOf};
-ghost use Rattle.fields.specs.Kept.{pastOf};
-ghost use Rattle.scenario.specs.Under.{bayBy, Sound, countIn, takenAs, carrierIs, dueOf, Broken, Closes, Steps, On, Released, Marked, Finishes, answerOf, answerBy, kept, FeedsOn, EndsOn, Feeds, Ends, Ended, Reads};
+ghost use Rattle.fields.specs.ReadAs.{pastOf};
+ghost use Rattle.scenario.specs.Under.{bayBy, Sound, takenAs, carrierIs, dueOf, Broken, Closes, Steps, On, Released, Marked, Finishes, answerOf, answerBy, FeedsOn, EndsOn, Feeds, Ends, Ended, Reads};
 
 // The scenario under way: whether it broke its layout, whether the version is due, whether the line has begun, whether a CR is held
 // back, how many carriers were read, the last one's start and goal, and what is known of the line.
@@ -39,24 +39,11 @@ pub enum ScenarioRead {
     Bad(u64),
 }
 
-// The carriers of the largest yard, as a count of lines.
-const MOST: u16 = paper::CARRIERS as u16;
-
-// How many carriers a state has read: none before the version, and at most MOST, whatever it says.
-pub fn counted(version: bool, count: u16) -> u16
-    ensures { λ r. ⌜ r ≡ countIn version count ⌝ }
-{
-    if version {
-        return 0;
-    }
-    if count < MOST { count } else { MOST }
-}
-
 // What a state stands for: a caller may hand in any.
 fn taken(s: Reading) -> Reading
     ensures { λ r. ⌜ r ≡ takenAs s ⌝ }
 {
-    let n = counted(s.version, s.count);
+    let n = carrier_lists::counted(s.version, s.count);
     let mut r = s;
     r.count = n;
     r
@@ -142,7 +129,7 @@ fn closed(s: Reading, grid: Grid, cells: &[u16]) -> Reading
         return broken(s);
     }
     let count = s.count;
-    if count < MOST {
+    if count < carrier_lists::MOST {
         let past = fields::field_past(s.past, s.field, grid.width as u32, grid.height as u32);
         let found = carrier_of(past, grid, cells);
         let Found::Carrier(start, goal) = found else {
@@ -225,18 +212,6 @@ pub fn answer(s: Reading) -> ScenarioRead
     ScenarioRead::Carriers(s.count)
 }
 
-// The carrier that was read last, where there is one more than before.
-fn keep(s: Reading, r: Reading, starts: &mut [u16], goals: &mut [u16])
-    ensures { λ _. ⌜ (now (starts .exit) ≡ kept s r (r .start) (now (starts .entry))) × (now (goals .exit) ≡ kept s r (r .goal) (now (goals .entry))) ⌝ }
-{
-    if r.count == s.count {
-        return;
-    }
-    let at = s.count as usize;
-    stores::short(starts, at, r.start);
-    stores::short(goals, at, r.goal);
-}
-
 // One byte of the scenario.
 fn step(s: Reading, b: u8, grid: Grid, cells: &[u16]) -> Reading
     ensures { λ r. ⌜ (Sound s → Steps (now (cells .entry)) grid s b r) ⌝ }
@@ -271,7 +246,7 @@ fn feed_on(
     let mut i = 0;
     while i < bytes.len() {
         let r = step(at, bytes[i], grid, cells);
-        keep(at, r, starts, goals);
+        carrier_lists::keep(at.count, r.count, r.start, r.goal, starts, goals);
         at = r;
         i += 1;
     }
@@ -305,7 +280,7 @@ fn finish_on(
     ensures { λ r. ⌜ EndsOn (now (cells .entry)) grid s r (now (starts .entry)) (now (starts .exit)) (now (goals .entry)) (now (goals .exit)) ⌝ }
 {
     let r = finished(s, grid, cells);
-    keep(s, r, starts, goals);
+    carrier_lists::keep(s.count, r.count, r.start, r.goal, starts, goals);
     r
 }
 

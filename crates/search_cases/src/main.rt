@@ -179,7 +179,7 @@ fn vacated_by_rails(
         ⌝ }
 {
     let rails = standing.len() * WORDS;
-    vacate::vacate(&table[..rails], held, x, placement, standing, empty, out, 0)
+    vacate::vacate(&table[..rails], held, x, placement, standing, empty, out)
 }
 
 // Places the carriers and vacates x.

@@ -11,7 +11,7 @@ use Rattle.paper.specs.Map.{Grid, readMap}
 use Rattle.paper.proofs.Tests.{never, by-read}
 use Rattle.numbers.specs.Numbers.{verdictNumber, verdictValue}
 use Rattle.numbers.specs.Tells.{Tells}
-use Rattle.readers.specs.Reading.{Laid, Listing, listing}
+use Rattle.listing.specs.Reading.{Laid, Listing, listing}
 use Rattle.link.specs.declared.Link.{Link}
 use Rattle.link.specs.Link.{piece-bytes, isOpen, finishIn, endSaying, Holds}
 use Rattle.link.proofs.Linked.{Run, none, fed, wholeVerdict, carriersListed, pieces-whole}

@@ -6,7 +6,7 @@ use Prim.Native.Nat.{ℕ}
 use lib.ListN.{length}
 use Rattle.numbers.specs.Numbers.{verdictNumber, verdictValue}
 use Rattle.numbers.specs.Tells.{Tells}
-use Rattle.readers.specs.Reading.{Laid, laidVerdict, laidBays, laidRails, Listing, listVerdict, listStarts, listGoals}
+use Rattle.listing.specs.Reading.{Laid, laidVerdict, laidBays, laidRails, Listing, listVerdict, listStarts, listGoals}
 
 -- the number of rails' ends, the bays, and the ends in the lent list
 pub record MapTells (x : Laid) (before : List ℕ) (told value bays : ℕ) (after : List ℕ) : Type 0 where

@@ -1,6 +1,6 @@
 // The whole reading of a map and of a scenario, for C.
 ghost use Rattle.paper.specs.Map.{readMap};
-ghost use Rattle.readers.specs.Reading.{laying, listing};
+ghost use Rattle.listing.specs.Reading.{laying, listing};
 ghost use Rattle.sejjekoru.specs.Files.{MapTells, ScenarioTells};
 
 #[no_mangle]

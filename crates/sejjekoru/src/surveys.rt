@@ -10,7 +10,7 @@ pub extern "C" fn sejjekoru_read_survey(
 ) -> u64
     ensures { λ r. ⌜ ReadSurveyTells (now (file .entry)) (now (rails .entry)) r (now (value .exit)) (now (bays .exit)) (now (rails .exit)) ⌝ }
 {
-    let survey = surveying::read(file, rails);
+    let survey = survey_files::read(file, rails);
     *bays = survey.bays;
     let verdict = survey.verdict;
     numbers::told(verdict, value)
@@ -25,6 +25,6 @@ pub extern "C" fn sejjekoru_write_survey(
 ) -> u64
     ensures { λ r. ⌜ WriteSurveyTells bays (now (rails .entry)) (now (out .entry)) r (now (value .exit)) (now (out .exit)) ⌝ }
 {
-    let verdict = surveying::write(bays, rails, out);
+    let verdict = survey_files::write(bays, rails, out);
     numbers::told(verdict, value)
 }

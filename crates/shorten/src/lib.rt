@@ -320,7 +320,7 @@ pub fn shorten(
     if let Checked::Refused(r) = checked {
         return Verdict::Denied(r);
     }
-    if marks::bad_marks(plan, marks) {
+    if mark_order::bad_marks(plan, marks) {
         return Verdict::Denied(Refusal::Mismarked);
     }
     if begun::any_done(marks) {

@@ -1,5 +1,5 @@
 // The map file's layout: its height and width, or its first bad line. What the rows say is read once they are known to be good.
-use lines::Line;
+use lines::FoundLine;
 ghost use mathlib.Core.Path.{_≡_};
 ghost use Prim.Native.Nat.{_≤_};
 ghost use lib.Dec.{leb};
@@ -202,7 +202,7 @@ pub fn read(file: &[u8]) -> Sides
     let mut at = 0;
     let mut n: u64 = 1;
     loop {
-        let Line::Text { end: stop, next } = lines::next_line(file, at) else {
+        let FoundLine::Text { end: stop, next } = lines::next_line(file, at) else {
             return end(due, n);
         };
         let Taken::Due(d) = take(due, &file[at..stop]) else {

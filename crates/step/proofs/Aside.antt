@@ -23,17 +23,26 @@ use Rattle.words.proofs.Sets.{row-zero}
 use Rattle.moving.specs.Placed.{Placed}
 use Rattle.moving.proofs.Playing.{carrier-is}
 use Rattle.vacate.proofs.Beside.{beside-nearest, beside-path}
-use Rattle.acting.specs.Acting.{Tabled}
-use Rattle.step.specs.Asking.{Loopless}
+use Rattle.acting.specs.Acting.{Tabled, Ready}
+use Rattle.step.specs.Asking.{AsideAsks}
+use Rattle.step.specs.declared.NextStep.{NextStep}
 
-module _ {n : ℕ} {table : List ℕ} (t : Tabled n table) (most : n ≤ span) (loopless : Loopless n table) (finished : ℕ) (r : Carrier) (w : Bay) (p : Placement)
-    {standing empty : List ℕ} (k : Placed n p standing empty) (hr : r < length p) (hf : finished ≤ length p) (hw : w < n) (rail : memRow table (bayOf p r) w ≡ true)
-    (high : finished ≤ getD standing w 0) (full : mem empty w ≡ false) (e : Bay) (low : Taken table (λ b. memRow table w b and memRow empty 0 b) e) (there : e < span) where
+module _ {table p standing empty : List ℕ} (t : Tabled (length standing) table) (ready : Ready table p standing empty) {next : NextStep} {e : Bay}
+    (asks : AsideAsks next e table p standing empty) where
+  abbrev r : Carrier
+  r = next .carrier .0
+
+  abbrev w : Bay
+  w = next .to .0
+
+  abbrev finished : ℕ
+  finished = next .finished
+
   -- an empty bay is not held
   unheld : (b : Bay) → Out b p → Out b (holding finished r p)
   unheld b o =
       by-cases (elem b (holding finished r p))
-      (λ i. In-cases b (bayOf p r) (take finished p) i (λ q. not-both (rw (← q) at (bay-in p r hr)) o) (λ h. not-both (take-in finished p b h) o))
+      (λ i. In-cases b (bayOf p r) (take finished p) i (λ q. not-both (rw (← q) at (bay-in p r (asks .can .carrier-there))) o) (λ h. not-both (take-in finished p b h) o))
       (λ h. h)
 
   -- nor is w, where a carrier stands that is neither r nor finished
@@ -42,47 +51,47 @@ module _ {n : ℕ} {table : List ℕ} (t : Tabled n table) (most : n ≤ span) (
       let c = carrierAt (take finished p) w in
       let h : c < finished = let j = rw length-take at (placeOf-there (take finished p) w i) in omega arith in
       let there-c : bayOf p c ≡ w = sym (getD-take finished p c 0 h) ∙ placeOf-bay (take finished p) w i in
-      rw (carrier-is p w c (k .apart) (omega arith) there-c) h
+      rw (carrier-is p w c (ready .placed .apart) (omega (arith, h, asks .can .finished-there)) there-c) h
 
   w-unheld : Out w (holding finished r p)
   w-unheld =
       by-cases (elem w (holding finished r p))
       (λ i. In-cases w (bayOf p r) (take finished p) i
-      (λ q. not-both (rw (← q) at rail) (loopless .none w hw))
-      (λ h. absurd (omega (arith, w-low h, rw (k .stands w hw) at high))))
+      (λ q. not-both (rw (← q) at (asks .can .rail)) (asks .can .loopless .none w (asks .can .bay-there)))
+      (λ h. absurd (omega (arith, w-low h, rw (ready .placed .stands w (asks .can .bay-there)) at (asks .unfinished)))))
       (λ h. h)
 
   full-w : isEmpty p w ≡ false
-  full-w = sym (k .empties w hw) ∙ full
+  full-w = sym (ready .placed .empties w (asks .can .bay-there)) ∙ asks .full
 
   taken : memRow table w e and memRow empty 0 e ≡ true
-  taken = low .hit there
+  taken = asks .chosen .hit (asks .found)
 
   rail-e : joined (t .yard) w e ≡ true
-  rail-e = sym (t .joins .same w e hw there) ∙ and-left _ _ taken
+  rail-e = sym (t .joins .same w e (asks .can .bay-there) (asks .found)) ∙ and-left _ _ taken
 
-  pub inside-e : e < n
+  pub inside-e : e < length standing
   inside-e = t .joins .inside w e rail-e .1
 
   pub empty-e : Out e p
-  empty-e = not-true (elem e p) (sym (k .empties e inside-e) ∙ sym (row-zero empty e) ∙ and-right _ _ taken)
+  empty-e = not-true (elem e p) (sym (ready .placed .empties e inside-e) ∙ sym (row-zero empty e) ∙ and-right _ _ taken)
 
   pub full-in : In w p
   full-in = not-false (elem w p) full-w
 
-  free-of : (b : Bay) → b < n → Out b (holding finished r p) → Free (t .yard) (holding finished r p) b
-  free-of b h o = (in-count 0 (t .yard .bays) b (omega arith) (rw (t .joins .bays) (omega arith)), o)
+  free-of : (b : Bay) → b < length standing → Out b (holding finished r p) → Free (t .yard) (holding finished r p) b
+  free-of b h o = (in-count 0 (t .yard .bays) b (omega arith) (rw (t .joins .bays) (omega (arith, h))), o)
 
   rather-e : (b : Bay) → joined (t .yard) w b ≡ true → Free (t .yard) (holding finished r p) b → Out b p → Rather (railsAt (t .yard)) e b
   rather-e b j f o =
-      let h : b < n = t .joins .inside w b j .1 in
-      let passes = and-both (memRow table w b) (memRow empty 0 b) (t .joins .same w b hw (omega arith) ∙ j) (row-zero empty b ∙ k .empties b h ∙ ap not o) in
-      rather-paper (t .joins) most e b inside-e h (low .before there b (omega arith) passes)
+      let h : b < length standing = t .joins .inside w b j .1 in
+      let passes = and-both (memRow table w b) (memRow empty 0 b) (t .joins .same w b (asks .can .bay-there) (omega (arith, h, ready .most)) ∙ j) (row-zero empty b ∙ ready .placed .empties b h ∙ ap not o) in
+      rather-paper (t .joins) (ready .most) e b inside-e h (asks .chosen .before (asks .found) b (omega (arith, h, ready .most)) passes)
 
   pub made-aside : vacate (t .yard) (holding finished r p) w p ≡ some (record { moves = crossing (carrierAt p w) w e ∷ []; parked = parking (t .yard) e })
   unfolding vacate shift
   made-aside =
-      let free-w = free-of w hw w-unheld in
+      let free-w = free-of w (asks .can .bay-there) w-unheld in
       let free-e = free-of e inside-e (unheld e empty-e) in
       let near = beside-nearest (t .yard) (holding finished r p) w p e free-w full-in rail-e free-e empty-e rather-e in
       let path = beside-path (t .yard) (holding finished r p) w p e free-w full-in rail-e free-e empty-e in

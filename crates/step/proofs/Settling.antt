@@ -2,7 +2,7 @@
 -- bays afterwards is the set before with u and w traded.
 -- Assumes nothing.
 use mathlib.Core.Path.{_≡_, sym, ap, _∙_, refl}
-use mathlib.Core.Bool.{true, false}
+use mathlib.Core.Bool.{false}
 use mathlib.Core.List.{List, [], _∷_}
 use mathlib.Core.Logic.{_⊎_, inl, ⊎-elim}
 use mathlib.Core.Option.{some}
@@ -19,7 +19,7 @@ use Rattle.paper.proofs.Carrying.{Stepped, step-steps}
 use Rattle.paper.proofs.Playing.{Apart, Good, after-length, placeOf-bay, placeOf-there, bay-in}
 use Rattle.paper.proofs.Tests.{by-cases}
 use Rattle.paper.proofs.Trading.{trade-first, trade-second, trade-other, trade-twice}
-use Rattle.words.specs.Sets.{mem, memRow, span}
+use Rattle.words.specs.Sets.{mem, span}
 use Rattle.words.proofs.Besides.{equal-tests}
 use Rattle.moving.specs.Placed.{Placed}
 use Rattle.moving.proofs.Playing.{carrier-is}
@@ -28,7 +28,7 @@ use Rattle.acting.specs.Acting.{Tabled, Tallied, Proceeds}
 use Rattle.acting.specs.declared.Tally.{Tally}
 use Rattle.acting.specs.declared.Tried.the-variants.{Done}
 use Rattle.acting.proofs.Acting.{tried-done}
-use Rattle.step.specs.Asking.{Loopless, BaysBelow}
+use Rattle.step.specs.Asking.{BaysBelow, CanStep}
 use Rattle.step.proofs.Stepping.{sound-of, railed}
 
 -- ## The bays of the carriers below
@@ -94,18 +94,18 @@ settled-free r w p {p′ = p′} k hr y kept traded finished s =
     (λ c h n. inl (ap (λ (q : Placement). bayOf q c) moved ∙ getD-set-other p r c w 0 (eqb-false c r n)))
     s kept traded
 
-module _ {n : ℕ} {table : List ℕ} (t : Tabled n table) (most : n ≤ span) (loopless : Loopless n table) (finished : ℕ) (r : Carrier) (w : Bay) (p : Placement)
-    {standing empty : List ℕ} (k : Placed n p standing empty) (hr : r < length p) (hf : finished ≤ length p) (hw : w < n) (rail : memRow table (bayOf p r) w ≡ true) where
+module _ {n : ℕ} {table : List ℕ} (t : Tabled n table) (most : n ≤ span) {finished : ℕ} {r : Carrier} {w : Bay} {p : Placement} (can : CanStep n table finished r w p)
+    {standing empty : List ℕ} (k : Placed n p standing empty) where
   good-of : Good (t .yard) p
   good-of = record { apart = k .apart; inside = λ c h. in-bays t (k .inside c h) }
 
   -- what the paper says of the step
-  pub stepped-of : (m : Made) → step (t .yard) finished r w p ≡ some m → Stepped (t .yard) (sound-of t most loopless) finished r w p (m .moves)
-  stepped-of m e = step-steps (t .yard) (sound-of t most loopless) finished r w p good-of hr hf (railed t most loopless finished r w p k hr hw rail) m e
+  pub stepped-of : (m : Made) → step (t .yard) finished r w p ≡ some m → Stepped (t .yard) (sound-of t most (can .loopless)) finished r w p (m .moves)
+  stepped-of m e = step-steps (t .yard) (sound-of t most (can .loopless)) finished r w p good-of (can .carrier-there) (can .finished-there) (railed t most can k) m e
 
   pub settled-after : {out : List ℕ} {at b : Tally} {p′ standing′ empty′ out′ settled settled′ : List ℕ} → Proceeds (step (t .yard) finished r w p) n p out at p′ standing′ empty′ out′ (Done b)
       → BaysBelow finished p settled → length settled′ ≡ length settled → ((b : Bay) → mem settled′ b ≡ mem settled (trade (bayOf p r) w b)) → BaysBelow finished p′ settled′
   settled-after {p′ = p′} a s kept traded =
       let d = tried-done (a .tries) in
       let o = stepped-of (d .0) (d .1) in
-      below-traded finished r w p p′ (k .apart) (d .2 .placed .apart) (rw (d .2 .moved) (after-length p (d .0 .moves))) hr (rw (d .2 .moved) (o .arrives)) (rw (d .2 .moved) (o .others)) s kept traded
+      below-traded finished r w p p′ (k .apart) (d .2 .placed .apart) (rw (d .2 .moved) (after-length p (d .0 .moves))) (can .carrier-there) (rw (d .2 .moved) (o .arrives)) (rw (d .2 .moved) (o .others)) s kept traded

@@ -20,14 +20,14 @@ use Rattle.paper.proofs.Tests.{by-cases, not-both, never-some, or-right}
 use Rattle.paper.proofs.Vacating.{Vacated, vacate-vacates, vacate-empty}
 use Rattle.words.specs.Sets.{mem, span, memRow, Kept}
 use Rattle.words.proofs.Sets.{row-zero, or-false}
-use Rattle.swap.specs.Seeking.{Beside}
+use Rattle.near.specs.Seeking.{Beside}
 use Rattle.rings.specs.Search.{Shown}
 use Rattle.moving.specs.Placed.{Placed}
 use Rattle.moving.proofs.Playing.{carrier-is, carrier-none}
 use Rattle.acting.specs.Acting.{Tabled, Tallied, Proceeds}
 use Rattle.acting.specs.declared.Tally.{Tally}
 use Rattle.acting.proofs.Acting.{tallied-none, tallied-then, proceeds-some}
-use Rattle.step.specs.Asking.{Loopless, BaysBelow}
+use Rattle.step.specs.Asking.{Loopless, BaysBelow, CanStep}
 use Rattle.acting.specs.declared.Tried.the-variants.{Done}
 use Rattle.acting.specs.declared.Tried.{Tried}
 
@@ -53,54 +53,54 @@ heldBy {finished = finished} {p = p} {held = held} t r s k f = record { yard = t
 
 -- ## The step
 
-module _ {n : ℕ} {table : List ℕ} (t : Tabled n table) (most : n ≤ span) (loopless : Loopless n table) (finished : ℕ) (r : Carrier) (w : Bay) (p : Placement)
-    {standing empty : List ℕ} (k : Placed n p standing empty) (hr : r < length p) (hw : w < n) (rail : memRow table (bayOf p r) w ≡ true) where
+module _ {n : ℕ} {table : List ℕ} (t : Tabled n table) (most : n ≤ span) {finished : ℕ} {r : Carrier} {w : Bay} {p : Placement} (can : CanStep n table finished r w p)
+    {standing empty : List ℕ} (k : Placed n p standing empty) where
   pub railed : joined (t .yard) (bayOf p r) w ≡ true
-  railed = sym (t .joins .same (bayOf p r) w (k .inside r hr) (omega arith)) ∙ rail
+  railed = sym (t .joins .same (bayOf p r) w (k .inside r (can .carrier-there)) (omega (arith, can .bay-there))) ∙ can .rail
 
   -- where vacating fails a carrier stands at w
   pub met : vacate (t .yard) (holding finished r p) w p ≡ none → In w p
   met e = by-cases (elem w p) (λ i. i) (λ o. never-some (only []) (sym e ∙ vacate-empty (t .yard) (holding finished r p) w p o))
 
   pub met-carrier : vacate (t .yard) (holding finished r p) w p ≡ none → (getD standing w 0 < length p) × (bayOf p (getD standing w 0) ≡ w)
-  met-carrier e = rw (k .stands w hw) (placeOf-there p w (met e), placeOf-bay p w (met e))
+  met-carrier e = rw (k .stands w (can .bay-there)) (placeOf-there p w (met e), placeOf-bay p w (met e))
 
   pub met-other : vacate (t .yard) (holding finished r p) w p ≡ none → getD standing w 0 ≡ r → ⊥
   met-other e q =
       let at-w : bayOf p r ≡ w = rw q at (met-carrier e .1) in
-      not-both (rw at-w at rail) (loopless .none w hw)
+      not-both (rw at-w at (can .rail)) (can .loopless .none w (can .bay-there))
 
   pub met-beside : vacate (t .yard) (holding finished r p) w p ≡ none → Beside (t .yard) r (getD standing w 0) p
-  met-beside e = record { sound = sound-of t most loopless; beside = rw (met-carrier e .1) railed }
+  met-beside e = record { sound = sound-of t most (can .loopless); beside = rw (met-carrier e .1) railed }
 
   -- where a finished carrier stands at w it is held
-  pub held-fails : finished ≤ length p → getD standing w 0 < finished → vacate (t .yard) (holding finished r p) w p ≡ none
+  pub held-fails : getD standing w 0 < finished → vacate (t .yard) (holding finished r p) w p ≡ none
   unfolding vacate
-  held-fails many low =
-      let c : carrierAt p w < finished = rw (k .stands w hw) at low in
+  held-fails low =
+      let c : carrierAt p w < finished = rw (k .stands w (can .bay-there)) at low in
       let i : In w p = by-cases (elem w p) (λ e. e) (λ o. absurd (omega (arith, carrier-none p w o))) in
-      let h : In w (take finished p) = rw (getD-take finished p (carrierAt p w) 0 c ∙ placeOf-bay p w i) at (bay-in (take finished p) (carrierAt p w) (rw length-take (omega arith))) in
+      let h : In w (take finished p) = rw (getD-take finished p (carrierAt p w) 0 c ∙ placeOf-bay p w i) at (bay-in (take finished p) (carrierAt p w) (rw length-take (omega (arith, c, can .finished-there)))) in
       rw (i, In-tail w (bayOf p r) (take finished p) h)
 
   -- by a swap
   pub stepped-swap : {out : List ℕ} {at : Tally} {p′ standing′ empty′ out′ : List ℕ} {z : Tried} → vacate (t .yard) (holding finished r p) w p ≡ none
       → Proceeds (swap (t .yard) r (getD standing w 0) p) n p out at p′ standing′ empty′ out′ z → Proceeds (step (t .yard) finished r w p) n p out at p′ standing′ empty′ out′ z
   unfolding step _then_
-  stepped-swap e a = rw (e, ← (k .stands w hw)) a
+  stepped-swap e a = rw (e, ← (k .stands w (can .bay-there))) a
 
   -- by vacating and crossing
   module _ (vs : Made) (made : vacate (t .yard) (holding finished r p) w p ≡ some vs) where
     vac : Vacated (t .yard) (holding finished r p) w p (vs .moves)
-    vac = vacate-vacates (t .yard) (holding finished r p) w p vs (k .apart) (in-count 0 (t .yard .bays) w (omega arith) (omega (arith, t .joins .bays))) made
+    vac = vacate-vacates (t .yard) (holding finished r p) w p vs (k .apart) (in-count 0 (t .yard .bays) w (omega arith) (omega (arith, t .joins .bays, can .bay-there))) made
 
     pub stays : bayOf (after p (vs .moves)) r ≡ bayOf p r
-    stays = vac .keeps r hr (In-head (bayOf p r) (take finished p))
+    stays = vac .keeps r (can .carrier-there) (In-head (bayOf p r) (take finished p))
 
     pub r-there : (q : Placement) → q ≡ after p (vs .moves) → In (bayOf q r) q
-    r-there q e = bay-in q r (rw (e, after-length) hr)
+    r-there q e = bay-in q r (rw (e, after-length) (can .carrier-there))
 
     pub r-inside : (q : Placement) → q ≡ after p (vs .moves) → r < length q
-    r-inside q e = rw (e, after-length) hr
+    r-inside q e = rw (e, after-length) (can .carrier-there)
 
     pub w-empty : (q : Placement) → q ≡ after p (vs .moves) → Out w q
     w-empty q e = rw e (vac .empties)
@@ -109,13 +109,13 @@ module _ {n : ℕ} {table : List ℕ} (t : Tabled n table) (most : n ≤ span) (
         → Tallied (only (crossing (carrierAt q (bayOf q r)) (bayOf q r) w ∷ [])) n q p′ standing′ empty′ out₁ a out′ b → Proceeds (step (t .yard) finished r w p) n p out at p′ standing′ empty′ out′ (Done b)
     unfolding step _then_ cross
     stepped-cross {q = q} x y =
-        let same : carrierAt q (bayOf q r) ≡ r = carrier-is q (bayOf q r) r (x .placed .apart) (rw (x .moved, after-length) hr) refl in
+        let same : carrierAt q (bayOf q r) ≡ r = carrier-is q (bayOf q r) r (x .placed .apart) (rw (x .moved, after-length) (can .carrier-there)) refl in
         let y′ = rw same at y in
         proceeds-some (rw (made, ← (x .moved))) (tallied-then x y′)
 
   -- by crossing alone, where w is empty
   pub free : true ≡ mem empty w → Out w p
-  free h = not-true (elem w p) (sym (k .empties w hw) ∙ sym h)
+  free h = not-true (elem w p) (sym (k .empties w (can .bay-there)) ∙ sym h)
 
   pub stepped-free : {out : List ℕ} {at b : Tally} {p′ standing′ empty′ out′ : List ℕ} → true ≡ mem empty w → Tallied (only (crossing (carrierAt p (bayOf p r)) (bayOf p r) w ∷ [])) n p p′ standing′ empty′ out at out′ b
       → Proceeds (step (t .yard) finished r w p) n p out at p′ standing′ empty′ out′ (Done b)

@@ -4,14 +4,8 @@ use acting::Tally;
 use acting::Tried;
 use docket::Bay;
 use docket::Carrier;
-ghost use mathlib.Core.Path.{_≡_};
-ghost use mathlib.Core.Bool.{true};
-ghost use Prim.Native.Nat.{ℕ, _≤_, _<_};
-ghost use lib.ListN.{length, getD};
-ghost use Rattle.words.specs.Sets.{mem, words, span};
-ghost use Rattle.moving.specs.Placed.{Placed};
-ghost use Rattle.acting.specs.Acting.{nothing, Ready, CrossCounts};
-ghost use Rattle.step.specs.Asking.{BaysBelow, StepAsks, AsideAsks, StepSays, StepSettles};
+ghost use Rattle.acting.specs.Acting.{Ready};
+ghost use Rattle.step.specs.Asking.{StepAsks, AsideAsks, StepSays, StepSettles, StepInAsks, StepInSays};
 
 // One step: the carrier r that steps and the next bay w on its way. The carriers below `finished` are finished.
 pub struct NextStep {
@@ -34,8 +28,7 @@ fn make_way(
     requires { ⌜ Ready (now table) (now placement) (now standing) (now empty) ⌝ }
     requires { ⌜ StepAsks next (now table) (now placement) (now standing) (now settled) ⌝ }
     ensures { λ z. ⌜
-        StepSays next
-        (now (table .entry)) (now (placement .entry)) (now (standing .entry)) (now (out .entry))
+        StepSays next (now (table .entry)) (now (placement .entry)) (now (standing .entry)) (now (out .entry))
         (now (placement .exit)) (now (standing .exit)) (now (empty .exit)) (now (out .exit)) z
         ⌝ }
 {
@@ -45,22 +38,17 @@ fn make_way(
     let mut held = [0u64; words::WORDS];
     words::keep(&mut held, 0, settled);
     words::add(&mut held, placement[own] as usize);
-    let nothing = Tally {
-        crossings: 0,
-        parked: 0,
-    };
-    let vacated = acting::make_room(table, &held, w, placement, standing, empty, out, nothing);
+    let vacated = acting::make_room(table, &held, w, placement, standing, empty, out);
     let Tried::Done(done) = vacated else {
         let bay = w.0 as usize;
         let s = Carrier(standing[bay] as u32);
         return swap::swap(table, r, s, placement, standing, empty, out);
     };
-    let a = Tally {
-        crossings: done.crossings,
-        parked: done.parked,
-    };
+    let made = done.crossings;
+    let parked = done.parked;
     let u = Bay(placement[own]);
-    Tried::Done(acting::cross(placement, standing, empty, u, w, out, a))
+    let crossings = moving::cross(placement, standing, empty, u, w, out, made);
+    Tried::Done(Tally { crossings, parked })
 }
 
 // The step where the bay e beside w is empty and the choice: the carrier at w crosses to it, then r crosses. An empty bay is not held, so nobody asks
@@ -77,21 +65,19 @@ fn step_aside(
     requires { ⌜ Ready (now table) (now placement) (now standing) (now empty) ⌝ }
     requires { ⌜ AsideAsks next (e .0) (now table) (now placement) (now standing) (now empty) ⌝ }
     ensures { λ z. ⌜
-        StepSays next
-        (now (table .entry)) (now (placement .entry)) (now (standing .entry)) (now (out .entry))
+        StepSays next (now (table .entry)) (now (placement .entry)) (now (standing .entry)) (now (out .entry))
         (now (placement .exit)) (now (standing .exit)) (now (empty .exit)) (now (out .exit)) z
         ⌝ }
 {
     let r = next.carrier;
     let w = next.to;
-    let nothing = Tally {
-        crossings: 0,
-        parked: 0,
-    };
-    let a = acting::fill(table, placement, standing, empty, w, e, out, nothing);
+    let aside = acting::fill(table, placement, standing, empty, w, e, out);
+    let made = aside.crossings;
+    let parked = aside.parked;
     let own = r.0 as usize;
     let u = Bay(placement[own]);
-    Tried::Done(acting::cross(placement, standing, empty, u, w, out, a))
+    let crossings = moving::cross(placement, standing, empty, u, w, out, made);
+    Tried::Done(Tally { crossings, parked })
 }
 
 // One step of r to w: it is vacated, then r crosses; or else r is swapped with the carrier there. Vacating an empty bay moves
@@ -108,8 +94,7 @@ fn step_to(
     requires { ⌜ Ready (now table) (now placement) (now standing) (now empty) ⌝ }
     requires { ⌜ StepAsks next (now table) (now placement) (now standing) (now settled) ⌝ }
     ensures { λ z. ⌜
-        StepSays next
-        (now (table .entry)) (now (placement .entry)) (now (standing .entry)) (now (out .entry))
+        StepSays next (now (table .entry)) (now (placement .entry)) (now (standing .entry)) (now (out .entry))
         (now (placement .exit)) (now (standing .exit)) (now (empty .exit)) (now (out .exit)) z
         ⌝ }
 {
@@ -120,11 +105,7 @@ fn step_to(
         let own = r.0 as usize;
         let here = placement[own];
         let u = Bay(here);
-        let nothing = Tally {
-            crossings: 0,
-            parked: 0,
-        };
-        return Tried::Done(acting::cross(placement, standing, empty, u, w, out, nothing));
+        return Tried::Done(acting::cross(placement, standing, empty, u, w, out));
     }
     let s = standing[bay];
     let there = s as usize;
@@ -151,33 +132,15 @@ pub fn step_in(
     settled: &mut [u64],
     out: &mut [u64],
 ) -> Tally
-    requires { ⌜
-        (r .0 < length (now placement))
-        × (w .0 < length (now standing))
-        × (mem (now empty) (w .0) ≡ true)
-        × Placed (length (now standing)) (now placement) (now standing) (now empty)
-        ⌝ }
-    requires { ⌜
-        (length (now standing) ≤ span)
-        × (length (now empty) ≡ words)
-        × (length (now settled) ≡ words)
-        ⌝ }
+    requires { ⌜ StepInAsks (r .0) (w .0) (now placement) (now standing) (now empty) (now settled) ⌝ }
     ensures { λ m. ⌜
-        CrossCounts (getD (now (placement .entry)) (r .0) 0) (w .0)
-        (now (placement .entry)) (now (standing .entry)) (now (out .entry)) nothing
-        (now (placement .exit)) (now (standing .exit)) (now (empty .exit)) (now (out .exit)) m
-        × ((f : ℕ)
-        → BaysBelow f (now (placement .entry)) (now (settled .entry))
-        → BaysBelow f (now (placement .exit)) (now (settled .exit)))
+        StepInSays (r .0) (w .0) (now (placement .entry)) (now (standing .entry)) (now (settled .entry)) (now (out .entry))
+        (now (placement .exit)) (now (standing .exit)) (now (empty .exit)) (now (settled .exit)) (now (out .exit)) m
         ⌝ }
 {
     let own = r.0 as usize;
     let u = Bay(placement[own]);
-    let nothing = Tally {
-        crossings: 0,
-        parked: 0,
-    };
-    let m = acting::cross(placement, standing, empty, u, w, out, nothing);
+    let m = acting::cross(placement, standing, empty, u, w, out);
     settle::settle(settled, u, w);
     m
 }
@@ -195,8 +158,7 @@ pub fn step(
     requires { ⌜ Ready (now table) (now placement) (now standing) (now empty) ⌝ }
     requires { ⌜ StepAsks next (now table) (now placement) (now standing) (now settled) ⌝ }
     ensures { λ z. ⌜
-        StepSettles next
-        (now (table .entry)) (now (placement .entry)) (now (standing .entry)) (now (out .entry))
+        StepSettles next (now (table .entry)) (now (placement .entry)) (now (standing .entry)) (now (out .entry))
         (now (placement .exit)) (now (standing .exit)) (now (empty .exit)) (now (settled .exit)) (now (out .exit)) z
         ⌝ }
 {

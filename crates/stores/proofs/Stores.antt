@@ -1,11 +1,11 @@
 -- Two writes, the second where the first ended, are one write of both texts: storing goes place by place.
 use mathlib.Core.Path.{_≡_, refl, sym, _∙_, ap}
 use mathlib.Core.List.{List, [], _∷_, _++_}
-use Prim.Native.Nat.{ℕ, suc, _+_, _≤_, _<_}
+use Prim.Native.Nat.{ℕ, _+_, _≤_, _<_}
 use native.Mathlib.Omega.{arith}
 use native.Mathlib.Numerals.{add-one}
 use lib.ListN.{length, set, take, drop, getD, length-append}
-use lib.Seq.{sets, length-sets, sets-eq, take-suc, take-append-seam, take-all}
+use lib.Seq.{length-sets, sets-eq, take-suc, take-append-seam, take-all}
 use Rattle.lists.proofs.Lists.{sets-append}
 use Rattle.stores.specs.Writing.{Wrote}
 

@@ -8,8 +8,8 @@ use Prim.Native.Nat.{ℕ, zero, suc, _+_, _≤_, _<_}
 use native.Mathlib.Omega.{arith}
 use lib.ListN.{length, getD, take}
 use Rattle.paper.specs.Basics.{_>>=_}
-use Rattle.paper.specs.Text.{Text, lines, good, badLine, readLines}
-use Rattle.paper.proofs.Tests.{by-option, never-some, never, some-same, bad-same, not-good}
+use Rattle.paper.specs.Text.{Text, lines, badLine, readLines}
+use Rattle.paper.proofs.Tests.{by-option, never-some, some-same, bad-same, not-good}
 use Rattle.survey.specs.Survey.{headDue, surveyLine, surveyEnd, readSurvey}
 
 module _ {A R : Type 0} (line : A → Text → Option A) (end : A → Option R) where

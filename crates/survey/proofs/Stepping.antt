@@ -17,7 +17,7 @@ use Rattle.paper.proofs.Fed.{ByByte, fed}
 use Rattle.paper.proofs.Fields.{value-mark, and-false, leb-same}
 use Rattle.paper.proofs.Stepping.{split-some}
 use Rattle.survey.specs.Survey.{Surveyed, headDue, railsDue, wordOf, isComment, twoNumbers, numbersAfter, taken, surveyLine, surveyEnd, readSurvey}
-use Rattle.survey.specs.Bytes.{Line, fresh, comment, broken, inFirst, inSecond, await, wordByte, digitByte, lineByte, lineWorth, beginLine, inLine, closeLine, endLine, unread, surveyStep, surveyFinish}
+use Rattle.survey.specs.Bytes.{LineUnderWay, fresh, comment, broken, inFirst, inSecond, await, wordByte, digitByte, lineByte, lineWorth, beginLine, inLine, closeLine, endLine, unread, surveyStep, surveyFinish}
 
 -- ## Numbers
 -- k digits were read, and the text goes on with a number of at most five
@@ -74,7 +74,7 @@ module _ (a : Surveyed) (w : Text) where
   first k n [] = none
   first k n (f ∷ fs) = if numberOn k f then second (tallyOn n f) 0 0 fs else none
 
-  abbrev end : Line → Text → Option Surveyed
+  abbrev end : LineUnderWay → Text → Option Surveyed
   end s l = lineWorth a (foldl (lineByte w) s l)
 
   broken-on : (l : Text) → end broken l ≡ none
@@ -159,7 +159,7 @@ closed-line a (b ∷ l) = by-cases (eqb b 99) (λ e. rw e (comment-on a (wordOf 
     starts headDue = refl
     starts (railsDue n m ends) = refl
 
-in-line : (a : Surveyed) (s : Line) (l : Text) → closeLine (foldl inLine (record { due = a; line = s }) l) ≡ lineWorth a (foldl (lineByte (wordOf a)) s l)
+in-line : (a : Surveyed) (s : LineUnderWay) (l : Text) → closeLine (foldl inLine (record { due = a; line = s }) l) ≡ lineWorth a (foldl (lineByte (wordOf a)) s l)
 unfolding closeLine inLine
 in-line a s [] = refl
 in-line a s (b ∷ l) = in-line a (lineByte (wordOf a) s b) l

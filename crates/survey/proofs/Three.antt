@@ -4,16 +4,16 @@ use mathlib.Core.Path.{_≡_, refl, sym, _∙_, ap}
 use mathlib.Core.Bool.{true, false}
 use mathlib.Core.List.{List, [], _∷_, _++_, map}
 use mathlib.Core.Option.{none, some}
-use Prim.Native.Nat.{ℕ, suc, _+_, _*_, _%_, _≤_, _<_, min}
+use Prim.Native.Nat.{ℕ, suc, _*_, _%_, _≤_, _<_, min}
 use native.Mathlib.Omega.{arith}
 use lib.Dec.{leb, ltb}
 use lib.ListN.{length, length-map}
 use borrow.Author.Tests.{le-leb, lt-leb, leb-true, leb-false, le-ltb, eqb-false}
-use Rattle.paper.specs.Basics.{_or_, firstBad}
+use Rattle.paper.specs.Basics.{firstBad}
 use Rattle.paper.specs.Limits.{most-rails}
 use Rattle.paper.specs.Yard.{Bay, Rail}
 use Rattle.paper.specs.Order.{order}
-use Rattle.paper.specs.Docket.{size, rail, railsOf, badSize, badRail, no-2, no-3}
+use Rattle.paper.specs.Docket.{size, railsOf, badSize, badRail, no-2, no-3}
 use Rattle.paper.specs.Answers.{firstSix}
 use Rattle.paper.proofs.Tests.{by-cases, by-option, or-none, or-left, or-right, never-some}
 use Rattle.paper.proofs.Admitted.{sizes-of}

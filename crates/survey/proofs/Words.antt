@@ -1,18 +1,18 @@
 -- Numbers as they are written: digits have no leading zero and no space in them.
 use mathlib.Core.Path.{_≡_, refl, sym, _∙_, ap}
-use mathlib.Core.Bool.{true, false}
+use mathlib.Core.Bool.{true}
 use mathlib.Core.List.{List, [], _∷_, _++_, append-nil}
 use Prim.Native.Nat.{ℕ, zero, suc, _+_, _/_, _%_, _≤_, _<_}
 use native.Mathlib.Omega.{arith}
-use lib.Dec.{ltb, leb}
+use lib.Dec.{ltb}
 use lib.ListN.{length, getD, List·getD-append}
 use borrow.Author.Tests.{ltb-false, le-leb}
 use Rattle.paper.specs.Basics.{_and_}
 use Rattle.paper.specs.Text.{SPACE, split, isDigit, sized, isNumber}
 use Rattle.paper.specs.Print.{spell, decimal}
 use Rattle.paper.proofs.Tests.{by-cases, and-both}
-use Rattle.paper.proofs.Digits.{spell-some, tenTo, short, decimal-digits, decimal-some}
-use Rattle.paper.proofs.Lines.{split-number}
+use Rattle.laws.proofs.Digits.{spell-some, tenTo, short, decimal-digits, decimal-some}
+use Rattle.laws.proofs.Lines.{split-number}
 
 -- ## Numbers
 -- a number below 100,000 has one to five digits

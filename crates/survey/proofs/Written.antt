@@ -6,7 +6,7 @@ use mathlib.Core.List.{List, [], _∷_, _++_, map, append-nil, append-assoc}
 use mathlib.Core.Option.{none, some}
 use Prim.Native.Nat.{ℕ, suc, _+_, _-_, _*_, _/_, _%_, _≤_, _<_}
 use native.Mathlib.Omega.{arith}
-use lib.Dec.{eqb, leb}
+use lib.Dec.{eqb}
 use lib.ListN.{length, length-append}
 use borrow.Author.Tests.{eq-eqb, lt-ltb, le-leb, leb-false, eqb-true, eqb-false}
 use Rattle.paper.specs.Basics.{_and_, firstBad}
@@ -14,11 +14,11 @@ use Rattle.paper.specs.Limits.{most-bays, most-rails}
 use Rattle.paper.specs.Yard.{Bay, Rail}
 use Rattle.paper.specs.Order.{order}
 use Rattle.paper.specs.Docket.{railsOf, badRail, size, rail, no-1, no-2, no-3}
-use Rattle.paper.specs.Text.{Text, SPACE, lines, split, same, all, value, good, readLines}
-use Rattle.paper.specs.Print.{decimal, ended}
+use Rattle.paper.specs.Text.{Text, SPACE, lines, split, same, all, good, readLines}
+use Rattle.paper.specs.Print.{decimal}
 use Rattle.paper.proofs.Tests.{by-cases, none-both, none-from, none-when, never-some, or-none, good-same}
-use Rattle.paper.proofs.Digits.{decimal-value}
-use Rattle.paper.proofs.Lines.{plain, AllPlain, lines-ended, number-plain, all-cat}
+use Rattle.laws.proofs.Digits.{decimal-value}
+use Rattle.laws.proofs.Lines.{plain, AllPlain, lines-ended, number-plain, all-cat}
 use Rattle.paper.proofs.Admitted.{sizes-of}
 use Rattle.survey.specs.Survey.{headDue, railsDue, isComment, twoNumbers, numbersAfter, taken, surveyLine, surveyEnd, readSurvey, headLine, railLine, surveyOf, firstThree}
 use Rattle.survey.proofs.Words.{decimal-number, two-fields}

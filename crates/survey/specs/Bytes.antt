@@ -15,26 +15,26 @@ use Rattle.survey.specs.Survey.{Surveyed, headDue, wordOf, taken, survey
 
 -- A line under way: no byte yet; a comment; broken; the rest of the word that is due; the digits and the number so far of the first
 -- number; the first number, and the same of the second.
-pub data Line : Type 0 where
-  fresh comment broken : Line
-  inWord : Text → Line
-  inFirst : ℕ → ℕ → Line
-  inSecond : ℕ → ℕ → ℕ → Line
+pub data LineUnderWay : Type 0 where
+  fresh comment broken : LineUnderWay
+  inWord : Text → LineUnderWay
+  inFirst : ℕ → ℕ → LineUnderWay
+  inSecond : ℕ → ℕ → ℕ → LineUnderWay
 
 -- behind the word stands the first number
-unfoldable pub await : Text → Line
+unfoldable pub await : Text → LineUnderWay
 await [] = inFirst 0 0
 await (x ∷ w) = inWord (x ∷ w)
 
-unfoldable pub wordByte : Text → ℕ → Line
+unfoldable pub wordByte : Text → ℕ → LineUnderWay
 wordByte [] b = broken
 wordByte (x ∷ w) b = if eqb b x then await w else broken
 
-unfoldable pub digitByte : (ℕ → ℕ → Line) → ℕ → ℕ → ℕ → Line
+unfoldable pub digitByte : (ℕ → ℕ → LineUnderWay) → ℕ → ℕ → ℕ → LineUnderWay
 digitByte on k n b = if isDigit b and ltb k 5 then on (suc k) (tally n b) else broken
 
 -- a line that begins with the word, or with a `c`
-unfoldable pub lineByte : Text → Line → ℕ → Line
+unfoldable pub lineByte : Text → LineUnderWay → ℕ → LineUnderWay
 lineByte w fresh b = if eqb b 99 then comment else wordByte w b
 lineByte w comment b = comment
 lineByte w broken b = broken
@@ -43,7 +43,7 @@ lineByte w (inFirst k n) b = if eqb b SPACE then if leb 1 k then inSecond n 0 0 
 lineByte w (inSecond p k n) b = digitByte (inSecond p) k n b
 
 -- what a line is worth at its end
-unfoldable pub lineWorth : Surveyed → Line → Option Surveyed
+unfoldable pub lineWorth : Surveyed → LineUnderWay → Option Surveyed
 lineWorth a fresh = none
 lineWorth a comment = some a
 lineWorth a broken = none
@@ -54,7 +54,7 @@ lineWorth a (inSecond p k n) = if leb 1 k then taken a (p, n) else none
 -- what was read before the line, and the line under way
 pub record Under : Type 0 where
   pub due : Surveyed
-  pub line : Line
+  pub line : LineUnderWay
 
 unfoldable pub beginLine : Surveyed → Under
 beginLine a = record { due = a; line = fresh }

@@ -12,8 +12,8 @@ use Rattle.paper.specs.Text.{Text, text, LF}
 use Rattle.paper.specs.Print.{decimal, ended}
 use Rattle.stores.specs.Writing.{Wrote}
 use Rattle.stores.proofs.Stores.{wrote-none, wrote-then}
-use Rattle.printing.specs.Parts.{named}
-use Rattle.printing.proofs.Lines.{named-short}
+use Rattle.put_bytes.specs.Named.{named}
+use Rattle.put_bytes.proofs.Short.{named-short}
 use Rattle.survey.specs.Survey.{headLine, railLine, railLines, surveyOf}
 
 five : (a x b y l : Text) → (a ++ x) ++ (b ++ y) ++ l ≡ (((a ++ x) ++ b) ++ y) ++ l

@@ -12,9 +12,9 @@ ghost use Rattle.survey_lines.specs.Writes.{Goes, Writes};
 fn head(out: &mut [u8], bays: u64, rails: u64) -> usize
     ensures { λ r. ⌜ Wrote (now (out .entry)) 0 (ended (headLine bays rails ∷ [])) (now (out .exit)) r × (r ≤ 49) ⌝ }
 {
-    let first = printing::put_named(out, 0, b"p edge ", bays);
-    let second = printing::put_named(out, first, b" ", rails);
-    printing::put_text(out, second, b"\n")
+    let first = put_bytes::put_named(out, 0, b"p edge ", bays);
+    let second = put_bytes::put_named(out, first, b" ", rails);
+    put_bytes::put_text(out, second, b"\n")
 }
 
 // A rail's line: its bays count from 1.
@@ -22,9 +22,9 @@ fn rail(out: &mut [u8], at: usize, a: u16, b: u16) -> usize
     requires { ⌜ at + 100 < 2 ^ 63 ⌝ }
     ensures { λ r. ⌜ Wrote (now (out .entry)) at (ended (railLine (a, b) ∷ [])) (now (out .exit)) r × (r ≤ at + 44) ⌝ }
 {
-    let from = printing::put_named(out, at, b"e ", (a as u64) + 1);
-    let to = printing::put_named(out, from, b" ", (b as u64) + 1);
-    printing::put_text(out, to, b"\n")
+    let from = put_bytes::put_named(out, at, b"e ", (a as u64) + 1);
+    let to = put_bytes::put_named(out, from, b" ", (b as u64) + 1);
+    put_bytes::put_text(out, to, b"\n")
 }
 
 // The rails' lines in the order held.

@@ -1,15 +1,14 @@
 -- What is answered and left, case by case: refused by the layout, by 1 to 3, by 8, or taken over whole.
 use mathlib.Core.Path.{_≡_, refl, sym, _∙_, ap}
-use mathlib.Core.Bool.{true, false}
 use mathlib.Core.List.{List, _++_, map}
 use mathlib.Core.Option.{Option, none, some}
-use Prim.Native.Nat.{ℕ, _+_, _-_, _*_, _≤_, _<_}
+use Prim.Native.Nat.{ℕ, _+_, _*_, _≤_, _<_}
 use native.Mathlib.Omega.{arith}
 use lib.Dec.{ltb}
 use lib.ListN.{length, take, drop, length-map}
 use lib.Seq.{sets, sets-eq, take-append-seam}
 use borrow.Author.Tests.{lt-ltb, le-ltb, ltb-true, ltb-false}
-use Rattle.paper.specs.Basics.{_or_, orElse}
+use Rattle.paper.specs.Basics.{orElse}
 use Rattle.paper.specs.Limits.{most-rails, most-crossings}
 use Rattle.paper.specs.Yard.{Bay}
 use Rattle.paper.specs.Docket.{Refusal, size, room, no-8, granted, denied, badSurvey}
@@ -55,7 +54,7 @@ module _ (n : ℕ) (ends : List Bay) (before : List ℕ) (r : Survey) where
         record { answer = rw (← e, f) v; bays = rw (← e, f) b; left = rw (← e, f) l }
 
 pub take-long : (n k : ℕ) (held before : List ℕ) (r : Survey) → length held < k → r .bays ≡ 0 → verdictOf (r .verdict) ≡ denied size → TakeSays n k held before r before
-take-long n k held before r h b v = record { long = λ l. (b, (v, refl)); whole = λ l. absurd (omega arith) }
+take-long n k held before r h b v = record { long = λ l. record { bays = b; answer = v; left = refl }; whole = λ l. absurd (omega arith) }
 
 pub take-whole : (n k : ℕ) (held before : List ℕ) (r : Survey) (after : List ℕ) → k ≤ length held → Says (good (n, take k held)) before r after → TakeSays n k held before r after
 take-whole n k held before r after h s = record { long = λ l. absurd (omega arith); whole = λ l. s }
@@ -114,7 +113,7 @@ module _ (file : Text) (found : SurveyRead) (empty room before : List ℕ) (r : 
       by-cases (ltb (length room) k)
       (λ h.
       let l = t .long (ltb-true (length room) k h) in
-      rw (f .1, l .1 .1) (accept-refused n (f .0) before r size (sym (long-size n (f .0) (omega (arith, f .2, ltb-true (length room) k h)))) (l .0) (l .1 .0)))
+      rw (f .1, l .left) (accept-refused n (f .0) before r size (sym (long-size n (f .0) (omega (arith, f .2, ltb-true (length room) k h)))) (l .bays) (l .answer)))
       (λ h.
       let i : k ≤ length room = ltb-false (length room) k h in
       let count : length (map narrow (f .0)) ≡ k = length-map (f .0) narrow ∙ f .2 in

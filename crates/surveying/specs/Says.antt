@@ -12,7 +12,9 @@ use Rattle.paper.specs.Docket.{Verdict, denied, unlessDenied, size, badSurvey}
 use Rattle.paper.specs.Text.{Text, Read, good, badLine}
 use Rattle.paper.specs.Docket as paper
 use Rattle.docket.specs.Reading.{refusalOf, verdictOf}
+use Rattle.docket.specs.declared.Refusal.{Refusal}
 use Rattle.docket.specs.declared.Verdict.{Verdict as Told}
+use Rattle.docket.specs.declared.Verdict.the-variants.{Denied}
 use Rattle.survey.specs.Survey.{readSurvey, surveyOf, readRefusal, writeRefusal}
 use Rattle.edges.specs.declared.SurveyRead.{SurveyRead}
 use Rattle.edges.specs.Held.{Reads}
@@ -53,9 +55,20 @@ AcceptSays n ends before r after = Says (good (n, ends)) before r after
 abbrev pub ReadSays : Text → List ℕ → Survey → List ℕ → Type 0
 ReadSays file before r after = Says (readSurvey file) before r after
 
+-- a refusal, with no bays
+pub record Refuses (why : Refusal) (r : Survey) : Type 0 where
+  pub bays : r .bays ≡ 0
+  pub verdict : r .verdict ≡ Denied why
+
+-- refused as 1, and the list left as it was
+pub record TooLong (before : List ℕ) (r : Survey) (after : List ℕ) : Type 0 where
+  pub bays : r .bays ≡ 0
+  pub answer : verdictOf (r .verdict) ≡ denied size
+  pub left : after ≡ before
+
 -- of so many ends in a room
 pub record TakeSays (n k : ℕ) (room before : List ℕ) (r : Survey) (after : List ℕ) : Type 0 where
-  pub long : length room < k → (r .bays ≡ 0) × ((verdictOf (r .verdict) ≡ denied size) × (after ≡ before))
+  pub long : length room < k → TooLong before r after
   pub whole : k ≤ length room → Says (good (n, take k room)) before r after
 
 -- the same of any file that was read into a room for all ends of a yard, whatever stood in the room before

@@ -1,4 +1,4 @@
-// Surveyors' files, read into a yard and written from one. A refusal changes no lent list.
+// What was read of a surveyors' file is tested as a yard and taken over. A refusal changes no lent list.
 use docket::Refusal;
 use docket::Verdict;
 use edges::SurveyRead;
@@ -6,13 +6,13 @@ use yard::Opened;
 use yard::Yard;
 ghost use mathlib.Core.Path.{_≡_};
 ghost use Rattle.survey.specs.Survey.{firstThree};
-ghost use Rattle.surveying.specs.Says.{testedOf, AcceptSays, TakeSays, SettleSays, ReadSays, WriteSays};
+ghost use Rattle.surveying.specs.Says.{testedOf, Refuses, AcceptSays, TakeSays, SettleSays};
 
 // The ends of a yard with the most rails.
 pub const ENDS: usize = 2 * Yard::RAILS;
 
 // What 1 to 3 say.
-enum Tested {
+pub enum Tested {
     Passed,
     Refused(Refusal),
 }
@@ -24,7 +24,7 @@ pub struct Survey {
 }
 
 // 1 to 3, of a yard with no carriers.
-fn test(bays: u64, rails: &[u16]) -> Tested
+pub fn test(bays: u64, rails: &[u16]) -> Tested
     ensures { λ r. ⌜ testedOf r ≡ firstThree bays (now (rails .entry)) ⌝ }
 {
     let mut table = [0u64; Yard::TABLE];
@@ -36,8 +36,9 @@ fn test(bays: u64, rails: &[u16]) -> Tested
     Tested::Passed
 }
 
+// A refusal tells no bays.
 fn refused(r: Refusal) -> Survey
-    ensures { λ s. ⌜ (s .bays ≡ 0) × (s .verdict ≡ Verdict.Denied r) ⌝ }
+    ensures { λ s. ⌜ Refuses r s ⌝ }
 {
     Survey {
         bays: 0,
@@ -82,30 +83,4 @@ pub fn settle(found: SurveyRead, room: &[u16], rails: &mut [u16]) -> Survey
         SurveyRead::Bad(line) => refused(Refusal::BadSurvey(line)),
         SurveyRead::Yard(bays, ends) => take_over(bays as u64, ends as usize, room, rails),
     }
-}
-
-// A file's yard: its bays, and its rail ends in the order held in the first places of the lent list.
-pub fn read(file: &[u8], rails: &mut [u16]) -> Survey
-    ensures { λ r. ⌜ ReadSays (now (file .entry)) (now (rails .entry)) r (now (rails .exit)) ⌝ }
-{
-    let mut room = [0u16; ENDS];
-    let found = edges::read(file, &mut room);
-    settle(found, &room, rails)
-}
-
-// A yard's file, in the first places of the lent list.
-pub fn write(bays: u64, rails: &[u16], out: &mut [u8]) -> Verdict
-    ensures { λ r. ⌜ WriteSays bays (now (rails .entry)) (now (out .entry)) r (now (out .exit)) ⌝ }
-{
-    let tested = test(bays, rails);
-    if let Tested::Refused(r) = tested {
-        return Verdict::Denied(r);
-    }
-    let mut none = [0u8; 1];
-    let needed = survey_lines::write(bays, rails, &mut none);
-    if out.len() < needed {
-        return Verdict::Denied(Refusal::Room(needed as u64));
-    }
-    let written = survey_lines::write(bays, rails, out);
-    Verdict::Granted(written as u64)
 }

@@ -29,8 +29,9 @@ use Rattle.clear.proofs.Clearing.{lowest-in, clear-two, around-of, inside-of, i
 use Rattle.trial.specs.Trying.{Near}
 use Rattle.clear_on.proofs.Attempting.{in-bays}
 use Rattle.trial.proofs.Copying.{path-own, trial-first}
-use Rattle.swap.specs.Seeking.{Beside, fitting, TwoSpare}
-use Rattle.swap.proofs.Seeking.{Sought, swap-found, sought-found, near-of}
+use Rattle.near.specs.Seeking.{Beside, fitting}
+use Rattle.near.proofs.Seeking.{Sought, swap-found, sought-found, near-of}
+use Rattle.swap.specs.Swapping.{TwoSpare}
 
 -- ## The two lowest
 

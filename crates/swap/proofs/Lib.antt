@@ -1,4 +1,2 @@
-pub mod Seeking
 pub mod Committing
 pub mod Besides
-pub mod Foreseeing

@@ -1,6 +1,6 @@
 -- The timed print is its parts one behind the other: a line is four numbers with what stands between them, lines follow lines.
 use mathlib.Core.Path.{_≡_, refl, sym, _∙_, ap}
-use mathlib.Core.List.{List, [], _∷_, _++_, map, append-assoc}
+use mathlib.Core.List.{List, [], _∷_, _++_, append-assoc}
 use Prim.Native.Nat.{ℕ, zero, suc, _+_, _-_, _*_, _^_, _≤_, _<_}
 use native.Mathlib.Omega.{arith}
 use native.Mathlib.Numerals.{add-one}
@@ -9,9 +9,10 @@ use Rattle.paper.specs.Yard.{Crossing, unpack, crossings}
 use Rattle.paper.specs.Text.{text}
 use Rattle.paper.proofs.Packing.{unpack-small}
 use Rattle.paper.specs.Print.{decimal, actionLine, costLine, ended}
-use Rattle.printing.specs.Parts.{named}
-use Rattle.paper.proofs.Digits.{decimal-short}
-use Rattle.printing.proofs.Lines.{named-short, ended-append}
+use Rattle.put_bytes.specs.Named.{named}
+use Rattle.laws.proofs.Digits.{decimal-short}
+use Rattle.put_bytes.proofs.Short.{named-short}
+use Rattle.printing.proofs.Lines.{ended-append}
 use Rattle.trains.specs.Print.{timedLine, timedLines, printTimed}
 use Rattle.timed_print.specs.Lines.{linesOf}
 

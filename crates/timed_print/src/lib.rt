@@ -27,11 +27,11 @@ fn line(out: &mut [u8], at: usize, slot: u32, x: Crossing) -> usize
     requires { ⌜ at + 200 < 2 ^ 63 ⌝ }
     ensures { λ r. ⌜ Wrote (now (out .entry)) at (ended (timedLine slot (crossingOf x) ∷ [])) (now (out .exit)) r ⌝ }
 {
-    let time = printing::put_number(out, at, time_of(slot));
-    let carrier = printing::put_named(out, time, b": (move c", x.carrier.0 as u64);
-    let from = printing::put_named(out, carrier, b" b", x.from.0 as u64);
-    let to = printing::put_named(out, from, b" b", x.to.0 as u64);
-    printing::put_text(out, to, b") [1]\n")
+    let time = put_bytes::put_number(out, at, time_of(slot));
+    let carrier = put_bytes::put_named(out, time, b": (move c", x.carrier.0 as u64);
+    let from = put_bytes::put_named(out, carrier, b" b", x.from.0 as u64);
+    let to = put_bytes::put_named(out, from, b" b", x.to.0 as u64);
+    put_bytes::put_text(out, to, b") [1]\n")
 }
 
 // One line for each crossing, in plan order.
@@ -56,5 +56,5 @@ pub fn print(plan: &[u64], slots: &[u32], out: &mut [u8]) -> usize
     ensures { λ r. ⌜ Wrote (now (out .entry)) 0 (printTimed (now (slots .entry)) (crossings (now (plan .entry)))) (now (out .exit)) r ⌝ }
 {
     let end = lines(plan, slots, out);
-    printing::cost(out, end, plan.len() as u64)
+    plan_lines::cost(out, end, plan.len() as u64)
 }

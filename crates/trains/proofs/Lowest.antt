@@ -2,15 +2,16 @@
 -- last or that of the latest leaving, whichever is higher. The first edition's slots keep the two rules, so they are no lower.
 use mathlib.Core.Path.{_≡_, sym, _∙_}
 use mathlib.Core.Bool.{Bool, true, false}
-use mathlib.Core.List.{List, [], _∷_}
+use mathlib.Core.List.{List}
 use Prim.Native.Nat.{ℕ, zero, suc, _<_, _≤_}
 use native.Mathlib.Omega.{arith}
-use lib.Dec.{ltb, eqb}
+use lib.Dec.{ltb}
 use lib.ListN.{length, getD}
 use borrow.Author.Tests.{ltb-true, ltb-false, eqb-true, eqb-false, eq-eqb, ne-eqb}
 use Rattle.paper.specs.Yard.{Carrier, Crossing, named}
 use Rattle.paper.specs.Dependence.{depend, slots}
 use Rattle.paper.proofs.Tests.{by-cases, or-left, or-right}
+use Rattle.paper.proofs.Members.{highest-above, highest-below}
 use Rattle.paper.proofs.Slotting.{Numbering, slots-rise}
 use Rattle.paper.proofs.Slotting as first
 use Rattle.trains.specs.Slots.{latest, isOf, leaves, trainSlot, trainSlots, highestSlot}
@@ -129,20 +130,6 @@ first-keeps xs t n = record {
 -- A crossing's train slot is no higher than its slot in the first edition,
 pub slots-no-higher : (xs : List Crossing) (i : ℕ) → i < length xs → slotAt xs i ≤ getD (slots xs) i 0
 slots-no-higher xs i h = slots-lowest xs (λ j. getD (slots xs) j 0) (first-keeps xs _ (slots-rise xs)) i h
-
-pub highest-above : (ss : List ℕ) (i : ℕ) → i < length ss → getD ss i 0 ≤ highestSlot ss
-unfolding highestSlot
-highest-above [] i h = absurd (omega arith)
-highest-above (s ∷ ss) zero h = omega arith
-highest-above (s ∷ ss) (suc i) h = let ih = highest-above ss i (omega arith) in omega arith
-
-highest-below : (ss : List ℕ) (b : ℕ) → ((i : ℕ) → i < length ss → getD ss i 0 ≤ b) → highestSlot ss ≤ b
-unfolding highestSlot
-highest-below [] b f = omega arith
-highest-below (s ∷ ss) b f =
-    let ih = highest-below ss b (λ i h. f (suc i) (omega arith)) in
-    let z = f 0 (omega arith) in
-    omega arith
 
 -- so the highest is no higher.
 pub highest-no-higher : (xs : List Crossing) → highestSlot (trainSlots xs) ≤ highestSlot (slots xs)

@@ -1,6 +1,5 @@
 -- One pass gives the train slots: a table holds for each carrier, and for each bay, the slot of the latest that the definition looks for.
 use mathlib.Core.Path.{_≡_, refl, sym, ap}
-use mathlib.Core.Bool.{true, false}
 use mathlib.Core.List.{List, [], _∷_}
 use Prim.Native.Nat.{ℕ, suc, max, _<_}
 use lib.Dec.{eqb}

@@ -4,20 +4,20 @@ use mathlib.Core.Path.{_≡_, refl, sym, _∙_, ap}
 use mathlib.Core.Bool.{true, false}
 use mathlib.Core.List.{List, [], _∷_, _++_, map, append-nil, append-assoc}
 use mathlib.Core.Option.{some}
-use Prim.Native.Nat.{ℕ, suc, _+_, _-_, _≤_, _<_}
+use Prim.Native.Nat.{ℕ, suc, _-_, _≤_, _<_}
 use native.Mathlib.Omega.{arith}
-use lib.Dec.{eqb, leb}
+use lib.Dec.{eqb}
 use lib.ListN.{length, getD, List·getD-append}
 use borrow.Author.Tests.{ne-eqb, leb-true, le-leb}
 use Rattle.paper.specs.Basics.{_and_}
 use Rattle.paper.specs.Yard.{Crossing}
 use Rattle.paper.specs.Dependence.{slots}
 use Rattle.paper.specs.Text.{Text, SPACE, join, lines, split, same, all, isDigit}
-use Rattle.paper.specs.Print.{decimal, actionLine, costLine, ended}
+use Rattle.paper.specs.Print.{decimal, actionLine, costLine}
 use Rattle.paper.proofs.Tests.{and-left, and-right}
-use Rattle.paper.proofs.Digits.{decimal-value, decimal-digits, decimal-some}
-use Rattle.paper.proofs.Lines.{split-number, plain, AllPlain, lines-ended, number-plain, all-cat}
-use Rattle.paper.proofs.Printing.{action-back, action-plain, cost-plain}
+use Rattle.laws.proofs.Digits.{decimal-value, decimal-digits, decimal-some}
+use Rattle.laws.proofs.Lines.{split-number, plain, AllPlain, lines-ended, number-plain, all-cat}
+use Rattle.laws.proofs.Printing.{action-back, action-plain, cost-plain}
 use Rattle.paper.proofs.Slotting as first
 use Rattle.trains.specs.Slots.{withSlots, trainSlots}
 use Rattle.trains.specs.Print.{timedLine, timedLines, printTimed, readTime, spaced, readTimedLine, readTimed}

@@ -7,7 +7,7 @@ use mathlib.Core.Option.{none}
 use Prim.Native.Nat.{ℕ, zero, suc, _<_, _≤_}
 use native.Mathlib.Omega.{arith}
 use lib.Dec.{eqb, leb, ltb}
-use lib.ListN.{length, getD, take}
+use lib.ListN.{length, getD}
 use lib.Seq.{ext-getD, take-length}
 use borrow.Author.Tests.{eqb-true, eq-eqb, ne-eqb, ltb-true, ltb-false, leb-true, leb-false}
 use Rattle.paper.specs.Basics.{_and_, find, upTo}
@@ -17,7 +17,7 @@ use Rattle.paper.specs.Dependence.{slots}
 use Rattle.paper.specs.Docket.{yardOf}
 use Rattle.paper.specs.Answers.{check}
 use Rattle.paper.proofs.Tests.{by-cases, by-option, not-both, and-left, and-right, and-both}
-use Rattle.paper.proofs.Members.{find-none, find-upTo, in-count}
+use Rattle.paper.proofs.Members.{highest-above, find-none, find-upTo, in-count}
 use Rattle.paper.proofs.Playing.{Apart}
 use Rattle.paper.proofs.Admitted.{clean-of, good-of}
 use Rattle.paper.proofs.Checking.{check-passed}
@@ -25,7 +25,7 @@ use Rattle.trains.specs.Slots.{trainSlots, highestSlot}
 use Rattle.trains.specs.Rules.{TwoRules}
 use Rattle.trains.specs.Rolling.{AtOnce, Rolled}
 use Rattle.trains.proofs.Meeting.{metBy, slotAt, slots-length, met-none, met-on, stands, stands-by}
-use Rattle.trains.proofs.Lowest.{slot-above, slots-keep, slots-lowest, slots-no-higher, highest-above, highest-no-higher}
+use Rattle.trains.proofs.Lowest.{slot-above, slots-keep, slots-lowest, slots-no-higher, highest-no-higher}
 use Rattle.trains.proofs.Rolling.{rolledBy, rolled-length, stands-length, by-later, by-done, by-other, by-self, legal-at, kept-by, never-head-on}
 
 -- a carrier that crosses at both names does so in a later slot at the later one

@@ -4,7 +4,7 @@ use mathlib.Core.Bool.{Bool}
 use mathlib.Core.List.{List, [], _∷_}
 use Prim.Native.Nat.{ℕ, zero, suc, max}
 use lib.Dec.{eqb}
-use Rattle.paper.specs.Basics.{if_then_else_}
+use Rattle.paper.specs.Basics.{if_then_else_, highestOf}
 use Rattle.paper.specs.Yard.{Bay, Carrier, Crossing}
 
 -- a crossing with its slot
@@ -42,6 +42,5 @@ unfoldable pub trainSlots : List Crossing → List ℕ
 trainSlots xs = trainSlotsAfter [] xs
 
 -- the highest of the slots, or 0
-unfoldable pub highestSlot : List ℕ → ℕ
-highestSlot [] = zero
-highestSlot (s ∷ ss) = max s (highestSlot ss)
+abbrev pub highestSlot : List ℕ → ℕ
+highestSlot ss = highestOf ss

@@ -21,12 +21,13 @@ use Rattle.paper.proofs.Vacating.{plan-apart}
 use Rattle.words.specs.Sets.{span}
 use Rattle.yard.specs.Table.{Table}
 use Rattle.moving.specs.Placed.{Placed, Stored}
-use Rattle.moving.proofs.Playing.{stored-exact, stored-then}
-use Rattle.acting.specs.Acting.{nothing, Tallied}
+use Rattle.moving.proofs.Playing.{stored-exact}
+use Rattle.acting.specs.Acting.{nothing, Added, Tallied}
 use Rattle.acting.specs.declared.Tally.{Tally}
 use Rattle.undo.specs.Turning.{Small, Holds, numbers}
-use Rattle.acting.proofs.Acting.{as-far-then}
-use Rattle.clear_on.specs.Going.{Logged, Listed, AtJunction, Attempts, ClearsTwo}
+use Rattle.acting.proofs.Lending.{RestLent}
+use Rattle.clear_on.specs.Going.{Logged, AtJunction, Attempts, After, ClearsTwo}
+use Rattle.clear_on.proofs.Attempting.{logged-then}
 use Rattle.exchange.specs.Exchanging.{Noted}
 use Rattle.trial.specs.Trying.{Prepared, SetsUp, Led}
 use Rattle.acting.specs.declared.Tried.the-variants.{Done}
@@ -34,7 +35,7 @@ use Rattle.acting.specs.declared.Tried.the-variants.{Failed}
 use Rattle.clear_on.specs.declared.Pair.the-variants.{Missing}
 use Rattle.clear_on.specs.declared.Pair.{Pair}
 
-too-few : (Y : Yard) (L M : Carrier) (v b : Bay) (done : Made) (kept : List Bay) → length kept < 2 → finish Y L M v b done kept ≡ none
+pub too-few : (Y : Yard) (L M : Carrier) (v b : Bay) (done : Made) (kept : List Bay) → length kept < 2 → finish Y L M v b done kept ≡ none
 unfolding finish
 too-few Y L M v b done [] h = refl
 too-few Y L M v b done (x ∷ []) h = refl
@@ -50,28 +51,19 @@ pub at-junction : {Y : Yard} {L M : Carrier} {v : Bay} {path : List Bay} {p : Pl
 at-junction {Y} {L} {M} {v} {path} {p} xs led apart hL hM differ made q moved =
     record { at-v = rw moved (bring-brings Y (led .sound) L M (ne-eqb L M (λ e. differ (sym e))) path v p xs apart hL hM (led .chain) (led .beside) made .leads); at-b = refl }
 
--- bring counts from nothing, and clear goes on where it ended
-both-logged : {a b : Made} {n : ℕ} {p q standing empty out out₁ log : List ℕ} {m r : Tally} → Tallied a n p q standing empty out nothing out₁ m → Listed b out₁ m log r → Logged (together a b) log r
-both-logged {a} {b} {out = out} {log = log} {m = m} {r = r} x y =
-    let k : Stored (map pack (a .moves ++ b .moves)) out 0 log = rw map-append (stored-then (x .counted ∙ rw length-map) (x .stored) (y .stored)) in
-    let counted : r .crossings ≡ length (a .moves ++ b .moves) = omega (arith, x .counted, y .counted, length-append (a .moves) (b .moves)) in
-    let many : 0 + length (map pack (a .moves ++ b .moves)) ≡ r .crossings = omega (arith, counted, length-map (a .moves ++ b .moves) pack) in
-    record {
-      counted = counted;
-      stored = λ h. rw many at (k .front (omega (arith, many, h, k .long)));
-      parks = omega (arith, as-far-then 0 (m .parked) (r .parked) (a .parked) (b .parked) (x .parks) (y .parks));
-      few = y .few (x .few (omega arith));
-    }
-
-pub set-up-all : {Y : Yard} {L M : Carrier} {v : Bay} {path : List Bay} {n : ℕ} {p out q standing₁ empty₁ out₁ p′ log : List ℕ} {a : Tally} {r : Pair}
-    → (xs : Made) → bring Y L M path p ≡ some xs → Tallied xs n p q standing₁ empty₁ out nothing out₁ a → ClearsTwo Y L M v (bayOf q M) q out₁ a p′ log r
-    → SetsUp Y L M v path p p′ log r
+-- bring counts from nothing, and clear is lent the rest of the list
+pub set-up-all : {Y : Yard} {L M : Carrier} {v : Bay} {path : List Bay} {n : ℕ} {p out q standing₁ empty₁ out₁ p′ rest log : List ℕ} {a : Tally} {g r : Pair}
+    → (xs : Made) → bring Y L M path p ≡ some xs → Tallied xs n p q standing₁ empty₁ out nothing out₁ a → ((more sum : Tally) → Added a more sum → RestLent out₁ a rest more log sum)
+    → ClearsTwo Y L M v (bayOf q M) q p′ rest g → After a g r → SetsUp Y L M v path p p′ log r
 unfolding trialLed
-set-up-all {Y} {L} {M} {v} xs made w c =
+set-up-all {Y} {L} {M} {v} xs made w l c f =
     let k = rw (w .moved) at c in
     record {
-      both = λ x y m e. let b = k .both x y m e in record { brought = xs; made = made; kept = b .kept; logged = both-logged w (b .listed); moved = b .moved };
-      missing = λ e. rw made (too-few Y L M v _ _ _ (k .missing e));
+      both = λ x y sum e.
+          let s = f .both x y sum e in
+          let b = k .both x y (s .0) (s .1) in
+          record { brought = xs; made = made; kept = b .kept; logged = logged-then w (l (s .0) sum (s .2)) (b .logged); moved = b .moved };
+      missing = λ e. rw made (too-few Y L M v _ _ _ (k .missing (f .missing e)));
     }
 
 pub attempts-none : {o : Option Made} {log : List ℕ} → o ≡ none → Attempts o log Failed

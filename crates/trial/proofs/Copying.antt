@@ -109,7 +109,7 @@ module _ {Y : Yard} {r s : Carrier} {v : Bay} {p path : List ℕ} (near : Near Y
   pub first-leads : (q : List ℕ) → q ≡ drop 1 path → Led Y r s v q p
   first-leads q e = record { sound = near .sound; chain = rw e ahead; beside = joined-sym Y (bayOf p r) (bayOf p s) (near .beside) }
 
-  trial-second : true ≡ ltb 1 (length path) and eqb (getD path 1 0) (bayOf p s) → trial Y r s v p ≡ trialLed Y s r v (drop 2 path) p
+  pub trial-second : true ≡ ltb 1 (length path) and eqb (getD path 1 0) (bayOf p s) → trial Y r s v p ≡ trialLed Y s r v (drop 2 path) p
   unfolding trial
   trial-second h = rw (← short, ← h)
 

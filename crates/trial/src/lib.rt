@@ -40,25 +40,15 @@ fn set_up(
         (now (table .entry)) (now (placement .entry)) (now (standing .entry)) (now (placement .exit)) (now (out .exit)) r
         ⌝ }
 {
-    let brought = bring::bring(
-        table,
-        path,
-        lead.couple,
-        placement,
-        standing,
-        empty,
-        out,
-        Tally {
-            crossings: 0,
-            parked: 0,
-        },
-    );
-    let Tried::Done(a) = brought else {
+    let brought = bring::bring(table, path, lead.couple, placement, standing, empty, out);
+    let Tried::Done(made) = brought else {
         return Pair::Missing;
     };
     let follower = lead.couple.follower.0 as usize;
     let b = Bay(placement[follower]);
-    clear_on::clear_two(table, lead, b, placement, standing, empty, out, a)
+    let from = acting::place_in(out, made.crossings);
+    let cleared = clear_on::clear_two(table, lead, b, placement, standing, empty, &mut out[from..]);
+    clear_on::after(made, cleared)
 }
 
 fn lower(x: Bay, y: Bay) -> Bay
@@ -150,7 +140,7 @@ fn attempt(
 }
 
 // Whether the path's second bay is w.
-fn second_is(path: &[u16], w: Bay) -> bool
+pub fn second_is(path: &[u16], w: Bay) -> bool
     ensures { λ r. ⌜ r ≡ ltb 1 (length (now (path .entry))) and eqb (getD (now (path .entry)) 1 0) (w .0) ⌝ }
 {
     if path.len() < 2 {
@@ -161,7 +151,7 @@ fn second_is(path: &[u16], w: Bay) -> bool
 
 // A trial at the junction, where the path from the carrier's bay leads: where its second bay is the neighbour's, the neighbour leads and the
 // carrier follows; otherwise the carrier leads.
-fn try_on(
+pub fn try_on(
     table: &[u64],
     path: &[u16],
     trial: Trial,

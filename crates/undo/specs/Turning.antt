@@ -4,6 +4,7 @@ use mathlib.Core.Path.{_≡_}
 use mathlib.Core.List.{List, map}
 use Prim.Native.Nat.{ℕ, _<_, _+_, _^_}
 use lib.ListN.{length, getD}
+use lib.Seq.{sets}
 use Rattle.paper.specs.Procedure.{trade, undo}
 use Rattle.paper.specs.Yard.{Carrier, Crossing, crossing, pack, unpack, named}
 
@@ -30,3 +31,7 @@ pub record Holds (out : List ℕ) (from : ℕ) (xs : List Crossing) : Type 0 whe
 -- the numbers of the paper's undo
 abbrev pub numbers : Carrier → Carrier → List Crossing → List ℕ
 numbers l m xs = map pack (undo l m xs)
+
+-- undo leaves these from `at` on, of any crossings that the list holds from `from` on
+abbrev pub UndoSays : Carrier → Carrier → (from many at : ℕ) → (out out′ : List ℕ) → Type 0
+UndoSays l m from many at out out′ = (xs : Crossings) → Small xs → Holds out from xs → length xs ≡ many → out′ ≡ sets out at (numbers l m xs)

@@ -3,11 +3,10 @@ use docket::Carrier;
 use docket::Crossing;
 ghost use mathlib.Core.Path.{_≡_};
 ghost use Prim.Native.Nat.{_+_, _≤_, _<_};
-ghost use lib.ListN.{length, getD, set};
-ghost use lib.Seq.{sets};
+ghost use lib.ListN.{getD, set};
 ghost use Rattle.paper.specs.Procedure.{trade};
 ghost use Rattle.moving.specs.Bounds.{room-crossing};
-ghost use Rattle.undo.specs.Turning.{Crossings, Small, Holds, turned, numbers};
+ghost use Rattle.undo.specs.Turning.{turned, UndoSays};
 
 // What stands at a place of the list; 0 past its end.
 fn stored_at(out: &[u64], i: usize) -> u64
@@ -58,11 +57,9 @@ pub fn put(out: &mut [u64], at: usize, number: u64)
 
 // Undo: the crossings from `from` on, as many as `many`, backwards and turned, with l and m traded, from `at` on.
 pub fn undo(out: &mut [u64], from: usize, many: usize, at: usize, l: Carrier, m: Carrier)
-    requires { ⌜ (from + many ≤ at) × (at + many < room-crossing) ⌝ }
-    ensures { λ _. ⌜
-        ((xs : Crossings) → Small xs → Holds (now (out .entry)) from xs → length xs ≡ many
-        → now (out .exit) ≡ sets (now (out .entry)) at (numbers (l .0) (m .0) xs))
-        ⌝ }
+    requires { ⌜ from + many ≤ at ⌝ }
+    requires { ⌜ at + many < room-crossing ⌝ }
+    ensures { λ _. ⌜ UndoSays (l .0) (m .0) from many at (now (out .entry)) (now (out .exit)) ⌝ }
 {
     let mut j = 0;
     while j < many {

@@ -3,7 +3,7 @@
 use mathlib.Core.Path.{_≡_, sym, _∙_}
 use mathlib.Core.List.{List}
 use mathlib.Core.Option.{none, some}
-use Prim.Native.Nat.{ℕ, _+_}
+use Prim.Native.Nat.{ℕ}
 use lib.ListN.{length}
 use Rattle.paper.specs.Yard.{Bay, Crossing}
 use Rattle.paper.proofs.Tests.{none-from, some-from}
@@ -13,13 +13,13 @@ use Rattle.vacate.specs.Answer.{Vacates, vacating, countAfter}
 use Rattle.vacate.specs.declared.Vacated.{Vacated}
 use Rattle.vacate.specs.declared.Vacated.the-variants.{Failed}
 
-module _ {n : ℕ} {table held : List ℕ} {s : Shown n table held} {x : Bay} {p standing empty out : List ℕ} {at : ℕ} {p′ standing′ empty′ out′ : List ℕ} where
-  pub answered-failed : Vacates s x p standing empty out at p′ standing′ empty′ out′ Failed → vacating s x p standing empty out at ≡ none
-  answered-failed v = none-from (λ xs. at + length xs) (vacating s x p standing empty out at) (sym (v .counts))
+module _ {n : ℕ} {table held : List ℕ} {s : Shown n table held} {x : Bay} {p standing empty out p′ standing′ empty′ out′ : List ℕ} where
+  pub answered-failed : Vacates s x p standing empty out p′ standing′ empty′ out′ Failed → vacating s x p standing empty out ≡ none
+  answered-failed v = none-from (λ xs. length xs) (vacating s x p standing empty out) (sym (v .counts))
 
   -- the crossings that were played, up to the count that the answer carries
-  pub answered-count : {r : Vacated} {m : ℕ} → Vacates s x p standing empty out at p′ standing′ empty′ out′ r → countAfter at r ≡ some m
-      → (xs : List Crossing) × (vacating s x p standing empty out at ≡ some xs) × Played xs n p p′ standing′ empty′ out at out′ m
+  pub answered-count : {r : Vacated} {m : ℕ} → Vacates s x p standing empty out p′ standing′ empty′ out′ r → countAfter r ≡ some m
+      → (xs : List Crossing) × (vacating s x p standing empty out ≡ some xs) × Played xs n p p′ standing′ empty′ out 0 out′ m
   answered-count v c =
-      let w = some-from (λ xs. at + length xs) (vacating s x p standing empty out at) (sym (v .counts) ∙ c) in
+      let w = some-from (λ xs. length xs) (vacating s x p standing empty out) (sym (v .counts) ∙ c) in
       (w .0, w .1, rw (w .2) at (v .acted .plays (w .0) (w .1)))

@@ -5,7 +5,7 @@ use mathlib.Core.Path.{_≡_, sym, ap, _∙_}
 use mathlib.Core.Bool.{Bool, true, false, not}
 use mathlib.Core.List.{List, [], _∷_}
 use mathlib.Core.Option.{Option, none, some}
-use Prim.Native.Nat.{ℕ, _+_, _≤_, _<_}
+use Prim.Native.Nat.{ℕ, _≤_, _<_}
 use native.Mathlib.Nat.{zero-add}
 use native.Mathlib.Omega.{arith}
 use lib.ListN.{length}
@@ -36,40 +36,40 @@ use Rattle.vacate.proofs.Beside.{beside-nearest, beside-path}
 pub way-told : {n : ℕ} {table held : List ℕ} {s : Shown n table held} {x : Bay} {q : Bay → Bool} {room : List ℕ} {r r′ : Way} → r ≡ r′ → WayFound s x q room r → WayFound s x q room r′
 way-told e f = rw e at f
 
-acted-none : {o : Option (List Crossing)} {n : ℕ} {p standing empty out : List ℕ} {at : ℕ} → o ≡ none → Acted o n p standing empty out at p standing empty out
+acted-none : {o : Option (List Crossing)} {n : ℕ} {p standing empty out : List ℕ} → o ≡ none → Acted o n p standing empty out p standing empty out
 acted-none {p = p} {standing = standing} {empty = empty} {out = out} e = record {
   fails = λ d. unchanged p standing empty out;
   plays = λ xs d. never-some xs (sym e ∙ d);
 }
 
-acted-some : {o : Option (List Crossing)} {n : ℕ} {p standing empty out : List ℕ} {at : ℕ} {p′ standing′ empty′ out′ : List ℕ} {xs : List Crossing} {r : ℕ}
-    → o ≡ some xs → Played xs n p p′ standing′ empty′ out at out′ r → Acted o n p standing empty out at p′ standing′ empty′ out′
-acted-some {n = n} {p = p} {out = out} {at = at} {p′ = p′} {standing′ = standing′} {empty′ = empty′} {out′ = out′} {xs = xs} {r = r} e w = record {
+acted-some : {o : Option (List Crossing)} {n : ℕ} {p standing empty out p′ standing′ empty′ out′ : List ℕ} {xs : List Crossing} {r : ℕ}
+    → o ≡ some xs → Played xs n p p′ standing′ empty′ out 0 out′ r → Acted o n p standing empty out p′ standing′ empty′ out′
+acted-some {xs = xs} {r = r} e w = record {
   fails = λ d. never-some xs (sym d ∙ e);
   plays = λ ys d.
       let same : xs ≡ ys = let z = sym e ∙ d in cc in
-      let w′ : Played xs n p p′ standing′ empty′ out at out′ (at + length xs) = rw (w .counted) at w in
-      rw same at w′;
+      let many : r ≡ length xs = omega (arith, w .counted) in
+      rw same at (rw many at w);
 }
 
-module _ {n : ℕ} {table held : List ℕ} (s : Shown n table held) (most : n ≤ span) (x : Bay) (hx : x < n) {p standing empty : List ℕ} (k : Placed n p standing empty) (out : List ℕ) (at : ℕ) where
+module _ {n : ℕ} {table held : List ℕ} (s : Shown n table held) (most : n ≤ span) (x : Bay) (hx : x < n) {p standing empty : List ℕ} (k : Placed n p standing empty) (out : List ℕ) where
   -- x is empty
-  pub vacates-empty : true ≡ mem empty x → Vacates s x p standing empty out at p standing empty out Empty
+  pub vacates-empty : true ≡ mem empty x → Vacates s x p standing empty out p standing empty out Empty
   unfolding vacate
   vacates-empty h =
       let e : isEmpty p x ≡ true = sym (k .empties x hx) ∙ sym h in
-      let o : vacating s x p standing empty out at ≡ some [] = rw e in
+      let o : vacating s x p standing empty out ≡ some [] = rw e in
       record {
         counts = rw e (ap some (omega arith));
         fills = rw e;
-        acted = acted-some o (played-none n p standing empty out at k);
+        acted = acted-some o (played-none n p standing empty out 0 k);
         still = λ d. unchanged p standing empty out;
         short = λ xs d. let same : [] ≡ xs = let z = sym o ∙ d in cc in rw (← same) (omega arith);
         some-moved = λ e f. never-some e f;
       }
 
   -- nothing can be done
-  vacates-failed : vacating s x p standing empty out at ≡ none → bayFilled (s .yard) (s .bays) x p ≡ none → Vacates s x p standing empty out at p standing empty out Failed
+  vacates-failed : vacating s x p standing empty out ≡ none → bayFilled (s .yard) (s .bays) x p ≡ none → Vacates s x p standing empty out p standing empty out Failed
   vacates-failed o f = record {
     counts = rw o;
     fills = sym f;
@@ -84,7 +84,7 @@ module _ {n : ℕ} {table held : List ℕ} (s : Shown n table held) (most : n �
     full-x = sym (k .empties x hx) ∙ sym full
 
     -- x is held
-    pub vacates-held : true ≡ mem held x → Vacates s x p standing empty out at p standing empty out Failed
+    pub vacates-held : true ≡ mem held x → Vacates s x p standing empty out p standing empty out Failed
     unfolding vacate
     vacates-held h =
         let e : elem x (s .bays) ≡ true = sym (s .holds x (omega arith)) ∙ sym h in
@@ -132,7 +132,7 @@ module _ {n : ℕ} {table held : List ℕ} (s : Shown n table held) (most : n �
         path-beside = beside-path (s .yard) (s .bays) x p e (free-of x hx out-x) full-in rail-e free-e empty-e
 
       -- no empty bay is reached
-      pub vacates-none : none ≡ nearestEmpty (s .yard) (s .bays) p x → Vacates s x p standing empty out at p standing empty out Failed
+      pub vacates-none : none ≡ nearestEmpty (s .yard) (s .bays) p x → Vacates s x p standing empty out p standing empty out Failed
       unfolding vacate
       vacates-none h = vacates-failed (rw (full-x, out-x, ← h)) (rw (full-x, out-x, ← h))
 
@@ -151,17 +151,17 @@ module _ {n : ℕ} {table held : List ℕ} (s : Shown n table held) (most : n �
         })
 
         -- the carriers on the path were shifted
-        pub vacates-filled : (p′ standing′ empty′ out′ : List ℕ) (r : Vacated) (m : ℕ) → countAfter at r ≡ some m → filled r ≡ some e → length path ≤ n
-            → Played (shift p path) n p p′ standing′ empty′ out at out′ m → Vacates s x p standing empty out at p′ standing′ empty′ out′ r
+        pub vacates-filled : (p′ standing′ empty′ out′ : List ℕ) (r : Vacated) (m : ℕ) → countAfter r ≡ some m → filled r ≡ some e → length path ≤ n
+            → Played (shift p path) n p p′ standing′ empty′ out 0 out′ m → Vacates s x p standing empty out p′ standing′ empty′ out′ r
         unfolding vacate
         vacates-filled p′ standing′ empty′ out′ r m c f short w =
-            let o : vacating s x p standing empty out at ≡ some (shift p path) = rw (full-x, out-x, ← found, ← shortest) in
+            let o : vacating s x p standing empty out ≡ some (shift p path) = rw (full-x, out-x, ← found, ← shortest) in
             let starts = inward-head (s .yard) (rings (s .yard) (s .bays) e) (ringOf (s .yard) x (rings (s .yard) (s .bays) e)) x in
             let far : shortestPath (s .yard) (s .bays) x e ≡ x ∷ starts .0 = unfold shortestPath in starts .1 in
             let two : 2 ≤ length path =
             rw shortest (two-bays (s .yard) p (k .apart) x _ (starts .0) far (not-false (elem x p) full-x) (path-shiftable (s .yard) (s .bays) p (k .apart) x e free-x (sym found))) in
             record {
-              counts = c ∙ rw o (ap some (w .counted));
+              counts = let many : m ≡ length (shift p path) = omega (arith, w .counted) in c ∙ rw o (ap some many);
               fills = f ∙ rw (full-x, out-x) found;
               acted = acted-some o w;
               still = λ d. never-some e (sym d ∙ f);
@@ -175,8 +175,8 @@ module _ {n : ℕ} {table held : List ℕ} (s : Shown n table held) (most : n �
 
       -- the carrier at x crossed to the bay beside it
       pub vacates-beside : (e : Bay) (low : Taken table (λ b. memRow table x b and (mem empty b and not (mem held b))) e) (there : e < span)
-          (p′ standing′ empty′ out′ : List ℕ) (r : Vacated) (m : ℕ) → countAfter at r ≡ some m → filled r ≡ some e
-          → Played (crossing (carrierAt p x) x e ∷ []) n p p′ standing′ empty′ out at out′ m → Vacates s x p standing empty out at p′ standing′ empty′ out′ r
+          (p′ standing′ empty′ out′ : List ℕ) (r : Vacated) (m : ℕ) → countAfter r ≡ some m → filled r ≡ some e
+          → Played (crossing (carrierAt p x) x e ∷ []) n p p′ standing′ empty′ out 0 out′ m → Vacates s x p standing empty out p′ standing′ empty′ out′ r
       unfolding shift
       vacates-beside e low there p′ standing′ empty′ out′ r m c f w =
           let ex = inside-e e low there in

@@ -1,4 +1,5 @@
-// Making room: a bay is vacated. The way to the nearest empty bay is found, and the carriers on it move one bay on.
+// Making room: a bay is vacated. The way to the nearest empty bay is found, and the carriers on it move one bay on. Vacating is lent the rest of
+// the list, and counts what it made.
 use docket::Bay;
 use lookup::Known;
 use rings::Way;
@@ -10,11 +11,9 @@ ghost use Rattle.words.specs.Sets.{mem, words, span};
 ghost use Rattle.levels.specs.Levels.{Levelled};
 ghost use Rattle.rings.specs.Search.{Shown};
 ghost use Rattle.rings.specs.Ways.{WayFound};
-ghost use Rattle.moving.specs.Bounds.{room-vacate};
-ghost use Rattle.moving.specs.Placed.{Placed};
 ghost use Rattle.vacate.specs.Answer.{VacateAsks, VacateSays};
 
-// The bay was empty; the bay that was filled, with the count of crossings afterwards; or nothing could be done.
+// The bay was empty; the bay that was filled, with the count of crossings made; or nothing could be done.
 pub enum Vacated {
     Empty,
     Filled(Bay, usize),
@@ -61,24 +60,12 @@ fn fill_nearest(
     standing: &mut [u16],
     empty: &mut [u64],
     out: &mut [u64],
-    at: usize,
 ) -> Vacated
-    requires { ⌜
-        (length (now standing) ≤ span)
-        × (x .0 < length (now standing))
-        × (length (now standing) * words ≤ length (now table))
-        × (length (now held) ≡ words)
-        × (length (now empty) ≡ words)
-        × (at < room-vacate)
-        × (mem (now empty) (x .0) ≡ false)
-        × (mem (now held) (x .0) ≡ false)
-        × Placed (length (now standing)) (now placement) (now standing) (now empty)
-        × Shown (length (now standing)) (now table) (now held)
-        × Levelled (length (now standing)) (now table)
-        ⌝ }
+    requires { ⌜ VacateAsks (now table) (now held) (x .0) (now placement) (now standing) (now empty) ⌝ }
+    requires { ⌜ (mem (now empty) (x .0) ≡ false) × (mem (now held) (x .0) ≡ false) ⌝ }
     ensures { λ r. ⌜
         VacateSays (now (table .entry)) (now (held .entry)) (x .0)
-        (now (placement .entry)) (now (standing .entry)) (now (empty .entry)) (now (out .entry)) at
+        (now (placement .entry)) (now (standing .entry)) (now (empty .entry)) (now (out .entry))
         (now (placement .exit)) (now (standing .exit)) (now (empty .exit)) (now (out .exit)) r
         ⌝ }
 {
@@ -89,7 +76,7 @@ fn fill_nearest(
     };
     Vacated::Filled(
         e,
-        moving::shift(&path[..m], placement, standing, empty, out, at),
+        moving::shift(&path[..m], placement, standing, empty, out, 0),
     )
 }
 
@@ -102,12 +89,11 @@ pub fn vacate(
     standing: &mut [u16],
     empty: &mut [u64],
     out: &mut [u64],
-    at: usize,
 ) -> Vacated
-    requires { ⌜ VacateAsks (now table) (now held) (x .0) (now placement) (now standing) (now empty) at ⌝ }
+    requires { ⌜ VacateAsks (now table) (now held) (x .0) (now placement) (now standing) (now empty) ⌝ }
     ensures { λ r. ⌜
         VacateSays (now (table .entry)) (now (held .entry)) (x .0)
-        (now (placement .entry)) (now (standing .entry)) (now (empty .entry)) (now (out .entry)) at
+        (now (placement .entry)) (now (standing .entry)) (now (empty .entry)) (now (out .entry))
         (now (placement .exit)) (now (standing .exit)) (now (empty .exit)) (now (out .exit)) r
         ⌝ }
 {
@@ -121,7 +107,7 @@ pub fn vacate(
     let beside = choice::free(table, bay, empty, held);
     if beside < words::SPAN {
         let e = Bay(beside as u16);
-        return Vacated::Filled(e, moving::cross(placement, standing, empty, x, e, out, at));
+        return Vacated::Filled(e, moving::cross(placement, standing, empty, x, e, out, 0));
     }
-    fill_nearest(table, held, x, placement, standing, empty, out, at)
+    fill_nearest(table, held, x, placement, standing, empty, out)
 }

@@ -93,8 +93,8 @@ fn print(
 // These many bytes of a file decide the answer, however long it is, and every print fits in these many. It has no contract of its own: it lends nothing
 // and answers nothing. What it writes is the whole of what `print` answers.
 fn answer(word: &[u8], map_path: &[u8], scenario_path: &[u8]) {
-    let mut map = [0u8; filing::MAP_BYTES];
-    let mut scenario = [0u8; filing::SCENARIO_BYTES];
+    let mut map = [0u8; file_room::MAP_BYTES];
+    let mut scenario = [0u8; file_room::SCENARIO_BYTES];
     let mut out = [0u8; print_room::PRINT_BYTES];
     let first = load(map_path, &mut map);
     let second = load(scenario_path, &mut scenario);

@@ -5,22 +5,20 @@ use mathlib.Core.Path.{_≡_, refl, sym, ap, _∙_}
 use mathlib.Core.Bool.{Bool, true, false, not}
 use mathlib.Core.List.{List, [], _∷_}
 use mathlib.Core.Option.{some}
-use Prim.Native.Nat.{ℕ, zero, suc, _+_, _-_, _*_, _≤_, _<_}
+use Prim.Native.Nat.{ℕ, _+_, _-_, _*_, _≤_, _<_}
 use native.Mathlib.Decide.{ℕ-discrete, decLt}
 use native.Mathlib.Omega.{arith}
 use lib.Dec.{eqb}
-use lib.ListN.{length, take, replicate}
-use lib.Seq.{take-take, length-take-le}
+use lib.ListN.{length, take}
 use borrow.Author.Tests.{eqb-true, eq-eqb, not-true}
-use Rattle.lists.proofs.Lists.{low-zeros}
 use Rattle.paper.specs.Basics.{_and_, _or_, elem, In}
 use Rattle.paper.specs.Yard.{Bay}
 use Rattle.paper.specs.Path.{rings, nearestFirst, ringOf, pathBetween}
 use Rattle.paper.proofs.Tests.{by-cases, not-both, and-left, and-right, and-both, or-right, or-cases, some-same}
-use Rattle.paper.proofs.Members.{In-nil, In-one, In-head, nothing-in-nil}
+use Rattle.paper.proofs.Members.{In-nil, In-one, In-head}
 use Rattle.paper.proofs.Choosing.{chosen-alone}
 use Rattle.paper.proofs.Nearest.{nearest-chosen, nearest-found, nearest-none, none-nearest}
-use Rattle.paper.proofs.Rings.{ring-step, in-concat, distance-in, rings-apart, reached-sym}
+use Rattle.paper.proofs.Rings.{in-concat, distance-in, reached-sym}
 use Rattle.paper.proofs.Shortest.{inward-zero}
 use Rattle.docket.specs.declared.Bay.{Bay as Held}
 use Rattle.words.specs.Sets.{mem, memRow, words, span, Kept}
@@ -31,19 +29,15 @@ use Rattle.rings.specs.Search.{Shown, ringOn}
 use Rattle.rings.specs.Ways.{WayFound, PathFound}
 use Rattle.rings.specs.declared.Way.the-variants.{To, NoWay}
 use Rattle.rings.specs.declared.Path.the-variants.{First, NoPath}
-use Rattle.rings.proofs.Searching.{elem-one, ring-first, in-yard}
+use Rattle.rings.proofs.Searching.{in-yard}
 use Rattle.rings.proofs.Reading.{way-none}
 use Rattle.rings.proofs.Between.{shortest-far}
 use Rattle.queue.specs.Meeting.{back}
 use Rattle.queue.specs.Queue.{Low, Met, Passed}
-use Rattle.ways.proofs.Passing.{Within, next-holds, next-within}
+use Rattle.ways.proofs.Passing.{Within, first-ring, of-first, start-within, start-met, wider, all-dry}
 use Rattle.ways.proofs.Tracing.{free-of, path-back}
 
 -- ## Where the search stands
-
--- before the search no bay was met from any but bay 0
-pub zeros-low : Low (replicate span 0)
-zeros-low y = let z = low-zeros span y in omega arith
 
 -- at ring d, and no ring up to it has a wanted bay
 pub record Stage {n : ℕ} {table held : List ℕ} (s : Shown n table held) (x : Bay) (wanted : List ℕ) (d : ℕ) (seen met before : List ℕ) (done count : ℕ) : Type 0 where
@@ -53,66 +47,27 @@ pub record Stage {n : ℕ} {table held : List ℕ} (s : Shown n table held) (x :
   pub near : d ≤ done
 
 module _ {n : ℕ} {table held : List ℕ} (s : Shown n table held) (most : n ≤ span) (x : Bay) (hx : x < n) (unheld : mem held x ≡ false) where
-  first-ring : ringOn s x 0 ≡ x ∷ []
-  first-ring = ring-first (s .yard) (s .bays) x (rw (s .joins .bays) (omega arith))
-
-  start-met : (seen before : List ℕ) → Low before → ((b : ℕ) → b < span → mem seen b ≡ mem held b or eqb b x) → Met n table held x seen (x ∷ []) before 0
-  start-met seen before low f = record {
-    rails = λ a b h k e. s .joins .inside a b (sym (s .joins .same a b h k) ∙ e) .1;
-    starts = refl;
-    inside = λ b i. rw (In-one b x i) hx;
-    unheld = λ b i. rw (In-one b x i) unheld;
-    once = (nothing-in-nil x, tt);
-    seeing = λ b h. f b h ∙ rw (elem-one b x);
-    parent = λ j p h. absurd (omega arith);
-    low = low;
-    looked = λ l z h. absurd (omega arith);
-  }
-
-  -- the first ring is x alone
-  of-first : (i b : ℕ) → i ≤ 0 → In b (ringOn s x i) → In b (x ∷ [])
-  of-first i b l y = let e : i ≡ 0 = omega arith in rw (e, first-ring) at y
-
   pub stage-first : (wanted seen₀ seen₁ seen met before : List ℕ) → Low before → mem wanted x ≡ false → Kept seen₀ 0 held seen₁ → ((y : ℕ) → mem seen y ≡ mem seen₁ y or eqb y x)
       → take 1 met ≡ x ∷ [] → Stage s x wanted 0 seen met before 0 1
   stage-first wanted seen₀ seen₁ seen met before low miss k f first = record {
-    queue = rw first (start-met seen before low (λ b l. f b ∙ rw (sym (row-zero seen₁ b) ∙ k .row b l)));
-    within = rw first (record { holds = of-first; only = λ b i. (0, omega arith, rw first-ring i) });
-    missed = λ i b l y. rw (In-one b x (of-first i b l y)) miss;
+    queue = rw first (start-met s x hx unheld seen before low (λ b l. f b ∙ rw (sym (row-zero seen₁ b) ∙ k .row b l)));
+    within = rw first (start-within s x hx);
+    missed = λ i b l y. rw (In-one b x (of-first s x hx i b l y)) miss;
     near = omega arith;
   }
 
   module _ (wanted : List ℕ) (d : ℕ) (seen met before : List ℕ) (done count : ℕ) (g : Stage s x wanted d seen met before done count)
       (seen′ met′ before′ : List ℕ) (r : ℕ) (p : Passed n table held x met count seen′ met′ before′ count r) (some-left : done < count) (room : n ≤ length met′) where
-    kept : take count (take r met′) ≡ take count met
-    kept = take-take count r met′ (p .more) ∙ p .kept
-
-    long : count ≤ length (take r met′)
-    long = omega (arith, p .more, p .most, length-take-le r met′ (omega (arith, p .most)))
-
     -- ## Nothing new
 
-    next-dry : r ≡ count → (b : ℕ) → In b (ringOn s x (d + 1)) → ⊥
-    next-dry e b i =
-        let y : In b (take r met′) = next-holds s most x hx (g .within) (p .queue) kept (omega arith) long (d + 1) b (omega arith) i in
-        let k = g .within .only b (rw (e, p .kept) at y) in
-        not-both (k .2) (rings-apart (s .yard) (s .bays) (s .yard .bays) [] (x ∷ []) (k .0) (d + 1) b (omega (arith, k .1)) i)
-
-    all-dry : r ≡ count → (k b : ℕ) → In b (ringOn s x (k + (d + 1))) → ⊥
-    all-dry e zero b i = let z : 0 + (d + 1) ≡ d + 1 = omega arith in next-dry e b (rw z at i)
-    all-dry e (suc k) b i =
-        let z : suc k + (d + 1) ≡ suc (k + (d + 1)) = omega arith in
-        let t = ring-step (s .yard) (s .bays) (s .yard .bays) [] (x ∷ []) (k + (d + 1)) b (rw z at i) in
-        all-dry e k (t .0) (t .1)
-
-    pub way-nowhere : r ≡ count → (q : Bay → Bool) → ((b : ℕ) → b < n → mem wanted b ≡ q b) → (room : List ℕ) → WayFound s x q room NoWay
-    way-nowhere e q w room =
+    pub way-nowhere : r ≡ count → (q : Bay → Bool) → ((b : ℕ) → b < n → mem wanted b ≡ q b) → (path : List ℕ) → WayFound s x q path NoWay
+    way-nowhere e q w path =
         let rs = rings (s .yard) (s .bays) x in
-        way-none s x q room (sym (nearest-none (s .yard) (s .bays) x q (λ b i.
+        way-none s x q path (sym (nearest-none (s .yard) (s .bays) x q (λ b i.
         let k : ℕ = ringOf (s .yard) b rs in
         let y : In b (ringOn s x k) = distance-in (s .yard) b rs i in
         elim (decLt d k) [
-          | yes h ↦ let z : k ≡ (k - (d + 1)) + (d + 1) = omega arith in absurd (all-dry e (k - (d + 1)) b (rw z at y))
+          | yes h ↦ let z : k ≡ (k - (d + 1)) + (d + 1) = omega arith in absurd (all-dry s most x hx d (g .within) (omega (arith, g .near)) p room e (k - (d + 1)) b (rw z at y))
           | no h ↦ sym (w b (in-yard s x most hx k b y)) ∙ g .missed k b (omega arith) y
         ])))
 
@@ -122,8 +77,8 @@ module _ {n : ℕ} {table held : List ℕ} (s : Shown n table held) (most : n �
       far : d + 1 < n
       far = omega (arith, g .near, p .most)
 
-      wider : Within s x (d + 1) (take r met′)
-      wider = next-within s most x hx (g .within) (p .queue) kept (omega arith) long far
+      widened : Within s x (d + 1) (take r met′)
+      widened = wider s most x hx d (g .within) (omega (arith, g .near)) p room grew
 
       -- what is seen and free is of the newest ring: held bays are not free, and no ring before it has a wanted bay
       module _ (free₀ free₁ free : List ℕ) (f : Kept free₀ 0 wanted free₁) (f′ : (b : ℕ) → mem free b ≡ mem free₁ b and not (mem held b)) where
@@ -142,7 +97,7 @@ module _ {n : ℕ} {table held : List ℕ} (s : Shown n table held) (most : n �
         among b i t =
             let hb : b < n = in-yard s x most hx (d + 1) b i in
             let low : b < span = omega arith in
-            let y : In b (take r met′) = wider .holds (d + 1) b (omega arith) i in
+            let y : In b (take r met′) = widened .holds (d + 1) b (omega arith) i in
             let sees : memRow seen′ 0 b ≡ true = row-zero seen′ b ∙ p .queue .seeing b low ∙ or-right _ _ y in
             (hb, and-both _ _ sees (is-free b low ∙ and-both _ _ t (ap not (p .queue .unheld b y))))
 
@@ -150,7 +105,7 @@ module _ {n : ℕ} {table held : List ℕ} (s : Shown n table held) (most : n �
           pub stage-more : span ≤ e → Stage s x wanted (d + 1) seen′ met′ before′ count r
           stage-more h = record {
             queue = p .queue;
-            within = wider;
+            within = widened;
             missed = λ i b k y. elim (ℕ-discrete i (d + 1)) [
               | yes o ↦
                   let y′ : In b (ringOn s x (d + 1)) = rw o at y in
@@ -167,7 +122,7 @@ module _ {n : ℕ} {table held : List ℕ} (s : Shown n table held) (most : n �
           way-found hit q w room bay same path =
               let is-wanted : mem wanted e ≡ true = and-left _ _ (sym (is-free e hit) ∙ and-right _ _ (l .hit hit)) in
               let queued = in-queue e hit (l .hit hit) in
-              let k = wider .only e queued in
+              let k = widened .only e queued in
               let e-in : In e (ringOn s x (d + 1)) = elim (ℕ-discrete (k .0) (d + 1)) [
                 | yes o ↦ rw o at (k .2)
                 | no o ↦ not-both is-wanted (g .missed (k .0) e (omega (arith, k .1)) (k .2))
@@ -188,10 +143,10 @@ module _ {n : ℕ} {table held : List ℕ} (s : Shown n table held) (most : n �
   pub way-here : (wanted : List ℕ) → mem wanted x ≡ true → (q : Bay → Bool) → ((b : ℕ) → b < n → mem wanted b ≡ q b) → (room : List ℕ) (bay : Held) → bay .0 ≡ x
       → take 1 room ≡ x ∷ [] → WayFound s x q room (To bay 1)
   way-here wanted hit q w room bay same path =
-      let x-in : In x (ringOn s x 0) = rw first-ring (In-head x []) in
+      let x-in : In x (ringOn s x 0) = rw (first-ring s x hx) (In-head x []) in
       record {
         nearest = rw same (sym (nearest-chosen (s .yard) (s .bays) x q 0
-            (rw first-ring (chosen-alone (s .yard) q x [] (sym (w x hx) ∙ hit) (λ b i. In-nil b i))) (λ i b h y. absurd (omega arith))));
+            (rw (first-ring s x hx) (chosen-alone (s .yard) q x [] (sym (w x hx) ∙ hit) (λ b i. In-nil b i))) (λ i b h y. absurd (omega arith))));
         fits = omega arith;
         path = λ y k.
             let it : x ≡ y = let u = rw same at k in some-same u in

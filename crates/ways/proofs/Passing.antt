@@ -1,23 +1,26 @@
 -- Once all bays of a ring are passed, the queue holds the next ring too: whatever they lead to is in it, and what stands behind them was
--- met from one that was passed.
+-- met from one that was passed. Where nothing new stands behind them, no ring follows.
 -- Assumes nothing.
-use mathlib.Core.Path.{_≡_, sym, _∙_}
-use mathlib.Core.Bool.{true}
+use mathlib.Core.Path.{_≡_, refl, sym, _∙_}
+use mathlib.Core.Bool.{true, false}
 use mathlib.Core.List.{List, [], _∷_}
-use Prim.Native.Nat.{ℕ, suc, _+_, _≤_, _<_}
+use Prim.Native.Nat.{ℕ, zero, suc, _+_, _≤_, _<_}
 use native.Mathlib.Decide.{decLt}
 use native.Mathlib.Omega.{arith}
-use lib.ListN.{length, getD, take}
-use Rattle.paper.specs.Basics.{elem, placeOf, In, Out}
+use lib.Dec.{eqb}
+use lib.ListN.{length, getD, take, replicate}
+use lib.Seq.{take-take, length-take-le}
+use Rattle.lists.proofs.Lists.{low-zeros}
+use Rattle.paper.specs.Basics.{_or_, elem, placeOf, In, Out}
 use Rattle.paper.specs.Yard.{Bay, joined}
 use Rattle.paper.proofs.Tests.{by-cases, not-both}
-use Rattle.paper.proofs.Members.{take-in}
+use Rattle.paper.proofs.Members.{In-one, nothing-in-nil, take-in}
 use Rattle.paper.proofs.Playing.{placeOf-bay, placeOf-there}
-use Rattle.paper.proofs.Rings.{joined-sym, on, ring-step, ring-free, ring-walk, walk-ring}
-use Rattle.words.specs.Sets.{memRow, span}
+use Rattle.paper.proofs.Rings.{joined-sym, on, ring-step, ring-free, ring-walk, rings-apart, walk-ring}
+use Rattle.words.specs.Sets.{mem, memRow, span}
 use Rattle.rings.specs.Search.{Shown, ringOn}
-use Rattle.rings.proofs.Searching.{in-yard}
-use Rattle.queue.specs.Queue.{Met}
+use Rattle.rings.proofs.Searching.{elem-one, in-yard, ring-first}
+use Rattle.queue.specs.Queue.{Low, Met, Passed}
 use Rattle.queue.proofs.Places.{before-in, in-before}
 use Rattle.ways.proofs.Tracing.{free-of}
 
@@ -25,6 +28,39 @@ use Rattle.ways.proofs.Tracing.{free-of}
 pub record Within {n : ℕ} {table held : List ℕ} (s : Shown n table held) (x : Bay) (d : ℕ) (queue : List ℕ) : Type 0 where
   pub holds : (i b : ℕ) → i ≤ d → In b (ringOn s x i) → In b queue
   pub only : (b : ℕ) → In b queue → (i : ℕ) × (i ≤ d) × In b (ringOn s x i)
+
+-- ## The start
+
+-- before the search no bay was met from any but bay 0
+pub zeros-low : Low (replicate span 0)
+zeros-low y = let z = low-zeros span y in omega arith
+
+module _ {n : ℕ} {table held : List ℕ} (s : Shown n table held) (x : Bay) (hx : x < n) where
+  pub first-ring : ringOn s x 0 ≡ x ∷ []
+  first-ring = ring-first (s .yard) (s .bays) x (rw (s .joins .bays) (omega arith))
+
+  -- the first ring is x alone
+  pub of-first : (i b : ℕ) → i ≤ 0 → In b (ringOn s x i) → In b (x ∷ [])
+  of-first i b l y = let e : i ≡ 0 = omega arith in rw (e, first-ring) at y
+
+  pub start-within : Within s x 0 (x ∷ [])
+  start-within = record { holds = of-first; only = λ b i. (0, omega arith, rw first-ring i) }
+
+  pub start-met : mem held x ≡ false → (seen before : List ℕ) → Low before → ((b : ℕ) → b < span → mem seen b ≡ mem held b or eqb b x)
+      → Met n table held x seen (x ∷ []) before 0
+  start-met unheld seen before low f = record {
+    rails = λ a b h k e. s .joins .inside a b (sym (s .joins .same a b h k) ∙ e) .1;
+    starts = refl;
+    inside = λ b i. rw (In-one b x i) hx;
+    unheld = λ b i. rw (In-one b x i) unheld;
+    once = (nothing-in-nil x, tt);
+    seeing = λ b h. f b h ∙ rw (elem-one b x);
+    parent = λ j p h. absurd (omega arith);
+    low = low;
+    looked = λ l z h. absurd (omega arith);
+  }
+
+-- ## One ring more
 
 module _ {n : ℕ} {table held : List ℕ} (s : Shown n table held) (most : n ≤ span) (x : Bay) (hx : x < n) {d : ℕ} {seen′ queue queue′ before′ : List ℕ} {hi : ℕ}
     (w : Within s x d queue) (m : Met n table held x seen′ queue′ before′ hi) (kept : take hi queue′ ≡ queue) (some : 0 < hi) (long : hi ≤ length queue′) where
@@ -79,3 +115,30 @@ module _ {n : ℕ} {table held : List ℕ} (s : Shown n table held) (most : n �
 
   pub next-within : d + 1 < n → Within s x (d + 1) queue′
   next-within far = record { holds = next-holds; only = next-only far }
+
+-- ## A ring that was passed
+
+module _ {n : ℕ} {table held : List ℕ} (s : Shown n table held) (most : n ≤ span) (x : Bay) (hx : x < n) (d : ℕ) {met : List ℕ} {count : ℕ} (w : Within s x d (take count met)) (near : d < count)
+    {seen′ met′ before′ : List ℕ} {r : ℕ} (p : Passed n table held x met count seen′ met′ before′ count r) (room : n ≤ length met′) where
+  kept : take count (take r met′) ≡ take count met
+  kept = take-take count r met′ (p .more) ∙ p .kept
+
+  long : count ≤ length (take r met′)
+  long = omega (arith, p .more, p .most, length-take-le r met′ (omega (arith, p .most)))
+
+  pub wider : count < r → Within s x (d + 1) (take r met′)
+  wider grew = next-within s most x hx w (p .queue) kept (omega arith) long (omega (arith, p .most))
+
+  next-dry : r ≡ count → (b : ℕ) → In b (ringOn s x (d + 1)) → ⊥
+  next-dry e b i =
+      let y : In b (take r met′) = next-holds s most x hx w (p .queue) kept (omega arith) long (d + 1) b (omega arith) i in
+      let k = w .only b (rw (e, p .kept) at y) in
+      not-both (k .2) (rings-apart (s .yard) (s .bays) (s .yard .bays) [] (x ∷ []) (k .0) (d + 1) b (omega (arith, k .1)) i)
+
+  -- where nothing is new, all rings from here on have no bay
+  pub all-dry : r ≡ count → (k b : ℕ) → In b (ringOn s x (k + (d + 1))) → ⊥
+  all-dry e zero b i = let z : 0 + (d + 1) ≡ d + 1 = omega arith in next-dry e b (rw z at i)
+  all-dry e (suc k) b i =
+      let z : suc k + (d + 1) ≡ suc (k + (d + 1)) = omega arith in
+      let t = ring-step (s .yard) (s .bays) (s .yard .bays) [] (x ∷ []) (k + (d + 1)) b (rw z at i) in
+      all-dry e k (t .0) (t .1)

@@ -1,7 +1,7 @@
 -- Sets of bays, for any count of words: a bay's word and bit say all, so what is done word by word is done bay by bay.
 use mathlib.Core.Path.{_≡_, refl, sym, ap, _∙_}
 use mathlib.Core.Bool.{Bool, true, false, not}
-use mathlib.Core.List.{List, [], _∷_, _++_}
+use mathlib.Core.List.{List, _∷_, _++_}
 use Prim.Native.Nat.{ℕ, zero, suc, _+_, _*_, _/_, _%_, _^_, _≤_, _<_}
 use native.Mathlib.Decide.{ℕ-discrete}
 use native.Mathlib.Omega.{arith}
@@ -9,12 +9,13 @@ use native.Mathlib.Nat.{pow-suc}
 use lib.Bits.{bitOr}
 use lib.Count.{ones, ones-step}
 use lib.Dec.{eqb}
-use lib.ListN.{length, getD, set, replicate, List·getD-eq-default}
+use lib.ListN.{length, getD, set, replicate, length-append, List·getD-eq-default}
 use lib.Pow.{pow-lt}
 use lib.Seq.{getD-set-same, getD-set-other, ext-getD}
 use borrow.Author.Tests.{eq-eqb, ne-eqb}
 use Rattle.paper.specs.Basics.{_and_, _or_, filter, countFrom, upTo}
-use Rattle.paper.proofs.Tests.{by-cases, not-both}
+use Rattle.paper.proofs.Tests.{not-both}
+use Rattle.paper.proofs.Members.{filter-append}
 use Rattle.words.specs.Sets.{on, mem, memRow, words, span, bitOf, lessWord}
 use Rattle.words.proofs.Bits.{bit-half, bit-low, on-or, on-less, on-zero, on-one}
 
@@ -117,12 +118,6 @@ bit-fits x i = elim (ℕ-discrete (x / 64) i) [
 
 -- ---- how many members
 
-pub filter-append : (f : ℕ → Bool) (xs ys : List ℕ) → length (filter f (xs ++ ys)) ≡ length (filter f xs) + length (filter f ys)
-unfolding filter
-filter-append f [] ys = omega arith
-filter-append f (x ∷ xs) ys =
-    let ih = filter-append f xs ys in by-cases (f x) (λ e. rw e (omega arith)) (λ e. rw e ih)
-
 pub count-split : (a k m : ℕ) → countFrom a (k + m) ≡ countFrom a k ++ countFrom (a + k) m
 unfolding countFrom
 count-split a zero m = let e : zero + m ≡ m = omega arith in let d : a + zero ≡ a = omega arith in rw (e, d)
@@ -164,7 +159,7 @@ pub count-word : (ws : List ℕ) (i : ℕ) → getD ws i 0 < 2 ^ 64
 count-word ws i h =
     let e : 64 * (i + 1) ≡ 64 * i + 64 = omega arith in
     let d : 0 + 64 * i ≡ 64 * i = omega arith in
-    rw (e, count-split 0 (64 * i) 64, d, filter-append)
+    rw (e, count-split 0 (64 * i) 64, d, filter-append, length-append)
     (ap (λ (n : ℕ). length (filter (mem ws) (upTo (64 * i))) + n) (ones-pass (mem ws) 64 (64 * i) (getD ws i 0) h (word-bit ws i)))
 
 -- ---- a set's members tell its words

@@ -16,7 +16,6 @@ use Rattle.paper.specs.Answers.{refused}
 use Rattle.paper.specs.Print.{printed}
 use Rattle.paper.specs.Program.{program}
 use Rattle.worked.proofs.Worked.{computing}
-use Rattle.paper.specs.Basics
 use Rattle.paper.specs.Text
 use Rattle.paper.specs.Map
 use Rattle.paper.specs.Scenario

@@ -10,15 +10,26 @@ use Rattle.acting.proofs.counted.Reads as counted-reads
 use Rattle.vacate.proofs.vacate.Reads as vacate-reads
 
 vacate-requires : tie.Need-vacate-requires
-vacate-requires c κs = search needs
+vacate-requires c κs =
+    let p = c .before .before .before .before .before .before .before .before .before .before .pre .0 in
+    let z = c .before .before .before .before .before .before .before .before .before .before .pre .1 in
+    record {
+      most = p .most;
+      inside = z .inside;
+      table-size = p .table-size;
+      held-size = z .held-size;
+      empty-size = p .empty-size;
+      placed = p .placed;
+      shown = z .shown;
+      levelled = p .levelled;
+    }
 
 counted-requires : tie.Need-counted-requires
 counted-requires c κs =
     let start = c .before .before .before .before .before .before .before .before .before .before .before .before .before .before .before .before .before .before .before in
     let p = start .pre in
-    let at = start .args .at in
     let v = c .before .before .before .before .before .before .before .before .vacate in
-    (p .0 .most, p .0 .table-size, filled-in at (v .result) (p .0 .placed .apart) (p .1 .0) (v .ensures (p .1 .3)))
+    (p .0 .most, p .0 .table-size, filled-in (v .result) (p .0 .placed .apart) (p .1 .inside) (v .ensures (p .1 .shown)))
 
 same-length : tie.Need-same-length
 same-length c = search needs
@@ -37,10 +48,11 @@ returns c =
     let start = c .before .before .before .before .before .before .before .before .before .before .before .before .before .before .before .before .before .before .before .before in
     let p = start .pre in
     let v = c .before .before .before .before .before .before .before .before .before .vacate in
-    let says = v .ensures (p .1 .3) in (
-      room-within _ (p .0 .most) (v .result) (c .counted .result) says (c .counted .ensures (record { yard = p .1 .3 .yard; joins = p .1 .3 .joins })),
-      λ s. room-acts _ (v .result) (c .counted .result) (v .ensures s) (c .counted .ensures (record { yard = s .yard; joins = s .joins })),
-    )
+    let z = p .1 in
+    record {
+      few = room-within (p .0 .most) (v .result) (c .counted .result) (v .ensures (z .shown)) (c .counted .ensures (record { yard = z .shown .yard; joins = z .shown .joins }));
+      acts = λ s. room-acts (v .result) (c .counted .result) (v .ensures s) (c .counted .ensures (record { yard = s .yard; joins = s .joins }));
+    }
 
 pub make-room-spec : {M : Type 1} → statement M
 make-room-spec =

@@ -16,15 +16,15 @@ same-length c = c .before .before .path-between .kept .1 .1 .1 .1 .1 .0
 returns : tie.Need-returns
 returns c =
     let start = c .before .before .before .before .before .before .before .before in
-    λ s. past-held s _ _ _ _ (sym (c .before .before .before .before .if1 .taken) ∙ start .pre .7 (s .yard) (s .joins)) (c .before .before .path-between .ensures s)
+    λ s. past-held s _ _ _ _ (sym (c .before .before .before .before .if1 .taken) ∙ start .pre .1 (s .yard) (s .joins)) (c .before .before .path-between .ensures s)
 
 slice-aggregate-path-between : tie.Need-slice-aggregate-path-between
 slice-aggregate-path-between c = search needs
 
 path-between-requires-2 : tie.Need-path-between-requires-2
 path-between-requires-2 c κs =
-    let p = c .before .before .before .before .before .before .pre in
-    (p .0, p .1, p .2, p .3, refl, p .5, freeShown (record { yard = p .6 .yard; joins = p .6 .joins }))
+    let asks = c .before .before .before .before .before .before .pre .0 in
+    (asks .0, asks .1, asks .2, asks .3, refl, asks .5, freeShown (record { yard = asks .6 .yard; joins = asks .6 .joins }))
 
 same-length-2 : tie.Need-same-length-2
 same-length-2 c = c .before .before .path-between2 .kept .1 .1 .1 .1 .1 .0
@@ -34,7 +34,7 @@ returns-2 c =
     let start = c .before .before .before .before .before .before .before .before .before in
     λ s.
     let bare = freeShown (record { yard = s .yard; joins = s .joins }) in
-    past-none s bare _ _ _ _ refl refl (sym (c .before .before .before .before .before .if1 .left) ∙ start .pre .7 (s .yard) (s .joins)) (c .before .before .path-between2 .ensures bare)
+    past-none s bare _ _ _ _ refl refl (sym (c .before .before .before .before .before .if1 .left) ∙ start .pre .1 (s .yard) (s .joins)) (c .before .before .path-between2 .ensures bare)
 
 pub path-past-spec : {M : Type 1} → statement M
 path-past-spec =

@@ -7,7 +7,7 @@ use lib.ListN.{length}
 use Rattle.moving.specs.Bounds.{clear-once-most, attempt-most}
 use Rattle.acting.specs.Acting.{nothing}
 use Rattle.attempts.specs.Asking.{wayWith}
-use Rattle.attempts.proofs.Attempting.{ready-copy, attempted, within-more}
+use Rattle.attempts.proofs.Attempting.{ready-copy, kept-copy, attempted, within-more}
 use borrow.Author.Needs.{needs}
 use Rattle.attempts.proofs.attempt.Statement.{statement}
 use Rattle.attempts.proofs.attempt.Tie as tie
@@ -56,7 +56,7 @@ go-round-requires c κs =
     let z = start .pre .1 in
     let e = copy .ensures in
     let d = copy2 .ensures in
-    (ready-copy p _ _ _ e d (search needs) (c .before .before .before .before .before .before .keep .ensures .row), ((rw e (z .0 .0), rw e (z .0 .1), z .0 .2, rw d (z .0 .3), rw d (z .0 .4), rw d (z .0 .5), rw e (z .0 .6)), rw d (z .1), omega arith))
+    (ready-copy p _ _ _ e d (search needs) (c .before .before .before .before .before .before .keep .ensures .row), record { around = kept-copy _ _ e d (z .around); inside = rw d (z .inside) })
 
 same-length : tie.Need-same-length
 same-length c = c .before .before .before .before .before .go-round .kept .1 .1 .1 .1 .1 .1 .0
@@ -71,7 +71,10 @@ returns c =
     let a = start .args in
     let e = copy .ensures in
     let d = copy2 .ensures in
-    (go-round .ensures .0, λ t j. rw (if1 .taken) (attempted {o = wayWith true (t .yard) (a .one) (a .x .0) (a .placement .now)} (rw (e, d) at (go-round .ensures .1) t j)))
+    record {
+      few = go-round .ensures .few;
+      attempts = λ t j. rw (if1 .taken) (attempted {o = wayWith true (t .yard) (a .one) (a .x .0) (a .placement .now)} (rw (e, d) at (go-round .ensures .tries) t j));
+    }
 
 array-borrow-prefix-bays-2 : tie.Need-array-borrow-prefix-bays-2
 array-borrow-prefix-bays-2 c = search needs
@@ -99,7 +102,7 @@ vacate-both-requires c κs =
     let z = start .pre .1 in
     let e = copy .ensures in
     let d = copy2 .ensures in
-    (ready-copy p _ _ _ e d (search needs) (c .before .before .before .before .before .before .before .before .before .keep .ensures .row), (rw d (z .0 .3), rw d (z .0 .4), rw d (z .0 .5), rw d (z .1), omega arith))
+    (ready-copy p _ _ _ e d (search needs) (c .before .before .before .before .before .before .before .before .before .keep .ensures .row), record { junction = rw d (z .around .junction); held = rw d (z .around .behind); emptied = rw d (z .around .kept); inside = rw d (z .inside) })
 
 same-length-2 : tie.Need-same-length-2
 same-length-2 c = c .before .before .before .before .before .vacate-both .kept .1 .1 .1 .1 .1 .1 .0
@@ -114,7 +117,10 @@ returns-2 c =
     let a = start .args in
     let e = copy .ensures in
     let d = copy2 .ensures in
-    (within-more (vacate-both .result) nothing clear-once-most attempt-most (omega arith) (vacate-both .ensures .0), λ t j. rw (if1 .left) (attempted {o = wayWith false (t .yard) (a .one) (a .x .0) (a .placement .now)} (rw (e, d) at (vacate-both .ensures .1) t)))
+    record {
+      few = within-more (vacate-both .result) nothing clear-once-most attempt-most (omega arith) (vacate-both .ensures .few);
+      attempts = λ t j. rw (if1 .left) (attempted {o = wayWith false (t .yard) (a .one) (a .x .0) (a .placement .now)} (rw (e, d) at (vacate-both .ensures .tries) t));
+    }
 
 pub attempt-spec : {M : Type 1} → statement M
 attempt-spec =

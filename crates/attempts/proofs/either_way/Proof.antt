@@ -24,7 +24,7 @@ returns c =
     let start = c .before .before .before .before .before .before .before .before .before .before .before .before .before in
     let one = start .args .one in
     let e : first-kept .result ≡ One (c .before .first .given .0 .0) (c .before .first .given .0 .1 .0) = c .before .first .given .1 in
-    (rw e at (first-kept .ensures .0), λ t j o. first-way (t .yard) (one .lead .couple .leader .0) (one .lead .couple .follower .0) (one .lead .junction .0) (one .behind .0) (one .kept .0) (start .args .placement .now) (length (start .args .standing .now)) (start .args .others .now) o (rw e at (first-kept .ensures .1 t j)))
+    record { few = rw e at (first-kept .ensures .few); keeps = λ t j o. first-way (t .yard) (one .lead .couple .leader .0) (one .lead .couple .follower .0) (one .lead .junction .0) (one .behind .0) (one .kept .0) (start .args .placement .now) (length (start .args .standing .now)) (start .args .others .now) o (rw e at (first-kept .ensures .keeps t j)) }
 
 enum-told : tie.Need-enum-told
 enum-told c = c .match .keys2
@@ -45,7 +45,7 @@ returns-2 c =
     let start = c .before .before .before .before .before .before .before .before .before .before .before .before .before .before .before .before in
     let one = start .args .one in
     let e : first-kept .result ≡ Nothing = c .before .before .before .before .enum-told .given .1 in
-    (c .before .before .first-kept2 .ensures .0, λ t j o. second-way (t .yard) (one .lead .couple .leader .0) (one .lead .couple .follower .0) (one .lead .junction .0) (one .behind .0) (one .kept .0) (start .args .placement .now) (length (start .args .standing .now)) (start .args .others .now) o (first-kept .ensures .1 t j .nothing e) (c .before .before .first-kept2 .ensures .1 t j))
+    record { few = c .before .before .first-kept2 .ensures .few; keeps = λ t j o. second-way (t .yard) (one .lead .couple .leader .0) (one .lead .couple .follower .0) (one .lead .junction .0) (one .behind .0) (one .kept .0) (start .args .placement .now) (length (start .args .standing .now)) (start .args .others .now) o (first-kept .ensures .keeps t j .nothing e) (c .before .before .first-kept2 .ensures .keeps t j) }
 
 pub either-way-spec : {M : Type 1} → statement M
 either-way-spec =

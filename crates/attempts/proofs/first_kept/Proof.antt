@@ -38,7 +38,7 @@ attempt-requires c κs =
     let p = start .pre .0 in
     let z = start .pre .1 in
     let t = c .before .loop-test .taken in
-    (p, (z .0, z .2 .low _ t (c .before .before .loop .inv .1 t)))
+    (p, record { around = z .around; inside = z .among .low _ t (c .before .before .loop .inv .1 t) })
 
 enum-known-tried : tie.Need-enum-known-tried Inv-loop μ-loop
 enum-known-tried c = c .match .keys1
@@ -57,8 +57,10 @@ returns c =
     let t = c .before .before .before .before .before .before .before .loop-test .taken in
     let v = loop .inv in
     let e : attempt .result ≡ Done (c .before .tried .given .0 .0) = c .before .tried .given .1 in
-    let few = rw e at (attempt .ensures .0) in
-    (omega (arith, few), λ w j. kept-one _ _ _ _ (z .2 .low _ t (v .1 t)) (v .1 t) (v .3 w j) (attempt .ensures .1 w j .done _ e))
+    record {
+      few = omega (arith, rw e at (attempt .ensures .few));
+      keeps = λ w j. kept-one _ _ _ _ (z .among .low _ t (v .1 t)) (v .1 t) (v .3 w j) (attempt .ensures .attempts w j .done _ e);
+    }
 
 enum-told : tie.Need-enum-told Inv-loop μ-loop
 enum-told c = c .match .keys2
@@ -79,7 +81,7 @@ loop-again c =
     let v = loop .inv in
     let e : attempt .result ≡ Failed = c .before .enum-told .given .1 in
     let n = c .next-from2 .ensures in
-    (n .upto, n .hit, search needs, λ w j. failing-more _ _ _ _ _ (v .3 w j) (attempt .ensures .1 w j .fails e) n)
+    (n .upto, n .hit, search needs, λ w j. failing-more _ _ _ _ _ (v .3 w j) (attempt .ensures .attempts w j .fails e) n)
 
 same-length-2 : tie.Need-same-length-2 Inv-loop μ-loop
 same-length-2 c = c .before .loop .inv .2
@@ -87,7 +89,7 @@ same-length-2 c = c .before .loop .inv .2
 returns-2 : tie.Need-returns-2 Inv-loop μ-loop
 returns-2 c =
     let start = c .before .before .before .before .before .before .before .before .before in
-    (tt, λ w j. kept-none _ _ _ _ (omega (arith, start .pre .0 .most, c .loop-test .left)) (c .before .loop .inv .3 w j))
+    record { few = tt; keeps = λ w j. kept-none _ _ _ _ (omega (arith, start .pre .0 .most, c .loop-test .left)) (c .before .loop .inv .3 w j) }
 
 pub first-kept-spec : {M : Type 1} → statement M
 first-kept-spec =

@@ -8,6 +8,7 @@ use mathlib.Core.List.{[]}
 use borrow.Author.Needs.{needs}
 use Rattle.acting.proofs.Acting.{tries-none, acted-failed}
 use Rattle.acting.proofs.Holding.{pairShown}
+use Rattle.acting.proofs.Lending.{rest-lent, on-the-rest}
 use Rattle.bring.proofs.Bringing.{bay-low, led, brought-one, free, acts-free, brought-not}
 use Rattle.acting.specs.declared.Tried.the-variants.{Done}
 use Rattle.acting.specs.declared.Tried.the-variants.{Failed}
@@ -27,19 +28,26 @@ enter-requires c κs =
     let z = start .pre .1 in
     let a = start .args in
     let h = sym (c .before .before .before .before .if1 .taken) ∙ c .before .before .before .before .before .is-in .ensures in
-    (z .0, z .1, z .2, z .3, p .most, p .empty-size, omega (arith, z .4), free (a .x .0) (a .placement .now) (p .placed) (z .3) h, p .placed)
+    record {
+      coupled = z .coupled;
+      inside = z .inside;
+      most = p .most;
+      empty-size = p .empty-size;
+      free = free (a .x .0) (a .placement .now) (p .placed) (z .inside) h;
+      placed = p .placed;
+    }
 
 same-length : tie.Need-same-length
-same-length c = search needs
+same-length c = c .before .before .before .before .before .before .before .before .enter .kept .1 .1 .0
 
 same-length-2 : tie.Need-same-length-2
-same-length-2 c = search needs
+same-length-2 c = c .before .before .before .before .before .before .before .before .enter .kept .1 .1 .1 .0
 
 same-length-3 : tie.Need-same-length-3
-same-length-3 c = search needs
+same-length-3 c = c .before .before .before .before .before .before .before .before .enter .kept .1 .1 .1 .1 .0
 
 same-length-4 : tie.Need-same-length-4
-same-length-4 c = search needs
+same-length-4 c = c .before .before .before .before .before .before .before .before .enter .kept .1 .1 .1 .1 .1 .0
 
 returns : tie.Need-returns
 returns c =
@@ -51,11 +59,13 @@ returns c =
     let z = start .pre .1 in
     let a = start .args in
     let h = sym (if1 .taken) ∙ is-in .ensures in
-    let entry = enter .ensures in (
-      omega (arith, entry .counted),
-      λ t.
-          brought-one (t .yard) (length (a .standing .now)) (a .couple .leader .0) (a .couple .follower .0) (a .x .0) (a .placement .now) (p .placed .apart) (z .0) (z .1) (z .2) (bay-low t (z .3)) (acts-free (a .x .0) (a .placement .now) (p .placed) (z .3) h (t .yard) _) entry,
-    )
+    let k = z .coupled in
+    let entry = enter .ensures in
+    record {
+      few = omega (arith, entry .counted);
+      tries = λ t.
+          brought-one (t .yard) (length (a .standing .now)) (a .couple .leader .0) (a .couple .follower .0) (a .x .0) (a .placement .now) (p .placed .apart) (k .leads) (k .follows) (k .differ) (bay-low t (z .inside)) (acts-free (a .x .0) (a .placement .now) (p .placed) (z .inside) h (t .yard) _) entry;
+    }
 
 cast-first : tie.Need-cast-first
 cast-first c = search needs
@@ -83,14 +93,14 @@ cast-alone c =
     let start = c .before .before .before .before .before .before .before .before .before .before .before .before .before .before in
     let p = start .pre in
     let a = start .args in
-    omega (arith, p .0 .placed .inside (a .couple .leader .0) (p .1 .0))
+    omega (arith, p .0 .placed .inside (a .couple .leader .0) (p .1 .coupled .leads))
 
 alone-requires : tie.Need-alone-requires
 alone-requires c κs =
     let start = c .before .before .before .before .before .before .before .before .before .before .before .before .before .before in
     let p = start .pre in
     let a = start .args in
-    (omega arith, omega (arith, p .0 .placed .inside (a .couple .leader .0) (p .1 .0), p .0 .most))
+    (omega arith, omega (arith, p .0 .placed .inside (a .couple .leader .0) (p .1 .coupled .leads), p .0 .most))
 
 slice-aggregate-join : tie.Need-slice-aggregate-join
 slice-aggregate-join c = search needs
@@ -100,14 +110,14 @@ cast-join c =
     let start = c .before .before .before .before .before .before .before .before .before .before .before .before .before .before .before .before .before in
     let p = start .pre in
     let a = start .args in
-    omega (arith, p .0 .placed .inside (a .couple .leader .0) (p .1 .0), p .0 .placed .inside (a .couple .follower .0) (p .1 .1))
+    omega (arith, p .0 .placed .inside (a .couple .leader .0) (p .1 .coupled .leads), p .0 .placed .inside (a .couple .follower .0) (p .1 .coupled .follows))
 
 join-requires : tie.Need-join-requires
 join-requires c κs =
     let start = c .before .before .before .before .before .before .before .before .before .before .before .before .before .before .before .before .before in
     let p = start .pre in
     let a = start .args in
-    (omega arith, omega (arith, p .0 .placed .inside (a .couple .leader .0) (p .1 .0), p .0 .placed .inside (a .couple .follower .0) (p .1 .1), p .0 .most))
+    (omega arith, omega (arith, p .0 .placed .inside (a .couple .leader .0) (p .1 .coupled .leads), p .0 .placed .inside (a .couple .follower .0) (p .1 .coupled .follows), p .0 .most))
 
 slice-aggregate-make-room : tie.Need-slice-aggregate-make-room
 slice-aggregate-make-room c = search needs
@@ -118,25 +128,25 @@ make-room-requires c κs =
     let start = c .before .before .before .before .before .before .before .before .before .before .before .before .before .before .before .before .before .before .before .before .before .before .before .before in
     let p = start .pre .0 in
     let z = start .pre .1 in
-    (p, (z .3, omega arith, z .4, pairShown (p .tabled) _ _ _ _ (alone .ensures) (c .before .before .before .before .before .before .join .ensures)))
+    (p, record { inside = z .inside; held-size = omega arith; shown = pairShown (p .tabled) _ _ _ _ (alone .ensures) (c .before .before .before .before .before .before .join .ensures) })
 
 enum-known-vacated : tie.Need-enum-known-vacated
-enum-known-vacated c = search needs
+enum-known-vacated c = c .match .keys1
 
 enum-told : tie.Need-enum-told
-enum-told c = search needs
+enum-told c = c .match .keys2
 
 same-length-5 : tie.Need-same-length-5
-same-length-5 c = search needs
+same-length-5 c = c .before .before .before .before .before .before .before .before .before .before .make-room .kept .1 .1 .1 .0
 
 same-length-6 : tie.Need-same-length-6
-same-length-6 c = search needs
+same-length-6 c = c .before .before .before .before .before .before .before .before .before .before .make-room .kept .1 .1 .1 .1 .0
 
 same-length-7 : tie.Need-same-length-7
-same-length-7 c = search needs
+same-length-7 c = c .before .before .before .before .before .before .before .before .before .before .make-room .kept .1 .1 .1 .1 .1 .0
 
 same-length-8 : tie.Need-same-length-8
-same-length-8 c = search needs
+same-length-8 c = c .before .before .before .before .before .before .before .before .before .before .make-room .kept .1 .1 .1 .1 .1 .1 .0
 
 returns-2 : tie.Need-returns-2
 returns-2 c =
@@ -144,66 +154,95 @@ returns-2 c =
     let join = c .before .before .before .before .before .before .before .before .before .before .before .before .before .before .before .before .before .join in
     let alone = c .before .before .before .before .before .before .before .before .before .before .before .before .before .before .before .before .before .before .before .before .alone in
     let start = c .before .before .before .before .before .before .before .before .before .before .before .before .before .before .before .before .before .before .before .before .before .before .before .before .before .before .before .before .before .before .before .before .before .before .before in
-    let z = start .pre .1 in (
-      tt,
-      λ t.
+    let e : make-room .result ≡ Failed = c .enum-told .given .1 in
+    record {
+      few = tt;
+      tries = λ t.
           let v = pairShown t _ _ _ _ (alone .ensures) (join .ensures) in
-          let e : make-room .result ≡ Failed = c .enum-told .given .1 in
-          tries-none (brought-not (t .yard) (start .args .couple .leader .0) (start .args .couple .follower .0) (start .args .x .0) (start .args .placement .now) (acted-failed (rw e at (make-room .ensures .1 v))) []),
-    )
+          tries-none (brought-not (t .yard) (start .args .couple .leader .0) (start .args .couple .follower .0) (start .args .x .0) (start .args .placement .now) (acted-failed (rw e at (make-room .ensures .acts v))) []);
+    }
+
+place-in-requires : tie.Need-place-in-requires
+place-in-requires c κs = search needs
+
+mul-enter : tie.Need-mul-enter
+mul-enter c =
+    let start = c .before .before .before .before .before .before .before .before .before .before .before .before .before .before .before .before .before .before .before .before .before .before .before .before .before .before .before .before .before .before .before .before .before .before .before .before .before .before .before .before .before in
+    search (needs, c .before .before .before .place-in .ensures, c .before .before .before .before .before .before .before .before .before .before .before .before .before .before .before .before .make-room .kept .1 .1 .1 .1 .1 .1 .0, start .good)
+
+sub-enter : tie.Need-sub-enter
+sub-enter c = search needs
+
+part-enter-start : tie.Need-part-enter-start
+part-enter-start c = search needs
+
+part-enter-end : tie.Need-part-enter-end
+part-enter-end c = search needs
 
 enter-requires-2 : tie.Need-enter-requires-2
 enter-requires-2 c κs =
-    let vacated = c .before .before .before .before .before .vacated in
-    let make-room = c .before .before .before .before .before .before .before .before .before .before .before .before .before .before .before .make-room in
-    let join = c .before .before .before .before .before .before .before .before .before .before .before .before .before .before .before .before .before .before .before .before .before .before .join in
-    let alone = c .before .before .before .before .before .before .before .before .before .before .before .before .before .before .before .before .before .before .before .before .before .before .before .before .before .alone in
-    let start = c .before .before .before .before .before .before .before .before .before .before .before .before .before .before .before .before .before .before .before .before .before .before .before .before .before .before .before .before .before .before .before .before .before .before .before .before .before .before .before .before in
+    let vacated = c .before .before .before .before .before .before .before .vacated in
+    let make-room = c .before .before .before .before .before .before .before .before .before .before .before .before .before .before .before .before .before .make-room in
+    let join = c .before .before .before .before .before .before .before .before .before .before .before .before .before .before .before .before .before .before .before .before .before .before .before .before .join in
+    let alone = c .before .before .before .before .before .before .before .before .before .before .before .before .before .before .before .before .before .before .before .before .before .before .before .before .before .before .before .alone in
+    let start = c .before .before .before .before .before .before .before .before .before .before .before .before .before .before .before .before .before .before .before .before .before .before .before .before .before .before .before .before .before .before .before .before .before .before .before .before .before .before .before .before .before .before in
     let p = start .pre .0 in
     let z = start .pre .1 in
+    let k = z .coupled in
     let a = start .args in
-    let m = vacated .given .0 .0 in
-    let e : make-room .result ≡ Done m = vacated .given .1 in
-    let few = rw e at (make-room .ensures .0) in
+    let e : make-room .result ≡ Done (vacated .given .0 .0) = vacated .given .1 in
     let kw : length (make-room .last .1 .1 .1 .1 .0) ≡ length (a .standing .now) = make-room .kept .1 .1 .1 .1 .0 in
     let kf : length (make-room .last .1 .1 .1 .1 .1 .0) ≡ length (a .empty .now) = make-room .kept .1 .1 .1 .1 .1 .0 in
-    let acts = rw e at (make-room .ensures .1 (pairShown (p .tabled) _ _ _ _ (alone .ensures) (join .ensures))) in
-    let l = led (p .tabled .yard) (length (a .standing .now)) (a .couple .leader .0) (a .couple .follower .0) (a .x .0) (a .placement .now) (p .placed .apart) (z .0) (z .1) (z .2) (bay-low (p .tabled) (z .3)) acts in
-    (l .0, l .1, z .2, omega (arith, z .3, kw), omega (arith, p .most, kw), omega (arith, p .empty-size, kf), omega (arith, few, z .4), l .2, rw kw (l .3))
+    let acts = rw e at (make-room .ensures .acts (pairShown (p .tabled) _ _ _ _ (alone .ensures) (join .ensures))) in
+    let l = led (p .tabled .yard) (length (a .standing .now)) (a .couple .leader .0) (a .couple .follower .0) (a .x .0) (a .placement .now) (p .placed .apart) (k .leads) (k .follows) (k .differ) (bay-low (p .tabled) (z .inside)) acts in
+    record {
+      coupled = record { leads = l .0; follows = l .1; differ = k .differ };
+      inside = omega (arith, z .inside, kw);
+      most = omega (arith, p .most, kw);
+      empty-size = omega (arith, p .empty-size, kf);
+      free = l .2;
+      placed = rw kw (l .3);
+    }
+
+add-requires : tie.Need-add-requires
+add-requires c κs =
+    let make-room = c .before .before .before .before .before .before .before .before .before .before .before .before .before .before .before .before .before .before .before .before .before .before .before .before .before .before .make-room in
+    let e : make-room .result ≡ Done (c .before .before .before .before .before .before .before .before .before .before .before .before .before .before .before .before .vacated .given .0 .0) = c .before .before .before .before .before .before .before .before .before .before .before .before .before .before .before .before .vacated .given .1 in
+    omega (arith, rw e at (make-room .ensures .few), c .before .before .before .before .before .before .before .before .enter2 .ensures .counted)
 
 same-length-9 : tie.Need-same-length-9
-same-length-9 c = search needs
+same-length-9 c = c .before .before .before .before .before .before .before .before .before .enter2 .kept .1 .1 .0 ∙ c .before .before .before .before .before .before .before .before .before .before .before .before .before .before .before .before .before .before .before .before .before .before .before .before .before .before .before .make-room .kept .1 .1 .1 .0
 
 same-length-10 : tie.Need-same-length-10
-same-length-10 c = search needs
+same-length-10 c = c .before .before .before .before .before .before .before .before .before .enter2 .kept .1 .1 .1 .0 ∙ c .before .before .before .before .before .before .before .before .before .before .before .before .before .before .before .before .before .before .before .before .before .before .before .before .before .before .before .make-room .kept .1 .1 .1 .1 .0
 
 same-length-11 : tie.Need-same-length-11
-same-length-11 c = search needs
+same-length-11 c = c .before .before .before .before .before .before .before .before .before .enter2 .kept .1 .1 .1 .1 .0 ∙ c .before .before .before .before .before .before .before .before .before .before .before .before .before .before .before .before .before .before .before .before .before .before .before .before .before .before .before .make-room .kept .1 .1 .1 .1 .1 .0
 
 same-length-12 : tie.Need-same-length-12
-same-length-12 c = search needs
+same-length-12 c = c .before .before .out3 .given .1 ∙ c .before .before .before .before .before .before .before .before .before .before .before .before .before .before .before .before .before .before .before .before .before .before .before .before .before .before .before .make-room .kept .1 .1 .1 .1 .1 .1 .0
 
 returns-3 : tie.Need-returns-3
 returns-3 c =
-    let enter2 = c .before .before .before .before .before .before .before .before .enter2 in
-    let vacated = c .before .before .before .before .before .before .before .before .before .before .before .before .before .before .vacated in
-    let make-room = c .before .before .before .before .before .before .before .before .before .before .before .before .before .before .before .before .before .before .before .before .before .before .before .before .make-room in
-    let join = c .before .before .before .before .before .before .before .before .before .before .before .before .before .before .before .before .before .before .before .before .before .before .before .before .before .before .before .before .before .before .before .join in
-    let alone = c .before .before .before .before .before .before .before .before .before .before .before .before .before .before .before .before .before .before .before .before .before .before .before .before .before .before .before .before .before .before .before .before .before .before .alone in
-    let start = c .before .before .before .before .before .before .before .before .before .before .before .before .before .before .before .before .before .before .before .before .before .before .before .before .before .before .before .before .before .before .before .before .before .before .before .before .before .before .before .before .before .before .before .before .before .before .before .before .before in
+    let enter2 = c .before .before .before .before .before .before .before .before .before .enter2 in
+    let vacated = c .before .before .before .before .before .before .before .before .before .before .before .before .before .before .before .before .before .vacated in
+    let make-room = c .before .before .before .before .before .before .before .before .before .before .before .before .before .before .before .before .before .before .before .before .before .before .before .before .before .before .before .make-room in
+    let join = c .before .before .before .before .before .before .before .before .before .before .before .before .before .before .before .before .before .before .before .before .before .before .before .before .before .before .before .before .before .before .before .before .before .before .join in
+    let alone = c .before .before .before .before .before .before .before .before .before .before .before .before .before .before .before .before .before .before .before .before .before .before .before .before .before .before .before .before .before .before .before .before .before .before .before .before .before .alone in
+    let start = c .before .before .before .before .before .before .before .before .before .before .before .before .before .before .before .before .before .before .before .before .before .before .before .before .before .before .before .before .before .before .before .before .before .before .before .before .before .before .before .before .before .before .before .before .before .before .before .before .before .before .before .before in
     let p = start .pre .0 in
     let z = start .pre .1 in
+    let k = z .coupled in
     let a = start .args in
-    let m = vacated .given .0 .0 in
-    let e : make-room .result ≡ Done m = vacated .given .1 in
-    let few = rw e at (make-room .ensures .0) in
+    let e : make-room .result ≡ Done (vacated .given .0 .0) = vacated .given .1 in
     let kw : length (make-room .last .1 .1 .1 .1 .0) ≡ length (a .standing .now) = make-room .kept .1 .1 .1 .1 .0 in
-    let entry = rw kw at (enter2 .ensures) in (
-      omega (arith, few, entry .counted),
-      λ t.
-          let acts = rw e at (make-room .ensures .1 (pairShown t _ _ _ _ (alone .ensures) (join .ensures))) in
-          brought-one (t .yard) (length (a .standing .now)) (a .couple .leader .0) (a .couple .follower .0) (a .x .0) (a .placement .now) (p .placed .apart) (z .0) (z .1) (z .2) (bay-low t (z .3)) acts entry,
-    )
+    let entry = rw kw at (enter2 .ensures) in
+    record {
+      few = omega (arith, rw e at (make-room .ensures .few), entry .counted, c .add .ensures .crossings);
+      tries = λ t.
+          let acts = rw e at (make-room .ensures .acts (pairShown t _ _ _ _ (alone .ensures) (join .ensures))) in
+          brought-one (t .yard) (length (a .standing .now)) (a .couple .leader .0) (a .couple .follower .0) (a .x .0) (a .placement .now) (p .placed .apart) (k .leads) (k .follows) (k .differ) (bay-low t (z .inside)) acts (on-the-rest (rest-lent _ (c .before .before .before .before .before .before .before .before .before .before .before .before .before .before .place-in .ensures) (c .before .before .out3 .given) (c .add .ensures)) entry);
+    }
 
 pub bring-one-spec : {M : Type 1} → statement M
 bring-one-spec =
@@ -238,7 +277,13 @@ bring-one-spec =
     same-length-7
     same-length-8
     returns-2
+    place-in-requires
+    mul-enter
+    sub-enter
+    part-enter-start
+    part-enter-end
     enter-requires-2
+    add-requires
     same-length-9
     same-length-10
     same-length-11

@@ -15,7 +15,7 @@ use Rattle.moving.specs.Bounds.{swap-most}
 use Rattle.acting.specs.Acting.{Tabled}
 use Rattle.clear.proofs.Clearing.{ready-again}
 use Rattle.step.specs.Asking.{BaysBelow}
-use Rattle.go.proofs.Lending.{rest-lent}
+use Rattle.acting.proofs.Lending.{rest-lent}
 use Rattle.home.specs.Homing.{Owners}
 use Rattle.home.proofs.Homing.{stages-stuck, Homed, homed-none, homed-more, homed-stops, homed-all, at-most, at-most-stuck, turn-due, turn-low, turn-homed}
 use Rattle.home.proofs.Settling.{Settled, Homeward}
@@ -38,13 +38,13 @@ abbrev μ-loop : tie.MeasureT-loop
 μ-loop table owner placement₀ standing₀ empty₀ settled₀ out₀ path k at finished i₀ placement standing empty settled out count i =
     i
 
-slice-aggregate-go-along : tie.Need-slice-aggregate-go-along Inv-loop μ-loop
-slice-aggregate-go-along c = search needs
+slice-aggregate-room : tie.Need-slice-aggregate-room Inv-loop μ-loop
+slice-aggregate-room c = search needs
 
 go-along-requires : tie.Need-go-along-requires Inv-loop μ-loop
 go-along-requires c κs =
     let start = c .before .before .before .before .before .before .before .before .before .before .before .before .before .before in
-    (start .pre .0, (start .pre .1 .0, (start .pre .1 .1 .0, refl)))
+    (start .pre .0, (start .pre .1 .0, (start .pre .1 .1 .bound, refl)))
 
 enum-known-gone : tie.Need-enum-known-gone Inv-loop μ-loop
 enum-known-gone c = c .match .keys1
@@ -71,7 +71,7 @@ returns : tie.Need-returns Inv-loop μ-loop
 returns c =
     let go-along = c .before .before .before .before .before .before .before .before .before .before .before .before .before .go-along in
     let e : go-along .result ≡ Nowhere = c .enum-told .given .1 in
-    (at-most-stuck, λ t b o. stages-stuck ((go-along .ensures .1 t b) .nowhere e), settles-stuck)
+    record { at-most = at-most-stuck; stages = λ t b o. stages-stuck ((go-along .ensures .goes t b) .nowhere e); settles = settles-stuck }
 
 same-length-6 : tie.Need-same-length-6 Inv-loop μ-loop
 same-length-6 c = c .before .before .before .before .before .before .before .before .before .before .before .before .before .before .before .go-along .kept .1 .1 .0
@@ -102,14 +102,15 @@ returns-2 c =
     let m = gone .given .0 .1 .0 in
     let e : go-along .result ≡ There k m = gone .given .1 in
     let kept : length room ≡ span = go-along .kept .1 .1 .1 .1 .1 .1 .1 .0 in
-    let arrived = go-along .ensures .0 in
-    let same = length-take-le k room (omega (arith, arrived .fits k m e, p .most, kept)) in (
-      at-most (omega (arith, arrived .few k m e, c .if1 .taken)),
-      λ t b o.
-          let g = (go-along .ensures .1 t b) .there k m e in
-          gone-short t (p .most) (z .1) r (a .placement .now) (p .placed) (z .0) b room k (g .0) (g .1) (g .2) (omega (arith, same, c .if1 .taken)) (g .3),
-      settles (arrived .below k m e),
-    )
+    let arrived = go-along .ensures .arrives in
+    let same = length-take-le k room (omega (arith, arrived .fits k m e, p .most, kept)) in
+    record {
+      at-most = at-most (omega (arith, arrived .few k m e, c .if1 .taken));
+      stages = λ t b o.
+          let g = (go-along .ensures .goes t b) .there k m e in
+          gone-short t p z b g (omega (arith, same, c .if1 .taken));
+      settles = settles (arrived .below k m e);
+    }
 
 cast-finished : tie.Need-cast-finished Inv-loop μ-loop
 cast-finished c = search needs
@@ -131,8 +132,8 @@ loop-holds c =
     let m = gone .given .0 .1 .0 in
     let e : go-along .result ≡ There k m = gone .given .1 in
     let kept : length room ≡ span = go-along .kept .1 .1 .1 .1 .1 .1 .1 .0 in
-    let arrived = go-along .ensures .0 in
-    let g = (go-along .ensures .1 (p .tabled) (start .pre .1 .1 .0)) .there k m e in
+    let arrived = go-along .ensures .arrives in
+    let g = (go-along .ensures .goes (p .tabled) (start .pre .1 .1 .bound)) .there k m e in
     let kw : length (go-along .last .1 .1 .1 .0) ≡ length (start .args .standing .now) = go-along .kept .1 .1 .1 .0 in
     let all : length (between k room) ≤ k - 2 = omega (arith, between-length k room (omega (arith, arrived .fits k m e, p .most, kept))) in (
       omega arith,
@@ -142,26 +143,26 @@ loop-holds c =
       refl,
       refl,
       λ goals h apart many same o. rw (drop-of-length-le (between k room) all) (h .settled),
-      λ t goals many o. homed-none _ _ _ _ _ _ _ _ _ _ _ all (rw kw (g .3 .placed)),
+      λ t goals many o. homed-none _ _ _ _ _ _ _ _ _ _ _ all (rw kw (g .played .placed)),
       refl,
       arrived .below k m e,
     )
 
-mul-t38 : tie.Need-mul-t38 Inv-loop μ-loop
-mul-t38 c =
+mul-t40 : tie.Need-mul-t40 Inv-loop μ-loop
+mul-t40 c =
     let l = c .before .loop in
     let gone = c .before .before .before .before .before .gone in
     let go-along = c .before .before .before .before .before .before .before .before .before .before .before .before .before .before .before .before .before .before .go-along in
     let start = c .before .before .before .before .before .before .before .before .before .before .before .before .before .before .before .before .before .before .before .before .before .before .before .before .before .before .before .before .before .before .before .before .before in
-    omega (arith, l .inv .0, go-along .ensures .0 .fits (gone .given .0 .0) (gone .given .0 .1 .0) (gone .given .1), start .pre .0 .most)
+    omega (arith, l .inv .0, go-along .ensures .arrives .fits (gone .given .0 .0) (gone .given .0 .1 .0) (gone .given .1), start .pre .0 .most)
 
-array-read-t41 : tie.Need-array-read-t41 Inv-loop μ-loop
-array-read-t41 c =
+array-read-t43 : tie.Need-array-read-t43 Inv-loop μ-loop
+array-read-t43 c =
     let l = c .before .loop in
     let gone = c .before .before .before .before .before .gone in
     let go-along = c .before .before .before .before .before .before .before .before .before .before .before .before .before .before .before .before .before .before .go-along in
     let start = c .before .before .before .before .before .before .before .before .before .before .before .before .before .before .before .before .before .before .before .before .before .before .before .before .before .before .before .before .before .before .before .before .before in
-    omega (arith, l .inv .0, go-along .ensures .0 .fits (gone .given .0 .0) (gone .given .0 .1 .0) (gone .given .1), start .pre .0 .most)
+    omega (arith, l .inv .0, go-along .ensures .arrives .fits (gone .given .0 .0) (gone .given .0 .1 .0) (gone .given .1), start .pre .0 .most)
 
 place-in-requires : tie.Need-place-in-requires Inv-loop μ-loop
 place-in-requires c κs = search needs
@@ -169,7 +170,7 @@ place-in-requires c κs = search needs
 mul-rest : tie.Need-mul-rest Inv-loop μ-loop
 mul-rest c =
     let v = c .before .before .before .loop .inv in
-    let arrived = c .before .before .before .before .before .before .before .before .before .before .before .before .before .before .before .before .before .before .before .before .go-along .ensures .0 in
+    let arrived = c .before .before .before .before .before .before .before .before .before .before .before .before .before .before .before .before .before .before .before .before .go-along .ensures .arrives in
     let k = c .before .before .before .before .before .before .before .gone .given .0 .0 in
     let m = c .before .before .before .before .before .before .before .gone .given .0 .1 .0 in
     let there : c .before .before .before .before .before .before .before .before .before .before .before .before .before .before .before .before .before .before .before .before .go-along .result ≡ There k m = c .before .before .before .before .before .before .before .gone .given .1 in
@@ -194,8 +195,8 @@ home-at-requires c κs =
     let start = c .before .before .before .before .before .before .before .before .before .before .before .before .before .before .before .before .before .before .before .before .before .before .before .before .before .before .before .before .before .before .before .before .before .before .before .before .before .before .before .before in
     let p = start .pre .0 in
     let z = start .pre .1 .0 in
-    let b = start .pre .1 .1 .0 in
-    let o = start .pre .1 .1 .1 in
+    let b = start .pre .1 .1 .bound in
+    let o = start .pre .1 .1 .owners in
     let a = start .args in
     let r = a .to .carrier .0 in
     let room = go-along .last .1 .1 .1 .1 .1 .1 .1 .0 in
@@ -203,34 +204,34 @@ home-at-requires c κs =
     let m = gone .given .0 .1 .0 in
     let e : go-along .result ≡ There k m = gone .given .1 in
     let q = go-along .last .1 .1 .0 in
-    let arrived = go-along .ensures .0 in
-    let g = (go-along .ensures .1 (p .tabled) b) .there k m e in
+    let arrived = go-along .ensures .arrives in
+    let g = (go-along .ensures .goes (p .tabled) b) .there k m e in
     let kept : length room ≡ span = go-along .kept .1 .1 .1 .1 .1 .1 .1 .0 in
     let kp : length q ≡ length (a .placement .now) = go-along .kept .1 .1 .0 in
     let kw : length (go-along .last .1 .1 .1 .0) ≡ length (a .standing .now) = go-along .kept .1 .1 .1 .0 in
     let fits : k ≤ length room = omega (arith, arrived .fits k m e, p .most, kept) in
-    let h = gone-homeward (p .tabled) (p .most) (z .1) r (a .placement .now) (p .placed) (z .0) b room k (g .0) (g .1) (g .2) q (g .3 .moved) (omega (arith, length-take-le k room fits, c .before .before .before .before .before .before .before .before .before .before .if1 .left)) in
+    let h = gone-homeward (p .tabled) p z b g (omega (arith, length-take-le k room fits, c .before .before .before .before .before .before .before .before .before .before .if1 .left)) in
     let v = l .inv in
     let w : length (l .standing) ≡ length (a .standing .now) = v .3 ∙ kw in
     let i = l .i - 1 in
     let one : l .i - 1 + 1 ≡ l .i = omega (arith, loop-test .taken) in
     let here : i < length (between k room) = omega (arith, loop-test .taken, v .0, between-length k room fits) in
     let get : getD room (l .i) 0 ≡ getD (between k room) i 0 = rw one at (between-get k room fits i here) in
-    let many : r + 1 ≤ length (b .goals) = omega (arith, z .0, b .each .many) in
+    let many : r + 1 ≤ length (b .goals) = omega (arith, z .carrier-there, b .each .many) in
     let len : length (l .placement) ≡ length (b .goals) = omega (arith, v .2, kp, b .each .many) in
     let s = rw (← one) at ((rw kw at (v .6)) (b .goals) h (b .each .apart) many (omega (arith, kp, b .each .many)) o) in
     let low = turn-low h (b .each .apart) many i here (l .placement) len s in
     let due = turn-due h (b .each .apart) many i here (l .placement) len s o in
     let homed = (rw kw at (v .7)) (p .tabled) (b .goals) many o in (
       ready-again p _ _ _ w (v .4 ∙ go-along .kept .1 .1 .1 .1 .0) (homed .played .placed),
-      (
-        omega (arith, z .0, v .2, kp),
-        rw (w, get) low,
-        omega (arith, w, o .many),
-        rw w (z .1),
-        rw get due,
-        v .9,
-      ),
+      record {
+        finished-there = omega (arith, z .carrier-there, v .2, kp);
+        bay-there = rw (w, get) low;
+        owner-size = omega (arith, w, o .many);
+        loopless = rw w (z .loopless);
+        due = rw get due;
+        below = v .9;
+      },
     )
 
 enum-known-homed : tie.Need-enum-known-homed Inv-loop μ-loop
@@ -270,7 +271,7 @@ returns-3 c =
     let k = gone .given .0 .0 in
     let m = gone .given .0 .1 .0 in
     let there : go-along .result ≡ There k m = gone .given .1 in
-    let arrived = go-along .ensures .0 in
+    let arrived = go-along .ensures .arrives in
     let kept : length room ≡ span = go-along .kept .1 .1 .1 .1 .1 .1 .1 .0 in
     let kw : length (go-along .last .1 .1 .1 .0) ≡ length (a .standing .now) = go-along .kept .1 .1 .1 .0 in
     let fits : k ≤ length room = omega (arith, arrived .fits k m there, p .most, kept) in
@@ -281,27 +282,27 @@ returns-3 c =
     let here : i < length (between k room) = omega (arith, loop-test .taken, v .0, between-length k room fits) in
     let get : getD room (l .i) 0 ≡ getD (between k room) i 0 = rw one at (between-get k room fits i here) in
     let e : home-at .result ≡ Stuck (c .enum-told2 .given .0 .0) = c .enum-told2 .given .1 in
-    let f = rw (w, get) at (home-at .ensures .1) in
-    rw e (
-      at-most-stuck,
-      λ t b o.
-          let g = (go-along .ensures .1 t b) .there k m there in
-          let many : r + 1 ≤ length (b .goals) = omega (arith, z .0, b .each .many) in
-          gone-home t (p .most) (z .1) r (a .placement .now) (p .placed) (z .0) b room k (g .0) (g .1) (g .2) (g .3)
-          (stages-stuck (homed-stops (rw (← one) at ((rw kw at (v .7)) t (b .goals) many o)) here (rw e at (f t (b .goals) many o)))),
-      settles-stuck,
-    )
+    let f = rw (w, get) at (home-at .ensures .stages) in
+    rw e (record {
+      at-most = at-most-stuck;
+      stages = λ t b o.
+          let g = (go-along .ensures .goes t b) .there k m there in
+          let many : r + 1 ≤ length (b .goals) = omega (arith, z .carrier-there, b .each .many) in
+          gone-home t p z b g
+          (stages-stuck (homed-stops (rw (← one) at ((rw kw at (v .7)) t (b .goals) many o)) here (rw e at (f t (b .goals) many o))));
+      settles = settles-stuck;
+    })
 
 add-requires : tie.Need-add-requires Inv-loop μ-loop
 add-requires c κs =
     let start = c .before .before .before .before .before .before .before .before .before .before .before .before .before .before .before .before .before .before .before .before .before .before .before .before .before .before .before .before .before .before .before .before .before .before .before .before .before .before .before .before .before .before .before .before .before .before .before .before .before .before .before .before .before .before in
     let v = c .before .before .before .before .before .before .before .before .before .before .before .before .before .before .before .before .before .before .before .before .before .before .loop .inv in
-    let arrived = c .before .before .before .before .before .before .before .before .before .before .before .before .before .before .before .before .before .before .before .before .before .before .before .before .before .before .before .before .before .before .before .before .before .before .before .before .before .before .before .go-along .ensures .0 in
+    let arrived = c .before .before .before .before .before .before .before .before .before .before .before .before .before .before .before .before .before .before .before .before .before .before .before .before .before .before .before .before .before .before .before .before .before .before .before .before .before .before .before .go-along .ensures .arrives in
     let k = c .before .before .before .before .before .before .before .before .before .before .before .before .before .before .before .before .before .before .before .before .before .before .before .before .before .before .gone .given .0 .0 in
     let m = c .before .before .before .before .before .before .before .before .before .before .before .before .before .before .before .before .before .before .before .before .before .before .before .before .before .before .gone .given .0 .1 .0 in
     let there : c .before .before .before .before .before .before .before .before .before .before .before .before .before .before .before .before .before .before .before .before .before .before .before .before .before .before .before .before .before .before .before .before .before .before .before .before .before .before .before .go-along .result ≡ There k m = c .before .before .before .before .before .before .before .before .before .before .before .before .before .before .before .before .before .before .before .before .before .before .before .before .before .before .gone .given .1 in
     let e : c .before .before .before .before .before .before .before .before .before .before .before .before .before .home-at .result ≡ Planned (c .before .homed .given .0 .0) = c .before .homed .given .1 in
-    omega (arith, c .before .before .before .before .before .before .before .before .before .before .before .before .before .home-at .ensures .0 .few _ e, v .0, v .1, arrived .few k m there, arrived .fits k m there, start .pre .0 .most)
+    omega (arith, c .before .before .before .before .before .before .before .before .before .before .before .before .before .home-at .ensures .at-most .few _ e, v .0, v .1, arrived .few k m there, arrived .fits k m there, start .pre .0 .most)
 
 sub-i-2 : tie.Need-sub-i-2 Inv-loop μ-loop
 sub-i-2 c = omega (arith, c .before .before .before .before .before .before .before .before .before .before .before .before .before .before .before .before .before .before .before .before .before .before .loop-test .taken)
@@ -325,7 +326,7 @@ loop-again c =
     let k = gone .given .0 .0 in
     let m = gone .given .0 .1 .0 in
     let there : go-along .result ≡ There k m = gone .given .1 in
-    let arrived = go-along .ensures .0 in
+    let arrived = go-along .ensures .arrives in
     let kept : length room ≡ span = go-along .kept .1 .1 .1 .1 .1 .1 .1 .0 in
     let kw : length (go-along .last .1 .1 .1 .0) ≡ length (a .standing .now) = go-along .kept .1 .1 .1 .0 in
     let fits : k ≤ length room = omega (arith, arrived .fits k m there, p .most, kept) in
@@ -336,8 +337,8 @@ loop-again c =
     let here : i < length (between k room) = omega (arith, loop-test .taken, v .0, between-length k room fits) in
     let get : getD room (l .i) 0 ≡ getD (between k room) i 0 = rw one at (between-get k room fits i here) in
     let e : home-at .result ≡ Planned (c .before .before .homed .given .0 .0) = c .before .before .homed .given .1 in
-    let few = home-at .ensures .0 .few _ e in
-    let f = rw (v .3, get) at (home-at .ensures .1) in
+    let few = home-at .ensures .at-most .few _ e in
+    let f = rw (v .3, get) at (home-at .ensures .stages) in
     let out = c .before .before .before .before .before .before .before .before .before .before .before .before .before .out2 .given in
     let t₀ = rw (← kw) at (p .tabled) in (
       omega (arith, loop-test .taken, v .0),
@@ -347,10 +348,10 @@ loop-again c =
       n .1 .1 .1 .1 .1 .0 ∙ v .4,
       omega (arith, out .1, v .5),
       λ goals h apart many same o.
-          turn-homed h apart many i here (l .placement) (v .2 ∙ same) (rw (← one) at (v .6 goals h apart many same o)) t₀ (omega (arith, p .most, kw)) (rw (← kw) at (z .1)) (v .7 t₀ goals many o .played .placed) (rw e at (f t₀ goals many o)),
+          turn-homed h apart many i here (l .placement) (v .2 ∙ same) (rw (← one) at (v .6 goals h apart many same o)) t₀ (omega (arith, p .most, kw)) (rw (← kw) at (z .loopless)) (v .7 t₀ goals many o .played .placed) (rw e at (f t₀ goals many o)),
       λ t goals many o. homed-more (rw (← one) at (v .7 t goals many o)) here (rest-lent _ (c .before .before .before .before .before .before .before .before .before .before .before .before .before .before .before .before .before .before .before .before .place-in .ensures) out (c .add .ensures)) (rw e at (f t goals many o)),
       n .1 .1 .1 .1 .1 .1 .0 ∙ v .8,
-      home-at .ensures .2,
+      home-at .ensures .below,
     )
 
 same-length-16 : tie.Need-same-length-16 Inv-loop μ-loop
@@ -382,17 +383,18 @@ returns-4 c =
     let k = gone .given .0 .0 in
     let m = gone .given .0 .1 .0 in
     let there : go-along .result ≡ There k m = gone .given .1 in
-    let arrived = go-along .ensures .0 in
+    let arrived = go-along .ensures .arrives in
     let kw : length (go-along .last .1 .1 .1 .0) ≡ length (a .standing .now) = go-along .kept .1 .1 .1 .0 in
     let v = l .inv in
-    let nil : l .i ≡ 0 = omega (arith, c .loop-test .left) in (
-      at-most (omega (arith, v .1, nil, arrived .few k m there, arrived .fits k m there, p .most)),
-      λ t b o.
-          let g = (go-along .ensures .1 t b) .there k m there in
-          let many : r + 1 ≤ length (b .goals) = omega (arith, z .0, b .each .many) in
-          gone-home t (p .most) (z .1) r (a .placement .now) (p .placed) (z .0) b room k (g .0) (g .1) (g .2) (g .3) (homed-all (rw nil at ((rw kw at (v .7)) t (b .goals) many o))),
-      settles (v .9),
-    )
+    let nil : l .i ≡ 0 = omega (arith, c .loop-test .left) in
+    record {
+      at-most = at-most (omega (arith, v .1, nil, arrived .few k m there, arrived .fits k m there, p .most));
+      stages = λ t b o.
+          let g = (go-along .ensures .goes t b) .there k m there in
+          let many : r + 1 ≤ length (b .goals) = omega (arith, z .carrier-there, b .each .many) in
+          gone-home t p z b g (homed-all (rw nil at ((rw kw at (v .7)) t (b .goals) many o)));
+      settles = settles (v .9);
+    }
 
 pub carry-spec : {M : Type 1} → statement M
 carry-spec =
@@ -400,7 +402,7 @@ carry-spec =
     (tie.spec
     Inv-loop
     μ-loop
-    slice-aggregate-go-along
+    slice-aggregate-room
     go-along-requires
     enum-known-gone
     enum-told
@@ -420,8 +422,8 @@ carry-spec =
     add-finished
     sub-i
     loop-holds
-    mul-t38
-    array-read-t41
+    mul-t40
+    array-read-t43
     place-in-requires
     mul-rest
     sub-rest

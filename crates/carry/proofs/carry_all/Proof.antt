@@ -9,7 +9,7 @@ use Rattle.paper.specs.Text.{count}
 use Rattle.acting.specs.Acting.{Tabled}
 use Rattle.moving.specs.Bounds.{carrier-most}
 use Rattle.step.specs.Asking.{BaysBelow}
-use Rattle.go.proofs.Lending.{rest-lent}
+use Rattle.acting.proofs.Lending.{rest-lent}
 use Rattle.home.proofs.Homing.{stages-stuck}
 use Rattle.along.specs.Along.{Goals, HomeBelow, Bound}
 use Rattle.carry.proofs.Carrying.{settles, settles-stuck, Served, served-none, served-more, served-stuck, served-all, home-more}
@@ -37,14 +37,14 @@ is-carousel-requires c κs =
 loop-holds : tie.Need-loop-holds Inv-loop μ-loop
 loop-holds c =
     let start = c .before .before .before .before .before .before .before .before .before in
-    (omega arith, omega arith, refl, refl, refl, refl, record { home = λ i h. absurd (omega arith) }, λ t. served-none _ _ _ _ _ _ _ (start .pre .0 .placed), refl, start .pre .1 .4)
+    (omega arith, omega arith, refl, refl, refl, refl, record { home = λ i h. absurd (omega arith) }, λ t. served-none _ _ _ _ _ _ _ (start .pre .0 .placed), refl, start .pre .1 .below)
 
 cast-number : tie.Need-cast-number Inv-loop μ-loop
 cast-number c =
     let start = c .before .before .before .before .before .before .before .before .before .before .before in
     let p = start .pre .0 in
     let z = start .pre .1 in
-    omega (arith, c .loop-test .taken, z .0 .many, p .placed .few, p .most)
+    omega (arith, c .loop-test .taken, z .each .many, p .placed .few, p .most)
 
 mul-t19 : tie.Need-mul-t19 Inv-loop μ-loop
 mul-t19 c = search needs
@@ -86,8 +86,16 @@ carry-requires c κs =
         levelled = rw e (p .levelled);
       },
       (
-        (omega (arith, loop-test .taken, v .2, z .0 .many), rw e (z .1), v .9, rw e (c .before .before .before .before .before .before .before .before .before .before .is-carousel .ensures)),
-        (record { goals = start .args .goals .now; each = record { many = omega (arith, v .2, z .0 .many); apart = z .0 .apart; inside = rw e (z .0 .inside) }; own = refl; below = v .6 }, rw e (z .3)),
+        record { carrier-there = omega (arith, loop-test .taken, v .2, z .each .many); loopless = rw e (z .loopless); kind = rw e (c .before .before .before .before .before .before .before .before .before .before .is-carousel .ensures); below = v .9 },
+        record {
+          bound = record {
+            goals = start .args .goals .now;
+            each = record { many = omega (arith, v .2, z .each .many); apart = z .each .apart; inside = rw e (z .each .inside) };
+            own = refl;
+            below = v .6;
+          };
+          owners = rw e (z .owners);
+        },
       ),
     )
 
@@ -122,17 +130,17 @@ returns c =
     let z = start .pre .1 in
     let kw : length (l .standing) ≡ length (start .args .standing .now) = v .3 in
     let e : carry .result ≡ Stuck (c .enum-told .given .0 .0) = c .enum-told .given .1 in
-    let f = rw kw at (carry .ensures .1) in
-    let g : Goals (length (start .args .standing .now)) (start .args .goals .now) (l .placement) = record { many = omega (arith, v .2, z .0 .many); apart = z .0 .apart; inside = z .0 .inside } in
+    let f = rw kw at (carry .ensures .stages) in
+    let g : Goals (length (start .args .standing .now)) (start .args .goals .now) (l .placement) = record { many = omega (arith, v .2, z .each .many); apart = z .each .apart; inside = z .each .inside } in
     let b : Bound (length (start .args .standing .now)) (l .placement) (l .r) (getD (start .args .goals .now) (l .r) 0) = record { goals = start .args .goals .now; each = g; own = refl; below = v .6 } in
-    rw e (λ t. stages-stuck (served-stuck (v .7 t) (loop-test .taken) (rw e at (f t b (z .3)))), settles-stuck)
+    rw e (record { stages = λ t. stages-stuck (served-stuck (v .7 t) (loop-test .taken) (rw e at (f t b (z .owners)))); settles = settles-stuck })
 
 add-requires : tie.Need-add-requires Inv-loop μ-loop
 add-requires c κs =
     let start = c .before .before .before .before .before .before .before .before .before .before .before .before .before .before .before .before .before .before .before .before .before .before .before .before .before .before .before .before .before .before .before .before .before in
     let v = c .before .before .before .before .before .before .before .before .before .before .before .before .before .before .before .before .before .before .before .before .before .before .before .loop .inv in
     let e : c .before .before .before .before .before .before .before .before .before .before .before .before .before .carry .result ≡ Planned (c .before .carried .given .0 .0) = c .before .carried .given .1 in
-    omega (arith, c .before .before .before .before .before .before .before .before .before .before .before .before .before .carry .ensures .0 .few _ e, v .1, c .before .before .before .before .before .before .before .before .before .before .before .before .before .before .before .before .before .before .before .before .before .before .loop-test .taken, start .pre .1 .0 .many, start .pre .0 .placed .few, start .pre .0 .most)
+    omega (arith, c .before .before .before .before .before .before .before .before .before .before .before .before .before .carry .ensures .at-most .few _ e, v .1, c .before .before .before .before .before .before .before .before .before .before .before .before .before .before .before .before .before .before .before .before .before .before .loop-test .taken, start .pre .1 .each .many, start .pre .0 .placed .few, start .pre .0 .most)
 
 add-r : tie.Need-add-r Inv-loop μ-loop
 add-r c =
@@ -140,7 +148,7 @@ add-r c =
     let start = c .before .before .before .before .before .before .before .before .before .before .before .before .before .before .before .before .before .before .before .before .before .before .before .before .before .before .before .before .before .before .before .before .before .before in
     let p = start .pre .0 in
     let z = start .pre .1 in
-    omega (arith, loop-test .taken, z .0 .many, p .placed .few, p .most)
+    omega (arith, loop-test .taken, z .each .many, p .placed .few, p .most)
 
 loop-less : tie.Need-loop-less Inv-loop μ-loop
 loop-less c = omega (arith, c .before .before .before .before .before .before .before .before .before .before .before .before .before .before .before .before .before .before .before .before .before .before .before .loop-test .taken)
@@ -158,22 +166,22 @@ loop-again c =
     let k = carry .kept in
     let kw : length (l .standing) ≡ length (start .args .standing .now) = v .3 in
     let e : carry .result ≡ Planned (c .before .before .carried .given .0 .0) = c .before .before .carried .given .1 in
-    let few = carry .ensures .0 .few _ e in
-    let f = rw kw at (carry .ensures .1) in
+    let few = carry .ensures .at-most .few _ e in
+    let f = rw kw at (carry .ensures .stages) in
     let out = c .before .before .before .before .before .before .before .before .before .before .before .before .before .out .given in
-    let g : Goals (length (start .args .standing .now)) (start .args .goals .now) (l .placement) = record { many = omega (arith, v .2, z .0 .many); apart = z .0 .apart; inside = z .0 .inside } in
+    let g : Goals (length (start .args .standing .now)) (start .args .goals .now) (l .placement) = record { many = omega (arith, v .2, z .each .many); apart = z .each .apart; inside = z .each .inside } in
     let bound : Bound (length (start .args .standing .now)) (l .placement) (l .r) (getD (start .args .goals .now) (l .r) 0) = record { goals = start .args .goals .now; each = g; own = refl; below = v .6 } in
-    let hr : l .r < length (l .placement) = omega (arith, loop-test .taken, v .2, z .0 .many) in (
+    let hr : l .r < length (l .placement) = omega (arith, loop-test .taken, v .2, z .each .many) in (
       omega (arith, loop-test .taken),
       omega (arith, few, v .1, c .add .ensures .crossings),
       k .1 .1 .1 .0 ∙ v .2,
       k .1 .1 .1 .1 .0 ∙ v .3,
       k .1 .1 .1 .1 .1 .0 ∙ v .4,
       omega (arith, out .1, v .5),
-      home-more (p .tabled) (p .most) (z .1) (start .args .goals .now) (l .r) (l .placement) (b .played .placed) g hr (v .6) (rw e at (f (p .tabled) bound (z .3))),
-      λ t. served-more (v .7 t) (loop-test .taken) (rest-lent _ (c .before .before .before .before .before .before .before .before .before .before .before .before .before .before .before .before .before .before .before .before .place-in .ensures) out (c .add .ensures)) (rw e at (f t bound (z .3))),
+      home-more (p .tabled) (p .most) (z .loopless) (start .args .goals .now) (l .r) (l .placement) (b .played .placed) g hr (v .6) (rw e at (f (p .tabled) bound (z .owners))),
+      λ t. served-more (v .7 t) (loop-test .taken) (rest-lent _ (c .before .before .before .before .before .before .before .before .before .before .before .before .before .before .before .before .before .before .before .before .place-in .ensures) out (c .add .ensures)) (rw e at (f t bound (z .owners))),
       k .1 .1 .1 .1 .1 .1 .0 ∙ v .8,
-      carry .ensures .2 .below _ e,
+      carry .ensures .settles .below _ e,
     )
 
 same-length-6 : tie.Need-same-length-6 Inv-loop μ-loop
@@ -196,7 +204,7 @@ returns-2 c =
     let start = c .before .before .before .before .before .before .before .before .before .before .before in
     let v = c .before .loop .inv in
     let all : c .before .loop .r ≡ length (start .args .goals .now) = omega (arith, v .0, c .loop-test .left) in
-    (λ t. served-all (v .7 t) (c .loop-test .left), settles (rw all at (v .9)))
+    record { stages = λ t. served-all (v .7 t) (c .loop-test .left); settles = settles (rw all at (v .9)) }
 
 pub carry-all-spec : {M : Type 1} → statement M
 carry-all-spec =

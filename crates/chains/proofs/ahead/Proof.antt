@@ -4,7 +4,7 @@ use borrow.Author.Needs.{needs}
 use Rattle.chains.proofs.Linking.{met-on, leads-found, linked-ahead}
 use Rattle.chains.specs.Links.{links-each, sought, goal, Met, Leads}
 use lib.ListN.{length, getD}
-use Prim.Native.Nat.{ℕ, suc, _<_, _+_, _*_, _-_}
+use Prim.Native.Nat.{ℕ, suc, _<_, _+_, _*_}
 use mathlib.Core.Path.{_≡_, sym, _∙_}
 use denote.Ref.{now}
 use native.Mathlib.Omega.{arith}

@@ -1,6 +1,5 @@
 -- `choice::of_set` meets its contract. Where the set has no second bay, the first is the choice.
 -- Assumes nothing.
-use native.Mathlib.Omega.{arith}
 use Rattle.choice.proofs.Taking.{best-first, best-taken, none-taken}
 use borrow.Author.Needs.{needs}
 use Rattle.choice.proofs.of_set.Statement.{statement}

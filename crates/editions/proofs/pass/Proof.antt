@@ -1,6 +1,5 @@
 -- `editions::pass` meets its contract: 2 is the train slots, and anything else the first edition.
 -- Assumes nothing.
-use lib.ListN.{length}
 use borrow.Author.Tests.{eq-eqb, ne-eqb}
 use Rattle.paper.specs.Yard.{crossings}
 use Rattle.editions.proofs.Saying.{by-two, by-one}

@@ -2,7 +2,7 @@
 -- Assumes nothing.
 use mathlib.Core.Path.{_∙_}
 use borrow.Author.Needs.{needs}
-use Rattle.fields.specs.Kept.{seenOf}
+use Rattle.fields.specs.ReadAs.{seenOf}
 use Rattle.fields.proofs.Cases.{well-name, well-length, well-width, well-height, well-number, well-none}
 use Rattle.fields.proofs.well_field.Statement.{statement}
 use Rattle.fields.proofs.well_field.Tie as tie

@@ -19,7 +19,8 @@ step-in-requires c κs =
     let p = start .pre .0 in
     let z = start .pre .1 in
     let free = sym (c .before .before .before .before .before .before .is-in .ensures) ∙ c .before .before .before .before .before .if1 .taken in
-    ((z .0, z .2, free, p .placed), (p .most, p .empty-size, z .5 .size))
+    let there = z .can .carrier-there in
+    record { most = p .most; empty-size = p .empty-size; settled-size = z .below .size; placed = p .placed; carrier-there = there; bay-there = z .can .bay-there; free = free }
 
 same-length : tie.Need-same-length
 same-length c = c .before .before .before .before .before .before .before .before .before .before .step-in .kept .1 .1 .0
@@ -42,15 +43,14 @@ returns c =
     let if1 = c .before .before .before .before .before .before .before .before .before .before .before .before .before .before .before .before .if1 in
     let is-in = c .before .before .before .before .before .before .before .before .before .before .before .before .before .before .before .before .before .is-in in
     let start = c .before .before .before .before .before .before .before .before .before .before .before .before .before .before .before .before .before .before .before .before .before .before .before .before .before .before .before .before in
-    let a = start .args in
     let p = start .pre .0 in
     let z = start .pre .1 in
     let free = sym (if1 .taken) ∙ is-in .ensures in
-    let stepped = step-in .ensures in (
-      omega (arith, stepped .0 .counted),
-      λ t. stepped-free t (p .most) (z .4) (a .next .finished) (a .next .carrier .0) (a .next .to .0) (a .placement .now) (p .placed) (z .0) (z .2) (z .3) free (stepped .0),
-      stepped .1 (a .next .finished) (z .5),
-    )
+    let crossed = step-in .ensures .crosses in
+    record {
+      says = record { few = omega (arith, crossed .counted); proceeds = λ t. stepped-free t (p .most) (z .can) (p .placed) free crossed };
+      below = step-in .ensures .below (start .args .next .finished) (z .below);
+    }
 
 step-requires : tie.Need-step-requires
 step-requires c κs = search needs

@@ -13,8 +13,8 @@ use Rattle.acting.proofs.Acting.{tries-none}
 use Rattle.moving.specs.Bounds.{swap-most}
 use Rattle.step.specs.Asking.{BaysBelow}
 use Rattle.go.specs.Going.{Linked}
-use Rattle.go.proofs.Lending.{rest-lent}
-use Rattle.go.proofs.Going.{Going, going-none, going-all, going-more, going-stops, linked-here, arrived}
+use Rattle.acting.proofs.Lending.{rest-lent}
+use Rattle.go.proofs.Going.{Going, going-none, going-all, going-more, going-stops, linked-on, can-go, arrived}
 use Rattle.acting.specs.declared.Tried.the-variants.{Done}
 use Rattle.acting.specs.declared.Tried.the-variants.{Failed}
 use Rattle.go.proofs.go.Statement.{statement}
@@ -37,39 +37,40 @@ cast-finished c = search needs
 loop-holds : tie.Need-loop-holds Inv-loop μ-loop
 loop-holds c =
     let start = c .before .before .before .before .before .before .before .before in
-    (omega arith, omega arith, refl, refl, refl, refl, start .pre .1 .1, λ t goals. going-none _ _ _ _ _ _ _ _ _ (start .pre .0 .placed), refl, start .pre .1 .4)
+    (omega arith, omega arith, refl, refl, refl, refl, start .pre .1 .linked, λ t goals. going-none _ _ _ _ _ _ _ _ _ (start .pre .0 .placed), refl, start .pre .1 .below)
 
-mul-t17 : tie.Need-mul-t17 Inv-loop μ-loop
-mul-t17 c = search needs
+mul-t18 : tie.Need-mul-t18 Inv-loop μ-loop
+mul-t18 c = search needs
 
-shared-slice-read-t20 : tie.Need-shared-slice-read-t20 Inv-loop μ-loop
-shared-slice-read-t20 c = search needs
+shared-slice-read-t21 : tie.Need-shared-slice-read-t21 Inv-loop μ-loop
+shared-slice-read-t21 c = search needs
 
 place-in-requires : tie.Need-place-in-requires Inv-loop μ-loop
 place-in-requires c κs = search needs
 
-mul-advance : tie.Need-mul-advance Inv-loop μ-loop
-mul-advance c = search needs
+mul-rest : tie.Need-mul-rest Inv-loop μ-loop
+mul-rest c = search needs
 
-sub-advance : tie.Need-sub-advance Inv-loop μ-loop
-sub-advance c = search needs
+sub-rest : tie.Need-sub-rest Inv-loop μ-loop
+sub-rest c = search needs
 
-part-advance-start : tie.Need-part-advance-start Inv-loop μ-loop
-part-advance-start c = search needs
+part-rest-start : tie.Need-part-rest-start Inv-loop μ-loop
+part-rest-start c = search needs
 
-part-advance-end : tie.Need-part-advance-end Inv-loop μ-loop
-part-advance-end c = search needs
+part-rest-end : tie.Need-part-rest-end Inv-loop μ-loop
+part-rest-end c = search needs
 
 advance-requires : tie.Need-advance-requires Inv-loop μ-loop
 advance-requires c κs =
     let loop-test = c .before .before .before .before .before .before .before .before .loop-test in
     let start = c .before .before .before .before .before .before .before .before .before .before .before .before .before .before .before .before .before .before in
+    let a = start .args in
     let p = start .pre .0 in
     let z = start .pre .1 in
     let l = c .before .before .before .before .before .before .before .before .before .loop in
     let v = l .inv in
     let b = v .7 (p .tabled) [] in
-    let h = linked-here (length (start .args .standing .now)) (start .args .table .now) (getD (l .placement) (start .args .r .0) 0) (start .args .ahead .now) (l .i) (loop-test .taken) (v .6) in
+    let can = can-go (length (a .standing .now)) (a .table .now) (a .r .0) (l .placement) (a .ahead .now) (l .i) (loop-test .taken) (v .6) (omega (arith, z .carrier-there, v .2)) (z .loopless) in
     let e : length (l .standing) ≡ length (start .args .standing .now) = v .3 in (
       record {
         most = omega (arith, p .most, e);
@@ -79,7 +80,7 @@ advance-requires c κs =
         tabled = rw e (p .tabled);
         levelled = rw e (p .levelled);
       },
-      (omega (arith, z .0, v .2), omega (arith, z .0, v .2), rw e (h .0), h .1, rw e (z .2), v .9),
+      record { can = rw e can; below = v .9 },
     )
 
 enum-known-one : tie.Need-enum-known-one Inv-loop μ-loop
@@ -101,7 +102,7 @@ same-length-4 : tie.Need-same-length-4 Inv-loop μ-loop
 same-length-4 c = c .before .before .before .before .before .before .before .before .before .before .before .before .advance .kept .1 .1 .1 .1 .1 .0 ∙ c .before .before .before .before .before .before .before .before .before .before .before .before .before .before .before .before .before .before .before .before .before .before .loop .inv .8
 
 same-length-5 : tie.Need-same-length-5 Inv-loop μ-loop
-same-length-5 c = c .before .before .before .out .given .1 ∙ c .before .before .before .before .before .before .before .before .before .before .before .before .before .before .before .before .before .before .before .before .before .before .loop .inv .5
+same-length-5 c = c .before .before .before .before .before .before .before .before .before .before .before .out .given .1 ∙ c .before .before .before .before .before .before .before .before .before .before .before .before .before .before .before .before .before .before .before .before .before .before .loop .inv .5
 
 returns : tie.Need-returns Inv-loop μ-loop
 returns c =
@@ -109,24 +110,25 @@ returns c =
     let loop-test = c .before .before .before .before .before .before .before .before .before .before .before .before .before .before .before .before .before .before .before .before .before .loop-test in
     let start = c .before .before .before .before .before .before .before .before .before .before .before .before .before .before .before .before .before .before .before .before .before .before .before .before .before .before .before .before .before .before .before in
     let l = c .before .before .before .before .before .before .before .before .before .before .before .before .before .before .before .before .before .before .before .before .before .before .loop in
-    let v = l .inv in (
-      tt,
-      λ t goals.
+    let v = l .inv in
+    record {
+      few = tt;
+      tries = λ t goals.
           let kw : length (l .standing) ≡ length (start .args .standing .now) = v .3 in
           let e : advance .result ≡ Failed = c .enum-told .given .1 in
-          let f = rw kw at (advance .ensures .1) in
-          tries-none (going-stops (v .7 t goals) (loop-test .taken) (rw e at (f t))),
-      advance .ensures .2,
-    )
+          let f = rw kw at (advance .ensures .says .proceeds) in
+          tries-none (going-stops (v .7 t goals) (loop-test .taken) (rw e at (f t)));
+      below = advance .ensures .below;
+    }
 
 add-requires : tie.Need-add-requires Inv-loop μ-loop
 add-requires c κs =
     let l = c .before .before .before .before .before .before .before .before .before .before .before .before .before .before .before .before .before .before .before .before .before .before .before .loop in
     let e : c .before .before .before .before .before .before .before .before .before .before .before .before .before .advance .result ≡ Done (c .before .one .given .0 .0) = c .before .one .given .1 in
-    omega (arith, rw e at (c .before .before .before .before .before .before .before .before .before .before .before .before .before .advance .ensures .0), l .inv .0, l .inv .1, c .before .before .before .before .before .before .before .before .before .before .before .before .before .before .before .before .before .before .before .before .before .before .before .before .before .before .before .before .before .before .before .before .pre .1 .3)
+    omega (arith, rw e at (c .before .before .before .before .before .before .before .before .before .before .before .before .before .advance .ensures .says .few), l .inv .0, l .inv .1, c .before .before .before .before .before .before .before .before .before .before .before .before .before .before .before .before .before .before .before .before .before .before .before .before .before .before .before .before .before .before .before .before .pre .1 .short)
 
 add-i : tie.Need-add-i Inv-loop μ-loop
-add-i c = omega (arith, c .before .before .before .before .before .before .before .before .before .before .before .before .before .before .before .before .before .before .before .before .before .before .before .loop-test .taken, c .before .before .before .before .before .before .before .before .before .before .before .before .before .before .before .before .before .before .before .before .before .before .before .before .before .before .before .before .before .before .before .before .before .pre .1 .3)
+add-i c = omega (arith, c .before .before .before .before .before .before .before .before .before .before .before .before .before .before .before .before .before .before .before .before .before .before .before .loop-test .taken, c .before .before .before .before .before .before .before .before .before .before .before .before .before .before .before .before .before .before .before .before .before .before .before .before .before .before .before .before .before .before .before .before .before .pre .1 .short)
 
 loop-less : tie.Need-loop-less Inv-loop μ-loop
 loop-less c = omega (arith, c .before .before .before .before .before .before .before .before .before .before .before .before .before .before .before .before .before .before .before .before .before .before .before .loop-test .taken)
@@ -136,31 +138,29 @@ loop-again c =
     let advance = c .before .before .before .before .before .before .before .before .before .before .before .before .before .before .advance in
     let loop-test = c .before .before .before .before .before .before .before .before .before .before .before .before .before .before .before .before .before .before .before .before .before .before .before .loop-test in
     let start = c .before .before .before .before .before .before .before .before .before .before .before .before .before .before .before .before .before .before .before .before .before .before .before .before .before .before .before .before .before .before .before .before .before in
+    let a = start .args in
     let p = start .pre .0 in
     let z = start .pre .1 in
-    let r = start .args .r .0 in
     let l = c .before .before .before .before .before .before .before .before .before .before .before .before .before .before .before .before .before .before .before .before .before .before .before .before .loop in
     let v = l .inv in
     let b = v .7 (p .tabled) [] in
-    let h = linked-here (length (start .args .standing .now)) (start .args .table .now) (getD (l .placement) r 0) (start .args .ahead .now) (l .i) (loop-test .taken) (v .6) in
+    let can = can-go (length (a .standing .now)) (a .table .now) (a .r .0) (l .placement) (a .ahead .now) (l .i) (loop-test .taken) (v .6) (omega (arith, z .carrier-there, v .2)) (z .loopless) in
     let kw : length (l .standing) ≡ length (start .args .standing .now) = v .3 in
     let k = advance .kept in
     let e : advance .result ≡ Done (c .before .before .one .given .0 .0) = c .before .before .one .given .1 in
-    let few = rw e at (advance .ensures .0) in
-    let f = rw kw at (advance .ensures .1) in
-    let out = c .before .before .before .before .before .out .given in
-    let hr : r < length (l .placement) = omega (arith, z .0, v .2) in
-    let hf : r ≤ length (l .placement) = omega (arith, z .0, v .2) in (
+    let few = rw e at (advance .ensures .says .few) in
+    let f = rw kw at (advance .ensures .says .proceeds) in
+    let out = c .before .before .before .before .before .before .before .before .before .before .before .before .before .out .given in (
       omega (arith, loop-test .taken),
       omega (arith, few, v .1, c .add .ensures .crossings),
       k .1 .1 .0 ∙ v .2,
       k .1 .1 .1 .0 ∙ v .3,
       k .1 .1 .1 .1 .0 ∙ v .4,
       out .1 ∙ v .5,
-      rw (arrived (p .tabled) (p .most) (z .2) r r (getD (start .args .ahead .now) (l .i) 0) (l .placement) (b .played .placed) hr hf (h .0) (h .1) (rw e at (f (p .tabled)))) (h .2),
+      rw (arrived (p .tabled) (p .most) can (b .played .placed) (rw e at (f (p .tabled)))) (linked-on (length (a .standing .now)) (a .table .now) (a .r .0) (l .placement) (a .ahead .now) (l .i) (loop-test .taken) (v .6)),
       λ t goals. going-more (v .7 t goals) (loop-test .taken) (rest-lent _ (c .before .before .before .before .before .before .before .before .before .before .before .before .before .before .before .before .before .before .before .before .place-in .ensures) out (c .add .ensures)) (rw e at (f t)),
       k .1 .1 .1 .1 .1 .0 ∙ v .8,
-      advance .ensures .2,
+      advance .ensures .below,
     )
 
 same-length-6 : tie.Need-same-length-6 Inv-loop μ-loop
@@ -181,7 +181,11 @@ same-length-10 c = c .before .loop .inv .5
 returns-2 : tie.Need-returns-2 Inv-loop μ-loop
 returns-2 c =
     let v = c .before .loop .inv in
-    (omega (arith, v .0, v .1), λ t goals. going-all _ _ _ _ _ _ _ _ _ _ _ _ _ (v .7 t goals) (c .loop-test .left), v .9)
+    record {
+      few = omega (arith, v .0, v .1);
+      tries = λ t goals. going-all _ _ _ _ _ _ _ _ _ _ _ _ _ (v .7 t goals) (c .loop-test .left);
+      below = v .9;
+    }
 
 pub go-spec : {M : Type 1} → statement M
 go-spec =
@@ -191,13 +195,13 @@ go-spec =
     μ-loop
     cast-finished
     loop-holds
-    mul-t17
-    shared-slice-read-t20
+    mul-t18
+    shared-slice-read-t21
     place-in-requires
-    mul-advance
-    sub-advance
-    part-advance-start
-    part-advance-end
+    mul-rest
+    sub-rest
+    part-rest-start
+    part-rest-end
     advance-requires
     enum-known-one
     enum-told

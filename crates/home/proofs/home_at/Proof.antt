@@ -18,7 +18,7 @@ mul-c c = search needs
 shared-slice-read-c : tie.Need-shared-slice-read-c
 shared-slice-read-c c =
     let start = c .before .before .before .before .before .before .before .before .before .before in
-    omega (arith, start .pre .1 .1, start .pre .1 .2)
+    omega (arith, start .pre .1 .bay-there, start .pre .1 .owner-size)
 
 cast-c : tie.Need-cast-c
 cast-c c =
@@ -31,7 +31,11 @@ returns c =
     let p = start .pre .0 in
     let z = start .pre .1 in
     let h = start .args .home in
-    (at-most (omega arith), λ t goals many o. stages-none (home-absent _ _ _ _ _ _ (whose-high o (h .finished) (h .bay .0) (z .1) many (c .if1 .taken)) (omega arith)) (p .placed), z .5)
+    record {
+      at-most = at-most (omega arith);
+      stages = λ t goals many o. stages-none (home-absent _ _ _ _ _ _ (whose-high o (h .finished) (h .bay .0) (z .bay-there) many (c .if1 .taken)) (omega arith)) (p .placed);
+      below = z .below;
+    }
 
 mul-if2 : tie.Need-mul-if2
 mul-if2 c = search needs
@@ -39,7 +43,7 @@ mul-if2 c = search needs
 slice-read-if2 : tie.Need-slice-read-if2
 slice-read-if2 c =
     let start = c .before .before .before .before .before .before .before .before .before .before .before .before in
-    omega (arith, c .before .if1 .left, start .pre .1 .0)
+    omega (arith, c .before .if1 .left, start .pre .1 .finished-there)
 
 returns-2 : tie.Need-returns-2
 returns-2 c =
@@ -48,21 +52,31 @@ returns-2 c =
     let p = start .pre .0 in
     let z = start .pre .1 in
     let h = start .args .home in
-    (at-most (omega arith), λ t goals many o. stages-none (home-there _ _ _ _ _ _ (whose-low o (h .finished) (h .bay .0) (z .1) (if1 .left)) (if1 .left) (c .if2 .taken)) (p .placed), z .5)
+    record {
+      at-most = at-most (omega arith);
+      stages = λ t goals many o. stages-none (home-there _ _ _ _ _ _ (whose-low o (h .finished) (h .bay .0) (z .bay-there) (if1 .left)) (if1 .left) (c .if2 .taken)) (p .placed);
+      below = z .below;
+    }
 
-cast-t24 : tie.Need-cast-t24
-cast-t24 c =
+cast-t23 : tie.Need-cast-t23
+cast-t23 c =
     let start = c .before .before .before .before .before .before .before .before .before .before .before .before .before .before in
     let p = start .pre .0 in
-    omega (arith, c .before .before .before .if1 .left, start .pre .1 .0, p .placed .few, p .most)
+    omega (arith, c .before .before .before .if1 .left, start .pre .1 .finished-there, p .placed .few, p .most)
 
 step-requires : tie.Need-step-requires
 step-requires c κs =
     let if1 = c .before .before .before .before .before .before .before .before .if1 in
     let start = c .before .before .before .before .before .before .before .before .before .before .before .before .before .before .before .before .before .before .before in
     let z = start .pre .1 in
-    let rail = z .4 .beside (if1 .left) (c .before .before .before .before .before .if2 .left) in
-    (start .pre .0, (omega (arith, if1 .left, z .0), z .0, z .1, rail, z .3, z .5))
+    let rail = z .due .beside (if1 .left) (c .before .before .before .before .before .if2 .left) in
+    let there = z .finished-there in (
+      start .pre .0,
+      record {
+        can = record { carrier-there = omega (arith, if1 .left, there); finished-there = there; bay-there = z .bay-there; rail = rail; loopless = z .loopless };
+        below = z .below;
+      },
+    )
 
 enum-known-one : tie.Need-enum-known-one
 enum-known-one c = c .match .keys1
@@ -94,7 +108,13 @@ returns-3 c =
     let z = start .pre .1 in
     let h = start .args .home in
     let e : step .result ≡ Failed = c .enum-told .given .1 in
-    (at-most-stuck, λ t goals many o. home-stuck _ _ _ _ _ _ (whose-low o (h .finished) (h .bay .0) (z .1) (if1 .left)) (if1 .left) refl (if2 .left) (rw e at (step .ensures .1 t)), step .ensures .2)
+    record {
+      at-most = at-most-stuck;
+      stages = λ t goals many o.
+          let whose = whose-low o (h .finished) (h .bay .0) (z .bay-there) (if1 .left) in
+          home-stuck _ _ _ _ _ _ whose (if1 .left) refl (if2 .left) (rw e at (step .ensures .says .proceeds t));
+      below = step .ensures .below;
+    }
 
 same-length-6 : tie.Need-same-length-6
 same-length-6 c = c .before .before .before .before .before .before .before .before .before .before .before .before .before .step .kept .1 .1 .0
@@ -120,8 +140,14 @@ returns-4 c =
     let z = start .pre .1 in
     let h = start .args .home in
     let e : step .result ≡ Done (c .before .one .given .0 .0) = c .before .one .given .1 in
-    let few = rw e at (step .ensures .0) in
-    (at-most few, λ t goals many o. home-steps _ _ _ _ _ _ (whose-low o (h .finished) (h .bay .0) (z .1) (if1 .left)) (if1 .left) (if2 .left) (rw e at (step .ensures .1 t)), step .ensures .2)
+    let few = rw e at (step .ensures .says .few) in
+    record {
+      at-most = at-most few;
+      stages = λ t goals many o.
+          let whose = whose-low o (h .finished) (h .bay .0) (z .bay-there) (if1 .left) in
+          home-steps _ _ _ _ _ _ whose (if1 .left) (if2 .left) (rw e at (step .ensures .says .proceeds t));
+      below = step .ensures .below;
+    }
 
 pub home-at-spec : {M : Type 1} → statement M
 home-at-spec =
@@ -135,7 +161,7 @@ home-at-spec =
     mul-if2
     slice-read-if2
     returns-2
-    cast-t24
+    cast-t23
     step-requires
     enum-known-one
     enum-told

@@ -10,7 +10,7 @@ use Rattle.paper.specs.Procedure.{vacate}
 use Rattle.words.specs.Sets.{mem, span}
 use Rattle.rings.specs.Search.{Shown}
 use Rattle.moving.specs.Placed.{Unchanged}
-use Rattle.acting.proofs.Acting.{acted-done, acted-failed}
+use Rattle.acting.proofs.Acting.{acted-failed}
 use Rattle.keeping.specs.Keeping.{Stuck}
 use Rattle.acting.proofs.Holding.{ready-again}
 use Rattle.keeping.proofs.Keeping.{same-again, unchanged-played, stuck-none, stuck-more, keeps-here}
@@ -20,12 +20,12 @@ use Rattle.keeping.proofs.keep_one.Statement.{statement}
 use Rattle.keeping.proofs.keep_one.Tie as tie
 
 abbrev Inv-loop : tie.InvT-loop
-Inv-loop table others held round placement₀ standing₀ empty₀ out₀ x₀ placement standing empty out x =
-    (x ≤ span) × (round .from ≤ x) × (x < span → mem others x ≡ true) × (length placement ≡ length placement₀) × (length standing ≡ length standing₀) × (length empty ≡ length empty₀) × (length out ≡ length out₀)
-    × Unchanged placement₀ standing₀ empty₀ out₀ placement standing empty out × ((v : Shown (length standing₀) table held) → Stuck (v .yard) (v .bays) others (round .from) x placement₀)
+Inv-loop table others held from placement₀ standing₀ empty₀ out₀ x₀ placement standing empty out x =
+    (x ≤ span) × (from ≤ x) × (x < span → mem others x ≡ true) × (length placement ≡ length placement₀) × (length standing ≡ length standing₀) × (length empty ≡ length empty₀) × (length out ≡ length out₀)
+    × Unchanged placement₀ standing₀ empty₀ out₀ placement standing empty out × ((v : Shown (length standing₀) table held) → Stuck (v .yard) (v .bays) others from x placement₀)
 
 abbrev μ-loop : tie.MeasureT-loop
-μ-loop table others held round placement₀ standing₀ empty₀ out₀ x₀ placement standing empty out x =
+μ-loop table others held from placement₀ standing₀ empty₀ out₀ x₀ placement standing empty out x =
     span - x
 
 next-from-requires : tie.Need-next-from-requires Inv-loop μ-loop
@@ -46,34 +46,22 @@ make-room-requires c κs =
     let v = c .before .before .before .before .before .loop .inv in
     let s = v .7 in
     let e = v .4 in
-    (ready-again p _ _ _ e (v .5) (rw (s .same-standing, s .same-placement, s .same-empty) (p .placed)), (rw e (z .3 .low _ (loop-test .taken) (v .2 (loop-test .taken))), z .1, z .4, rw e (z .5)))
+    (ready-again p _ _ _ e (v .5) (rw (s .same-standing, s .same-placement, s .same-empty) (p .placed)), record { inside = rw e (z .among .low _ (loop-test .taken) (v .2 (loop-test .taken))); held-size = z .held-size; shown = rw e (z .shown) })
 
 enum-known-vacated : tie.Need-enum-known-vacated Inv-loop μ-loop
 enum-known-vacated c = c .match .keys1
 
 same-length : tie.Need-same-length Inv-loop μ-loop
-same-length c =
-    let make-room = c .before .before .before .before .before .before .before .before .before .before .before .make-room in
-    let loop = c .before .before .before .before .before .before .before .before .before .before .before .before .before .before .before .before .before .loop in
-    make-room .kept .1 .1 .1 .0 ∙ loop .inv .3
+same-length c = c .before .before .before .before .before .before .before .before .before .before .before .make-room .kept .1 .1 .1 .0 ∙ c .before .before .before .before .before .before .before .before .before .before .before .before .before .before .before .before .before .loop .inv .3
 
 same-length-2 : tie.Need-same-length-2 Inv-loop μ-loop
-same-length-2 c =
-    let make-room = c .before .before .before .before .before .before .before .before .before .before .before .make-room in
-    let loop = c .before .before .before .before .before .before .before .before .before .before .before .before .before .before .before .before .before .loop in
-    make-room .kept .1 .1 .1 .1 .0 ∙ loop .inv .4
+same-length-2 c = c .before .before .before .before .before .before .before .before .before .before .before .make-room .kept .1 .1 .1 .1 .0 ∙ c .before .before .before .before .before .before .before .before .before .before .before .before .before .before .before .before .before .loop .inv .4
 
 same-length-3 : tie.Need-same-length-3 Inv-loop μ-loop
-same-length-3 c =
-    let make-room = c .before .before .before .before .before .before .before .before .before .before .before .make-room in
-    let loop = c .before .before .before .before .before .before .before .before .before .before .before .before .before .before .before .before .before .loop in
-    make-room .kept .1 .1 .1 .1 .1 .0 ∙ loop .inv .5
+same-length-3 c = c .before .before .before .before .before .before .before .before .before .before .before .make-room .kept .1 .1 .1 .1 .1 .0 ∙ c .before .before .before .before .before .before .before .before .before .before .before .before .before .before .before .before .before .loop .inv .5
 
 same-length-4 : tie.Need-same-length-4 Inv-loop μ-loop
-same-length-4 c =
-    let make-room = c .before .before .before .before .before .before .before .before .before .before .before .make-room in
-    let loop = c .before .before .before .before .before .before .before .before .before .before .before .before .before .before .before .before .before .loop in
-    make-room .kept .1 .1 .1 .1 .1 .1 .0 ∙ loop .inv .6
+same-length-4 c = c .before .before .before .before .before .before .before .before .before .before .before .make-room .kept .1 .1 .1 .1 .1 .1 .0 ∙ c .before .before .before .before .before .before .before .before .before .before .before .before .before .before .before .before .before .loop .inv .6
 
 returns : tie.Need-returns Inv-loop μ-loop
 returns c =
@@ -86,10 +74,11 @@ returns c =
     let t = loop-test .taken in
     let kw : length (l .standing) ≡ length (start .args .standing .now) = v .4 in
     let e : make-room .result ≡ Done (c .before .vacated .given .0 .0) = c .before .vacated .given .1 in
-    let few = rw e at (make-room .ensures .0) in
-    let f = rw kw at (make-room .ensures .1) in
-    let o = vacate (z .5 .yard) (z .5 .bays) (l .x) (l .placement) in
-    ((t, few, omega (arith, acted-done {o = o} (rw e at (f (z .5))) .2 .counted)), λ w. keeps-here (v .1) (z .3 .low _ t (v .2 t)) (v .2 t) (v .8 w) (v .7) (rw e at (f w)))
+    let f = rw kw at (make-room .ensures .acts) in
+    record {
+      few = (t, rw e at (make-room .ensures .few));
+      keeps = λ w. keeps-here (v .1) (z .among .low _ t (v .2 t)) (v .2 t) (v .8 w) (v .7) (rw e at (f w));
+    }
 
 enum-told : tie.Need-enum-told Inv-loop μ-loop
 enum-told c = c .match .keys2
@@ -115,8 +104,8 @@ loop-again c =
     let kw : length (l .standing) ≡ length (start .args .standing .now) = v .4 in
     let k = make-room .kept in
     let e : make-room .result ≡ Failed = c .before .enum-told .given .1 in
-    let f = rw kw at (make-room .ensures .1) in
-    let o = vacate (z .5 .yard) (z .5 .bays) (l .x) (l .placement) in
+    let f = rw kw at (make-room .ensures .acts) in
+    let o = vacate (z .shown .yard) (z .shown .bays) (l .x) (l .placement) in
     let n = c .next-from2 .ensures in (
       n .upto,
       omega (arith, n .from, v .1),
@@ -125,7 +114,7 @@ loop-again c =
       k .1 .1 .1 .1 .0 ∙ v .4,
       k .1 .1 .1 .1 .1 .0 ∙ v .5,
       k .1 .1 .1 .1 .1 .1 .0 ∙ v .6,
-      same-again {o = o} (v .7) (rw e at (f (z .5))),
+      same-again {o = o} (v .7) (rw e at (f (z .shown))),
       λ w. stuck-more _ _ _ _ _ _ _ (v .8 w) (rw (v .7 .same-placement) at (acted-failed (rw e at (f w)))) n,
     )
 
@@ -145,7 +134,7 @@ returns-2 : tie.Need-returns-2 Inv-loop μ-loop
 returns-2 c =
     let start = c .before .before .before .before .before .before .before .before .before .before in
     let v = c .before .loop .inv in
-    (tt, λ w. record { stuck = λ y h k m. v .8 w y h (omega (arith, c .loop-test .left)) m; played = unchanged-played (start .pre .0 .placed) (v .7) })
+    record { few = tt; keeps = λ w. record { stuck = λ y h k m. v .8 w y h (omega (arith, c .loop-test .left)) m; played = unchanged-played (start .pre .0 .placed) (v .7) } }
 
 pub keep-one-spec : {M : Type 1} → statement M
 keep-one-spec =

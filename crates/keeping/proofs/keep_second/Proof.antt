@@ -21,7 +21,7 @@ keep-one-requires c κs =
     let start = c .before .before .before .before .before .before .before .before .before .before .before .before .before .before .before .before .before .before in
     let p = start .pre .0 in
     let z = start .pre .1 in
-    (p, (z .0, search needs, omega (arith, p .most, z .2), z .4, z .5, heldShown (p .tabled) (z .6) _ (c .before .before .before .before .before .before .before .join .ensures)))
+    (p, record { others-size = z .others-size; held-size = search needs; from-low = omega (arith, p .most, z .from-low); among = z .among; shown = heldShown (p .tabled) (z .holds) _ (c .before .before .before .before .before .before .before .join .ensures) })
 
 enum-known-second : tie.Need-enum-known-second
 enum-known-second c = c .match .keys1
@@ -30,64 +30,47 @@ enum-told : tie.Need-enum-told
 enum-told c = c .match .keys2
 
 same-length : tie.Need-same-length
-same-length c =
-    let join = c .before .before .before .before .before .before .before .before .before .before .before .before .before .before .before .before .before .before .before .join in
-    join .kept .0
+same-length c = c .before .before .before .before .before .before .before .before .before .before .before .before .before .before .before .before .before .before .join .kept .0
 
 same-length-2 : tie.Need-same-length-2
-same-length-2 c =
-    let keep-one = c .before .before .before .before .before .before .before .before .before .before .before .keep-one in
-    keep-one .kept .1 .1 .1 .1 .0
+same-length-2 c = c .before .before .before .before .before .before .before .before .before .before .keep-one .kept .1 .1 .1 .1 .0
 
 same-length-3 : tie.Need-same-length-3
-same-length-3 c =
-    let keep-one = c .before .before .before .before .before .before .before .before .before .before .before .keep-one in
-    keep-one .kept .1 .1 .1 .1 .1 .0
+same-length-3 c = c .before .before .before .before .before .before .before .before .before .before .keep-one .kept .1 .1 .1 .1 .1 .0
 
 same-length-4 : tie.Need-same-length-4
-same-length-4 c =
-    let keep-one = c .before .before .before .before .before .before .before .before .before .before .before .keep-one in
-    keep-one .kept .1 .1 .1 .1 .1 .1 .0
+same-length-4 c = c .before .before .before .before .before .before .before .before .before .before .keep-one .kept .1 .1 .1 .1 .1 .1 .0
 
 same-length-5 : tie.Need-same-length-5
-same-length-5 c =
-    let keep-one = c .before .before .before .before .before .before .before .before .before .before .before .keep-one in
-    keep-one .kept .1 .1 .1 .1 .1 .1 .1 .0
+same-length-5 c = c .before .before .before .before .before .before .before .before .before .before .keep-one .kept .1 .1 .1 .1 .1 .1 .1 .0
 
 returns : tie.Need-returns
 returns c =
-    let keep-one = c .before .before .before .before .before .before .before .before .before .before .before .keep-one in
-    let join = c .before .before .before .before .before .before .before .before .before .before .before .before .before .before .before .before .before .before .before .join in
-    let start = c .before .before .before .before .before .before .before .before .before .before .before .before .before .before .before .before .before .before .before .before .before .before .before .before .before .before .before .before .before .before in
+    let keep-one = c .before .before .before .before .before .before .before .before .before .before .keep-one in
+    let join = c .before .before .before .before .before .before .before .before .before .before .before .before .before .before .before .before .before .before .join in
+    let start = c .before .before .before .before .before .before .before .before .before .before .before .before .before .before .before .before .before .before .before .before .before .before .before .before .before .before .before .before .before in
     let p = start .pre .0 in
     let z = start .pre .1 in
-    let e : keep-one .result ≡ Nothing = c .before .enum-told .given .1 in
-    (two-single (omega (arith, z .3, p .most)) (omega arith) (omega arith), λ t h. second-single (z .2) (p .most) (z .3) (z .7) (rw e at (keep-one .ensures .1 (heldShown t h _ (join .ensures)))))
+    let e : keep-one .result ≡ Nothing = c .enum-told .given .1 in
+    record {
+      few = two-single (omega (arith, z .inside, p .most)) (omega arith);
+      clears = λ t h. second-single (z .from-low) (p .most) (z .inside) (z .free) (rw e at (keep-one .ensures .keeps (heldShown t h _ (join .ensures))));
+    }
 
 same-length-6 : tie.Need-same-length-6
-same-length-6 c =
-    let join = c .before .before .before .before .before .before .before .before .before .before .before .before .before .before .before .before .before .before .before .join in
-    join .kept .0
+same-length-6 c = c .before .before .before .before .before .before .before .before .before .before .before .before .before .before .before .before .before .before .before .join .kept .0
 
 same-length-7 : tie.Need-same-length-7
-same-length-7 c =
-    let keep-one = c .before .before .before .before .before .before .before .before .before .before .before .keep-one in
-    keep-one .kept .1 .1 .1 .1 .0
+same-length-7 c = c .before .before .before .before .before .before .before .before .before .before .before .keep-one .kept .1 .1 .1 .1 .0
 
 same-length-8 : tie.Need-same-length-8
-same-length-8 c =
-    let keep-one = c .before .before .before .before .before .before .before .before .before .before .before .keep-one in
-    keep-one .kept .1 .1 .1 .1 .1 .0
+same-length-8 c = c .before .before .before .before .before .before .before .before .before .before .before .keep-one .kept .1 .1 .1 .1 .1 .0
 
 same-length-9 : tie.Need-same-length-9
-same-length-9 c =
-    let keep-one = c .before .before .before .before .before .before .before .before .before .before .before .keep-one in
-    keep-one .kept .1 .1 .1 .1 .1 .1 .0
+same-length-9 c = c .before .before .before .before .before .before .before .before .before .before .before .keep-one .kept .1 .1 .1 .1 .1 .1 .0
 
 same-length-10 : tie.Need-same-length-10
-same-length-10 c =
-    let keep-one = c .before .before .before .before .before .before .before .before .before .before .before .keep-one in
-    keep-one .kept .1 .1 .1 .1 .1 .1 .1 .0
+same-length-10 c = c .before .before .before .before .before .before .before .before .before .before .before .keep-one .kept .1 .1 .1 .1 .1 .1 .1 .0
 
 returns-2 : tie.Need-returns-2
 returns-2 c =
@@ -96,8 +79,11 @@ returns-2 c =
     let start = c .before .before .before .before .before .before .before .before .before .before .before .before .before .before .before .before .before .before .before .before .before .before .before .before .before .before .before .before .before .before in
     let z = start .pre .1 in
     let e : keep-one .result ≡ One (c .before .second .given .0 .0) (c .before .second .given .0 .1 .0) = c .before .second .given .1 in
-    let few = rw e at (keep-one .ensures .0) in
-    (two-both (omega (arith, z .3, start .pre .0 .most)) (few .0) (few .1) (few .2), λ t h. second-both (rw e at (keep-one .ensures .1 (heldShown t h _ (join .ensures)))))
+    let few = rw e at (keep-one .ensures .few) in
+    record {
+      few = two-both (omega (arith, z .inside, start .pre .0 .most)) (few .0) (few .1);
+      clears = λ t h. second-both (rw e at (keep-one .ensures .keeps (heldShown t h _ (join .ensures))));
+    }
 
 pub keep-second-spec : {M : Type 1} → statement M
 keep-second-spec =

@@ -2,7 +2,6 @@
 -- Assumes nothing.
 use borrow.Author.Needs.{needs}
 use Rattle.link.proofs.Making.{keep-broken, keep-version, keep-carrier}
-use Rattle.link.proofs.Making.{keep-broken, keep-version, keep-carrier}
 use Rattle.link.proofs.keep.Statement.{statement}
 use Rattle.link.proofs.keep.Tie as tie
 use Rattle.link.proofs.keep.Reads as reads

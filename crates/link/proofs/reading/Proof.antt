@@ -2,12 +2,11 @@
 -- Assumes nothing.
 use borrow.Author.Needs.{needs}
 use Rattle.link.proofs.Making.{reading-is}
-use Rattle.link.proofs.Making.{reading-is}
 use Rattle.link.proofs.reading.Statement.{statement}
 use Rattle.link.proofs.reading.Tie as tie
 use Rattle.link.proofs.reading.Reads as reads
 use Rattle.link.proofs.reading.Lts as lts
-use Rattle.scenario.proofs.counted.Reads as counted-reads
+use Rattle.carrier_lists.proofs.counted.Reads as counted-reads
 use Rattle.link.proofs.yes.Reads as yes-reads
 
 yes-requires : tie.Need-yes-requires

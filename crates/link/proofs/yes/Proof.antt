@@ -1,7 +1,5 @@
 -- `link::yes` meets its contract.
 -- Assumes nothing.
-use borrow.Author.Needs.{needs}
-use Rattle.link.proofs.Making.{yes-none, yes-some}
 use Rattle.link.proofs.Making.{yes-none, yes-some}
 use Rattle.link.proofs.yes.Statement.{statement}
 use Rattle.link.proofs.yes.Tie as tie

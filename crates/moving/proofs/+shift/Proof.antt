@@ -126,7 +126,13 @@ shift-shift-requires t c κs =
     let p = a .pre .1 in
     let more = c .before .before .before .before .before .if1 .left in (
       rw rest-length (omega (arith, more, a .pre .0)),
-      (p .0, p .1, rw rest-length (omega (arith, p .2)), p .3, can-rest _ (p .4) _ (omega (arith, more))),
+      record {
+        most = p .most;
+        empty-size = p .empty-size;
+        counts = rw rest-length (omega (arith, p .counts));
+        placed = p .placed;
+        can-shift = can-rest _ (p .can-shift) _ (omega (arith, more));
+      },
     )
 
 shift-slice-aggregate-shift-stretch : (t : ℕ) → shift-lts.Need-slice-aggregate-shift-stretch (
@@ -152,10 +158,16 @@ shift-shift-stretch-requires-2 t c κs =
     let e : length (m .last .1 .1 .0) ≡ length (a .args .standing .now) = m .kept .1 .1 .0 in
     let f : length (m .last .1 .1 .1 .0) ≡ length (a .args .empty .now) = m .kept .1 .1 .1 .0 in
     let stretch : List ℕ = take 16 (a .args .path .now) in
-    let can : CanShift (length (m .last .1 .1 .0)) (m .last .1 .0) stretch = rw e (can-stretch _ (p .4) _ (omega (arith, more)) (m .ensures)) in
+    let can : CanShift (length (m .last .1 .1 .0)) (m .last .1 .0) stretch = rw e (can-stretch _ (p .can-shift) _ (omega (arith, more)) (m .ensures)) in
     let long : length stretch ≡ 16 = length-take-le 16 (a .args .path .now) (omega (arith, more)) in
-    let fits = stretch-fits _ (p .4) _ (omega (arith, more)) (m .ensures) in
-    (omega (arith, p .0, e), omega (arith, p .1, f), omega (arith, fits, long, more, p .2), rw e (m .ensures .placed), can)
+    let fits = stretch-fits _ (p .can-shift) _ (omega (arith, more)) (m .ensures) in
+    record {
+      most = omega (arith, p .most, e);
+      empty-size = omega (arith, p .empty-size, f);
+      counts = omega (arith, fits, long, more, p .counts);
+      placed = rw e (m .ensures .placed);
+      can-shift = can;
+    }
 
 shift-same-length-5 : (t : ℕ) → shift-lts.Need-same-length-5 (
   shift-stretch-reads.Asked,
@@ -201,7 +213,7 @@ shift-returns-2 t c =
     let more = c .before .before .before .before .before .before .before .before .before .before .before .before .before .before .before .before .before .before .before .before .before .before .before .before .before .before .before .before .if1 .left in
     let m = c .before .before .before .before .before .before .before .before .before .before .before .before .before .before .before .before .before .before .before .before .before .before .shift in
     let e : length (m .last .1 .1 .0) ≡ length (a .args .standing .now) = m .kept .1 .1 .0 in
-    shift-both (a .args .path .now) (p .4) _ (omega (arith, more)) (m .ensures) (rw e at (c .before .before .before .before .before .before .before .before .shift-stretch2 .ensures))
+    shift-both (a .args .path .now) (p .can-shift) _ (omega (arith, more)) (m .ensures) (rw e at (c .before .before .before .before .before .before .before .before .shift-stretch2 .ensures))
 
 pub +shift-spec : {M : Type 1} → statement M
 +shift-spec = close μ-shift λ t. shift-lts.spec (

@@ -16,12 +16,12 @@ cast-to c = search needs
 move-on-requires : tie.Need-move-on-requires
 move-on-requires c κs =
     let start = c .before .before .before .before .before .before .before .before .before in
-    let p = start .pre in (p .0, p .1, stands-there (p .7) (p .5) (p .0), p .4)
+    let p = start .pre in (p .from-inside, p .to-inside, stands-there (p .placed) (p .full) (p .from-inside), p .counts)
 
 cast-standing : tie.Need-cast-standing
 cast-standing c =
     let start = c .before .before .before .before .before .before .before .before .before .before .before .before .before .before .before .before in
-    let p = start .pre in omega (arith, moved-length (c .before .before .before .before .before .before .move-on .ensures), p .7 .few, p .2)
+    let p = start .pre in omega (arith, moved-length (c .before .before .before .before .before .before .move-on .ensures), p .placed .few, p .most)
 
 mul-standing : tie.Need-mul-standing
 mul-standing c = search needs
@@ -56,7 +56,7 @@ returns c =
     let move-on = c .before .before .before .before .before .before .before .before .before .before .before .before .before .before .move-on in
     let start = c .before .before .before .before .before .before .before .before .before .before .before .before .before .before .before .before .before .before .before .before .before .before .before .before in
     let p = start .pre in
-    crossed (move-on .ensures) _ _ (p .7) (p .5) (p .6) (p .0) (p .1) (omega arith) (c .before .before .before .before .before .before .remove .ensures) (c .before .before .add .ensures)
+    crossed (move-on .ensures) _ _ (p .placed) (p .full) (p .free) (p .from-inside) (p .to-inside) (omega arith) (c .before .before .before .before .before .before .remove .ensures) (c .before .before .add .ensures)
 
 pub cross-spec : {M : Type 1} → statement M
 cross-spec =

@@ -18,13 +18,13 @@ abbrev μ-loop : tie.MeasureT-loop
 μ-loop path placement₀ standing₀ empty out₀ at last count₀ i₀ placement standing out count i = i
 
 returns : tie.Need-returns Inv-loop μ-loop
-returns c = shift-none _ _ _ _ _ _ _ (c .if1 .taken) (c .before .before .before .before .before .before .pre .3)
+returns c = shift-none _ _ _ _ _ _ _ (c .if1 .taken) (c .before .before .before .before .before .before .pre .placed)
 
 sub-last : tie.Need-sub-last Inv-loop μ-loop
 sub-last c = search needs
 
 loop-holds : tie.Need-loop-holds Inv-loop μ-loop
-loop-holds c = let p = c .before .before .before .before .before .before .pre in (omega arith, refl, refl, refl, shifting-none _ (p .4) _ _ (c .if1 .left) (p .3))
+loop-holds c = let p = c .before .before .before .before .before .before .pre in (omega arith, refl, refl, refl, shifting-none _ (p .can-shift) _ _ (c .if1 .left) (p .placed))
 
 mul-to : tie.Need-mul-to Inv-loop μ-loop
 mul-to c = search needs
@@ -47,7 +47,7 @@ move-on-requires c κs =
     let p = start .pre in
     let l = c .before .before .before .before .before .before .loop in
     let more = c .before .before .before .before .before .loop-test .taken in
-    let u = shifting-asks _ (p .4) (l .i) (l .i - 1) (omega (arith, more)) (l .inv .0) (l .inv .4) (p .2) in
+    let u = shifting-asks _ (p .can-shift) (l .i) (l .i - 1) (omega (arith, more)) (l .inv .0) (l .inv .4) (p .counts) in
     (omega (arith, u .from-low, l .inv .2), omega (arith, u .to-low, l .inv .2), u .stands, u .fits)
 
 loop-less : tie.Need-loop-less Inv-loop μ-loop
@@ -65,7 +65,7 @@ loop-again c =
       omega (arith, m .kept .0, l .inv .1),
       omega (arith, m .kept .1 .0, l .inv .2),
       omega (arith, m .kept .1 .1 .1 .1 .0, l .inv .3),
-      shifting-on _ (p .4) (l .i) (l .i - 1) (omega (arith, more)) (l .inv .0) (l .inv .4) (omega (arith, l .inv .2)) (m .ensures),
+      shifting-on _ (p .can-shift) (l .i) (l .i - 1) (omega (arith, more)) (l .inv .0) (l .inv .4) (omega (arith, l .inv .2)) (m .ensures),
     )
 
 cast-standing : tie.Need-cast-standing Inv-loop μ-loop
@@ -77,17 +77,17 @@ shared-slice-read-standing c = search needs
 cast-standing-2 : tie.Need-cast-standing-2 Inv-loop μ-loop
 cast-standing-2 c =
     let start = c .before .before .before .before .before .before .before .before .before in
-    let low = first-low _ (start .pre .4) (c .before .before .before .if1 .left) in omega (arith, low, start .pre .0)
+    let low = first-low _ (start .pre .can-shift) (c .before .before .before .if1 .left) in omega (arith, low, start .pre .most)
 
 mul-standing : tie.Need-mul-standing Inv-loop μ-loop
 mul-standing c =
     let start = c .before .before .before .before .before .before .before .before .before in
-    let low = first-low _ (start .pre .4) (c .before .before .before .if1 .left) in omega (arith, low, start .pre .0)
+    let low = first-low _ (start .pre .can-shift) (c .before .before .before .if1 .left) in omega (arith, low, start .pre .most)
 
 slice-write-standing : tie.Need-slice-write-standing Inv-loop μ-loop
 slice-write-standing c =
     let start = c .before .before .before .before .before .before .before .before .before in
-    let low = first-low _ (start .pre .4) (c .before .before .before .if1 .left) in omega (arith, low, c .before .before .loop .inv .2)
+    let low = first-low _ (start .pre .can-shift) (c .before .before .before .if1 .left) in omega (arith, low, c .before .before .loop .inv .2)
 
 mul-remove : tie.Need-mul-remove Inv-loop μ-loop
 mul-remove c = search needs
@@ -98,12 +98,12 @@ shared-slice-read-remove c = search needs
 cast-remove : tie.Need-cast-remove Inv-loop μ-loop
 cast-remove c =
     let start = c .before .before .before .before .before .before .before .before .before .before .before in
-    let low = last-low _ (start .pre .4) (c .before .before .before .before .before .if1 .left) in omega (arith, low, start .pre .0)
+    let low = last-low _ (start .pre .can-shift) (c .before .before .before .before .before .if1 .left) in omega (arith, low, start .pre .most)
 
 remove-requires : tie.Need-remove-requires Inv-loop μ-loop
 remove-requires c κs =
     let start = c .before .before .before .before .before .before .before .before .before .before .before in
-    let p = start .pre in let low = last-low _ (p .4) (c .before .before .before .before .before .if1 .left) in omega (arith, low, p .0, p .1)
+    let p = start .pre in let low = last-low _ (p .can-shift) (c .before .before .before .before .before .if1 .left) in omega (arith, low, p .most, p .empty-size)
 
 shared-slice-read-add : tie.Need-shared-slice-read-add Inv-loop μ-loop
 shared-slice-read-add c = search needs
@@ -112,13 +112,13 @@ cast-add : tie.Need-cast-add Inv-loop μ-loop
 cast-add c =
     let if1 = c .before .before .before .before .before .before .before .before .before .before .if1 in
     let start = c .before .before .before .before .before .before .before .before .before .before .before .before .before .before .before .before in
-    let low = first-low _ (start .pre .4) (if1 .left) in omega (arith, low, start .pre .0)
+    let low = first-low _ (start .pre .can-shift) (if1 .left) in omega (arith, low, start .pre .most)
 
 add-requires : tie.Need-add-requires Inv-loop μ-loop
 add-requires c κs =
     let if1 = c .before .before .before .before .before .before .before .before .before .before .if1 in
     let start = c .before .before .before .before .before .before .before .before .before .before .before .before .before .before .before .before in
-    let p = start .pre in let low = first-low _ (p .4) (if1 .left) in omega (arith, low, p .0, p .1, c .before .before .before .before .remove .kept .0)
+    let p = start .pre in let low = first-low _ (p .can-shift) (if1 .left) in omega (arith, low, p .most, p .empty-size, c .before .before .before .before .remove .kept .0)
 
 same-length : tie.Need-same-length Inv-loop μ-loop
 same-length c =
@@ -145,7 +145,7 @@ returns-2 c =
     let l = c .before .before .before .before .before .before .before .before .before .before .before .before .loop in
     let none : l .i ≡ 0 = omega (arith, loop-test .left) in
     let w = rw none at (l .inv .4) in
-    shifting-all _ (p .4) (if1 .left) (p .3) w (λ z. c .before .before .add .ensures z ∙ rw (c .before .before .before .before .before .before .before .remove .ensures z))
+    shifting-all _ (p .can-shift) (if1 .left) (p .placed) w (λ z. c .before .before .add .ensures z ∙ rw (c .before .before .before .before .before .before .before .remove .ensures z))
 
 pub shift-stretch-spec : {M : Type 1} → statement M
 shift-stretch-spec =

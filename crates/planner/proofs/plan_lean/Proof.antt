@@ -9,7 +9,6 @@ use Rattle.paper.specs.Order.{order}
 use Rattle.yard.specs.Opening.{openedOf}
 use Rattle.planner.proofs.Letting.{let-in, tabled-of}
 use Rattle.planner.proofs.Saying.{says-refused, says-handed}
-use borrow.Author.Needs.{needs}
 use Rattle.planner.proofs.plan_lean.Statement.{statement}
 use Rattle.planner.proofs.plan_lean.Tie as tie
 

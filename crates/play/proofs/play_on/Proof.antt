@@ -48,8 +48,16 @@ carry-all-requires c κs =
     let e = all-copied _ _ _ (pre .1) (shorts .ensures) in
     let kept : length (place .last .1 .0) ≡ length (now (start .args .standing)) = place .kept .1 .0 in
     let placed = place .ensures in
-    let kept-owner : length (place2 .last .1 .0) ≡ length (now (start .args .owner)) = place2 .kept .1 .0 in
-    (ready-of (now (start .args .start)) (now (start .args .goal)) _ _ _ (rw kept a) (rw kept (pre .3)) (rw kept (pre .4)) e (search needs) (rw kept placed), (record { many = a .goals .many ∙ sym (ap length e); apart = a .goals .apart; inside = rw kept (a .goals .inside) }, rw kept (a .loopless), rw kept (a .reaching), rw kept (owners-of (pre .2) kept-owner (place2 .ensures)), rw e (none-settled (now (start .args .start)))))
+    let kept-owner : length (place2 .last .1 .0) ≡ length (now (start .args .owner)) = place2 .kept .1 .0 in (
+      ready-of (now (start .args .start)) (now (start .args .goal)) _ _ _ (rw kept a) (rw kept (pre .3)) (rw kept (pre .4)) e (search needs) (rw kept placed),
+      record {
+        each = record { many = a .goals .many ∙ sym (ap length e); apart = a .goals .apart; inside = rw kept (a .goals .inside) };
+        owners = rw kept (owners-of (pre .2) kept-owner (place2 .ensures));
+        loopless = rw kept (a .loopless);
+        reaching = rw kept (a .reaching);
+        below = rw e (none-settled (now (start .args .start)));
+      },
+    )
 
 same-length : tie.Need-same-length
 same-length c = search needs
@@ -72,7 +80,7 @@ returns c =
     λ t.
     let e = all-copied _ _ _ (start .pre .1) (shorts .ensures) in
     let kept : length (place .last .1 .0) ≡ length (now (start .args .standing)) = place .kept .1 .0 in
-    plays-of ((rw (kept, e) at (carry-all .ensures .0)) t)
+    plays-of ((rw (kept, e) at (carry-all .ensures .stages)) t)
 
 pub play-on-spec : {M : Type 1} → statement M
 play-on-spec =

@@ -7,7 +7,8 @@ use Rattle.paper.specs.Text.{text}
 use Rattle.paper.specs.Docket.{number, carried}
 use Rattle.docket.specs.Reading.{refusalOf}
 use Rattle.stores.proofs.Stores.{wrote-then}
-use Rattle.printing.proofs.Lines.{named-short, refusal-plain, refusal-carried, some-carried, none-carried}
+use Rattle.put_bytes.proofs.Short.{named-short}
+use Rattle.printing.proofs.Lines.{refusal-plain, refusal-carried, some-carried, none-carried}
 use Rattle.printing.proofs.refusal.Statement.{statement}
 use Rattle.printing.proofs.refusal.Tie as tie
 

@@ -3,7 +3,7 @@
 use native.Mathlib.Omega.{arith}
 use borrow.Author.Needs.{needs}
 use Rattle.readers.proofs.Whole.{map-bad, mapped-as, listing-by}
-use Rattle.readers.proofs.Saying.{list-unmapped, list-as}
+use Rattle.listing.proofs.Saying.{list-unmapped, list-as}
 use Rattle.readers.proofs.read_scenario.Statement.{statement}
 use Rattle.readers.proofs.read_scenario.Tie as tie
 

@@ -11,10 +11,10 @@ use Rattle.rings.proofs.way_near.Tie as tie
 search-requires : tie.Need-search-requires
 search-requires c κs = search needs
 
-common-requires : tie.Need-common-requires
-common-requires c κs =
+in-ring-requires : tie.Need-in-ring-requires
+in-ring-requires c κs =
     let start = c .before .before .before .before .before .before .before .before .before .before in
-    let f = c .before .before .before .search .ensures (start .pre .8) in let p = start .pre in (omega (arith, f .roomy), omega arith, row-rowed (p .8) (p .0) _ (p .1) _ _ _ f (p .2))
+    let f = c .before .before .before .search .ensures (start .pre .8) in let p = start .pre in (omega (arith, f .roomy), p .4, row-rowed (p .8) (p .0) _ (p .1) _ _ _ f (p .2))
 
 ended-requires : tie.Need-ended-requires
 ended-requires c κs =
@@ -27,7 +27,7 @@ same-length c = search needs
 returns : tie.Need-returns
 returns c =
     let start = c .before .before .before .before .before .before .before .before .before .before .before .before .before .before in
-    let p = start .pre in λ s q w. let f = c .before .before .before .before .before .before .before .search .ensures s in way-ended s (c .ended .ensures) (search needs) (λ o. way-none s _ q _ (nearest-nowhere s (p .0) _ (p .1) _ _ _ f q w _ (c .before .before .before .common .ensures) (c .before .before .if1 .taken) o))
+    let p = start .pre in λ s q w. let f = c .before .before .before .before .before .before .before .search .ensures s in way-ended s (c .ended .ensures) (search needs) (λ o. way-none s _ q _ (nearest-nowhere s (p .0) _ (p .1) _ _ _ f q w _ (c .before .before .before .in-ring .ensures) (c .before .before .if1 .taken) o))
 
 cast-t18 : tie.Need-cast-t18
 cast-t18 c = search needs
@@ -35,13 +35,13 @@ cast-t18 c = search needs
 narrow-requires : tie.Need-narrow-requires
 narrow-requires c κs =
     let start = c .before .before .before .before .before .before .before .before .before .before .before .before .before in
-    let p = start .pre in let f = c .before .before .before .before .before .before .search .ensures (p .8) in let l = c .before .before .common .ensures in let h = c .before .if1 .left in (p .0, f .far, end-inside (p .8) (p .0) _ (p .1) (p .7) _ _ _ _ f l h, p .2, f .roomy, ended (p .8) (p .0) _ (p .1) (p .7) _ _ _ _ f l h)
+    let p = start .pre in let f = c .before .before .before .before .before .before .search .ensures (p .8) in let l = c .before .before .in-ring .ensures in let h = c .before .if1 .left in (p .0, f .far, end-inside (p .8) (p .0) _ (p .1) (p .7) _ _ _ _ f l h, p .2, f .roomy, ended (p .8) (p .0) _ (p .1) (p .7) _ _ _ _ f l h)
 
 outward-requires : tie.Need-outward-requires
 outward-requires c κs =
     let search-place = c .before .before .before .before .before .before .before .before .before .before .before .search in
     let start = c .before .before .before .before .before .before .before .before .before .before .before .before .before .before .before .before .before .before in
-    let p = start .pre in let f = search-place .ensures (p .8) in let l = c .before .before .before .before .before .before .before .common .ensures in let h = c .before .before .before .before .before .before .if1 .left in (p .0, f .far, p .2, omega (arith, f .roomy), p .6, outside (p .8) (p .0) _ (p .1) (p .7) _ _ _ _ f l h _ (c .before .before .before .before .narrow .ensures (ended (p .8) (p .0) _ (p .1) (p .7) _ _ _ _ f l h)))
+    let p = start .pre in let f = search-place .ensures (p .8) in let l = c .before .before .before .before .before .before .before .in-ring .ensures in let h = c .before .before .before .before .before .before .if1 .left in (p .0, f .far, p .2, omega (arith, f .roomy), p .6, outside (p .8) (p .0) _ (p .1) (p .7) _ _ _ _ f l h _ (c .before .before .before .before .narrow .ensures (ended (p .8) (p .0) _ (p .1) (p .7) _ _ _ _ f l h)))
 
 add-t26 : tie.Need-add-t26
 add-t26 c =
@@ -58,17 +58,17 @@ same-length-3 c = search needs
 returns-2 : tie.Need-returns-2
 returns-2 c =
     let if1 = c .before .before .before .before .before .before .before .before .before .if1 in
-    let common = c .before .before .before .before .before .before .before .before .before .before .common in
+    let in-ring = c .before .before .before .before .before .before .before .before .before .before .in-ring in
     let search-place = c .before .before .before .before .before .before .before .before .before .before .before .before .before .before .search in
     let start = c .before .before .before .before .before .before .before .before .before .before .before .before .before .before .before .before .before .before .before .before .before in
-    let p = start .pre in let l = common .ensures in let h = if1 .left in λ s q w. let f = search-place .ensures s in let z = c .before .before .before .before .before .before .before .narrow .ensures (ended s (p .0) _ (p .1) (p .7) _ _ _ _ f l h) in way-near s (way-found s (p .0) _ (p .1) (p .7) _ _ _ _ f l h _ _ z q _ w (c .before .before .outward .ensures (outside s (p .0) _ (p .1) (p .7) _ _ _ _ f l h _ z)) refl refl)
+    let p = start .pre in let l = in-ring .ensures in let h = if1 .left in λ s q w. let f = search-place .ensures s in let z = c .before .before .before .before .before .before .before .narrow .ensures (ended s (p .0) _ (p .1) (p .7) _ _ _ _ f l h) in way-near s (way-found s (p .0) _ (p .1) (p .7) _ _ _ _ f l h _ _ z q _ w (c .before .before .outward .ensures (outside s (p .0) _ (p .1) (p .7) _ _ _ _ f l h _ z)) refl refl)
 
 pub way-near-spec : {M : Type 1} → statement M
 way-near-spec =
     tie.close
     (tie.spec
     search-requires
-    common-requires
+    in-ring-requires
     ended-requires
     same-length
     returns

@@ -2,7 +2,7 @@
 -- Assumes nothing.
 use mathlib.Core.Path.{sym, _∙_, ap}
 use borrow.Author.Needs.{needs}
-use Rattle.fields.specs.Kept.{pastOf}
+use Rattle.fields.specs.ReadAs.{pastOf}
 use Rattle.gridmap.specs.Cells.{cellOf}
 use Rattle.scenario.specs.Under.{bayBy}
 use Rattle.scenario.proofs.Closing.{carrier-bad, carrier-wall, carrier-wall-2, carrier-at}

@@ -6,7 +6,8 @@ use lib.ListN.{length, take}
 use lib.Seq.{take-all}
 use borrow.Author.Needs.{needs}
 use Rattle.scenario.specs.Under.{FeedsOn}
-use Rattle.scenario.proofs.Ending.{kept-length, feeds-none, feeds-next}
+use Rattle.carrier_lists.proofs.Stored.{kept-length}
+use Rattle.scenario.proofs.Ending.{feeds-none, feeds-next}
 use Rattle.scenario.proofs.feed_on.Statement.{statement}
 use Rattle.scenario.proofs.feed_on.Tie as tie
 

@@ -1,7 +1,8 @@
 -- `scenario::finish_on` meets its contract: the line under way ends, and its carrier is stored.
 -- Assumes nothing.
 use borrow.Author.Needs.{needs}
-use Rattle.scenario.proofs.Ending.{kept-length, ends-now}
+use Rattle.carrier_lists.proofs.Stored.{kept-length}
+use Rattle.scenario.proofs.Ending.{ends-now}
 use Rattle.scenario.proofs.finish_on.Statement.{statement}
 use Rattle.scenario.proofs.finish_on.Tie as tie
 

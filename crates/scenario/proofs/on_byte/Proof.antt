@@ -4,7 +4,7 @@ use mathlib.Core.Path.{refl, ap}
 use borrow.Author.Needs.{needs}
 use borrow.Author.Tests.{eq-eqb, ne-eqb}
 use Rattle.paper.specs.Bytes.{inVersion, inCarrier, inLine, blank}
-use Rattle.fields.specs.Kept.{pastOf}
+use Rattle.fields.specs.ReadAs.{pastOf}
 use Rattle.scenario.proofs.on_byte.Statement.{statement}
 use Rattle.scenario.proofs.on_byte.Tie as tie
 

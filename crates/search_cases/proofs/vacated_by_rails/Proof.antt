@@ -19,7 +19,16 @@ vacate-requires c κs =
     let start = c .before .before .before .before .before .before .before .before .before .before .before in
     let p = start .pre in
     let room = rails-room _ _ (p .2) in
-    (p .0, p .1, room, p .3, p .4, omega arith, p .5, shown-rails _ _ (p .2) (p .6), levelled-rails _ _ (p .2) (omega (arith, p .1)))
+    record {
+      most = p .0;
+      inside = p .1;
+      table-size = room;
+      held-size = p .3;
+      empty-size = p .4;
+      placed = p .5;
+      shown = shown-rails _ _ (p .2) (p .6);
+      levelled = levelled-rails _ _ (p .2) (omega (arith, p .1));
+    }
 
 same-length : tie.Need-same-length
 same-length c = search needs

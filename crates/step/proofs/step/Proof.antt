@@ -49,16 +49,20 @@ returns c =
     let p = start .pre .0 in
     let z = start .pre .1 in
     let e : step-to .result ≡ Failed = c .enum-told .given .1 in
-    let a = rw e at (step-to .ensures .1) in
+    let a = rw e at (step-to .ensures .proceeds) in
     let f = a (p .tabled) in
-    (tt, a, rw (f .still refl) (z .5))
+    record { says = record { few = tt; proceeds = a }; below = rw (f .still refl) (z .below) }
 
 settle-requires : tie.Need-settle-requires
 settle-requires c κs =
     let start = c .before .before .before .before .before .before .before .before .before .before .before .before .before .before .before .before .before .before .before .before .before .before .before .before .before .before .before .before in
     let p = start .pre .0 in
     let z = start .pre .1 in
-    (z .5 .size, omega (arith, p .placed .inside (start .args .next .carrier .0) (z .0), p .most), omega (arith, z .2, p .most))
+    record {
+      size = z .below .size;
+      from-low = omega (arith, p .placed .inside (start .args .next .carrier .0) (z .can .carrier-there), p .most);
+      to-low = omega (arith, z .can .bay-there, p .most);
+    }
 
 same-length-6 : tie.Need-same-length-6
 same-length-6 c = c .before .before .before .before .before .before .before .before .before .before .before .before .before .before .before .step-to .kept .1 .1 .1 .0
@@ -83,12 +87,12 @@ returns-2 c =
     let p = start .pre .0 in
     let z = start .pre .1 in
     let e : step-to .result ≡ Done (stepped .given .0 .0) = stepped .given .1 in
-    let a = rw e at (step-to .ensures .1) in (
-      rw e at (step-to .ensures .0),
-      a,
-      settled-after (p .tabled) (p .most) (z .4) (start .args .next .finished) (start .args .next .carrier .0) (start .args .next .to .0) (start .args .placement .now) (p .placed) (z .0) (z .1) (z .2) (z .3)
-          (a (p .tabled)) (z .5) (c .before .before .settle .kept .0) (c .before .before .settle .ensures),
-    )
+    let a = rw e at (step-to .ensures .proceeds) in
+    record {
+      says = record { few = rw e at (step-to .ensures .few); proceeds = a };
+      below = settled-after (p .tabled) (p .most) (z .can) (p .placed)
+          (a (p .tabled)) (z .below) (c .before .before .settle .kept .0) (c .before .before .settle .ensures);
+    }
 
 pub step-spec : {M : Type 1} → statement M
 step-spec =

@@ -4,6 +4,7 @@ use mathlib.Core.Path.{_∙_, _≡_}
 use native.Mathlib.Omega.{arith}
 use lib.ListN.{length}
 use borrow.Author.Needs.{needs}
+use Rattle.acting.proofs.Acting.{tallied-from}
 use Rattle.step.proofs.Stepping.{r-there, r-inside, w-empty, stepped-cross}
 use Rattle.step.proofs.Aside.{inside-e, empty-e, full-in, made-aside}
 use Rattle.step.proofs.step_aside.Statement.{statement}
@@ -14,27 +15,27 @@ fill-requires c κs =
     let start = c .before .before .before .before .before .before .before .before .before .before .before in
     let p = start .pre .0 in
     let z = start .pre .1 in (
-      (
-        z .2,
-        inside-e (p .tabled) (p .most) (z .4) (start .args .next .finished) (start .args .next .carrier .0) (start .args .next .to .0) (start .args .placement .now) (p .placed) (z .0) (z .1) (z .2) (z .3) (z .5) (z .6) (start .args .e .0) (z .7) (z .8),
-        p .most,
-        p .empty-size,
-        omega arith,
-        full-in (p .tabled) (p .most) (z .4) (start .args .next .finished) (start .args .next .carrier .0) (start .args .next .to .0) (start .args .placement .now) (p .placed) (z .0) (z .1) (z .2) (z .3) (z .5) (z .6) (start .args .e .0) (z .7) (z .8),
-        empty-e (p .tabled) (p .most) (z .4) (start .args .next .finished) (start .args .next .carrier .0) (start .args .next .to .0) (start .args .placement .now) (p .placed) (z .0) (z .1) (z .2) (z .3) (z .5) (z .6) (start .args .e .0) (z .7) (z .8),
-        p .placed,
-      ),
+      record {
+        from-inside = z .can .bay-there;
+        to-inside = inside-e (p .tabled) p z;
+        most = p .most;
+        empty-size = p .empty-size;
+        counts = omega arith;
+        full = full-in (p .tabled) p z;
+        free = empty-e (p .tabled) p z;
+        placed = p .placed;
+      },
       p .table-size,
     )
 
 cast-own : tie.Need-cast-own
 cast-own c = search needs
 
-mul-t22 : tie.Need-mul-t22
-mul-t22 c = search needs
+mul-t24 : tie.Need-mul-t24
+mul-t24 c = search needs
 
-slice-read-t24 : tie.Need-slice-read-t24
-slice-read-t24 c = search needs
+slice-read-t26 : tie.Need-slice-read-t26
+slice-read-t26 c = search needs
 
 cross-requires : tie.Need-cross-requires
 cross-requires c κs =
@@ -45,16 +46,17 @@ cross-requires c κs =
     let kw : length (fill .last .1 .1 .0) ≡ length (start .args .standing .now) = fill .kept .1 .1 .0 in
     let kf : length (fill .last .1 .1 .1 .0) ≡ length (start .args .empty .now) = fill .kept .1 .1 .1 .0 in
     let d = fill .ensures (p .tabled) in
-    let m = made-aside (p .tabled) (p .most) (z .4) (start .args .next .finished) (start .args .next .carrier .0) (start .args .next .to .0) (start .args .placement .now) (p .placed) (z .0) (z .1) (z .2) (z .3) (z .5) (z .6) (start .args .e .0) (z .7) (z .8) in (
-      rw kw (d .placed .inside (start .args .next .carrier .0) (r-inside (p .tabled) (p .most) (z .4) (start .args .next .finished) (start .args .next .carrier .0) (start .args .next .to .0) (start .args .placement .now) (p .placed) (z .0) (z .2) (z .3) _ m _ (d .moved))),
-      rw kw (z .2),
-      omega (arith, p .most, kw),
-      omega (arith, p .empty-size, kf),
-      omega (arith, d .counted),
-      r-there (p .tabled) (p .most) (z .4) (start .args .next .finished) (start .args .next .carrier .0) (start .args .next .to .0) (start .args .placement .now) (p .placed) (z .0) (z .2) (z .3) _ m _ (d .moved),
-      w-empty (p .tabled) (p .most) (z .4) (start .args .next .finished) (start .args .next .carrier .0) (start .args .next .to .0) (start .args .placement .now) (p .placed) (z .0) (z .2) (z .3) _ m _ (d .moved),
-      rw kw (d .placed),
-    )
+    let m = made-aside (p .tabled) p z in
+    record {
+      from-inside = rw kw (d .placed .inside (start .args .next .carrier .0) (r-inside (p .tabled) (p .most) (z .can) (p .placed) _ m _ (d .moved)));
+      to-inside = rw kw (z .can .bay-there);
+      most = omega (arith, p .most, kw);
+      empty-size = omega (arith, p .empty-size, kf);
+      counts = omega (arith, d .counted);
+      full = r-there (p .tabled) (p .most) (z .can) (p .placed) _ m _ (d .moved);
+      free = w-empty (p .tabled) (p .most) (z .can) (p .placed) _ m _ (d .moved);
+      placed = rw kw (d .placed);
+    }
 
 same-length : tie.Need-same-length
 same-length c = c .before .before .before .before .before .before .before .before .cross .kept .0 ∙ c .before .before .before .before .before .before .before .before .before .before .before .before .before .before .before .before .before .before .before .before .before .before .before .fill .kept .1 .0
@@ -77,12 +79,13 @@ returns c =
     let z = start .pre .1 in
     let kw : length (fill .last .1 .1 .0) ≡ length (start .args .standing .now) = fill .kept .1 .1 .0 in
     let d = fill .ensures (p .tabled) in
-    let crossed = rw kw at (cross .ensures) in (
-      omega (arith, d .counted, crossed .counted),
-      λ t.
-          let m = made-aside t (p .most) (z .4) (start .args .next .finished) (start .args .next .carrier .0) (start .args .next .to .0) (start .args .placement .now) (p .placed) (z .0) (z .1) (z .2) (z .3) (z .5) (z .6) (start .args .e .0) (z .7) (z .8) in
-          stepped-cross t (p .most) (z .4) (start .args .next .finished) (start .args .next .carrier .0) (start .args .next .to .0) (start .args .placement .now) (p .placed) (z .0) (z .2) (z .3) _ m (fill .ensures t) crossed,
-    )
+    let crossed = rw kw at (cross .ensures) in
+    record {
+      few = omega (arith, d .counted, crossed .counted);
+      proceeds = λ t.
+          let m = made-aside t p z in
+          stepped-cross t (p .most) (z .can) (p .placed) _ m (fill .ensures t) (tallied-from _ crossed);
+    }
 
 pub step-aside-spec : {M : Type 1} → statement M
 step-aside-spec =
@@ -90,8 +93,8 @@ step-aside-spec =
     (tie.spec
     fill-requires
     cast-own
-    mul-t22
-    slice-read-t24
+    mul-t24
+    slice-read-t26
     cross-requires
     same-length
     same-length-2

@@ -13,34 +13,37 @@ use Rattle.step.proofs.step_in.Tie as tie
 cast-own : tie.Need-cast-own
 cast-own c = search needs
 
-mul-t12 : tie.Need-mul-t12
-mul-t12 c = search needs
+mul-t11 : tie.Need-mul-t11
+mul-t11 c = search needs
 
-slice-read-t14 : tie.Need-slice-read-t14
-slice-read-t14 c = search needs
+slice-read-t13 : tie.Need-slice-read-t13
+slice-read-t13 c = search needs
 
 cross-requires : tie.Need-cross-requires
 cross-requires c κs =
     let start = c .before .before .before .before .before .before .before .before .before .before .before in
     let a = start .args in
-    let z = start .pre .0 in
-    let s = start .pre .1 in (
-      z .3 .inside (a .r .0) (z .0),
-      z .1,
-      s .0,
-      s .1,
-      omega arith,
-      bay-in (a .placement .now) (a .r .0) (z .0),
-      not-true (elem (a .w .0) (a .placement .now)) (sym (z .3 .empties (a .w .0) (z .1)) ∙ z .2),
-      z .3,
-    )
+    let z = start .pre in
+    record {
+      from-inside = z .placed .inside (a .r .0) (z .carrier-there);
+      to-inside = z .bay-there;
+      most = z .most;
+      empty-size = z .empty-size;
+      counts = omega arith;
+      full = bay-in (a .placement .now) (a .r .0) (z .carrier-there);
+      free = not-true (elem (a .w .0) (a .placement .now)) (sym (z .placed .empties (a .w .0) (z .bay-there)) ∙ z .free);
+      placed = z .placed;
+    }
 
 settle-requires : tie.Need-settle-requires
 settle-requires c κs =
     let start = c .before .before .before .before .before .before .before .before .before .before .before .before .before .before .before .before .before .before .before .before .before in
-    let z = start .pre .0 in
-    let s = start .pre .1 in
-    (s .2, omega (arith, z .3 .inside (start .args .r .0) (z .0), s .0), omega (arith, z .1, s .0))
+    let z = start .pre in
+    record {
+      size = z .settled-size;
+      from-low = omega (arith, z .placed .inside (start .args .r .0) (z .carrier-there), z .most);
+      to-low = omega (arith, z .bay-there, z .most);
+    }
 
 same-length : tie.Need-same-length
 same-length c = c .before .before .before .before .before .before .before .before .before .before .before .before .cross .kept .0
@@ -62,17 +65,17 @@ returns c =
     let cross = c .before .before .before .before .before .before .before .before .before .before .before .before .cross in
     let start = c .before .before .before .before .before .before .before .before .before .before .before .before .before .before .before .before .before .before .before .before .before .before .before .before in
     let a = start .args in
-    let z = start .pre .0 in
+    let z = start .pre in
     let crossed = cross .ensures in
-    (crossed, settled-free (a .r .0) (a .w .0) (a .placement .now) (z .3) (z .0) crossed (c .before .before .settle .kept .0) (c .before .before .settle .ensures))
+    record { crosses = crossed; below = settled-free (a .r .0) (a .w .0) (a .placement .now) (z .placed) (z .carrier-there) crossed (c .before .before .settle .kept .0) (c .before .before .settle .ensures) }
 
 pub step-in-spec : {M : Type 1} → statement M
 step-in-spec =
     tie.close
     (tie.spec
     cast-own
-    mul-t12
-    slice-read-t14
+    mul-t11
+    slice-read-t13
     cross-requires
     settle-requires
     same-length

@@ -31,16 +31,17 @@ cross-requires c κs =
     let start = c .before .before .before .before .before .before .before .before .before .before .before .before .before .before .before .before .before .before in
     let p = start .pre .0 in
     let z = start .pre .1 in
-    let h = sym (c .before .before .before .before .before .before .if1 .taken) ∙ c .before .before .before .before .before .before .before .is-in .ensures in (
-      p .placed .inside (start .args .next .carrier .0) (z .0),
-      z .2,
-      p .most,
-      p .empty-size,
-      omega arith,
-      bay-in (start .args .placement .now) (start .args .next .carrier .0) (z .0),
-      free (p .tabled) (p .most) (z .4) (start .args .next .finished) (start .args .next .carrier .0) (start .args .next .to .0) (start .args .placement .now) (p .placed) (z .0) (z .2) (z .3) h,
-      p .placed,
-    )
+    let h = sym (c .before .before .before .before .before .before .if1 .taken) ∙ c .before .before .before .before .before .before .before .is-in .ensures in
+    record {
+      from-inside = p .placed .inside (start .args .next .carrier .0) (z .can .carrier-there);
+      to-inside = z .can .bay-there;
+      most = p .most;
+      empty-size = p .empty-size;
+      counts = omega arith;
+      full = bay-in (start .args .placement .now) (start .args .next .carrier .0) (z .can .carrier-there);
+      free = free (p .tabled) (p .most) (z .can) (p .placed) h;
+      placed = p .placed;
+    }
 
 same-length : tie.Need-same-length
 same-length c = c .before .before .before .before .before .before .before .before .cross .kept .0
@@ -63,10 +64,8 @@ returns c =
     let p = start .pre .0 in
     let z = start .pre .1 in
     let h = sym (if1 .taken) ∙ is-in .ensures in
-    let crossed = cross .ensures in (
-      omega (arith, crossed .counted),
-      λ t. stepped-free t (p .most) (z .4) (start .args .next .finished) (start .args .next .carrier .0) (start .args .next .to .0) (start .args .placement .now) (p .placed) (z .0) (z .2) (z .3) h crossed,
-    )
+    let crossed = cross .ensures in
+    record { few = omega (arith, crossed .counted); proceeds = λ t. stepped-free t (p .most) (z .can) (p .placed) h crossed }
 
 mul-s : tie.Need-mul-s
 mul-s c = search needs
@@ -87,13 +86,13 @@ swap-requires c κs =
     let start = c .before .before .before .before .before .before .before .before .before .before .before .before .before .before .before .before .before .before .before in
     let p = start .pre .0 in
     let z = start .pre .1 in
-    let f = held-fails (p .tabled) (p .most) (z .4) (start .args .next .finished) (start .args .next .carrier .0) (start .args .next .to .0) (start .args .placement .now) (p .placed) (z .0) (z .2) (z .3) (z .1) (omega (arith, c .before .before .before .before .if2 .taken)) in (
+    let f = held-fails (p .tabled) (p .most) (z .can) (p .placed) (omega (arith, c .before .before .before .before .if2 .taken)) in (
       p,
       (
-        z .0,
-        met-carrier (p .tabled) (p .most) (z .4) (start .args .next .finished) (start .args .next .carrier .0) (start .args .next .to .0) (start .args .placement .now) (p .placed) (z .0) (z .2) (z .3) f .0,
-        met-other (p .tabled) (p .most) (z .4) (start .args .next .finished) (start .args .next .carrier .0) (start .args .next .to .0) (start .args .placement .now) (p .placed) (z .0) (z .2) (z .3) f,
-        record { tabled = p .tabled; beside = met-beside (p .tabled) (p .most) (z .4) (start .args .next .finished) (start .args .next .carrier .0) (start .args .next .to .0) (start .args .placement .now) (p .placed) (z .0) (z .2) (z .3) f },
+        z .can .carrier-there,
+        met-carrier (p .tabled) (p .most) (z .can) (p .placed) f .0,
+        met-other (p .tabled) (p .most) (z .can) (p .placed) f,
+        record { tabled = p .tabled; beside = met-beside (p .tabled) (p .most) (z .can) (p .placed) f },
       ),
     )
 
@@ -115,19 +114,20 @@ returns-2 c =
     let if2 = c .before .before .before .before .before .before .before .before .before .before .before .if2 in
     let start = c .before .before .before .before .before .before .before .before .before .before .before .before .before .before .before .before .before .before .before .before .before .before .before .before .before .before in
     let p = start .pre .0 in
-    let z = start .pre .1 in (
-      swap .ensures .0,
-      λ t.
-          let f = held-fails t (p .most) (z .4) (start .args .next .finished) (start .args .next .carrier .0) (start .args .next .to .0) (start .args .placement .now) (p .placed) (z .0) (z .2) (z .3) (z .1) (omega (arith, if2 .taken)) in
-          stepped-swap t (p .most) (z .4) (start .args .next .finished) (start .args .next .carrier .0) (start .args .next .to .0) (start .args .placement .now) (p .placed) (z .0) (z .2) (z .3) f (swap .ensures .1 t (met-beside t (p .most) (z .4) (start .args .next .finished) (start .args .next .carrier .0) (start .args .next .to .0) (start .args .placement .now) (p .placed) (z .0) (z .2) (z .3) f)),
-    )
+    let z = start .pre .1 in
+    record {
+      few = swap .ensures .0;
+      proceeds = λ t.
+          let f = held-fails t (p .most) (z .can) (p .placed) (omega (arith, if2 .taken)) in
+          stepped-swap t (p .most) (z .can) (p .placed) f (swap .ensures .1 t (met-beside t (p .most) (z .can) (p .placed) f));
+    }
 
 common-requires : tie.Need-common-requires
 common-requires c κs =
     let start = c .before .before .before .before .before .before .before .before .before .before .before .before .before .before .before .before in
     let p = start .pre .0 in
     let z = start .pre .1 in
-    (omega (arith, p .table-size, z .2), omega (arith, p .empty-size), λ b h i. table-rowed (p .tabled .joins) (p .most) _ (z .2) (p .table-size) b h (and-left _ _ i))
+    (omega (arith, p .table-size, z .can .bay-there), omega (arith, p .empty-size), λ b h i. table-rowed (p .tabled .joins) (p .most) _ (z .can .bay-there) (p .table-size) b h (and-left _ _ i))
 
 cast-number : tie.Need-cast-number
 cast-number c = search needs
@@ -139,7 +139,8 @@ step-aside-requires c κs =
     let start = c .before .before .before .before .before .before .before .before .before .before .before .before .before .before .before .before .before .before .before .before .before .before in
     let p = start .pre .0 in
     let z = start .pre .1 in
-    (p, (z .0, z .1, z .2, z .3, z .4, omega (arith, c .before .before .before .before .before .before .before .if2 .left), sym (is-in .ensures) ∙ if1 .left, c .before .before .before .before .before .common .ensures, c .before .before .before .before .if3 .taken))
+    let empty-beside = c .before .before .before .before .before .common .ensures in
+    (p, record { can = z .can; unfinished = omega (arith, c .before .before .before .before .before .before .before .if2 .left); full = sym (is-in .ensures) ∙ if1 .left; chosen = empty-beside; found = c .before .before .before .before .if3 .taken })
 
 same-length-9 : tie.Need-same-length-9
 same-length-9 c = c .before .before .before .before .before .before .before .before .step-aside .kept .1 .1 .1 .0

@@ -3,7 +3,7 @@
 use native.Mathlib.Omega.{arith}
 use borrow.Author.Needs.{needs}
 use Rattle.paper.specs.Text.{text}
-use Rattle.printing.proofs.Lines.{named-short}
+use Rattle.put_bytes.proofs.Short.{named-short}
 use Rattle.survey_lines.proofs.Parts.{head-done}
 use Rattle.survey_lines.proofs.head.Statement.{statement}
 use Rattle.survey_lines.proofs.head.Tie as tie

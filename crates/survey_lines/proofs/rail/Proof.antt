@@ -5,7 +5,7 @@ use Prim.Native.Nat.{_+_}
 use native.Mathlib.Omega.{arith}
 use borrow.Author.Needs.{needs}
 use Rattle.paper.specs.Text.{text}
-use Rattle.printing.proofs.Lines.{named-short}
+use Rattle.put_bytes.proofs.Short.{named-short}
 use Rattle.survey_lines.proofs.Parts.{rail-done}
 use Rattle.survey_lines.proofs.rail.Statement.{statement}
 use Rattle.survey_lines.proofs.rail.Tie as tie

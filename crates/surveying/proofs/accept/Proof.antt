@@ -20,7 +20,7 @@ refused-requires c κs = search needs
 returns : tie.Need-returns
 returns c =
     let start = c .before .before .before .before .before .before .before in
-    accept-refused (start .args .bays) (start .args .ends .now) (start .args .rails .now) _ _ (ap testedOf (sym (c .before .before .tested .given .1)) ∙ c .before .before .before .before .test .ensures) (c .refused .ensures .0) (ap verdictOf (c .refused .ensures .1))
+    accept-refused (start .args .bays) (start .args .ends .now) (start .args .rails .now) _ _ (ap testedOf (sym (c .before .before .tested .given .1)) ∙ c .before .before .before .before .test .ensures) (c .refused .ensures .bays) (ap verdictOf (c .refused .ensures .verdict))
 
 enum-told : tie.Need-enum-told
 enum-told c = search needs
@@ -31,7 +31,7 @@ refused-requires-2 c κs = search needs
 returns-2 : tie.Need-returns-2
 returns-2 c =
     let start = c .before .before .before .before .before .before .before in
-    accept-room (start .args .bays) (start .args .ends .now) (start .args .rails .now) _ (ap testedOf (sym (c .before .before .enum-told .given .1)) ∙ c .before .before .before .before .test .ensures) (c .before .if1 .taken) (c .refused2 .ensures .0) (ap verdictOf (c .refused2 .ensures .1))
+    accept-room (start .args .bays) (start .args .ends .now) (start .args .rails .now) _ (ap testedOf (sym (c .before .before .enum-told .given .1)) ∙ c .before .before .before .before .test .ensures) (c .before .if1 .taken) (c .refused2 .ensures .bays) (ap verdictOf (c .refused2 .ensures .verdict))
 
 shorts-requires : tie.Need-shorts-requires
 shorts-requires c κs = search needs

@@ -26,7 +26,7 @@ take-over-requires c κs = search needs
 returns : tie.Need-returns
 returns c =
     let start = c .before .before .before .before .before .before in
-    record { says = λ file empty sized long reads. settle-bad file (start .args .found) empty (start .args .room .now) (start .args .rails .now) _ _ reads _ (c .before .before .found .given .1) (c .refused .ensures .0) (ap verdictOf (c .refused .ensures .1)) refl }
+    record { says = λ file empty sized long reads. settle-bad file (start .args .found) empty (start .args .room .now) (start .args .rails .now) _ _ reads _ (c .before .before .found .given .1) (c .refused .ensures .bays) (ap verdictOf (c .refused .ensures .verdict)) refl }
 
 same-length : tie.Need-same-length
 same-length c = search needs

@@ -14,7 +14,7 @@ refused-requires c κs = search needs
 returns : tie.Need-returns
 returns c =
     let start = c .before .before .before .before in
-    take-long (start .args .bays) (start .args .count) (start .args .room .now) (start .args .rails .now) _ (c .before .if1 .taken) (c .refused .ensures .0) (ap verdictOf (c .refused .ensures .1))
+    take-long (start .args .bays) (start .args .count) (start .args .room .now) (start .args .rails .now) _ (c .before .if1 .taken) (c .refused .ensures .bays) (ap verdictOf (c .refused .ensures .verdict))
 
 slice-aggregate-accept : tie.Need-slice-aggregate-accept
 slice-aggregate-accept c =

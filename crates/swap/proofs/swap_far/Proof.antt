@@ -12,7 +12,7 @@ seek-requires : tie.Need-seek-requires
 seek-requires c κs =
     let start = c .before .before .before .before .before .before .before .before in
     let z = start .pre .1 in
-    (start .pre .0, (z .0, z .1, z .2))
+    (start .pre .0, record { first = z .0; second = z .1; differ = z .2; side = z .3 })
 
 enum-known-found : tie.Need-enum-known-found
 enum-known-found c = c .match .keys1
@@ -36,7 +36,7 @@ returns c =
     let p = start .pre .0 in
     let z = start .pre .1 in
     let e : seek .result ≡ Failed = c .enum-told .given .1 in
-    (tt, λ t b. not-found t (p .placed) refl _ _ (z .0) (z .1) (z .2) b (rw e at (seek .ensures .1 t b)))
+    (tt, λ t b. not-found t (p .placed) refl _ _ (z .0) (z .1) (z .2) b (rw e at (seek .ensures .swaps t b)))
 
 trade-requires : tie.Need-trade-requires
 trade-requires c κs =
@@ -64,7 +64,7 @@ returns-2 c =
     let z = start .pre .1 in
     let e : seek .result ≡ Done (found .given .0 .0) = found .given .1 in
     let long = seek .kept .1 .1 .1 .1 .1 .1 .0 in
-    (rw e at (seek .ensures .0), λ t b. committed t (p .placed) refl _ _ (z .0) (z .1) (z .2) b _ _ (trade .ensures .0) (trade .ensures .1) long (rw e at (seek .ensures .1 t b)))
+    (rw e at (seek .ensures .few), λ t b. committed t (p .placed) refl _ _ (z .0) (z .1) (z .2) b _ _ (trade .ensures .0) (trade .ensures .1) long (rw e at (seek .ensures .swaps t b)))
 
 pub swap-far-spec : {M : Type 1} → statement M
 swap-far-spec =

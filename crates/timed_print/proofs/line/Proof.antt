@@ -3,11 +3,10 @@
 use native.Mathlib.Omega.{arith}
 use borrow.Author.Needs.{needs}
 use Rattle.paper.specs.Text.{text}
-use Rattle.paper.specs.Print.{decimal}
 use Rattle.docket.specs.Reading.{crossingOf}
 use Rattle.stores.proofs.Stores.{wrote-then}
-use Rattle.paper.proofs.Digits.{decimal-short}
-use Rattle.printing.proofs.Lines.{named-short}
+use Rattle.laws.proofs.Digits.{decimal-short}
+use Rattle.put_bytes.proofs.Short.{named-short}
 use Rattle.timed_print.proofs.Parts.{line-parts}
 use Rattle.timed_print.proofs.line.Statement.{statement}
 use Rattle.timed_print.proofs.line.Tie as tie

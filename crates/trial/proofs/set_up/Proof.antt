@@ -6,8 +6,9 @@ use lib.ListN.{length}
 use borrow.Author.Needs.{needs}
 use Rattle.acting.proofs.Acting.{tried-done, tried-failed}
 use Rattle.clear.proofs.Clearing.{ready-again}
-use Rattle.clear_on.proofs.Attempting.{pair-none, pair-from}
-use Rattle.moving.specs.Bounds.{bring-most}
+use Rattle.acting.proofs.Lending.{rest-lent}
+use Rattle.clear_on.proofs.Attempting.{pair-none, pair-after, after-asks}
+use Rattle.moving.specs.Bounds.{bring-most, clear-most}
 use Rattle.trial.proofs.Attempting.{not-brought, at-junction, set-up-all}
 use Rattle.acting.specs.declared.Tried.the-variants.{Done}
 use Rattle.acting.specs.declared.Tried.the-variants.{Failed}
@@ -19,7 +20,7 @@ bring-requires c κs =
     let start = c .before .before .before .before .before .before .before .before .before .before in
     let p = start .pre .0 in
     let z = start .pre .1 in
-    (p, (z .0, z .1, z .2, z .4, omega (arith, z .5)))
+    (p, record { coupled = record { leads = z .0; follows = z .1; differ = z .2 }; inside = z .4; short = z .5 })
 
 enum-known-brought : tie.Need-enum-known-brought
 enum-known-brought c = c .match .keys1
@@ -43,60 +44,88 @@ returns : tie.Need-returns
 returns c =
     let bring = c .before .before .before .before .before .before .before .before .before .before .bring in
     let e : bring .result ≡ Failed = c .enum-told .given .1 in
-    (pair-none _ _, λ t led. not-brought (tried-failed (rw e at (bring .ensures .1 t))))
+    (pair-none _ _, λ t led. not-brought (tried-failed (rw e at (bring .ensures .tries t))))
 
 cast-follower : tie.Need-cast-follower
 cast-follower c = search needs
 
-mul-t21 : tie.Need-mul-t21
-mul-t21 c = search needs
+mul-t22 : tie.Need-mul-t22
+mul-t22 c = search needs
 
-slice-read-t23 : tie.Need-slice-read-t23
-slice-read-t23 c = search needs
+slice-read-t24 : tie.Need-slice-read-t24
+slice-read-t24 c = search needs
+
+place-in-requires : tie.Need-place-in-requires
+place-in-requires c κs = search needs
+
+mul-clear-two : tie.Need-mul-clear-two
+mul-clear-two c =
+    let start = c .before .before .before .before .before .before .before .before .before .before .before .before .before .before .before .before .before .before .before .before .before .before .before .before .before .before .before .before .before in
+    search (needs, c .before .before .before .place-in .ensures, c .before .before .before .before .before .before .before .before .before .before .before .before .before .before .before .before .before .before .bring .kept .1 .1 .1 .1 .1 .1 .0, start .good)
+
+sub-clear-two : tie.Need-sub-clear-two
+sub-clear-two c = search needs
+
+part-clear-two-start : tie.Need-part-clear-two-start
+part-clear-two-start c = search needs
+
+part-clear-two-end : tie.Need-part-clear-two-end
+part-clear-two-end c = search needs
 
 clear-two-requires : tie.Need-clear-two-requires
 clear-two-requires c κs =
-    let brought = c .before .before .before .before .before .before .before .brought in
-    let bring = c .before .before .before .before .before .before .before .before .before .before .before .before .before .before .before .before .before .bring in
-    let start = c .before .before .before .before .before .before .before .before .before .before .before .before .before .before .before .before .before .before .before .before .before .before .before .before .before .before .before .before in
+    let brought = c .before .before .before .before .before .before .before .before .before .brought in
+    let bring = c .before .before .before .before .before .before .before .before .before .before .before .before .before .before .before .before .before .before .before .bring in
+    let start = c .before .before .before .before .before .before .before .before .before .before .before .before .before .before .before .before .before .before .before .before .before .before .before .before .before .before .before .before .before .before in
     let p = start .pre .0 in
     let z = start .pre .1 in
     let e : bring .result ≡ Done (brought .given .0 .0) = brought .given .1 in
-    let few = rw e at (bring .ensures .0) in
-    let d = tried-done (rw e at (bring .ensures .1 (p .tabled))) in
+    let d = tried-done (rw e at (bring .ensures .tries (p .tabled))) in
     let kp : length (bring .last .1 .1 .1 .0) ≡ length (start .args .placement .now) = bring .kept .1 .1 .1 .0 in
     let kw : length (bring .last .1 .1 .1 .1 .0) ≡ length (start .args .standing .now) = bring .kept .1 .1 .1 .1 .0 in
-    let kf = bring .kept .1 .1 .1 .1 .1 .0 in
-    (ready-again p _ _ _ kw kf (d .2 .placed), (rw kp (z .0), rw kp (z .1), z .2, omega (arith, z .3, kw), rw kw (d .2 .placed .inside (start .args .lead .couple .follower .0) (rw kp (z .1))), omega (arith, few, z .5)))
+    let kf = bring .kept .1 .1 .1 .1 .1 .0 in (
+      ready-again p _ _ _ kw kf (d .2 .placed),
+      record {
+        coupled = record { leads = rw kp (z .0); follows = rw kp (z .1); differ = z .2 };
+        junction = omega (arith, z .3, kw);
+        behind = rw kw (d .2 .placed .inside (start .args .lead .couple .follower .0) (rw kp (z .1)));
+      },
+    )
+
+after-requires : tie.Need-after-requires
+after-requires c κs =
+    let bring = c .before .before .before .before .before .before .before .before .before .before .before .before .before .before .before .before .before .before .before .before .before .before .before .before .before .before .before .before .bring in
+    let start = c .before .before .before .before .before .before .before .before .before .before .before .before .before .before .before .before .before .before .before .before .before .before .before .before .before .before .before .before .before .before .before .before .before .before .before .before .before .before .before in
+    let e : bring .result ≡ Done (c .before .before .before .before .before .before .before .before .before .before .before .before .before .before .before .before .before .before .brought .given .0 .0) = c .before .before .before .before .before .before .before .before .before .before .before .before .before .before .before .before .before .before .brought .given .1 in
+    after-asks bring-most clear-most (omega (arith, rw e at (bring .ensures .few), start .pre .1 .5)) (c .before .before .before .before .before .before .before .before .clear-two .ensures .few) (omega arith)
 
 same-length-5 : tie.Need-same-length-5
-same-length-5 c = c .before .before .before .before .before .before .before .before .clear-two .kept .1 .1 .1 .0 ∙ c .before .before .before .before .before .before .before .before .before .before .before .before .before .before .before .before .before .before .before .before .before .before .before .before .before .before .bring .kept .1 .1 .1 .0
+same-length-5 c = c .before .before .before .before .before .before .before .before .before .clear-two .kept .1 .1 .1 .0 ∙ c .before .before .before .before .before .before .before .before .before .before .before .before .before .before .before .before .before .before .before .before .before .before .before .before .before .before .before .before .before .bring .kept .1 .1 .1 .0
 
 same-length-6 : tie.Need-same-length-6
-same-length-6 c = c .before .before .before .before .before .before .before .before .clear-two .kept .1 .1 .1 .1 .0 ∙ c .before .before .before .before .before .before .before .before .before .before .before .before .before .before .before .before .before .before .before .before .before .before .before .before .before .before .bring .kept .1 .1 .1 .1 .0
+same-length-6 c = c .before .before .before .before .before .before .before .before .before .clear-two .kept .1 .1 .1 .1 .0 ∙ c .before .before .before .before .before .before .before .before .before .before .before .before .before .before .before .before .before .before .before .before .before .before .before .before .before .before .before .before .before .bring .kept .1 .1 .1 .1 .0
 
 same-length-7 : tie.Need-same-length-7
-same-length-7 c = c .before .before .before .before .before .before .before .before .clear-two .kept .1 .1 .1 .1 .1 .0 ∙ c .before .before .before .before .before .before .before .before .before .before .before .before .before .before .before .before .before .before .before .before .before .before .before .before .before .before .bring .kept .1 .1 .1 .1 .1 .0
+same-length-7 c = c .before .before .before .before .before .before .before .before .before .clear-two .kept .1 .1 .1 .1 .1 .0 ∙ c .before .before .before .before .before .before .before .before .before .before .before .before .before .before .before .before .before .before .before .before .before .before .before .before .before .before .before .before .before .bring .kept .1 .1 .1 .1 .1 .0
 
 same-length-8 : tie.Need-same-length-8
-same-length-8 c = c .before .before .before .before .before .before .before .before .clear-two .kept .1 .1 .1 .1 .1 .1 .0 ∙ c .before .before .before .before .before .before .before .before .before .before .before .before .before .before .before .before .before .before .before .before .before .before .before .before .before .before .bring .kept .1 .1 .1 .1 .1 .1 .0
+same-length-8 c = c .before .before .out2 .given .1 ∙ c .before .before .before .before .before .before .before .before .before .before .before .before .before .before .before .before .before .before .before .before .before .before .before .before .before .before .before .before .before .bring .kept .1 .1 .1 .1 .1 .1 .0
 
 returns-2 : tie.Need-returns-2
 returns-2 c =
-    let clear-two = c .before .before .before .before .before .before .before .before .clear-two in
-    let brought = c .before .before .before .before .before .before .before .before .before .before .before .before .before .before .before .before .brought in
-    let bring = c .before .before .before .before .before .before .before .before .before .before .before .before .before .before .before .before .before .before .before .before .before .before .before .before .before .before .bring in
-    let start = c .before .before .before .before .before .before .before .before .before .before .before .before .before .before .before .before .before .before .before .before .before .before .before .before .before .before .before .before .before .before .before .before .before .before .before .before .before in
+    let clear-two = c .before .before .before .before .before .before .before .before .before .clear-two in
+    let brought = c .before .before .before .before .before .before .before .before .before .before .before .before .before .before .before .before .before .before .before .brought in
+    let bring = c .before .before .before .before .before .before .before .before .before .before .before .before .before .before .before .before .before .before .before .before .before .before .before .before .before .before .before .before .before .bring in
+    let start = c .before .before .before .before .before .before .before .before .before .before .before .before .before .before .before .before .before .before .before .before .before .before .before .before .before .before .before .before .before .before .before .before .before .before .before .before .before .before .before .before in
     let p = start .pre .0 in
     let z = start .pre .1 in
     let e : bring .result ≡ Done (brought .given .0 .0) = brought .given .1 in
-    let few = rw e at (bring .ensures .0) in
-    let kw : length (bring .last .1 .1 .1 .1 .0) ≡ length (start .args .standing .now) = bring .kept .1 .1 .1 .1 .0 in
-    let d = tried-done (rw e at (bring .ensures .1 (p .tabled))) in (
-      pair-from bring-most (omega (arith, d .2 .counted)) (omega (arith, few, z .5)) (clear-two .ensures .0),
+    let kw : length (bring .last .1 .1 .1 .1 .0) ≡ length (start .args .standing .now) = bring .kept .1 .1 .1 .1 .0 in (
+      pair-after bring-most (omega (arith, rw e at (bring .ensures .few), z .5)) (clear-two .ensures .few) (c .after .ensures),
       λ t led.
-          let x = tried-done (rw e at (bring .ensures .1 t)) in
-          set-up-all (x .0) (x .1) (x .2) ((rw kw at (clear-two .ensures .1)) t (led .sound) (at-junction (x .0) led (p .placed .apart) (z .0) (z .1) (z .2) (x .1) _ (x .2 .moved))),
+          let x = tried-done (rw e at (bring .ensures .tries t)) in
+          let there = at-junction (x .0) led (p .placed .apart) (z .0) (z .1) (z .2) (x .1) _ (x .2 .moved) in
+          set-up-all (x .0) (x .1) (x .2) (λ more sum a. rest-lent _ (c .before .before .before .before .before .before .before .before .before .before .before .before .before .before .place-in .ensures) (c .before .before .out2 .given) a) ((rw kw at (clear-two .ensures .clears)) t (led .sound) there) (c .after .ensures),
     )
 
 pub set-up-spec : {M : Type 1} → statement M
@@ -112,9 +141,15 @@ set-up-spec =
     same-length-4
     returns
     cast-follower
-    mul-t21
-    slice-read-t23
+    mul-t22
+    slice-read-t24
+    place-in-requires
+    mul-clear-two
+    sub-clear-two
+    part-clear-two-start
+    part-clear-two-end
     clear-two-requires
+    after-requires
     same-length-5
     same-length-6
     same-length-7

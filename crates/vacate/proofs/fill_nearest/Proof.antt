@@ -22,7 +22,7 @@ slice-aggregate-way-out c = search needs
 way-out-requires : tie.Need-way-out-requires
 way-out-requires c κs =
     let p = c .before .before .before .before .before .before .before .before .pre in
-    (p .0, p .1, p .2, p .3, p .4, search needs, p .7, p .9, p .10, p .6)
+    (p .0 .most, p .0 .inside, p .0 .table-size, p .0 .held-size, p .0 .empty-size, search needs, p .1 .1, p .0 .shown, p .0 .levelled, p .1 .0)
 
 enum-known-e : tie.Need-enum-known-e
 enum-known-e c = c .match .keys1
@@ -36,37 +36,39 @@ same-length c = refl
 returns : tie.Need-returns
 returns c =
     let start = c .before .before .before .before .before .before .before .before .before .before .before .before in
-    let p = start .pre in
-    λ s. vacates-none s (p .0) _ (p .1) (p .8) _ _ (sym (p .6)) (sym (p .7)) (ap endOf (sym (c .enum-told .given .1)) ∙ c .before .before .before .way-out .ensures s (isEmpty _) (p .8 .empties) .nearest ∙ sym (nearest-empty _ _ _ _))
+    let p = start .pre .0 in
+    let full = start .pre .1 in
+    λ s. vacates-none s (p .most) _ (p .inside) (p .placed) _ (sym (full .0)) (sym (full .1)) (ap endOf (sym (c .enum-told .given .1)) ∙ c .before .before .before .way-out .ensures s (isEmpty _) (p .placed .empties) .nearest ∙ sym (nearest-empty _ _ _ _))
 
 array-share-prefix-path : tie.Need-array-share-prefix-path
 array-share-prefix-path c =
     let start = c .before .before .before .before .before .before .before .before .before .before .before .before .before in
-    let p = start .pre in
+    let p = start .pre .0 in
     let w = c .before .before .before .before .way-out in
-    let t = way-told (c .before .e .given .1) (w .ensures (p .9) (isEmpty _) (p .8 .empties)) in
+    let t = way-told (c .before .e .given .1) (w .ensures (p .shown) (isEmpty _) (p .placed .empties)) in
     let kept : length (w .last .1 .1 .1 .1 .1 .0) ≡ span = w .kept .1 .1 .1 .1 .1 .0 in
-    omega (arith, t .fits, p .0, kept)
+    omega (arith, t .fits, p .most, kept)
 
 slice-aggregate-shift : tie.Need-slice-aggregate-shift
 slice-aggregate-shift c =
     let start = c .before .before .before .before .before .before .before .before .before .before .before .before .before .before in
-    let p = start .pre in
+    let p = start .pre .0 in
     let w = c .before .before .before .before .before .way-out in
-    let t = way-told (c .before .before .e .given .1) (w .ensures (p .9) (isEmpty _) (p .8 .empties)) in
+    let t = way-told (c .before .before .e .given .1) (w .ensures (p .shown) (isEmpty _) (p .placed .empties)) in
     let kept : length (w .last .1 .1 .1 .1 .1 .0) ≡ span = w .kept .1 .1 .1 .1 .1 .0 in
-    sym (length-take-le _ _ (omega (arith, t .fits, p .0, kept)))
+    sym (length-take-le _ _ (omega (arith, t .fits, p .most, kept)))
 
 shift-requires : tie.Need-shift-requires
 shift-requires c κs =
     let e = c .before .before .before .before .before .before .e in
     let start = c .before .before .before .before .before .before .before .before .before .before .before .before .before .before .before .before .before .before in
-    let p = start .pre in
+    let p = start .pre .0 in
+    let full = start .pre .1 in
     let w = c .before .before .before .before .before .before .before .before .before .way-out in
-    let t = way-told (e .given .1) (w .ensures (p .9) (isEmpty _) (p .8 .empties)) in
+    let t = way-told (e .given .1) (w .ensures (p .shown) (isEmpty _) (p .placed .empties)) in
     let kept : length (w .last .1 .1 .1 .1 .1 .0) ≡ span = w .kept .1 .1 .1 .1 .1 .0 in
-    let len : length (take (e .given .0 .1 .0) (w .last .1 .1 .1 .1 .1 .0)) ≡ e .given .0 .1 .0 = length-take-le _ _ (omega (arith, t .fits, p .0, kept)) in
-    (p .0, p .4, omega (arith, len, t .fits, p .0, p .5), p .8, can-shift (p .9) (p .0) _ (p .1) (p .8) (start .args .out .now) (start .args .at) (sym (p .6)) (sym (p .7)) _ (t .nearest ∙ sym (nearest-empty _ _ _ _)) _ (t .path _ refl))
+    let len : length (take (e .given .0 .1 .0) (w .last .1 .1 .1 .1 .1 .0)) ≡ e .given .0 .1 .0 = length-take-le _ _ (omega (arith, t .fits, p .most, kept)) in
+    record { most = p .most; empty-size = p .empty-size; counts = omega (arith, len, t .fits, p .most); placed = p .placed; can-shift = can-shift (p .shown) (p .most) _ (p .inside) (p .placed) (start .args .out .now) (sym (full .0)) (sym (full .1)) _ (t .nearest ∙ sym (nearest-empty _ _ _ _)) _ (t .path _ refl) }
 
 same-length-2 : tie.Need-same-length-2
 same-length-2 c =
@@ -93,14 +95,15 @@ returns-2 c =
     let shift = c .before .before .before .before .before .before .before .before .shift in
     let e = c .before .before .before .before .before .before .before .before .before .before .before .before .before .before .before .e in
     let start = c .before .before .before .before .before .before .before .before .before .before .before .before .before .before .before .before .before .before .before .before .before .before .before .before .before .before .before in
-    let p = start .pre in
+    let p = start .pre .0 in
+    let full = start .pre .1 in
     let w = c .before .before .before .before .before .before .before .before .before .before .before .before .before .before .before .before .before .before .way-out in
-    let t = way-told (e .given .1) (w .ensures (p .9) (isEmpty _) (p .8 .empties)) in
+    let t = way-told (e .given .1) (w .ensures (p .shown) (isEmpty _) (p .placed .empties)) in
     let kept : length (w .last .1 .1 .1 .1 .1 .0) ≡ span = w .kept .1 .1 .1 .1 .1 .0 in
-    let len : length (take (e .given .0 .1 .0) (w .last .1 .1 .1 .1 .1 .0)) ≡ e .given .0 .1 .0 = length-take-le _ _ (omega (arith, t .fits, p .0, kept)) in
+    let len : length (take (e .given .0 .1 .0) (w .last .1 .1 .1 .1 .1 .0)) ≡ e .given .0 .1 .0 = length-take-le _ _ (omega (arith, t .fits, p .most, kept)) in
     λ s.
-    let v = way-told (e .given .1) (w .ensures s (isEmpty _) (p .8 .empties)) in
-    vacates-filled s (p .0) _ (p .1) (p .8) _ _ (sym (p .6)) (sym (p .7)) _ (v .nearest ∙ sym (nearest-empty _ _ _ _)) _ (v .path _ refl) _ _ _ _ _ _ refl refl (omega (arith, len, t .fits)) (shift .ensures)
+    let v = way-told (e .given .1) (w .ensures s (isEmpty _) (p .placed .empties)) in
+    vacates-filled s (p .most) _ (p .inside) (p .placed) _ (sym (full .0)) (sym (full .1)) _ (v .nearest ∙ sym (nearest-empty _ _ _ _)) _ (v .path _ refl) _ _ _ _ _ _ refl refl (omega (arith, len, t .fits)) (shift .ensures)
 
 pub fill-nearest-spec : {M : Type 1} → statement M
 fill-nearest-spec =

@@ -22,7 +22,7 @@ same-length c = refl
 returns : tie.Need-returns
 returns c =
     let start = c .before .before .before .before .before .before .before .before .before .before in
-    let p = start .pre in λ s. vacates-empty s (p .0) _ (p .1) (p .6) _ _ (sym (c .if1 .taken) ∙ c .before .is-in .ensures)
+    let p = start .pre in λ s. vacates-empty s (p .most) _ (p .inside) (p .placed) _ (sym (c .if1 .taken) ∙ c .before .is-in .ensures)
 
 is-in-requires-2 : tie.Need-is-in-requires-2
 is-in-requires-2 c κs = search needs
@@ -33,16 +33,16 @@ same-length-2 c = refl
 returns-2 : tie.Need-returns-2
 returns-2 c =
     let start = c .before .before .before .before .before .before .before .before .before .before .before .before in
-    let p = start .pre in λ s. vacates-held s (p .0) _ (p .1) (p .6) _ _ (sym (c .before .before .if1 .left) ∙ c .before .before .before .is-in .ensures) (sym (c .if2 .taken) ∙ c .before .is-in2 .ensures)
+    let p = start .pre in λ s. vacates-held s (p .most) _ (p .inside) (p .placed) _ (sym (c .before .before .if1 .left) ∙ c .before .before .before .is-in .ensures) (sym (c .if2 .taken) ∙ c .before .is-in2 .ensures)
 
 free-requires : tie.Need-free-requires
 free-requires c κs =
     let start = c .before .before .before .before .before .before .before .before .before .before .before .before .before in
     let p = start .pre in
-    (search needs, search needs, search needs, table-rowed (p .7 .joins) (p .0) _ (p .1) (p .2))
+    (search needs, search needs, search needs, table-rowed (p .shown .joins) (p .most) _ (p .inside) (p .table-size))
 
-cast-t19 : tie.Need-cast-t19
-cast-t19 c = search needs
+cast-t18 : tie.Need-cast-t18
+cast-t18 c = search needs
 
 cross-requires : tie.Need-cross-requires
 cross-requires c κs =
@@ -53,12 +53,20 @@ cross-requires c κs =
     let start = c .before .before .before .before .before .before .before .before .before .before .before .before .before .before .before .before .before .before .before in
     let p = start .pre in
     let out = start .args .out .now in
-    let at = start .args .at in
     let full = sym (if1 .left) ∙ is-in .ensures in
     let unheld = sym (c .before .before .before .before .before .before .before .if2 .left) ∙ is-in2 .ensures in
     let low = free .ensures in
     let there : free .result < span = c .before .before .before .before .if3 .taken in
-    (p .1, inside-e (p .7) (p .0) _ (p .1) (p .6) out at full unheld _ low there, p .0, p .4, omega (arith, p .5), full-in (p .7) (p .0) _ (p .1) (p .6) out at full unheld _ low there, empty-e (p .7) (p .0) _ (p .1) (p .6) out at full unheld _ low there, p .6)
+    record {
+      from-inside = p .inside;
+      to-inside = inside-e (p .shown) (p .most) _ (p .inside) (p .placed) out full unheld _ low there;
+      most = p .most;
+      empty-size = p .empty-size;
+      counts = omega arith;
+      full = full-in (p .shown) (p .most) _ (p .inside) (p .placed) out full unheld _ low there;
+      free = empty-e (p .shown) (p .most) _ (p .inside) (p .placed) out full unheld _ low there;
+      placed = p .placed;
+    }
 
 same-length-3 : tie.Need-same-length-3
 same-length-3 c =
@@ -93,7 +101,7 @@ returns-3 c =
     let p = start .pre in
     let full = sym (if1 .left) ∙ is-in .ensures in
     let unheld = sym (if2 .left) ∙ is-in2 .ensures in
-    λ s. vacates-beside s (p .0) _ (p .1) (p .6) _ _ full unheld _ (free .ensures) (if3 .taken) _ _ _ _ _ _ refl refl (cross .ensures)
+    λ s. vacates-beside s (p .most) _ (p .inside) (p .placed) _ full unheld _ (free .ensures) (if3 .taken) _ _ _ _ _ _ refl refl (cross .ensures)
 
 fill-nearest-requires : tie.Need-fill-nearest-requires
 fill-nearest-requires c κs =
@@ -102,7 +110,7 @@ fill-nearest-requires c κs =
     let is-in = c .before .before .before .before .before .before .before .before .before .before .is-in in
     let start = c .before .before .before .before .before .before .before .before .before .before .before .before .before .before .before .before .before .before .before in
     let p = start .pre in
-    (p .0, p .1, p .2, p .3, p .4, p .5, sym (is-in .ensures) ∙ if1 .left, sym (is-in2 .ensures) ∙ c .before .before .before .before .before .before .before .if2 .left, p .6, p .7, p .8)
+    (p, (sym (is-in .ensures) ∙ if1 .left, sym (is-in2 .ensures) ∙ c .before .before .before .before .before .before .before .if2 .left))
 
 same-length-7 : tie.Need-same-length-7
 same-length-7 c =
@@ -141,7 +149,7 @@ vacate-spec =
     same-length-2
     returns-2
     free-requires
-    cast-t19
+    cast-t18
     cross-requires
     same-length-3
     same-length-4

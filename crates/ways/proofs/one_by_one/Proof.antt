@@ -7,7 +7,8 @@ use lib.ListN.{length, length-set}
 use lib.Seq.{take-suc-set}
 use Rattle.words.specs.Sets.{words, span}
 use Rattle.rings.specs.Search.{Shown}
-use Rattle.ways.proofs.Finding.{Stage, zeros-low, stage-first, stage-more, free-rowed, way-nowhere, way-found, way-here}
+use Rattle.ways.proofs.Finding.{Stage, stage-first, stage-more, free-rowed, way-nowhere, way-found, way-here}
+use Rattle.ways.proofs.Passing.{zeros-low}
 use borrow.Author.Needs.{needs}
 use Rattle.ways.proofs.one_by_one.Statement.{statement}
 use Rattle.ways.proofs.one_by_one.Tie as tie

@@ -1,0 +1,136 @@
+// The junctions near a carrier, tried one by one, nearest first and ties lowest: the first of them whose trial succeeds is that of its swap. Most swaps find
+// theirs within a few rails.
+use acting::Tried;
+use docket::Bay;
+use docket::Carrier;
+use trial::Trial;
+ghost use mathlib.Core.Path.{_≡_};
+ghost use mathlib.Core.Bool.{true};
+ghost use Prim.Native.Nat.{min, _<_};
+ghost use lib.ListN.{length};
+ghost use Rattle.acting.specs.Acting.{Ready};
+ghost use Rattle.near.specs.Seeking.{near-rings, SurelyFails, TryJunctionSays, NearAsks, NearSays};
+
+// So many rings are near, the carrier's own bay being the first. Farther on it pays to go ahead of the trials.
+pub const NEAR: usize = 8;
+
+// Whether the trial at v, which is not r's own bay, is bound to fail: v is blocked.
+fn surely_fails(
+    table: &[u64],
+    v: Bay,
+    r: Carrier,
+    s: Carrier,
+    placement: &[u16],
+    standing: &[u16],
+    empty: &[u64],
+) -> bool
+    requires { ⌜ Ready (now table) (now placement) (now standing) (now empty) ⌝ }
+    requires { ⌜
+        (r .0 < length (now placement))
+        × (s .0 < length (now placement))
+        × (s .0 ≡ r .0 → ⊥)
+        × (v .0 < length (now standing))
+        ⌝ }
+    ensures { λ z. ⌜
+        (z ≡ true → SurelyFails (r .0) (s .0) (v .0) (now (table .entry)) (now (placement .entry)) (now (standing .entry)))
+        ⌝ }
+{
+    let first = r.0 as usize;
+    let second = s.0 as usize;
+    let u = Bay(placement[first]);
+    let w = Bay(placement[second]);
+    if u.0 == v.0 {
+        return false;
+    }
+    outlook::is_blocked(table, standing.len(), v, u, w, empty)
+}
+
+// The trial at v, if v is a junction.
+fn try_junction(
+    table: &[u64],
+    v: Bay,
+    r: Carrier,
+    s: Carrier,
+    placement: &[u16],
+    standing: &[u16],
+    empty: &[u64],
+    out: &mut [u64],
+) -> Tried
+    requires { ⌜ Ready (now table) (now placement) (now standing) (now empty) ⌝ }
+    requires { ⌜
+        (r .0 < length (now placement))
+        × (s .0 < length (now placement))
+        × (s .0 ≡ r .0 → ⊥)
+        × (v .0 < length (now standing))
+        ⌝ }
+    ensures { λ z. ⌜
+        TryJunctionSays (r .0) (s .0) (v .0)
+        (now (table .entry)) (now (placement .entry)) (now (standing .entry)) (now (out .exit)) z
+        ⌝ }
+{
+    let n = standing.len();
+    if acting::is_junction(table, n, v) {
+        if surely_fails(table, v, r, s, placement, standing, empty) {
+            return Tried::Failed;
+        }
+        let here = Trial {
+            carrier: r,
+            neighbour: s,
+            junction: v,
+        };
+        return trial::try_at(table, here, placement, standing, empty, out);
+    }
+    Tried::Failed
+}
+
+// How many rings are looked at: a yard may have fewer.
+fn reach(n: usize) -> usize
+    ensures { λ r. ⌜ r ≡ min near-rings n ⌝ }
+{
+    if n < NEAR {
+        return n;
+    }
+    NEAR
+}
+
+// The trial at the first junction among the near ones where it succeeds; the list is left as that trial leaves it.
+pub fn seek_near(
+    table: &[u64],
+    r: Carrier,
+    s: Carrier,
+    placement: &[u16],
+    standing: &[u16],
+    empty: &[u64],
+    out: &mut [u64],
+) -> Tried
+    requires { ⌜ Ready (now table) (now placement) (now standing) (now empty) ⌝ }
+    requires { ⌜ NearAsks (r .0) (s .0) (now placement) ⌝ }
+    ensures { λ z. ⌜
+        NearSays (r .0) (s .0) (now (table .entry)) (now (placement .entry)) (now (standing .entry)) (now (out .exit)) z
+        ⌝ }
+{
+    let carrier = r.0 as usize;
+    let u = placement[carrier] as usize;
+    let last = reach(standing.len());
+    let mut seen = [0u64; words::WORDS];
+    let mut ring = [0u64; words::WORDS];
+    words::alone(&mut seen, u);
+    words::alone(&mut ring, u);
+    let mut d = 0;
+    'nearest: loop {
+        if last <= d {
+            break 'nearest Tried::Failed;
+        }
+        let mut v = words::next_from(&ring, 0);
+        while v < words::SPAN {
+            let bay = Bay(v as u16);
+            let tried = try_junction(table, bay, r, s, placement, standing, empty, out);
+            if let Tried::Done(m) = tried {
+                break 'nearest Tried::Done(m);
+            }
+            v = words::next_from(&ring, v + 1);
+        }
+        rings::widen(table, &mut seen, &mut ring);
+        d += 1;
+    }
+}

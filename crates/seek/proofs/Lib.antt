@@ -1,0 +1,4 @@
+pub mod Scouting
+pub mod Sending
+pub mod Foreseeing
+pub mod Seeking

@@ -1,0 +1,43 @@
+-- `seek::try_junction` meets its contract. Where there is no hope the trial fails; else it is made.
+-- Assumes nothing.
+use mathlib.Core.Path.{sym, _∙_}
+use borrow.Author.Needs.{needs}
+use Rattle.near.proofs.Seeking.{tried-at, tried-never}
+use Rattle.seek.proofs.try_junction.Statement.{statement}
+use Rattle.seek.proofs.try_junction.Tie as tie
+
+hope-requires : tie.Need-hope-requires
+hope-requires c κs = search needs
+
+returns : tie.Need-returns
+returns c =
+    let hope = c .before .before .hope .ensures in
+    record {
+      scouted = hope .scouted;
+      few = tt;
+      tried = λ t b j. tried-never _ _ _ _ _ _ (hope .fails (c .if1 .taken) t b);
+    }
+
+try-on-requires : tie.Need-try-on-requires
+try-on-requires c κs =
+    let start = c .before .before .before .before .before .before .before .before .before .before in
+    let z = start .pre .1 in
+    (start .pre .0, (z .first, z .second, z .differ, z .inside, z .bays-inside, z .short, z .some-bays))
+
+same-length : tie.Need-same-length
+same-length c = search needs
+
+returns-2 : tie.Need-returns-2
+returns-2 c =
+    let z = c .before .before .before .before .before .before .before .before .before .before .before .before .before .pre .1 in
+    let hope = c .before .before .before .before .before .before .hope .ensures in
+    let made = c .before .before .try-on .ensures in
+    record {
+      scouted = hope .scouted;
+      few = made .0;
+      tried = λ t b j. tried-at _ _ _ _ _ _ j (made .1 t (z .near t b) (z .is-path t b));
+    }
+
+pub try-junction-spec : {M : Type 1} → statement M
+try-junction-spec =
+    tie.close (tie.spec hope-requires returns try-on-requires same-length returns-2)

@@ -1,0 +1,2 @@
+pub mod Scouts
+pub mod Far
