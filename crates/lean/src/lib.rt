@@ -4,8 +4,8 @@ use outcome::Handed;
 use yard::Yard;
 ghost use Prim.Native.Nat.{_≤_};
 ghost use lib.ListN.{length};
-ghost use Rattle.play.specs.Playing.{Admitted, OfProcedure};
-ghost use Rattle.outcome.specs.Handing.{Due, Hands, HandsIfKept};
+ghost use Rattle.play.specs.Playing.{Admitted};
+ghost use Rattle.outcome.specs.Handing.{HandsOut, HandsOutKept, HandsOutDue};
 
 // Crossings that the least room holds.
 pub const LEAST: usize = 1024;
@@ -20,7 +20,7 @@ fn hand_out_by_rails(
 ) -> Handed
     requires { ⌜ Admitted n (now table) (now start) (now goal) ⌝ }
     ensures { λ r. ⌜
-        OfProcedure n (now (table .entry)) (now (start .entry)) (now (goal .entry)) (λ o. HandsIfKept o (now (out .entry)) r (now (out .exit)))
+        HandsOutKept n (now (table .entry)) (now (start .entry)) (now (goal .entry)) (now (out .entry)) r (now (out .exit))
         ⌝ }
 {
     let mut kept = [0u64; LEAST];
@@ -40,8 +40,7 @@ fn hand_out_again_by_rails(
 ) -> Counted
     requires { ⌜ Admitted n (now table) (now start) (now goal) × (m ≤ length (now out)) ⌝ }
     ensures { λ r. ⌜
-        OfProcedure n (now (table .entry)) (now (start .entry)) (now (goal .entry))
-        (λ o. Due o (now (out .entry)) m parked → Hands o (now (out .entry)) r (now (out .exit)))
+        HandsOutDue n (now (table .entry)) (now (start .entry)) (now (goal .entry)) m parked (now (out .entry)) r (now (out .exit))
         ⌝ }
 {
     play::play_by_rails(table, n, start, goal, &mut out[..m]);
@@ -58,7 +57,7 @@ pub fn hand_out_lean(
 ) -> Counted
     requires { ⌜ Admitted n (now table) (now start) (now goal) ⌝ }
     ensures { λ r. ⌜
-        OfProcedure n (now (table .entry)) (now (start .entry)) (now (goal .entry)) (λ o. Hands o (now (out .entry)) r (now (out .exit)))
+        HandsOut n (now (table .entry)) (now (start .entry)) (now (goal .entry)) (now (out .entry)) r (now (out .exit))
         ⌝ }
 {
     let handed = hand_out_by_rails(table, n, start, goal, out);

@@ -5,11 +5,12 @@ use mathlib.Core.List.{List, map}
 use Prim.Native.Nat.{ℕ, _≤_}
 use lib.ListN.{length, take}
 use Rattle.paper.specs.Procedure.{Made, Outcome, planned}
-use Rattle.paper.specs.Yard.{pack, most-crossings}
+use Rattle.paper.specs.Yard.{Placement, pack, most-crossings}
 use Rattle.paper.specs.Docket.{Refusal}
 use Rattle.paper.specs.Answers.{Answer, accepted, refused, parkedOf, within, beside, written}
 use Rattle.docket.specs.Reading.{refusalOf}
 use Rattle.acting.specs.declared.Tally.{Tally}
+use Rattle.play.specs.Playing.{OfProcedure}
 use Rattle.outcome.specs.declared.Counted.{Counted}
 use Rattle.outcome.specs.declared.Counted.the-variants.{Accepted, Refused}
 use Rattle.outcome.specs.declared.Handed.{Handed}
@@ -60,3 +61,17 @@ pub record Due (o : Outcome) (lent : List ℕ) (m parked : ℕ) : Type 0 where
 pub record HandsIfKept (o : Outcome) (lent : List ℕ) (answer : Handed) (lent′ : List ℕ) : Type 0 where
   pub done : (a : Counted) → answer ≡ Done a → Hands o lent a lent′
   pub longer : (m parked : ℕ) → answer ≡ Longer m parked → (lent′ ≡ lent) × Due o lent m parked
+
+-- ## Of the procedure on a table of n bays, from starts to goals
+
+-- 7, 8 or the plan
+abbrev pub HandsOut : (n : ℕ) (table : List ℕ) (s g : Placement) (lent : List ℕ) → Counted → (lent′ : List ℕ) → Type 0
+HandsOut n table s g lent answer lent′ = OfProcedure n table s g (λ o. Hands o lent answer lent′)
+
+-- the same where it was kept whole; else it is due
+abbrev pub HandsOutKept : (n : ℕ) (table : List ℕ) (s g : Placement) (lent : List ℕ) → Handed → (lent′ : List ℕ) → Type 0
+HandsOutKept n table s g lent answer lent′ = OfProcedure n table s g (λ o. HandsIfKept o lent answer lent′)
+
+-- 7, 8 or the plan, if one of so many crossings and that count is due
+abbrev pub HandsOutDue : (n : ℕ) (table : List ℕ) (s g : Placement) (m parked : ℕ) (lent : List ℕ) → Counted → (lent′ : List ℕ) → Type 0
+HandsOutDue n table s g m parked lent answer lent′ = OfProcedure n table s g (λ o. Due o lent m parked → Hands o lent answer lent′)

@@ -170,21 +170,22 @@ fn play_low(
     play_by_levels(table, n, start, goal, &mut wide, out)
 }
 
-// The crossings of the procedure, counted, and stored where the list has room for all; or the carrier that could not step. The rails have so many
-// ends.
+// The crossings of the procedure, counted, and stored where the list has room for all; or the carrier that could not step. The yard's numbers
+// tell which levels pay.
 pub fn play(
     table: &[u64; Yard::TABLE],
-    n: usize,
-    ends: usize,
+    yard: Yard,
     start: &[u16],
     goal: &[u16],
     out: &mut [u64],
 ) -> Staged
-    requires { ⌜ Admitted n (now table) (now start) (now goal) ⌝ }
+    requires { ⌜ Admitted (yard .bays) (now table) (now start) (now goal) ⌝ }
     ensures { λ z. ⌜
-        OfProcedure n (now (table .entry)) (now (start .entry)) (now (goal .entry)) (λ o. Plays o (now (out .entry)) (now (out .exit)) z)
+        OfProcedure (yard .bays) (now (table .entry)) (now (start .entry)) (now (goal .entry)) (λ o. Plays o (now (out .entry)) (now (out .exit)) z)
         ⌝ }
 {
+    let n = yard.bays;
+    let ends = yard.ends;
     let carriers = start.len();
     if carriers < n - n / FILLED + SURPLUS {
         return play_by_rails(table, n, start, goal, out);
@@ -192,8 +193,14 @@ pub fn play(
     if ends / GRID * 2 < n {
         return play_by_rails(table, n, start, goal, out);
     }
-    let yard = Yard { bays: n };
-    if n / CROWDED < yard.empty_bays(start) {
+    let empty = yard.empty_bays(start);
+    // Fewer rails than a grid has, and hardly a bay empty: the procedure soon stops.
+    if ends / 3 < n {
+        if empty <= Yard::KEPT_EMPTY {
+            return play_by_rails(table, n, start, goal, out);
+        }
+    }
+    if n / CROWDED < empty {
         if n <= ends / DENSE {
             return play_by_rails(table, n, start, goal, out);
         }

@@ -1,4 +1,4 @@
--- What opening promises allows one answer and one table: the answer reads as the paper's, an open yard has the given bays, and each
+-- What opening promises allows one answer and one table: the answer reads as the paper's, an open yard has the given bays and rail ends, and each
 -- bay of each row is said to be there or not.
 use mathlib.Core.Path.{_≡_, refl, sym, ap, _∙_}
 use mathlib.Core.List.{List}
@@ -18,8 +18,8 @@ use Rattle.yard.specs.declared.Opened.{Opened}
 use Rattle.yard.specs.declared.Opened.the-variants.{Open, Refused}
 use Rattle.yard.specs.Opening.{Admits, Opens}
 
-same-numbers : (y z : Numbers) → y .bays ≡ z .bays → y ≡ z
-same-numbers y z b = λ i. record { bays = b i }
+same-numbers : (y z : Numbers) → y .bays ≡ z .bays → y .ends ≡ z .ends → y ≡ z
+same-numbers y z b e = λ i. record { bays = b i; ends = e i }
 
 module _ (given : Order) where
   -- what a row of an open yard's table holds
@@ -40,7 +40,7 @@ module _ (given : Order) where
     same-answer (Open y) (Open z) t t′ p q =
         let a = p .admitted y refl in
         let b = q .admitted z refl in
-        (ap Open (same-numbers y z (a .bays ∙ sym (b .bays))), same-table y z t t′ a b)
+        (ap Open (same-numbers y z (a .bays ∙ sym (b .bays)) (a .ends ∙ sym (b .ends))), same-table y z t t′ a b)
     same-answer (Refused r) (Refused r′) t t′ p q =
         let e : some (refusalOf r) ≡ some (refusalOf r′) = p .answer ∙ sym (q .answer) in
         (ap Refused (refusal-tells r r′ (cc)), λ x. p .refused r refl x ∙ sym (q .refused r′ refl x))

@@ -110,14 +110,14 @@ module _ (o : Order) (lent : ℕ) where
   pub tests-refused : (r : Refusal) (table : List ℕ) → firstSix o lent ≡ some (refusalOf r) → Tests o lent (Refused r) table
   tests-refused r table h = record { answer = sym h; admitted = λ y e. never (cc) }
 
-  pub tests-admitted : (y : Numbers) (table : List ℕ) → firstSix o lent ≡ none → y .bays ≡ o .bays
+  pub tests-admitted : (y : Numbers) (table : List ℕ) → firstSix o lent ≡ none → y .bays ≡ o .bays → y .ends ≡ length (o .ends)
       → Laid (o .bays) (railsOf (o .ends)) table → Tests o lent (Open y) table
-  tests-admitted y table h b l = record {
+  tests-admitted y table h b e l = record {
     answer = sym h;
-    admitted = λ z e.
+    admitted = λ z q.
         let same : y ≡ z = cc in
         let admits : Admits o y table =
-        record { bays = b; rows = table-of (o .bays) (o .ends) table l; beyond = empty-beyond (o .bays) (railsOf (o .ends)) table l } in
+        record { bays = b; ends = e; rows = table-of (o .bays) (o .ends) table l; beyond = empty-beyond (o .bays) (railsOf (o .ends)) table l } in
         rw same at admits;
   }
 

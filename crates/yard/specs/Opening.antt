@@ -5,6 +5,7 @@ use mathlib.Core.Bool.{false}
 use mathlib.Core.List.{List}
 use mathlib.Core.Option.{Option, none, some}
 use Prim.Native.Nat.{ℕ, _≤_, _<_}
+use lib.ListN.{length}
 use Rattle.paper.specs.Order.{Order}
 use Rattle.paper.specs.Docket.{yardOf}
 use Rattle.paper.specs.Answers.{firstSix}
@@ -21,9 +22,10 @@ abbrev pub openedOf : Opened → Option paper.Refusal
 openedOf (Open y) = none
 openedOf (Refused r) = some (refusalOf r)
 
--- an open yard has the bays that were given, and the table is its table; no other row has a bay in it
+-- an open yard has the bays and the rail ends that were given, and the table is its table; no other row has a bay in it
 pub record Admits (o : Order) (y : Numbers) (table : List ℕ) : Type 0 where
   pub bays : y .bays ≡ o .bays
+  pub ends : y .ends ≡ length (o .ends)
   pub rows : Table (yardOf o) (o .bays) table
   pub beyond : (a b : ℕ) → o .bays ≤ a → b < span → memRow table a b ≡ false
 

@@ -13,9 +13,10 @@ ghost use Rattle.words.specs.Sets.{mem};
 ghost use Rattle.occupancy.specs.Standing.{Empty};
 ghost use Rattle.yard.specs.Opening.{Tests, Opens};
 
-// A yard by its number of bays; its rails are in the table.
+// A yard by its numbers: of bays, and of rail ends, two for each rail. Its rails are in the table.
 pub struct Yard {
     pub bays: usize,
+    pub ends: usize,
 }
 
 // An open yard, or why there is none.
@@ -131,7 +132,10 @@ fn first_six(
     if let Found::At(c) = to {
         return Opened::Refused(Refusal::Goal(Carrier(c as u32)));
     }
-    Opened::Open(Yard { bays: n })
+    Opened::Open(Yard {
+        bays: n,
+        ends: rails.len(),
+    })
 }
 
 // Refusal 1.

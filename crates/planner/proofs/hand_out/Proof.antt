@@ -22,7 +22,7 @@ hand-out-again-requires c κs =
     (start .pre, rw (longer .0) (longer .1 .fits))
 
 same-length : tie.Need-same-length
-same-length c = c .before .before .before .before .before .hand-out-likely .kept .1 .1 .1 .1 .1 .0
+same-length c = c .before .before .before .before .before .hand-out-likely .kept .1 .1 .1 .1 .0
 
 returns : tie.Need-returns
 returns c = λ t. c .before .before .before .before .before .hand-out-likely .ensures t .done _ (c .before .handed .given .1)
@@ -30,7 +30,7 @@ returns c = λ t. c .before .before .before .before .before .hand-out-likely .en
 same-length-2 : tie.Need-same-length-2
 same-length-2 c =
     let hand-out-likely = c .before .before .before .before .before .before .before .before .before .hand-out-likely in
-    c .before .before .hand-out-again .kept .1 .1 .1 .1 .1 .1 .1 .0 ∙ hand-out-likely .kept .1 .1 .1 .1 .1 .0
+    c .before .before .hand-out-again .kept .1 .1 .1 .1 .1 .1 .0 ∙ hand-out-likely .kept .1 .1 .1 .1 .0
 
 returns-2 : tie.Need-returns-2
 returns-2 c =

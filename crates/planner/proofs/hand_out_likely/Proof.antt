@@ -4,50 +4,53 @@ use borrow.Author.Needs.{needs}
 use Rattle.planner.proofs.hand_out_likely.Statement.{statement}
 use Rattle.planner.proofs.hand_out_likely.Tie as tie
 
-likely-holds-requires : tie.Need-likely-holds-requires
-likely-holds-requires c κs = search needs
+junctions-if-thin-requires : tie.Need-junctions-if-thin-requires
+junctions-if-thin-requires c κs = search needs
+
+holds-requires : tie.Need-holds-requires
+holds-requires c κs = search needs
 
 hand-out-least-requires : tie.Need-hand-out-least-requires
 hand-out-least-requires c κs = search needs
 
 same-length : tie.Need-same-length
-same-length c = c .before .before .hand-out-least .kept .1 .1 .1 .1 .1 .0
+same-length c = c .before .before .hand-out-least .kept .1 .1 .1 .1 .0
 
 returns : tie.Need-returns
 returns c = search needs
 
-likely-holds-requires-2 : tie.Need-likely-holds-requires-2
-likely-holds-requires-2 c κs = search needs
+holds-requires-2 : tie.Need-holds-requires-2
+holds-requires-2 c κs = search needs
 
 hand-out-less-requires : tie.Need-hand-out-less-requires
 hand-out-less-requires c κs = search needs
 
 same-length-2 : tie.Need-same-length-2
-same-length-2 c = c .before .before .hand-out-less .kept .1 .1 .1 .1 .1 .0
+same-length-2 c = c .before .before .hand-out-less .kept .1 .1 .1 .1 .0
 
 returns-2 : tie.Need-returns-2
 returns-2 c = search needs
 
-likely-holds-requires-3 : tie.Need-likely-holds-requires-3
-likely-holds-requires-3 c κs = search needs
+holds-requires-3 : tie.Need-holds-requires-3
+holds-requires-3 c κs = search needs
 
 hand-out-half-requires : tie.Need-hand-out-half-requires
 hand-out-half-requires c κs = search needs
 
 same-length-3 : tie.Need-same-length-3
-same-length-3 c = c .before .before .hand-out-half .kept .1 .1 .1 .1 .1 .0
+same-length-3 c = c .before .before .hand-out-half .kept .1 .1 .1 .1 .0
 
 returns-3 : tie.Need-returns-3
 returns-3 c = search needs
 
-likely-holds-requires-4 : tie.Need-likely-holds-requires-4
-likely-holds-requires-4 c κs = search needs
+holds-requires-4 : tie.Need-holds-requires-4
+holds-requires-4 c κs = search needs
 
 hand-out-more-requires : tie.Need-hand-out-more-requires
 hand-out-more-requires c κs = search needs
 
 same-length-4 : tie.Need-same-length-4
-same-length-4 c = c .before .before .hand-out-more .kept .1 .1 .1 .1 .1 .0
+same-length-4 c = c .before .before .hand-out-more .kept .1 .1 .1 .1 .0
 
 returns-4 : tie.Need-returns-4
 returns-4 c = search needs
@@ -56,7 +59,7 @@ hand-out-most-requires : tie.Need-hand-out-most-requires
 hand-out-most-requires c κs = search needs
 
 same-length-5 : tie.Need-same-length-5
-same-length-5 c = c .before .before .hand-out-most .kept .1 .1 .1 .1 .1 .0
+same-length-5 c = c .before .before .hand-out-most .kept .1 .1 .1 .1 .0
 
 returns-5 : tie.Need-returns-5
 returns-5 c = search needs
@@ -65,19 +68,20 @@ pub hand-out-likely-spec : {M : Type 1} → statement M
 hand-out-likely-spec =
     tie.close
     (tie.spec
-    likely-holds-requires
+    junctions-if-thin-requires
+    holds-requires
     hand-out-least-requires
     same-length
     returns
-    likely-holds-requires-2
+    holds-requires-2
     hand-out-less-requires
     same-length-2
     returns-2
-    likely-holds-requires-3
+    holds-requires-3
     hand-out-half-requires
     same-length-3
     returns-3
-    likely-holds-requires-4
+    holds-requires-4
     hand-out-more-requires
     same-length-4
     returns-4

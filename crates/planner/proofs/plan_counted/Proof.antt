@@ -37,7 +37,7 @@ returns c =
     says-refused o _ _ (ap openedOf (sym (c .before .opened .given .1)) ∙ c .before .before .before .open-in .ensures .answer)
 
 same-length : tie.Need-same-length
-same-length c = c .before .before .hand-out .kept .1 .1 .1 .1 .1 .0
+same-length c = c .before .before .hand-out .kept .1 .1 .1 .1 .0
 
 returns-2 : tie.Need-returns-2
 returns-2 c =

@@ -11,7 +11,7 @@ hand-out-kept-requires : tie.Need-hand-out-kept-requires
 hand-out-kept-requires c κs = search needs
 
 same-length : tie.Need-same-length
-same-length c = c .before .before .before .before .before .before .before .play .kept .1 .1 .1 .1 .1 .0
+same-length c = c .before .before .before .before .before .before .before .play .kept .1 .1 .1 .1 .0
 
 same-length-2 : tie.Need-same-length-2
 same-length-2 c = c .before .before .hand-out-kept .kept .1 .1 .0

@@ -131,7 +131,7 @@ enum-told-4 c = search needs
 returns-7 : tie.Need-returns-7
 returns-7 c =
     let laid = c .before .before .before .before .before .before .before .before .before .before .before .before .before .bad-rail .ensures .laid (c .before .before .before .before .before .before .before .before .before .before .before .enum-told .given .1) in
-    tests-admitted _ _ _ _ (first-none _ _ (passed-5 (c .before .before .before)) _ (c .before .before .bad-place2 .ensures) (c .enum-told4 .given .1)) refl laid
+    tests-admitted _ _ _ _ (first-none _ _ (passed-5 (c .before .before .before)) _ (c .before .before .bad-place2 .ensures) (c .enum-told4 .given .1)) refl refl laid
 
 pub first-six-spec : {M : Type 1} → statement M
 first-six-spec =
