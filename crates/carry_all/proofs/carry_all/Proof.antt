@@ -1,4 +1,4 @@
--- `carry::carry_all` meets its contract. The carriers so far, then the rest from here, are the whole procedure; those so far are at home.
+-- `carry_all::carry_all` meets its contract. The carriers so far, then the rest from here, are the whole procedure; those so far are at home.
 -- Assumes nothing.
 use mathlib.Core.Path.{_∙_, _≡_, refl}
 use Prim.Native.Nat.{_≤_, _<_, _-_, _*_}
@@ -12,11 +12,12 @@ use Rattle.step.specs.Asking.{BaysBelow}
 use Rattle.acting.proofs.Lending.{rest-lent}
 use Rattle.home.proofs.Homing.{stages-stuck}
 use Rattle.along.specs.Along.{Goals, HomeBelow, Bound}
-use Rattle.carry.proofs.Carrying.{settles, settles-stuck, Served, served-none, served-more, served-stuck, served-all, home-more}
+use Rattle.carry.proofs.Carrying.{settles, settles-stuck}
+use Rattle.carry_all.proofs.Serving.{Served, served-none, served-more, served-stuck, served-all, home-more}
 use Rattle.home.specs.declared.Staged.the-variants.{Planned}
 use Rattle.home.specs.declared.Staged.the-variants.{Stuck}
-use Rattle.carry.proofs.carry_all.Statement.{statement}
-use Rattle.carry.proofs.carry_all.Tie as tie
+use Rattle.carry_all.proofs.carry_all.Statement.{statement}
+use Rattle.carry_all.proofs.carry_all.Tie as tie
 
 abbrev Inv-loop : tie.InvT-loop
 Inv-loop table goals owner placement₀ standing₀ empty₀ settled₀ out₀ kind count₀ r₀ placement standing empty settled out count r =
