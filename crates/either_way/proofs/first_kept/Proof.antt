@@ -1,4 +1,4 @@
--- `attempts::first_kept` meets its contract. The placement does not change, so all attempts before x failed from where this one starts.
+-- `either_way::first_kept` meets its contract. The placement does not change, so all attempts before x failed from where this one starts.
 -- Assumes nothing.
 use mathlib.Core.Path.{_∙_, _≡_, refl}
 use mathlib.Core.Bool.{true}
@@ -7,12 +7,12 @@ use native.Mathlib.Omega.{arith}
 use lib.ListN.{length}
 use Rattle.words.specs.Sets.{mem, span}
 use Rattle.acting.specs.Acting.{Tabled}
 use Rattle.attempts.specs.Asking.{Arrived, wayWith}
-use Rattle.attempts.proofs.Attempting.{Failing, failing-none, failing-more, kept-none, kept-one}
+use Rattle.either_way.proofs.Either.{Failing, failing-none, failing-more, kept-none, kept-one}
 use Rattle.acting.specs.declared.Tried.the-variants.{Done, Failed}
 use borrow.Author.Needs.{needs}
-use Rattle.attempts.proofs.first_kept.Statement.{statement}
-use Rattle.attempts.proofs.first_kept.Tie as tie
+use Rattle.either_way.proofs.first_kept.Statement.{statement}
+use Rattle.either_way.proofs.first_kept.Tie as tie
 
 abbrev Inv-loop : tie.InvT-loop
 Inv-loop table second others one placement standing empty log₀ x₀ log x =

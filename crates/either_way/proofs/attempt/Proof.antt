@@ -1,4 +1,4 @@
--- `attempts::attempt` meets its contract. The copies are the placement.
+-- `either_way::attempt` meets its contract. The copies are the placement.
 -- Assumes nothing.
 use mathlib.Core.Bool.{true, false}
 use mathlib.Core.Path.{sym, ap}
@@ -6,11 +6,12 @@ use native.Mathlib.Omega.{arith}
 use lib.ListN.{length}
 use Rattle.moving.specs.Bounds.{clear-once-most, attempt-most}
 use Rattle.acting.specs.Acting.{nothing}
 use Rattle.attempts.specs.Asking.{wayWith}
-use Rattle.attempts.proofs.Attempting.{ready-copy, kept-copy, attempted, within-more}
+use Rattle.attempts.proofs.Attempting.{ready-copy}
+use Rattle.either_way.proofs.Either.{kept-copy, attempted, within-more}
 use borrow.Author.Needs.{needs}
-use Rattle.attempts.proofs.attempt.Statement.{statement}
-use Rattle.attempts.proofs.attempt.Tie as tie
+use Rattle.either_way.proofs.attempt.Statement.{statement}
+use Rattle.either_way.proofs.attempt.Tie as tie
 
 slice-aggregate-copy : tie.Need-slice-aggregate-copy
 slice-aggregate-copy c = search needs

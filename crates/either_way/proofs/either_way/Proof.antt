@@ -1,11 +1,11 @@
--- `attempts::either_way` meets its contract. The second way is tried where the first never works.
+-- `either_way::either_way` meets its contract. The second way is tried where the first never works.
 -- Assumes nothing.
 use mathlib.Core.Path.{_∙_, _≡_}
 use lib.ListN.{length}
-use Rattle.attempts.proofs.Attempting.{first-way, second-way}
+use Rattle.either_way.proofs.Either.{first-way, second-way}
 use Rattle.keeping.specs.declared.Kept.the-variants.{One, Nothing}
-use Rattle.attempts.proofs.either_way.Statement.{statement}
-use Rattle.attempts.proofs.either_way.Tie as tie
+use Rattle.either_way.proofs.either_way.Statement.{statement}
+use Rattle.either_way.proofs.either_way.Tie as tie
 
 first-kept-requires : tie.Need-first-kept-requires
 first-kept-requires c κs =
