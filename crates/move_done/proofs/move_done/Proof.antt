@@ -1,4 +1,4 @@
--- `placement::move_done` meets its contract: the pass of proofs/Passing, at a done crossing and at an undone one.
+-- `move_done::move_done` meets its contract: the pass of proofs/Passing, at a done crossing and at an undone one.
 -- Assumes nothing.
 use borrow.Author.Needs.{needs}
 use mathlib.Core.Logic.{⊎-elim}
@@ -9,8 +9,8 @@ use Rattle.plans.proofs.Rest.{fits-named}
 use lib.ListN.{length}
 use Rattle.paper.specs.Limits.{most-bays}
 use Rattle.afresh.proofs.Passing.{Moving, moving-done, moving-undone, moving-ends}
-use Rattle.placement.proofs.move_done.Statement.{statement}
-use Rattle.placement.proofs.move_done.Tie as tie
+use Rattle.move_done.proofs.move_done.Statement.{statement}
+use Rattle.move_done.proofs.move_done.Tie as tie
 
 abbrev Inv-loop : tie.InvT-loop
 Inv-loop plan marks at₀ i₀ at i = Moving plan marks at₀ at i
