@@ -1,4 +1,4 @@
--- `timed_print::line` meets its contract. Each number goes where the one before it ended; a line has at most 100 bytes.
+-- `timed_line::line` meets its contract. Each number goes where the one before it ended; a line has at most 100 bytes.
 -- Assumes nothing.
 use native.Mathlib.Omega.{arith}
 use borrow.Author.Needs.{needs}
@@ -7,9 +7,9 @@ use Rattle.docket.specs.Reading.{crossingOf}
 use Rattle.stores.proofs.Stores.{wrote-then}
 use Rattle.laws.proofs.Digits.{decimal-short}
 use Rattle.put_bytes.proofs.Short.{named-short}
-use Rattle.timed_print.proofs.Parts.{line-parts}
-use Rattle.timed_print.proofs.line.Statement.{statement}
-use Rattle.timed_print.proofs.line.Tie as tie
+use Rattle.timed_line.proofs.Parts.{line-parts}
+use Rattle.timed_line.proofs.line.Statement.{statement}
+use Rattle.timed_line.proofs.line.Tie as tie
 
 time-of-requires : tie.Need-time-of-requires
 time-of-requires c κs = search needs
