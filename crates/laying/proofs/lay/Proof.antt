@@ -1,9 +1,9 @@
--- `listing::lay` meets its contract.
+-- `laying::lay` meets its contract.
 -- Assumes nothing.
 use borrow.Author.Needs.{needs}
-use Rattle.listing.proofs.Saying.{lay-short, lay-fits}
-use Rattle.listing.proofs.lay.Statement.{statement}
-use Rattle.listing.proofs.lay.Tie as tie
+use Rattle.laying.proofs.Saying.{lay-short, lay-fits}
+use Rattle.laying.proofs.lay.Statement.{statement}
+use Rattle.laying.proofs.lay.Tie as tie
 
 slice-aggregate-rails : tie.Need-slice-aggregate-rails
 slice-aggregate-rails c = search needs
