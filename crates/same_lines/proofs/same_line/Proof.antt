@@ -1,10 +1,10 @@
--- `entries::same_line` meets its contract, test by test.
+-- `same_lines::same_line` meets its contract, test by test.
 -- Assumes nothing.
 use mathlib.Core.Path.{sym}
 use borrow.Author.Tests.{eq-eqb, ne-eqb}
 use Rattle.paper.specs.Basics.{_and_}
-use Rattle.entries.proofs.same_line.Statement.{statement}
-use Rattle.entries.proofs.same_line.Tie as tie
+use Rattle.same_lines.proofs.same_line.Statement.{statement}
+use Rattle.same_lines.proofs.same_line.Tie as tie
 
 returns : tie.Need-returns
 unfolding _and_

@@ -1,12 +1,12 @@
--- `entries::same_lines` meets its contract: what is left of both lists decides, as proofs/Comparing has it. Arrays of one type are as long.
+-- `same_lines::same_lines` meets its contract: what is left of both lists decides, as proofs/Comparing has it. Arrays of one type are as long.
 -- Assumes nothing.
 use borrow.Author.Needs.{needs}
 use Prim.Native.Nat.{_-_}
 use mathlib.Core.Path.{sym, _∙_}
 use borrow.Author.Tests.{not-true, not-false}
-use Rattle.entries.proofs.Comparing.{Alike, lines-start, lines-miscounted, lines-differ, lines-on, lines-end}
-use Rattle.entries.proofs.same_lines.Statement.{statement}
-use Rattle.entries.proofs.same_lines.Tie as tie
+use Rattle.same_lines.proofs.Comparing.{Alike, lines-start, lines-miscounted, lines-differ, lines-on, lines-end}
+use Rattle.same_lines.proofs.same_lines.Statement.{statement}
+use Rattle.same_lines.proofs.same_lines.Tie as tie
 
 abbrev Inv-loop : tie.InvT-loop
 Inv-loop lent fresh a b c₀ c = Alike lent a fresh b c
