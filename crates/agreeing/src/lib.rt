@@ -74,7 +74,7 @@ pub fn agree(
     let lent_lines = held.lines;
     let fresh_lines = afresh.lines;
     Agreed {
-        all: entries::same_lines(held.count, lent_lines, afresh.count, fresh_lines),
+        all: same_lines::same_lines(held.count, lent_lines, afresh.count, fresh_lines),
         slot: slot,
     }
 }

@@ -2,22 +2,16 @@
 -- Assumes nothing.
 use mathlib.Core.Path.{_≡_}
 use mathlib.Core.Bool.{Bool, true, false}
-use mathlib.Core.List.{List, [], _∷_, map}
+use mathlib.Core.List.{List, map}
 use mathlib.Core.Option.{Option, none, some}
 use Prim.Native.Nat.{ℕ, _≤_}
 use lib.ListN.{length, take}
-use Rattle.paper.specs.Basics.{without}
-use Rattle.paper.specs.Yard.{Bay, Carrier, Yard, Placement, bayOf, pack, neighbours}
-use Rattle.paper.specs.Procedure.{Made, Action, Cleared, aside, around}
-use Rattle.words.specs.Sets.{mem}
-use Rattle.docket.specs.declared.Bay.{Bay as Numbered}
+use Rattle.paper.specs.Yard.{Bay, Carrier, Yard, Placement, bayOf, pack}
+use Rattle.paper.specs.Procedure.{Made, Action, aside, around}
 use Rattle.acting.specs.Acting.{AsFar}
 use Rattle.acting.specs.declared.Tally.{Tally}
 use Rattle.acting.specs.declared.Tried.{Tried}
 use Rattle.acting.specs.declared.Tried.the-variants.{Done, Failed}
-use Rattle.keeping.specs.Keeping.{from}
-use Rattle.keeping.specs.declared.Kept.{Kept}
-use Rattle.keeping.specs.declared.Kept.the-variants.{One, Nothing}
 
 -- the leader stands at v and the follower at b
 pub record AtJunction (L M : Carrier) (v b : Bay) (p : Placement) : Type 0 where
@@ -39,16 +33,3 @@ pub record Logged (made : Made) (log : List ℕ) (m : Tally) : Type 0 where
 pub record Attempts (o : Option Made) (log : List ℕ) (r : Tried) : Type 0 where
   pub fails : r ≡ Failed → o ≡ none
   pub done : (m : Tally) → r ≡ Done m → (made : Made) × (o ≡ some made) × Logged made log m
-
-abbrev pub KeptWithin : ℕ → Kept → Type 0
-KeptWithin k (One x m) = m .crossings ≤ k
-KeptWithin k Nothing = Unit {0}
-
--- as the paper's first attempt that succeeds: x is kept with e, and its crossings were logged
-pub record FirstKept (o : Option Cleared) (e : Bay) (log : List ℕ) (r : Kept) : Type 0 where
-  pub one : (x : Numbered) (m : Tally) → r ≡ One x m → (made : Made) × (o ≡ some (record { made = made; kept = x .0 ∷ e ∷ [] })) × Logged made log m
-  pub nothing : r ≡ Nothing → o ≡ none
-
--- the set has the neighbours of v except b and e
-abbrev pub Others : Yard → Bay → Bay → Bay → ℕ → List ℕ → Type 0
-Others Y v b e n others = without (b ∷ e ∷ []) (neighbours Y v) ≡ from (mem others) 0 n

@@ -1,18 +1,16 @@
-// Carriers by rising number: each goes its shortest path, in a carousel past the finished ones, and then those that it displaced go home.
-use acting::Tally;
+// A carrier's turn: it goes its shortest path, in a carousel past the finished ones, and then those that it displaced go home.
 use along::Gone;
 use along::ToGoal;
 use docket::Bay;
-use docket::Carrier;
 use home::HomeBay;
 use home::Staged;
 ghost use Rattle.acting.specs.Acting.{Ready};
 ghost use Rattle.along.specs.Along.{TurnAsks};
-ghost use Rattle.carry.specs.Carrying.{OwnedAsks, CarrySays, CarryAllAsks, CarryAllSays};
+ghost use Rattle.carry.specs.Carrying.{OwnedAsks, CarrySays};
 
 // Carrier r goes its path, then those that it displaced go home: at the bays of the path one after the other, the last of them first. Each is lent the
 // rest of the list.
-fn carry(
+pub fn carry(
     table: &[u64],
     owner: &[u16],
     to: ToGoal,
@@ -54,46 +52,6 @@ fn carry(
         };
         count = acting::add(count, made);
         i -= 1;
-    }
-    Staged::Planned(count)
-}
-
-// All carriers by rising number, each lent the rest of the list. What the yard is, is asked once, since in a carousel every bay must tell.
-pub fn carry_all(
-    table: &[u64],
-    goals: &[u16],
-    owner: &[u16],
-    placement: &mut [u16],
-    standing: &mut [u16],
-    empty: &mut [u64],
-    settled: &mut [u64],
-    out: &mut [u64],
-) -> Staged
-    requires { ⌜ Ready (now table) (now placement) (now standing) (now empty) ⌝ }
-    requires { ⌜ CarryAllAsks (now goals) (now owner) (now table) (now placement) (now standing) (now settled) ⌝ }
-    ensures { λ z. ⌜
-        CarryAllSays (now (goals .entry)) (now (table .entry)) (now (placement .entry)) (now (standing .entry)) (now (out .entry))
-        (now (placement .exit)) (now (standing .exit)) (now (empty .exit)) (now (settled .exit)) (now (out .exit)) z
-        ⌝ }
-{
-    let in_carousel = kinds::is_carousel(table, standing.len());
-    let mut count = acting::NOTHING;
-    let mut r = 0;
-    while r < goals.len() {
-        let number = r as u32;
-        let to = ToGoal {
-            carrier: Carrier(number),
-            goal: Bay(goals[r]),
-            in_carousel,
-        };
-        let from = acting::place_in(out, count.crossings);
-        let rest = &mut out[from..];
-        let carried = carry(table, owner, to, placement, standing, empty, settled, rest);
-        let Staged::Planned(made) = carried else {
-            return carried;
-        };
-        count = acting::add(count, made);
-        r += 1;
     }
     Staged::Planned(count)
 }

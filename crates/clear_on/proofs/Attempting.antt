@@ -27,7 +27,7 @@ use Rattle.acting.specs.declared.Tally.{Tally}
 use Rattle.acting.proofs.Lending.{RestLent, stored-on-the-rest}
 use Rattle.keeping.specs.Keeping.{KeptAlone}
 use Rattle.keeping.proofs.Around.{filter-both, filter-same, around-of}
-use Rattle.attempts.specs.Attempting.{Others}
+use Rattle.either_way.specs.Either.{Others}
 use Rattle.clear_on.specs.Going.{AtJunction, Logged, PairBy, GoesOn, AfterAsks, After, TwoCleared, ClearsTwo}
 use Rattle.clear_on.specs.declared.Pair.{Pair}
 use Rattle.clear_on.specs.declared.Pair.the-variants.{Both, Missing}

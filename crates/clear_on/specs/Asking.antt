@@ -8,7 +8,8 @@ use Rattle.paper.proofs.Playing.{Sound}
 use Rattle.moving.specs.Bounds.{attempt-most, clear-most}
 use Rattle.acting.specs.Acting.{Tabled, nothing}
 use Rattle.bring.specs.Bringing.{Coupled}
-use Rattle.attempts.specs.Asking.{Arrived, goOnWith}
+use Rattle.attempts.specs.Asking.{Arrived}
+use Rattle.either_way.specs.Either.{goOnWith}
 use Rattle.attempts.specs.declared.Lead.{Lead}
 use Rattle.attempts.specs.declared.OneKept.{OneKept}
 use Rattle.clear_on.specs.Going.{PairBy, GoesOn, ClearsTwo}

@@ -49,7 +49,7 @@ pub fn go_on(
     words::join_row(&mut others, table, one.lead.junction.0 as usize);
     words::remove(&mut others, one.behind.0 as usize);
     words::remove(&mut others, e.0 as usize);
-    let found = attempts::either_way(table, &others, one, placement, standing, empty, out);
+    let found = either_way::either_way(table, &others, one, placement, standing, empty, out);
     let Kept::One(x, made) = found else {
         return Pair::Missing;
     };

@@ -1,11 +1,11 @@
-// Records and lines by value: whether two are the same, and how an accepted crossing changes them.
+// Records and lines by value: whether two records are the same, and how an accepted crossing changes a record and a line.
 ghost use mathlib.Core.Path.{_≡_};
 ghost use Prim.Native.Nat.{_<_};
-ghost use lib.ListN.{getD, take};
+ghost use lib.ListN.{getD};
 ghost use Rattle.paper.specs.Limits.{most-bays};
 ghost use Rattle.docket.specs.Reading.{crossingOf};
 ghost use Rattle.bills.specs.Billing.{noLine, posted as postedOf, charged as chargedOf};
-ghost use Rattle.bills.specs.Answering.{sameNumbers, sameRecord, sameLine, sameLines};
+ghost use Rattle.bills.specs.Answering.{sameNumbers, sameRecord};
 use bills::Line;
 use bills::Record;
 use docket::Crossing;
@@ -56,38 +56,6 @@ pub fn same_record(a: Record, b: Record) -> bool
         return false;
     }
     a.highest == b.highest
-}
-
-// Whether two lines are the same.
-fn same_line(a: Line, b: Line) -> bool
-    ensures { λ r. ⌜ r ≡ sameLine a b ⌝ }
-{
-    if a.carrier != b.carrier {
-        return false;
-    }
-    if a.billed != b.billed {
-        return false;
-    }
-    a.last == b.last
-}
-
-// Whether the first `lent` lines of one list are the first `fresh` of the other. Of the second there are fewer than a list has places: a count that is
-// higher than the places then differs from it.
-pub fn same_lines(lent: usize, a: [Line; Yard::BAYS], fresh: usize, b: [Line; Yard::BAYS]) -> bool
-    requires { ⌜ fresh < most-bays ⌝ }
-    ensures { λ r. ⌜ r ≡ sameLines (take lent a) (take fresh b) ⌝ }
-{
-    if lent != fresh {
-        return false;
-    }
-    let mut c = 0;
-    while c < fresh {
-        if !same_line(a[c], b[c]) {
-            return false;
-        }
-        c += 1;
-    }
-    true
 }
 
 // The record after an accepted crossing.

@@ -1,10 +1,9 @@
--- What each way out of a reading says: 14 or 15, too little room, or all of it written.
+-- What each way out of reading a scenario says: 14 or 15, too little room, or all of it written.
 use mathlib.Core.Path.{_≡_, refl}
 use mathlib.Core.Bool.{true, false}
 use mathlib.Core.List.{List}
-use Prim.Native.Nat.{ℕ, _+_, _≤_, _<_}
+use Prim.Native.Nat.{ℕ, _≤_, _<_}
 use native.Mathlib.Omega.{arith}
-use lib.Dec.{ltb}
 use lib.ListN.{length}
 use lib.Seq.{sets}
 use borrow.Author.Tests.{lt-ltb, le-ltb}
@@ -13,32 +12,12 @@ use Rattle.paper.specs.Docket.{room, badMap, badScenario, Verdict, granted, den
 use Rattle.paper.specs.Text.{Text, Read, good, badLine}
 use Rattle.paper.specs.Map.{Grid}
 use Rattle.paper.proofs.Tests.{never, or-left, or-right, or-neither, by-read}
-use Rattle.stores.specs.Writing.{Wrote}
 use Rattle.paper.specs.Scenario.{readScenario}
 use Rattle.gridmap.specs.declared.Grid.{Grid as Held}
 use Rattle.scenario.specs.declared.ScenarioRead.{ScenarioRead}
 use Rattle.scenario.specs.declared.ScenarioRead.the-variants as scenario-read
 use Rattle.scenario.specs.Under.{bayBy, startsOf, goalsOf, Reads}
-use Rattle.listing.specs.Reading.{Laid, laid, laying, Listing, listing, listingIn, short, MapSays, ScenarioSays}
-
-module _ (n : ℕ) (ends before : List ℕ) (needed : ℕ) (counted : needed ≡ 0 + length ends) where
-  pub lay-short : length before < needed → MapSays (laid n ends) before (denied (room needed)) 0 before
-  lay-short h =
-      let e : needed ≡ length ends = omega arith in
-      let q : ltb (length before) (length ends) ≡ true = lt-ltb (length before) (length ends) (omega arith) in
-      record { answers = rw (q, e); bays-then = rw q; leaves = rw q }
-
-  pub lay-fits : needed ≤ length before → (after : List ℕ) (written : ℕ) → Wrote before 0 ends after written → MapSays (laid n ends) before (granted written) n after
-  lay-fits h after written w =
-      let e : written ≡ length ends = omega (arith, w .counted) in
-      let q : ltb (length before) (length ends) ≡ false = le-ltb (length before) (length ends) (omega arith) in
-      record { answers = rw (q, e); bays-then = rw q; leaves = rw q (w .left) }
-
-pub lay-bad : {M : Read Grid} (l : ℕ) (before : List ℕ) → M ≡ badLine l → MapSays (laying M) before (denied (badMap l)) 0 before
-lay-bad l before e = rw e (record { answers = refl; bays-then = refl; leaves = refl })
-
-pub lay-as : {x y : Laid} {before after : List ℕ} {v : Verdict} {bays : ℕ} → x ≡ y → MapSays y before v bays after → MapSays x before v bays after
-lay-as e h = rw e h
+use Rattle.listing.specs.Reading.{Listing, listing, listingIn, short, ScenarioSays}
 
 module _ {file t : List ℕ} {G : Held} {x : ScenarioRead} {a a′ b b′ : List ℕ} (read : Reads file G t x a a′ b b′) (starts goals : List ℕ) where
   abbrev R : Read (List (Bay × Bay))

@@ -1,32 +1,13 @@
-// A map's bays and rails and a scenario's carriers, by the numbers of the map's cells, in lent lists; or 15, or 8 where what was read is longer than these.
+// A scenario's carriers, by the numbers of the map's cells, in lent lists; or 15, or 8 where there are more than these hold.
 // All is counted before the first number is stored, so a refusal changes no list.
 use docket::Refusal;
 use docket::Verdict;
 use gridmap::Grid;
 use scenario::ScenarioRead;
 ghost use Rattle.paper.specs.Scenario.{readScenario};
-ghost use Rattle.gridmap.specs.Cells.{railsIn};
 ghost use Rattle.scenario.specs.Under.{bayBy};
 ghost use Rattle.docket.specs.Reading.{verdictOf};
-ghost use Rattle.listing.specs.Reading.{laid, listingIn, MapSays, ScenarioSays};
-
-// The bays and rails of a map whose cells are numbered.
-pub fn lay(grid: Grid, cells: &[u16], bays: &mut u64, rails: &mut [u16]) -> Verdict
-    ensures { λ r. ⌜
-        MapSays (laid (grid .bays) (railsIn (now (cells .entry)) (grid .height) (grid .width))) (now (rails .entry)) (verdictOf r)
-        (now (bays .exit)) (now (rails .exit))
-        ⌝ }
-{
-    let mut nothing = [0u16; 1];
-    let needed = gridmap::rails(grid, cells, &mut nothing);
-    if rails.len() < needed {
-        *bays = 0;
-        return Verdict::Denied(Refusal::Room(needed as u64));
-    }
-    let written = gridmap::rails(grid, cells, rails);
-    *bays = grid.bays as u64;
-    Verdict::Granted(written as u64)
-}
+ghost use Rattle.listing.specs.Reading.{listingIn, ScenarioSays};
 
 // The carriers of a scenario, by the cells' numbers. They are counted before the first is stored.
 pub fn list(

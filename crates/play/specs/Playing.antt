@@ -13,7 +13,7 @@ use Rattle.acting.specs.Acting.{Tabled, AsFar}
 use Rattle.acting.specs.declared.Tally.{Tally}
 use Rattle.step.specs.Asking.{Loopless}
 use Rattle.along.specs.Along.{Goals}
-use Rattle.carry.specs.Carrying.{procedures, Reaching}
+use Rattle.carry_all.specs.Serving.{procedures, Reaching}
 use Rattle.docket.specs.declared.Carrier.{Carrier as Named}
 use Rattle.home.specs.declared.Staged.the-variants.{Planned, Stuck}
 use Rattle.home.specs.declared.Staged.{Staged}

@@ -65,7 +65,7 @@ fn play_on(
     copies::shorts(placement, start);
     placing::place(start, standing, &mut empty);
     placing::place(goal, owner, &mut spare);
-    carry::carry_all(
+    carry_all::carry_all(
         table,
         goal,
         owner,

@@ -14,7 +14,7 @@ pub fn read_map(file: &[u8], bays: &mut u64, rails: &mut [u16]) -> Verdict
     let mut cells = [0u16; 4096];
     let found = gridmap::read(file, &mut cells);
     match found {
-        MapRead::Grid(grid) => listing::lay(grid, &cells, bays, rails),
+        MapRead::Grid(grid) => laying::lay(grid, &cells, bays, rails),
         MapRead::Bad(line) => {
             *bays = 0;
             Verdict::Denied(Refusal::BadMap(line))

@@ -1,32 +1,17 @@
--- The timed print is its parts one behind the other: a line is four numbers with what stands between them, lines follow lines.
+-- The timed print is its parts one behind the other: lines follow lines, and the cost is last.
 use mathlib.Core.Path.{_≡_, refl, sym, _∙_, ap}
-use mathlib.Core.List.{List, [], _∷_, _++_, append-assoc}
-use Prim.Native.Nat.{ℕ, zero, suc, _+_, _-_, _*_, _^_, _≤_, _<_}
+use mathlib.Core.List.{List, [], _∷_, _++_}
+use Prim.Native.Nat.{ℕ, zero, suc, _+_, _*_, _^_, _≤_, _<_}
 use native.Mathlib.Omega.{arith}
 use native.Mathlib.Numerals.{add-one}
 use lib.ListN.{length, take, getD, length-append, length-map}
-use Rattle.paper.specs.Yard.{Crossing, unpack, crossings}
-use Rattle.paper.specs.Text.{text}
+use Rattle.paper.specs.Yard.{unpack, crossings}
 use Rattle.paper.proofs.Packing.{unpack-small}
-use Rattle.paper.specs.Print.{decimal, actionLine, costLine, ended}
-use Rattle.put_bytes.specs.Named.{named}
-use Rattle.laws.proofs.Digits.{decimal-short}
-use Rattle.put_bytes.proofs.Short.{named-short}
+use Rattle.paper.specs.Print.{costLine, ended}
 use Rattle.printing.proofs.Lines.{ended-append}
 use Rattle.trains.specs.Print.{timedLine, timedLines, printTimed}
+use Rattle.timed_line.proofs.Parts.{line-short}
 use Rattle.timed_print.specs.Lines.{linesOf}
-
-pub line-parts : (s : ℕ) (x : Crossing)
-    → decimal (s - 1) ++ named (text ": (move c") (x .carrier) ++ named (text " b") (x .from) ++ named (text " b") (x .to) ++ text ") [1]\n"
-    ≡ ended (timedLine s x ∷ [])
-unfolding named timedLine actionLine ended
-line-parts s x = simp append-assoc
-
--- a line is short
-pub line-short : (s : ℕ) (x : Crossing) → s < 2 ^ 64 → x .carrier < 2 ^ 64 → x .from < 2 ^ 64 → x .to < 2 ^ 64 → length (ended (timedLine s x ∷ [])) ≤ 100
-line-short s x hs hc hf ht =
-    rw (← line-parts s x)
-    (simp length-append (omega (arith, decimal-short (s - 1) (omega arith), named-short (text ": (move c") (x .carrier) hc, named-short (text " b") (x .from) hf, named-short (text " b") (x .to) ht)))
 
 -- one line more
 lines-snoc : (ss ws : List ℕ) (i : ℕ) → i < length ws → i < length ss

@@ -3,7 +3,7 @@
 use native.Mathlib.Omega.{arith}
 use borrow.Author.Needs.{needs}
 use Rattle.readers.proofs.Whole.{map-bad, mapped-as, laying-by}
-use Rattle.listing.proofs.Saying.{lay-bad, lay-as}
+use Rattle.laying.proofs.Saying.{lay-bad, lay-as}
 use Rattle.readers.proofs.read_map.Statement.{statement}
 use Rattle.readers.proofs.read_map.Tie as tie
 
