@@ -302,6 +302,7 @@ fn shorten_checked(plan: &[u64], out: &mut [u64]) -> Verdict
 }
 
 // A plan that passes the check, shortened into the first places of `out`, as long as no crossing of it is done. A refusal changes nothing.
+// Fresh marks are told by one look at each; what other marks are refused for is asked only where there are such.
 pub fn shorten(
     bays: u64,
     rails: &[u16],
@@ -320,11 +321,11 @@ pub fn shorten(
     if let Checked::Refused(r) = checked {
         return Verdict::Denied(r);
     }
+    if begun::is_fresh(plan, marks) {
+        return shorten_checked(plan, out);
+    }
     if mark_order::bad_marks(plan, marks) {
         return Verdict::Denied(Refusal::Mismarked);
     }
-    if begun::any_done(marks) {
-        return Verdict::Denied(Refusal::Begun);
-    }
-    shorten_checked(plan, out)
+    Verdict::Denied(Refusal::Begun)
 }
