@@ -1,6 +1,6 @@
 -- `shorten::shorten` meets its contract. Each way out is one law of proofs/Saying. Fresh marks are in order and none is 1; other marks that are in order have a 1.
 -- Assumes nothing.
-use Rattle.paper.specs.Order.{Order, order}
+use Rattle.paper.specs.Order.{order}
 use Rattle.shorten.proofs.Saying.{fits, short-plan, lawful, says-refused, says-mismarked, says-begun, says-room}
 use Rattle.begun.proofs.Fresh.{fresh-good, fresh-undone, good-done}
 use Rattle.checker.specs.Reading.{checkedOf}
@@ -33,7 +33,11 @@ shorten-checked-requires c κs =
     let s = c .before .before .before .before .before .before .before .before .before .before .before .before in
     let o = order (s .args .bays) (now (s .args .rails)) (now (s .args .start)) (now (s .args .goal)) in
     let passes = ap checkedOf (sym (c .before .before .before .enum-told .given .1)) ∙ c .before .before .before .before .before .check .ensures in
-    (lawful o (now (s .args .plan)) (now (s .args .marks)) (now (s .args .out)) passes, short-plan o (now (s .args .plan)) (now (s .args .marks)) (now (s .args .out)) passes, fits o (now (s .args .plan)) (now (s .args .marks)) (now (s .args .out)) passes)
+    record {
+      lawful = lawful o (now (s .args .plan)) (now (s .args .marks)) (now (s .args .out)) passes;
+      short = short-plan o (now (s .args .plan)) (now (s .args .marks)) (now (s .args .out)) passes;
+      fits = fits o (now (s .args .plan)) (now (s .args .marks)) (now (s .args .out)) passes;
+    }
 
 same-length : tie.Need-same-length
 same-length c = search needs
