@@ -1,3 +1,3 @@
 pub mod Saying
 pub mod Determined
-mod Rooms
+pub mod Rooms

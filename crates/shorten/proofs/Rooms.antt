@@ -8,7 +8,7 @@ use Rattle.paper.specs.Limits.{most-crossings}
 use Rattle.chains.specs.Links.{links-each}
 use Rattle.shorten.specs.Asks.{PlanAsks, RoomAsks}
 
-take-fresh : (v k n : ℕ) → k ≤ n → take k (replicate n v) ≡ replicate k v
+pub take-fresh : (v k n : ℕ) → k ≤ n → take k (replicate n v) ≡ replicate k v
 take-fresh v zero n h = refl
 take-fresh v (suc k) zero h = absurd (omega arith)
 take-fresh v (suc k) (suc n) h = ap (λ l. v ∷ l) (take-fresh v k n (omega arith))
