@@ -2,18 +2,16 @@
 // a trip may begin. A cut drops one carrier's crossings, so only leavings whose next entering was dropped are looked at again. The lowest name of the set
 // is found word by word, since a cut sends the look back. A search by bay or carrier goes by links, past the crossings that cannot be what it looks for.
 ghost use mathlib.Core.Path.{_≡_};
-ghost use mathlib.Core.Bool.{true};
-ghost use Prim.Native.Nat.{ℕ, suc, _≤_, _<_, _*_, _-_};
+ghost use Prim.Native.Nat.{suc, _≤_, _<_, _*_, _-_};
 ghost use lib.Dec.{eqb};
 ghost use lib.ListN.{length, getD};
 ghost use Rattle.paper.specs.Basics.{_and_, if_then_else_};
 ghost use Rattle.paper.specs.Yard.{crossings, named};
-ghost use Rattle.words.specs.Sets.{mem};
-ghost use Rattle.trips.specs.Trips.{isOf, shorten as shortenOf};
-ghost use Rattle.trips.specs.Names.{left, dropTrip};
-ghost use Rattle.trips.proofs.Freeing.{LastLeaving, Noted};
-ghost use Rattle.chains.specs.Links.{Passed, Linked};
-ghost use Rattle.dropping.specs.Going.{Going, rank};
+ghost use Rattle.trips.specs.Trips.{shorten as shortenOf};
+ghost use Rattle.trips.specs.Names.{left};
+ghost use Rattle.chains.specs.Links.{Linked};
+ghost use Rattle.dropping.specs.Going.{Going};
+ghost use Rattle.dropping.specs.Asks.{SearchAsks, LeavingSays, OwnSays, NotedSays, TripAsks, DropSays, LookAsks, LookSays};
 use docket::Bay;
 use docket::Carrier;
 
@@ -31,14 +29,8 @@ fn leaves_bay(plan: &[u64], gone: &[u8], name: usize, bay: Bay) -> bool
 
 // The last crossing before `name` that leaves the bay that the crossing enters, or `name` itself where none does. The links lead to it at once.
 fn last_leaving(plan: &[u64], gone: &[u8], links: &mut [u16], name: usize) -> usize
-    requires { ⌜ (name < length (now plan)) × (length (now gone) ≡ length (now plan)) × Linked (now plan) (now gone) (now links) ⌝ }
-    ensures { λ r. ⌜
-        (r ≤ name)
-        × ((k : ℕ)
-        → LastLeaving (now (gone .entry)) (crossings (now (plan .entry))) (named (crossings (now (plan .entry))) name .to) name k
-        → r ≡ k)
-        × Linked (now (plan .entry)) (now (gone .entry)) (now (links .exit))
-        ⌝ }
+    requires { ⌜ SearchAsks (now plan) (now gone) (now links) name ⌝ }
+    ensures { λ r. ⌜ LeavingSays (now (plan .entry)) (now (gone .entry)) (now (links .exit)) name r ⌝ }
 {
     let x = plans::crossing_at(plan, name);
     let mut m = chains::behind(plan, gone, links, name);
@@ -54,16 +46,8 @@ fn last_leaving(plan: &[u64], gone: &[u8], links: &mut [u16], name: usize) -> us
 
 // The next of the carrier's crossings after `name` up to `last`, or the name after `last`.
 fn next_own(plan: &[u64], gone: &[u8], links: &mut [u16], name: usize, last: usize) -> usize
-    requires { ⌜
-        (name ≤ last) × (last < length (now plan)) × (length (now gone) ≡ length (now plan)) × Linked (now plan) (now gone) (now links)
-        ⌝ }
-    ensures { λ r. ⌜
-        (name < r)
-        × (r ≤ suc last)
-        × Passed (now (plan .entry)) (now (gone .entry)) 1 (named (crossings (now (plan .entry))) name .carrier) (suc name) r
-        × (r ≤ last → named (crossings (now (plan .entry))) r .carrier ≡ named (crossings (now (plan .entry))) name .carrier)
-        × Linked (now (plan .entry)) (now (gone .entry)) (now (links .exit))
-        ⌝ }
+    requires { ⌜ (name ≤ last) × SearchAsks (now plan) (now gone) (now links) last ⌝ }
+    ensures { λ r. ⌜ OwnSays (now (plan .entry)) (now (gone .entry)) (now (links .exit)) name last r ⌝ }
 {
     let r = chains::ahead(plan, gone, links, name, 2, 2);
     if r <= last { r } else { last + 1 }
@@ -79,16 +63,9 @@ fn note_one(
     carrier: Carrier,
     low: usize,
 ) -> usize
-    requires { ⌜
-        (name < length (now plan))
-        × (length (now gone) ≡ length (now plan))
-        × (length (now plan) ≤ 64 * length (now todo))
-        × Linked (now plan) (now gone) (now links)
-        ⌝ }
+    requires { ⌜ SearchAsks (now plan) (now gone) (now links) name × (length (now plan) ≤ 64 * length (now todo)) ⌝ }
     ensures { λ r. ⌜
-        (r ≤ low)
-        × Noted (now (gone .entry)) (crossings (now (plan .entry))) (carrier .0) name 1 (mem (now (todo .entry))) (mem (now (todo .exit))) r
-        × Linked (now (plan .entry)) (now (gone .entry)) (now (links .exit))
+        NotedSays (now (plan .entry)) (now (gone .entry)) (now (todo .entry)) (carrier .0) name 1 low (now (todo .exit)) (now (links .exit)) r
         ⌝ }
 {
     if gone[name] != 0 {
@@ -113,18 +90,9 @@ fn note_leavings(
     last: usize,
     carrier: Carrier,
 ) -> usize
-    requires { ⌜
-        (name ≤ last)
-        × (last < length (now plan))
-        × (length (now gone) ≡ length (now plan))
-        × (length (now plan) ≤ 64 * length (now todo))
-        × Linked (now plan) (now gone) (now links)
-        × (isOf (carrier .0) (named (crossings (now plan)) name) ≡ true)
-        ⌝ }
+    requires { ⌜ TripAsks (now plan) (now gone) (now links) (carrier .0) name last × (length (now plan) ≤ 64 * length (now todo)) ⌝ }
     ensures { λ r. ⌜
-        (r ≤ name)
-        × Noted (now (gone .entry)) (crossings (now (plan .entry))) (carrier .0) name (suc last - name) (mem (now (todo .entry))) (mem (now (todo .exit))) r
-        × Linked (now (plan .entry)) (now (gone .entry)) (now (links .exit))
+        NotedSays (now (plan .entry)) (now (gone .entry)) (now (todo .entry)) (carrier .0) name (suc last - name) name (now (todo .exit)) (now (links .exit)) r
         ⌝ }
 {
     let mut low = name;
@@ -152,18 +120,8 @@ fn drop_trip(
     last: usize,
     carrier: Carrier,
 )
-    requires { ⌜
-        (isOf (carrier .0) (named (crossings (now plan)) name) ≡ true)
-        × (name ≤ last)
-        × (last < length (now plan))
-        × (length (now gone) ≡ length (now plan))
-        × Linked (now plan) (now gone) (now links)
-        × (getD (now gone) name 0 ≡ 0)
-        ⌝ }
-    ensures { λ _. ⌜
-        (now (gone .exit) ≡ dropTrip (carrier .0) name (suc last - name) (now (gone .entry)) (crossings (now (plan .entry))))
-        × Linked (now (plan .entry)) (now (gone .exit)) (now (links .exit))
-        ⌝ }
+    requires { ⌜ TripAsks (now plan) (now gone) (now links) (carrier .0) name last × (getD (now gone) name 0 ≡ 0) ⌝ }
+    ensures { λ _. ⌜ DropSays (now (plan .entry)) (now (gone .entry)) (carrier .0) name last (now (gone .exit)) (now (links .exit)) ⌝ }
 {
     let mut m = next_own(plan, gone, links, name, last);
     gone[name] = 1;
@@ -175,12 +133,8 @@ fn drop_trip(
 
 // One look: at a name where a trip begins it is cut, and the look goes back to the lowest name that this may have freed.
 fn look(plan: &[u64], gone: &mut [u8], todo: &mut [u64], links: &mut [u16], name: usize) -> usize
-    requires { ⌜ (name < length (now plan)) × Going (now plan) (now gone) (now todo) name × Linked (now plan) (now gone) (now links) ⌝ }
-    ensures { λ r. ⌜
-        Going (now (plan .entry)) (now (gone .exit)) (now (todo .exit)) r
-        × (rank (now (plan .entry)) (now (gone .exit)) r < rank (now (plan .entry)) (now (gone .entry)) name)
-        × Linked (now (plan .entry)) (now (gone .exit)) (now (links .exit))
-        ⌝ }
+    requires { ⌜ LookAsks (now plan) (now gone) (now todo) (now links) name ⌝ }
+    ensures { λ r. ⌜ LookSays (now (plan .entry)) (now (gone .entry)) name (now (gone .exit)) (now (todo .exit)) (now (links .exit)) r ⌝ }
 {
     if gone[name] != 0 {
         words::remove(todo, name);

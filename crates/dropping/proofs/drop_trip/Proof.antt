@@ -24,7 +24,7 @@ abbrev μ-loop : tie.MeasureT-loop
 μ-loop plan gone₀ links₀ name last carrier m₀ gone links m = suc last - m
 
 next-own-requires : tie.Need-next-own-requires Inv-loop μ-loop
-next-own-requires c κs = let s = c .before .before .before .before .before in (s .pre .1, s .pre .2, s .pre .3, s .pre .4)
+next-own-requires c κs = let s = c .before .before .before .before .before in (s .pre .0 .upto, s .pre .0 .search)
 
 slice-write-gone : tie.Need-slice-write-gone Inv-loop μ-loop
 slice-write-gone c = search needs
@@ -34,10 +34,10 @@ loop-holds c =
     let s = c .before .before .before .before .before .before .before .before in
     let n = c .before .before .next-own .ensures in
     let r = c .before .before .next-own .result in
-    let long = length-set (now (s .args .gone)) (s .args .name) _ ∙ s .pre .3 in
-    let more = keeps-1 (now (s .args .gone)) (s .args .name) _ (omega (arith, s .pre .1, s .pre .2, s .pre .3)) (λ e. absurd (omega (arith, e, s .pre .5))) in
-    let own = eqb-true _ _ (s .pre .0) in
-    (n .0, n .1, long, refl, linked-drop (now (s .args .plan)) (now (s .args .gone)) _ (n .4) _ more, trim-over (now (s .args .plan)) _ (s .args .carrier .0) long (named (crossings (now (s .args .plan))) (s .args .name) .carrier) (r - (s .args .name + 1)) (s .args .name + 1) r (suc (s .args .last) - r) (suc (s .args .last) - (s .args .name + 1)) (omega (arith, n .0)) (omega (arith, n .0, n .1)) (omega (arith, n .1, s .pre .2)) own (λ k l h e. more k (n .2 k (omega arith) h e)), λ l. n .3 l ∙ own)
+    let long = length-set (now (s .args .gone)) (s .args .name) _ ∙ s .pre .0 .search .long-gone in
+    let more = keeps-1 (now (s .args .gone)) (s .args .name) _ (omega (arith, s .pre .0 .upto, s .pre .0 .search .inside, s .pre .0 .search .long-gone)) (λ e. absurd (omega (arith, e, s .pre .1))) in
+    let own = eqb-true _ _ (s .pre .0 .starts) in
+    (n .after, n .upto, long, refl, linked-drop (now (s .args .plan)) (now (s .args .gone)) _ (n .linked) _ more, trim-over (now (s .args .plan)) _ (s .args .carrier .0) long (named (crossings (now (s .args .plan))) (s .args .name) .carrier) (r - (s .args .name + 1)) (s .args .name + 1) r (suc (s .args .last) - r) (suc (s .args .last) - (s .args .name + 1)) (omega (arith, n .after)) (omega (arith, n .after, n .upto)) (omega (arith, n .upto, s .pre .0 .search .inside)) own (λ k l h e. more k (n .passed k (omega arith) h e)), λ l. n .own l ∙ own)
 
 slice-read-byte-after : tie.Need-slice-read-byte-after Inv-loop μ-loop
 slice-read-byte-after c = search needs
@@ -57,12 +57,12 @@ next-own-requires-2 c κs =
     let t = c .before .before .before .before .before .before .loop in
     let v = c .before .before .byte-after .result in
     let inside = c .before .before .before .before .before .loop-test .taken in
-    (omega (arith, inside), s .pre .2, length-set (t .gone) (t .m) v ∙ t .inv .2, linked-drop (now (s .args .plan)) (t .gone) (t .links) (t .inv .4) (set (t .gone) (t .m) v) (keeps-1 (t .gone) (t .m) v (omega (arith, inside, s .pre .2, t .inv .2)) (own-keeps (c .before .before .before .is-of .result) (getD (t .gone) (t .m) 0) v (c .before .before .byte-after .ensures))))
+    (omega (arith, inside), record { inside = s .pre .0 .search .inside; long-gone = length-set (t .gone) (t .m) v ∙ t .inv .2; linked = linked-drop (now (s .args .plan)) (t .gone) (t .links) (t .inv .4) (set (t .gone) (t .m) v) (keeps-1 (t .gone) (t .m) v (omega (arith, inside, s .pre .0 .search .inside, t .inv .2)) (own-keeps (c .before .before .before .is-of .result) (getD (t .gone) (t .m) 0) v (c .before .before .byte-after .ensures))) })
 
 loop-less : tie.Need-loop-less Inv-loop μ-loop
 loop-less c =
     let loop-test = c .before .before .before .before .before .before .before .before .loop-test in
-    let n = c .before .before .next-own2 .ensures in omega (arith, n .0, n .1, loop-test .taken)
+    let n = c .before .before .next-own2 .ensures in omega (arith, n .after, n .upto, loop-test .taken)
 
 loop-again : tie.Need-loop-again Inv-loop μ-loop
 loop-again c =
@@ -77,7 +77,7 @@ loop-again c =
     let r = c .before .before .next-own2 .result in
     let long = length-set (t .gone) (t .m) v ∙ t .inv .2 in
     let own = t .inv .6 inside in
-    (omega (arith, n .0, t .inv .0), n .1, long, search needs, n .4, trim-over (now (s .args .plan)) (set (t .gone) (t .m) v) (s .args .carrier .0) long (named (crossings (now (s .args .plan))) (t .m) .carrier) (r - (t .m + 1)) (t .m + 1) r (suc (s .args .last) - r) (suc (s .args .last) - (t .m + 1)) (omega (arith, n .0)) (omega (arith, n .0, n .1)) (omega (arith, n .1, s .pre .2)) own (λ k l h e. n .2 k (omega arith) h e) ∙ trim-next (now (s .args .plan)) (t .gone) (s .args .carrier .0) (t .m) (suc (s .args .last) - (t .m + 1)) v (suc (s .args .last) - t .m) (omega (arith, inside, s .pre .2)) (t .inv .2) is (omega (arith, inside)) ∙ t .inv .5, λ l. n .3 l ∙ own)
+    (omega (arith, n .after, t .inv .0), n .upto, long, search needs, n .linked, trim-over (now (s .args .plan)) (set (t .gone) (t .m) v) (s .args .carrier .0) long (named (crossings (now (s .args .plan))) (t .m) .carrier) (r - (t .m + 1)) (t .m + 1) r (suc (s .args .last) - r) (suc (s .args .last) - (t .m + 1)) (omega (arith, n .after)) (omega (arith, n .after, n .upto)) (omega (arith, n .upto, s .pre .0 .search .inside)) own (λ k l h e. n .passed k (omega arith) h e) ∙ trim-next (now (s .args .plan)) (t .gone) (s .args .carrier .0) (t .m) (suc (s .args .last) - (t .m + 1)) v (suc (s .args .last) - t .m) (omega (arith, inside, s .pre .0 .search .inside)) (t .inv .2) is (omega (arith, inside)) ∙ t .inv .5, λ l. n .own l ∙ own)
 
 same-length : tie.Need-same-length Inv-loop μ-loop
 same-length c = search needs
@@ -89,8 +89,8 @@ returns : tie.Need-returns Inv-loop μ-loop
 returns c =
     let s = c .before .before .before .before .before .before .before .before .before .before in
     let t = c .before .loop in
-    let v = ap (λ b. if b then 1 else getD (now (s .args .gone)) (s .args .name) 0) (sym (s .pre .0)) in
-    (trim-end (now (s .args .plan)) (t .gone) (s .args .carrier .0) (t .m) 0 (suc (s .args .last) - t .m) (omega (arith, c .loop-test .left, t .inv .1)) ∙ t .inv .5 ∙ trim-next (now (s .args .plan)) (now (s .args .gone)) (s .args .carrier .0) (s .args .name) (suc (s .args .last) - (s .args .name + 1)) 1 (suc (s .args .last) - s .args .name) (omega (arith, s .pre .1, s .pre .2)) (s .pre .3) v (omega (arith, s .pre .1)), t .inv .4)
+    let v = ap (λ b. if b then 1 else getD (now (s .args .gone)) (s .args .name) 0) (sym (s .pre .0 .starts)) in
+    record { dropped = trim-end (now (s .args .plan)) (t .gone) (s .args .carrier .0) (t .m) 0 (suc (s .args .last) - t .m) (omega (arith, c .loop-test .left, t .inv .1)) ∙ t .inv .5 ∙ trim-next (now (s .args .plan)) (now (s .args .gone)) (s .args .carrier .0) (s .args .name) (suc (s .args .last) - (s .args .name + 1)) 1 (suc (s .args .last) - s .args .name) (omega (arith, s .pre .0 .upto, s .pre .0 .search .inside)) (s .pre .0 .search .long-gone) v (omega (arith, s .pre .0 .upto)); linked = t .inv .4 }
 
 pub drop-trip-spec : {M : Type 1} → statement M
 drop-trip-spec =

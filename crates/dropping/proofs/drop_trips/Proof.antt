@@ -25,19 +25,19 @@ loop-holds : tie.Need-loop-holds Inv-loop μ-loop
 loop-holds c = let s = c .before .before .before .before .before .before in (look-on (now (s .args .plan)) (now (s .args .gone)) (now (s .args .todo)) 0 _ (s .pre .0) (c .next-name .ensures), refl, refl, s .pre .1)
 
 look-requires : tie.Need-look-requires Inv-loop μ-loop
-look-requires c κs = let t = c .before .before .before .before .loop in (c .before .before .before .loop-test .taken, t .inv .0, t .inv .3)
+look-requires c κs = let t = c .before .before .before .before .loop in record { inside = c .before .before .before .loop-test .taken; going = t .inv .0; linked = t .inv .3 }
 
 next-name-requires-2 : tie.Need-next-name-requires-2 Inv-loop μ-loop
-next-name-requires-2 c κs = let l = c .before .before .before .before .before .before .before .look .ensures .0 in (omega (arith, l .held), l .within)
+next-name-requires-2 c κs = let l = c .before .before .before .before .before .before .before .look .ensures .going in (omega (arith, l .held), l .within)
 
 loop-less : tie.Need-loop-less Inv-loop μ-loop
-loop-less c = lt-of-le-of-lt (rank-up (now (c .before .before .before .before .before .before .before .before .before .before .before .before .before .before .before .before .before .before .before .before .args .plan)) _ _ _ (c .next-name2 .ensures .from)) (c .before .before .before .before .before .before .before .before .look .ensures .1)
+loop-less c = lt-of-le-of-lt (rank-up (now (c .before .before .before .before .before .before .before .before .before .before .before .before .before .before .before .before .before .before .before .before .args .plan)) _ _ _ (c .next-name2 .ensures .from)) (c .before .before .before .before .before .before .before .before .look .ensures .less)
 
 loop-again : tie.Need-loop-again Inv-loop μ-loop
 loop-again c =
     let look = c .before .before .before .before .before .before .before .before .look in
     let t = c .before .before .before .before .before .before .before .before .before .before .before .before .before .loop in
-    (look-on (now (c .before .before .before .before .before .before .before .before .before .before .before .before .before .before .before .before .before .before .before .before .args .plan)) _ _ _ _ (look .ensures .0) (c .next-name2 .ensures), look .kept .1 .1 .0 ∙ t .inv .1, look .kept .1 .1 .1 .0 ∙ t .inv .2, look .ensures .2)
+    (look-on (now (c .before .before .before .before .before .before .before .before .before .before .before .before .before .before .before .before .before .before .before .before .args .plan)) _ _ _ _ (look .ensures .going) (c .next-name2 .ensures), look .kept .1 .1 .0 ∙ t .inv .1, look .kept .1 .1 .1 .0 ∙ t .inv .2, look .ensures .linked)
 
 same-length : tie.Need-same-length Inv-loop μ-loop
 same-length c = c .before .loop .inv .0 .long-gone ∙ sym (c .before .before .before .before .before .before .before .before .pre .0 .long-gone)

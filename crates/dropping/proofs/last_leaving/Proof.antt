@@ -21,7 +21,7 @@ crossing-at-requires : tie.Need-crossing-at-requires Inv-loop μ-loop
 crossing-at-requires c κs = search needs
 
 behind-requires : tie.Need-behind-requires Inv-loop μ-loop
-behind-requires c κs = let s = c .before .before .before .before .before in (s .pre .0, s .pre .1, s .pre .2 .short, s .pre .2)
+behind-requires c κs = let s = c .before .before .before .before .before in (s .pre .inside, s .pre .long-gone, s .pre .linked .short, s .pre .linked)
 
 loop-holds : tie.Need-loop-holds Inv-loop μ-loop
 loop-holds c =
@@ -49,7 +49,7 @@ returns c =
     let x = crossingOf (crossing-at .result) in
     let is = ap (λ y. y .to) (crossing-at .ensures) in
     let up : suc (t .m - 1) ≡ t .m = omega (arith, c .before .before .loop-test .taken) in
-    (omega (arith, t .inv .0), λ k l. leaving-found (now (s .args .gone)) (crossings (now (s .args .plan))) (x .to) (s .args .name) (t .m - 1) (omega (arith, t .inv .0, c .before .before .loop-test .taken)) (rw up (t .inv .1)) (sym (c .before .leaves-bay .ensures) ∙ c .if1 .taken) k (rw (sym is) at l), c .before .before .before .before .before .before .behind .ensures .2)
+    record { upto = omega (arith, t .inv .0); is-last = λ k l. leaving-found (now (s .args .gone)) (crossings (now (s .args .plan))) (x .to) (s .args .name) (t .m - 1) (omega (arith, t .inv .0, c .before .before .loop-test .taken)) (rw up (t .inv .1)) (sym (c .before .leaves-bay .ensures) ∙ c .if1 .taken) k (rw (sym is) at l); linked = c .before .before .before .before .before .before .behind .ensures .2 }
 
 loop-less : tie.Need-loop-less Inv-loop μ-loop
 loop-less c = omega (arith, c .before .before .loop-test .taken)
@@ -74,7 +74,7 @@ returns-2 c =
     let x = crossingOf (crossing-at .result) in
     let is = ap (λ y. y .to) (crossing-at .ensures) in
     let z : t .m ≡ 0 = omega (arith, c .loop-test .left) in
-    (omega arith, λ k l. leaving-none (now (s .args .gone)) (crossings (now (s .args .plan))) (x .to) (s .args .name) (rw z at (t .inv .1)) k (rw (sym is) at l), c .before .before .before .before .behind .ensures .2)
+    record { upto = omega arith; is-last = λ k l. leaving-none (now (s .args .gone)) (crossings (now (s .args .plan))) (x .to) (s .args .name) (rw z at (t .inv .1)) k (rw (sym is) at l); linked = c .before .before .before .before .behind .ensures .2 }
 
 pub last-leaving-spec : {M : Type 1} → statement M
 last-leaving-spec =

@@ -16,7 +16,7 @@ slice-read-if1 : tie.Need-slice-read-if1
 slice-read-if1 c = search needs
 
 remove-requires : tie.Need-remove-requires
-remove-requires c κs = let s = c .before .before .before .before .before .before .before in omega (arith, s .pre .0, s .pre .1 .room)
+remove-requires c κs = let s = c .before .before .before .before .before .before .before in omega (arith, s .pre .inside, s .pre .going .room)
 
 add-result : tie.Need-add-result
 add-result c = search needs
@@ -28,13 +28,13 @@ returns : tie.Need-returns
 returns c =
     let s = c .before .before .before .before .before .before .before .before .before .before in
     let remove = c .before .before .remove in
-    (look-passed (now (s .args .plan)) (now (s .args .gone)) (now (s .args .todo)) (s .args .name) (s .pre .0) (s .pre .1) _ (remove .kept .0) (remove .ensures) (λ z. absurd (c .before .before .before .before .if1 .taken z)), rank-next (now (s .args .plan)) (now (s .args .gone)) (now (s .args .todo)) (s .args .name) (s .pre .0) (s .pre .1), s .pre .2)
+    record { going = look-passed (now (s .args .plan)) (now (s .args .gone)) (now (s .args .todo)) (s .args .name) (s .pre .inside) (s .pre .going) _ (remove .kept .0) (remove .ensures) (λ z. absurd (c .before .before .before .before .if1 .taken z)); less = rank-next (now (s .args .plan)) (now (s .args .gone)) (now (s .args .todo)) (s .args .name) (s .pre .inside) (s .pre .going); linked = s .pre .linked }
 
 last-return-requires : tie.Need-last-return-requires
-last-return-requires c κs = let s = c .before .before .before .before .before .before .before .before in (s .pre .0, s .pre .1 .long-gone, s .pre .2)
+last-return-requires c κs = let s = c .before .before .before .before .before .before .before .before in (s .pre .inside, s .pre .going .long-gone, s .pre .linked)
 
 remove-requires-2 : tie.Need-remove-requires-2
-remove-requires-2 c κs = let s = c .before .before .before .before .before .before .before .before .before .before .before .before .before in omega (arith, s .pre .0, s .pre .1 .room)
+remove-requires-2 c κs = let s = c .before .before .before .before .before .before .before .before .before .before .before .before .before in omega (arith, s .pre .inside, s .pre .going .room)
 
 add-result-2 : tie.Need-add-result-2
 add-result-2 c = search needs
@@ -54,7 +54,7 @@ returns-2 c =
     let last-return = c .before .before .before .before .before .before .before .last-return in
     let remove = c .before .before .remove2 in
     let none-here = no-return (crossings (now (s .args .plan))) (now (s .args .gone)) (s .args .name) (sym (c .before .before .before .before .if2 .taken) ∙ last-return .ensures .1) in
-    (look-passed (now (s .args .plan)) (now (s .args .gone)) (now (s .args .todo)) (s .args .name) (s .pre .0) (s .pre .1) _ (remove .kept .0) (remove .ensures) (λ z. none-here), rank-next (now (s .args .plan)) (now (s .args .gone)) (now (s .args .todo)) (s .args .name) (s .pre .0) (s .pre .1), last-return .ensures .2)
+    record { going = look-passed (now (s .args .plan)) (now (s .args .gone)) (now (s .args .todo)) (s .args .name) (s .pre .inside) (s .pre .going) _ (remove .kept .0) (remove .ensures) (λ z. none-here); less = rank-next (now (s .args .plan)) (now (s .args .gone)) (now (s .args .todo)) (s .args .name) (s .pre .inside) (s .pre .going); linked = last-return .ensures .2 }
 
 crossing-at-requires : tie.Need-crossing-at-requires
 crossing-at-requires c κs = search needs
@@ -63,13 +63,13 @@ note-leavings-requires : tie.Need-note-leavings-requires
 note-leavings-requires c κs =
     let last-return = c .before .before .before .before .before .before .before .last-return in
     let s = c .before .before .before .before .before .before .before .before .before .before .before .before .before .before .before .before in
-    (last-not-before (named (crossings (now (s .args .plan))) (s .args .name)) (crossings (now (s .args .plan))) (now (s .args .gone)) (s .args .name) (last-return .result) (last-return .ensures .1), last-return .ensures .0, s .pre .1 .long-gone, s .pre .1 .room, last-return .ensures .2, eq-eqb _ _ (ap (λ y. y .carrier) (sym (c .before .before .before .crossing-at .ensures))))
+    (record { starts = eq-eqb _ _ (ap (λ y. y .carrier) (sym (c .before .before .before .crossing-at .ensures))); upto = last-not-before (named (crossings (now (s .args .plan))) (s .args .name)) (crossings (now (s .args .plan))) (now (s .args .gone)) (s .args .name) (last-return .result) (last-return .ensures .1); search = record { inside = last-return .ensures .0; long-gone = s .pre .going .long-gone; linked = last-return .ensures .2 } }, s .pre .going .room)
 
 drop-trip-requires : tie.Need-drop-trip-requires
 drop-trip-requires c κs =
     let last-return = c .before .before .before .before .before .before .before .before .before .before .before .before .before .before .last-return in
     let s = c .before .before .before .before .before .before .before .before .before .before .before .before .before .before .before .before .before .before .before .before .before .before .before in
-    (eq-eqb _ _ (ap (λ y. y .carrier) (sym (c .before .before .before .before .before .before .before .before .before .before .crossing-at .ensures))), last-not-before (named (crossings (now (s .args .plan))) (s .args .name)) (crossings (now (s .args .plan))) (now (s .args .gone)) (s .args .name) (last-return .result) (last-return .ensures .1), last-return .ensures .0, s .pre .1 .long-gone, c .before .before .before .before .before .before .note-leavings .ensures .2, c .before .before .before .before .before .before .before .before .before .before .before .before .before .before .before .before .before .if1 .left)
+    (record { starts = eq-eqb _ _ (ap (λ y. y .carrier) (sym (c .before .before .before .before .before .before .before .before .before .before .crossing-at .ensures))); upto = last-not-before (named (crossings (now (s .args .plan))) (s .args .name)) (crossings (now (s .args .plan))) (now (s .args .gone)) (s .args .name) (last-return .result) (last-return .ensures .1); search = record { inside = last-return .ensures .0; long-gone = s .pre .going .long-gone; linked = c .before .before .before .before .before .before .note-leavings .ensures .linked } }, c .before .before .before .before .before .before .before .before .before .before .before .before .before .before .before .before .before .if1 .left)
 
 same-length-5 : tie.Need-same-length-5
 same-length-5 c = search needs
@@ -91,7 +91,7 @@ returns-3 c =
     let x = crossingOf (crossing-at .result) in
     let n = note-leavings .ensures in
     let d = c .before .before .before .before .drop-trip .ensures in
-    (rw (d .0) (look-cut (now (s .args .plan)) (now (s .args .gone)) (now (s .args .todo)) (s .args .name) (s .pre .0) (s .pre .1) (last-return .result) (note-leavings .result) _ (note-leavings .kept .1 .1 .0) x (crossing-at .ensures) here trip (last-return .ensures .1) (n .0) (n .1)), rw (d .0) (cut-rank (now (s .args .plan)) (now (s .args .gone)) (now (s .args .todo)) (s .args .name) (s .pre .0) (s .pre .1) (last-return .result) (note-leavings .result) _ (note-leavings .kept .1 .1 .0) x (crossing-at .ensures) here trip (last-return .ensures .1) (n .0) (n .1)), d .1)
+    record { going = rw (d .dropped) (look-cut (now (s .args .plan)) (now (s .args .gone)) (now (s .args .todo)) (s .args .name) (s .pre .inside) (s .pre .going) (last-return .result) (note-leavings .result) _ (note-leavings .kept .1 .1 .0) x (crossing-at .ensures) here trip (last-return .ensures .1) (n .low) (n .noted)); less = rw (d .dropped) (cut-rank (now (s .args .plan)) (now (s .args .gone)) (now (s .args .todo)) (s .args .name) (s .pre .inside) (s .pre .going) (last-return .result) (note-leavings .result) _ (note-leavings .kept .1 .1 .0) x (crossing-at .ensures) here trip (last-return .ensures .1) (n .low) (n .noted)); linked = d .linked }
 
 pub look-spec : {M : Type 1} → statement M
 look-spec =

@@ -16,19 +16,19 @@ shared-slice-read-if1 : tie.Need-shared-slice-read-if1
 shared-slice-read-if1 c = search needs
 
 returns : tie.Need-returns
-returns c = let s = c .before .before .before .before .before .before in (omega arith, noted-not (now (s .args .gone)) (crossings (now (s .args .plan))) (s .args .carrier .0) (s .args .name) (s .args .low) (mem (now (s .args .todo))) (λ z own. c .if1 .taken z), s .pre .3)
+returns c = let s = c .before .before .before .before .before .before in record { low = omega arith; noted = noted-not (now (s .args .gone)) (crossings (now (s .args .plan))) (s .args .carrier .0) (s .args .name) (s .args .low) (mem (now (s .args .todo))) (λ z own. c .if1 .taken z); linked = s .pre .0 .linked }
 
 crossing-at-requires : tie.Need-crossing-at-requires
 crossing-at-requires c κs = search needs
 
 returns-2 : tie.Need-returns-2
-returns-2 c = let s = c .before .before .before .before .before .before .before .before .before .before in (omega arith, noted-not (now (s .args .gone)) (crossings (now (s .args .plan))) (s .args .carrier .0) (s .args .name) (s .args .low) (mem (now (s .args .todo))) (λ z own. c .if2 .taken (ap (λ y. y .carrier) (c .before .before .before .crossing-at .ensures) ∙ own)), s .pre .3)
+returns-2 c = let s = c .before .before .before .before .before .before .before .before .before .before in record { low = omega arith; noted = noted-not (now (s .args .gone)) (crossings (now (s .args .plan))) (s .args .carrier .0) (s .args .name) (s .args .low) (mem (now (s .args .todo))) (λ z own. c .if2 .taken (ap (λ y. y .carrier) (c .before .before .before .crossing-at .ensures) ∙ own)); linked = s .pre .0 .linked }
 
 last-leaving-requires : tie.Need-last-leaving-requires
 last-leaving-requires c κs = search needs
 
 add-requires : tie.Need-add-requires
-add-requires c κs = let s = c .before .before .before .before .before .before .before .before .before .before .before .before .before .before .before in omega (arith, c .before .before .before .last-leaving .ensures .0, s .pre .0, s .pre .2)
+add-requires c κs = let s = c .before .before .before .before .before .before .before .before .before .before .before .before .before .before .before in omega (arith, c .before .before .before .last-leaving .ensures .upto, s .pre .0 .inside, s .pre .1)
 
 same-length : tie.Need-same-length
 same-length c = c .before .before .before .add .kept .0
@@ -40,8 +40,8 @@ returns-3 : tie.Need-returns-3
 returns-3 c =
     let last-leaving = c .before .before .before .before .before .before .before .last-leaving in
     let s = c .before .before .before .before .before .before .before .before .before .before .before .before .before .before .before .before .before .before .before in
-    let f : (k : ℕ) → LastLeaving (now (s .args .gone)) (crossings (now (s .args .plan))) (named (crossings (now (s .args .plan))) (s .args .name) .to) (s .args .name) k → last-leaving .result ≡ k = λ k l. last-leaving .ensures .1 k l in
-    (omega (arith, c .if3 .taken), noted-one (now (s .args .gone)) (crossings (now (s .args .plan))) (s .args .carrier .0) (s .args .name) (last-leaving .result) (last-leaving .result) (mem (now (s .args .todo))) _ (c .before .before .before .add .ensures) (omega arith) f, last-leaving .ensures .2)
+    let f : (k : ℕ) → LastLeaving (now (s .args .gone)) (crossings (now (s .args .plan))) (named (crossings (now (s .args .plan))) (s .args .name) .to) (s .args .name) k → last-leaving .result ≡ k = λ k l. last-leaving .ensures .is-last k l in
+    record { low = omega (arith, c .if3 .taken); noted = noted-one (now (s .args .gone)) (crossings (now (s .args .plan))) (s .args .carrier .0) (s .args .name) (last-leaving .result) (last-leaving .result) (mem (now (s .args .todo))) _ (c .before .before .before .add .ensures) (omega arith) f; linked = last-leaving .ensures .linked }
 
 same-length-3 : tie.Need-same-length-3
 same-length-3 c = c .before .before .before .add .kept .0
@@ -53,8 +53,8 @@ returns-4 : tie.Need-returns-4
 returns-4 c =
     let last-leaving = c .before .before .before .before .before .before .before .last-leaving in
     let s = c .before .before .before .before .before .before .before .before .before .before .before .before .before .before .before .before .before .before .before in
-    let f : (k : ℕ) → LastLeaving (now (s .args .gone)) (crossings (now (s .args .plan))) (named (crossings (now (s .args .plan))) (s .args .name) .to) (s .args .name) k → last-leaving .result ≡ k = λ k l. last-leaving .ensures .1 k l in
-    (omega arith, noted-one (now (s .args .gone)) (crossings (now (s .args .plan))) (s .args .carrier .0) (s .args .name) (s .args .low) (last-leaving .result) (mem (now (s .args .todo))) _ (c .before .before .before .add .ensures) (c .if3 .left) f, last-leaving .ensures .2)
+    let f : (k : ℕ) → LastLeaving (now (s .args .gone)) (crossings (now (s .args .plan))) (named (crossings (now (s .args .plan))) (s .args .name) .to) (s .args .name) k → last-leaving .result ≡ k = λ k l. last-leaving .ensures .is-last k l in
+    record { low = omega arith; noted = noted-one (now (s .args .gone)) (crossings (now (s .args .plan))) (s .args .carrier .0) (s .args .name) (s .args .low) (last-leaving .result) (mem (now (s .args .todo))) _ (c .before .before .before .add .ensures) (c .if3 .left) f; linked = last-leaving .ensures .linked }
 
 pub note-one-spec : {M : Type 1} → statement M
 note-one-spec =
