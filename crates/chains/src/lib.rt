@@ -101,6 +101,18 @@ pub fn ahead(
     r
 }
 
+// The next name that enters the bay that the crossing leaves, or the plan's length. Nothing is dropped yet, so one link leads there.
+pub fn next_entering(plan: &[u64], links: &[u16], name: usize) -> usize
+    requires { ⌜ (name < length (now plan)) × Linked (now plan) [] (now links) ⌝ }
+    ensures { λ r. ⌜
+        (name < r)
+        × (r ≤ length (now (plan .entry)))
+        × Met (now (plan .entry)) [] 0 (named (crossings (now (plan .entry))) name .from) (suc name) r
+        ⌝ }
+{
+    wide(links[name * LINKS]) + 1
+}
+
 // One more than the last name below `start`, by links, that is not dropped, or 0.
 fn skip_back(plan: &[u64], gone: &[u8], links: &[u16], start: usize) -> usize
     requires { ⌜ (start ≤ length (now plan)) × (length (now gone) ≡ length (now plan)) × Linked (now plan) (now gone) (now links) ⌝ }

@@ -24,7 +24,7 @@ use Rattle.docket.specs.Reading.{verdictOf}
 use Rattle.docket.specs.declared.Verdict.{Verdict}
 use Rattle.docket.specs.declared.Verdict.the-variants.{Granted, Denied}
 use Rattle.shorten.specs.Statements.{ShortenSays}
-use Rattle.shorten.proofs.Looking.{take-fresh}
+use Rattle.shorten.proofs.Rooms.{take-fresh}
 use Rattle.trips.specs.Trips.{shorten}
 use Rattle.trips.specs.Shortening.{anyDone, shortenRefusal, shortening}
 use Rattle.trips.proofs.Shortened.{shorten-shortens, shortened-passes}

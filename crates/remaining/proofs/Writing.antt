@@ -4,10 +4,10 @@ use mathlib.Core.List.{List, [], _∷_, _++_, append-nil}
 use Prim.Native.Nat.{ℕ, suc, _≤_, _<_, _+_}
 use native.Mathlib.Omega.{arith}
 use native.Mathlib.Numerals.{add-one}
-use lib.Dec.{eqb}
+use lib.Dec.{eqb, ltb}
 use lib.ListN.{length, getD, take, drop, set, length-set, take-append-drop, drop-of-length-le}
-use lib.Seq.{drop-cons, take-suc-set, drop-set-lt, append-snoc}
-use borrow.Author.Tests.{eq-eqb, ne-eqb}
+use lib.Seq.{drop-cons, take-set-le, take-suc-set, drop-set-lt, append-snoc}
+use borrow.Author.Tests.{eq-eqb, ne-eqb, ltb-true, ltb-false}
 use Rattle.paper.specs.Basics.{if_then_else_}
 use Rattle.paper.proofs.Tests.{by-cases}
 use Rattle.trips.specs.Names.{left}
@@ -64,41 +64,59 @@ module _ (plan gone out₀ : List ℕ) (len : length gone ≡ length plan) where
   pub writing-start : Writing plan gone out₀ out₀ 0 0
   writing-start = record { within = omega arith; long = refl; count = omega arith; so-far = refl; beyond = refl }
 
-  module _ (out : List ℕ) (n m : ℕ) (l : m < length plan) (w : Writing plan gone out₀ out n m) where
-    -- there is room for one more
-    pub writing-room : length (left gone plan) ≤ length out₀ → getD gone m 0 ≡ 0 → n < length out
-    writing-room r z = omega (arith, ap length (rest-in plan gone m l len z), w .count, w .long)
+  -- some are not written yet, so there are names to come
+  pub writing-inside : (out : List ℕ) (n m : ℕ) → Writing plan gone out₀ out n m → n < length (left gone plan) → m < length plan
+  writing-inside out n m w h =
+      by-cases (ltb m (length plan))
+      (λ t. ltb-true m (length plan) t)
+      (λ t. absurd (omega (arith, w .count, ap length (rest-end plan gone m (ltb-false m (length plan) t) len))))
 
-    pub writing-in : length (left gone plan) ≤ length out₀ → getD gone m 0 ≡ 0 → Writing plan gone out₀ (set out n (getD plan m 0)) (n + 1) (m + 1)
-    writing-in r z =
+  module _ (out : List ℕ) (n m : ℕ) (w : Writing plan gone out₀ out n m) (more : n < length (left gone plan)) (room : length (left gone plan) ≤ length out₀) where
+    l : m < length plan
+    l = writing-inside out n m w more
+
+    writing-in : getD gone m 0 ≡ 0 → Writing plan gone out₀ (set out n (getD plan m 0)) (n + 1) (m + 1)
+    writing-in z =
         let here = rest-in plan gone m l len z in
-        let v = getD plan m 0 in
-        let more : length (rest plan gone m) ≡ suc (length (rest plan gone (m + 1))) = rw (add-one m) (ap length here) in
-        let inside : n < length out = writing-room r z in
-        let all : take n out ++ (v ∷ rest plan gone (suc m)) ≡ left gone plan = ap (λ l. take n out ++ l) (sym here) ∙ w .so-far in
+        let next : length (rest plan gone m) ≡ suc (length (rest plan gone (m + 1))) = rw (add-one m) (ap length here) in
+        let inside : n < length out = omega (arith, w .long) in
+        let all : take n out ++ (getD plan m 0 ∷ rest plan gone (suc m)) ≡ left gone plan = ap (λ l. take n out ++ l) (sym here) ∙ w .so-far in
         record {
-          within = omega arith;
-          long = length-set out n v ∙ w .long;
+          within = omega (arith, l);
+          long = length-set out n (getD plan m 0) ∙ w .long;
           count = omega (arith, w .count);
-          so-far = rw (add-one m, add-one n, take-suc-set out n v inside) (append-snoc (take n out) v (rest plan gone (suc m)) ∙ all);
-          beyond = drop-set-lt (length (left gone plan)) out n v (omega (arith, w .count)) ∙ w .beyond;
+          so-far = rw (add-one m, add-one n, take-suc-set out n (getD plan m 0) inside) (append-snoc (take n out) (getD plan m 0) (rest plan gone (suc m)) ∙ all);
+          beyond = drop-set-lt (length (left gone plan)) out n (getD plan m 0) (omega (arith, w .count)) ∙ w .beyond;
         }
 
-    pub writing-out : (getD gone m 0 ≡ 0 → ⊥) → Writing plan gone out₀ out n (m + 1)
+    -- what is written of a dropped crossing is not among the first n
+    writing-out : (getD gone m 0 ≡ 0 → ⊥) → Writing plan gone out₀ (set out n (getD plan m 0)) n (m + 1)
     writing-out z =
         let here = rest-out plan gone m l len z in
         let same : length (rest plan gone m) ≡ length (rest plan gone (m + 1)) = rw (add-one m) (ap length here) in
         record {
-          within = omega arith;
-          long = w .long;
+          within = omega (arith, l);
+          long = length-set out n (getD plan m 0) ∙ w .long;
           count = omega (arith, w .count);
-          so-far = rw (add-one m) (ap (λ l. take n out ++ l) (sym here) ∙ w .so-far);
-          beyond = w .beyond;
+          so-far = rw (add-one m, take-set-le n out n (getD plan m 0) (omega arith)) (ap (λ l. take n out ++ l) (sym here) ∙ w .so-far);
+          beyond = drop-set-lt (length (left gone plan)) out n (getD plan m 0) (omega arith) ∙ w .beyond;
         }
 
-  pub writing-end : (out : List ℕ) (n m : ℕ) → length plan ≤ m → Writing plan gone out₀ out n m → out ≡ left gone plan ++ drop (length (left gone plan)) out₀
+    pub writing-next : (k : ℕ) → k ≡ (if eqb (getD gone m 0) 0 then 1 else 0) → Writing plan gone out₀ (set out n (getD plan m 0)) (n + k) (m + 1)
+    writing-next k is =
+        by-byte (getD gone m 0)
+        (λ z. let one : k ≡ 1 = is ∙ ap (λ b. if b then 1 else 0) (eq-eqb _ _ z) in rw one (writing-in z))
+        (λ z.
+        let none : n + k ≡ n = let zero-more : k ≡ 0 = is ∙ ap (λ b. if b then 1 else 0) (ne-eqb _ _ z) in omega arith in
+        rw none (writing-out z))
+
+  pub writing-end : (out : List ℕ) (n m : ℕ) → length (left gone plan) ≤ n → Writing plan gone out₀ out n m → out ≡ left gone plan ++ drop (length (left gone plan)) out₀
   writing-end out n m h w =
-      let e = rest-end plan gone m h len in
-      let t : n ≡ length (left gone plan) = count-end plan gone n m _ h len (w .count) in
+      let t : n ≡ length (left gone plan) = omega (arith, w .count) in
+      let e : rest plan gone m ≡ [] = empty (rest plan gone m) (omega (arith, w .count)) in
       let all : take n out ≡ left gone plan = sym (append-nil (take n out)) ∙ ap (λ l. take n out ++ l) (sym e) ∙ w .so-far in
       sym (take-append-drop n out) ∙ ap₂ (λ a b. a ++ b) all (ap (λ k. drop k out) t ∙ w .beyond)
+    where
+      empty : (l : List ℕ) → length l ≡ 0 → l ≡ []
+      empty [] h = refl
+      empty (x ∷ l) h = absurd (omega arith)

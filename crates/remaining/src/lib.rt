@@ -8,7 +8,7 @@ ghost use Rattle.paper.specs.Basics.{if_then_else_};
 ghost use Rattle.paper.specs.Yard.{crossings, most-crossings};
 ghost use Rattle.trips.specs.Trips.{shorten as shortenOf};
 ghost use Rattle.trips.specs.Names.{left};
-ghost use Rattle.remaining.specs.Statements.{RoomSays};
+ghost use Rattle.remaining.specs.Statements.{WriteAsks, RoomSays};
 use docket::Refusal;
 use docket::Verdict;
 
@@ -33,20 +33,19 @@ fn count_left(plan: &[u64], gone: &[u8]) -> usize
     n
 }
 
-// What is still in the plan, into the first places of `out`; what stands beyond stays.
-fn write_left(plan: &[u64], gone: &[u8], out: &mut [u64])
-    requires { ⌜ (length (now gone) ≡ length (now plan)) × (length (left (now gone) (now plan)) ≤ length (now out)) ⌝ }
+// What is still in the plan, into the first places of `out`; what stands beyond stays. Every crossing is written, and the next one over it where it is
+// dropped: that takes no branch. It ends once all are written, so that nothing is written beyond them.
+fn write_left(plan: &[u64], gone: &[u8], out: &mut [u64], count: usize)
+    requires { ⌜ WriteAsks (now plan) (now gone) (now out) count ⌝ }
     ensures { λ _. ⌜
         now (out .exit) ≡ left (now (gone .entry)) (now (plan .entry)) ++ drop (length (left (now (gone .entry)) (now (plan .entry)))) (now (out .entry))
         ⌝ }
 {
     let mut n = 0;
     let mut m = 0;
-    while m < plan.len() {
-        if gone[m] == 0 {
-            out[n] = plan[m];
-            n += 1;
-        }
+    while n < count {
+        out[n] = plan[m];
+        n += one_left(gone[m]);
         m += 1;
     }
 }
@@ -64,6 +63,6 @@ pub fn finish(plan: &[u64], gone: &[u8], out: &mut [u64]) -> Verdict
     if out.len() < count {
         return Verdict::Denied(Refusal::Room(count as u64));
     }
-    write_left(plan, gone, out);
+    write_left(plan, gone, out, count);
     Verdict::Granted(count as u64)
 }

@@ -1,3 +1,3 @@
 pub mod Asking
-mod Returning
+pub mod Returning
 pub mod Passing

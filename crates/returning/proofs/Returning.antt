@@ -13,11 +13,11 @@ use lib.Seq.{drop-cons}
 use borrow.Author.Tests.{eqb-true, lt-ltb}
 use Rattle.paper.specs.Basics.{if_then_else_, _and_, _>>=_, orElse}
 use Rattle.paper.specs.Yard.{Crossing, crossings, named}
-use Rattle.paper.proofs.Tests.{and-left, and-right}
+use Rattle.paper.proofs.Tests.{and-left, and-right, by-option}
 use Rattle.plans.proofs.Rest.{rest-next}
 use Rattle.trips.specs.Trips.{enters, isOf}
 use Rattle.trips.specs.Names.{lastPlace}
-use Rattle.trips.proofs.Naming.{place-past, place-back, place-barred}
+use Rattle.trips.proofs.Naming.{place-past, place-back, place-barred, NoTrip}
 use Rattle.chains.specs.Links.{Passed}
 use Rattle.returning.specs.Returns.{nameAt, lastFrom}
 use Rattle.returning.proofs.Passing.{passed-fails}
@@ -83,3 +83,10 @@ returning-over plan gone same x last key zero m r at h is p = let z : r ≡ m = 
 returning-over plan gone same x last key (suc d) m r at h is p =
     returning-over plan gone same x last key d (m + 1) r (omega arith) h is (λ k l. p k (omega arith))
     ∙ returning-past plan gone same x last m (omega arith) (passed-fails _ _ _ (λ e. p m (omega arith) (omega arith) (e ∙ sym is)))
+
+-- a last return at the leaving itself is none
+pub no-return : (xs : List Crossing) (gone : List ℕ) (i : ℕ) → i ≡ lastFrom (named xs i) xs gone i (suc i) → NoTrip gone xs i
+no-return xs gone i h =
+    by-option (lastPlace (named xs i .carrier) (named xs i .from) (drop (suc i) gone) (drop (suc i) xs))
+    (λ e. e)
+    (λ d e. absurd (omega (arith, rw e at h)))

@@ -1,5 +1,3 @@
-pub mod Noting
-pub mod Trimming
-pub mod Looking
 pub mod Saying
 pub mod Determined
+pub mod Rooms

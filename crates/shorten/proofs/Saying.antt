@@ -21,7 +21,7 @@ use Rattle.docket.specs.declared.Verdict.{Verdict}
 use Rattle.docket.specs.declared.Verdict.the-variants.{Denied}
 use Rattle.trips.specs.Shortening.{anyDone, intoRoom, shortenRefusal, shortening}
 use Rattle.remaining.specs.Statements.{RoomSays}
-use Rattle.shorten.specs.Going.{Lawful}
+use Rattle.dropping.specs.Going.{Lawful}
 use Rattle.shorten.specs.Statements.{ShortenSays}
 
 module _ (o : Order) (plan marks out : List ℕ) where

@@ -1,2 +1,2 @@
-pub mod Going
+pub mod Asks
 pub mod Statements

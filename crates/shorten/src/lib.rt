@@ -1,307 +1,110 @@
-// There-and-back trips dropped from a plan. Every crossing keeps its place; a byte beside each says whether it is dropped, and another whether
-// a trip may begin there. A cut drops one carrier's crossings, so only leavings whose next entering was dropped are looked at again.
-// A search by bay or carrier goes by links, past the crossings that cannot be what it looks for.
+// Plans shortened: there-and-back trips are dropped. Clearing working room takes time, so a plan gets room for about as many crossings as it has.
 ghost use mathlib.Core.Path.{_≡_};
-ghost use mathlib.Core.Bool.{true};
-ghost use Prim.Native.Nat.{ℕ, suc, _≤_, _<_, _*_, _-_};
-ghost use lib.Dec.{eqb};
-ghost use lib.ListN.{length, getD, replicate};
-ghost use Rattle.paper.specs.Basics.{_and_, if_then_else_};
-ghost use Rattle.paper.specs.Yard.{crossings, named, most-crossings};
-ghost use Rattle.paper.specs.Limits.{most-bays};
-ghost use Rattle.paper.specs.OnePass.{Fits};
+ghost use Rattle.paper.specs.Yard.{most-crossings};
 ghost use Rattle.paper.specs.Order.{order};
-ghost use Rattle.trips.specs.Trips.{isOf, shorten as shortenOf};
-ghost use Rattle.trips.specs.Names.{left, dropTrip};
-ghost use Rattle.trips.proofs.Freeing.{LastLeaving, Noted};
-ghost use Rattle.chains.specs.Links.{links-each, Passed, Linked};
 ghost use Rattle.remaining.specs.Statements.{RoomSays};
-ghost use Rattle.shorten.specs.Going.{few-crossings, Lawful, Going, rank};
+ghost use Rattle.shorten.specs.Asks.{few-crossings, some-crossings, many-crossings, PlanAsks, RoomAsks};
 ghost use Rattle.shorten.specs.Statements.{ShortenSays};
 use checker::Checked;
-use docket::Bay;
-use docket::Carrier;
 use docket::Refusal;
 use docket::Verdict;
 use yard::Yard;
 
-// Room for the links of the longest plan.
-const LINKS: usize = chains::LINKS * Yard::CROSSINGS;
-
-// Crossings that the less room holds, and their links.
+// Crossings that the rooms hold, beside that for the longest plan.
 const FEW: usize = 4096;
 
-const FEW_LINKS: usize = chains::LINKS * FEW;
+const SOME: usize = 16384;
 
-// The crossing is still in the plan and leaves the bay.
-fn leaves_bay(plan: &[u64], gone: &[u8], name: usize, bay: Bay) -> bool
-    requires { ⌜ (name < length (now plan)) × (length (now gone) ≡ length (now plan)) ⌝ }
-    ensures { λ r. ⌜ r ≡ eqb (getD (now (gone .entry)) name 0) 0 and eqb (named (crossings (now (plan .entry))) name .from) (bay .0) ⌝ }
-{
-    if gone[name] != 0 {
-        return false;
-    }
-    let x = plans::crossing_at(plan, name);
-    x.from.0 == bay.0
-}
+const MANY: usize = 32768;
 
-// The last crossing before `name` that leaves the bay that the crossing enters, or `name` itself where none does. The links lead to it at once.
-fn last_leaving(plan: &[u64], gone: &[u8], links: &mut [u16], name: usize) -> usize
-    requires { ⌜ (name < length (now plan)) × (length (now gone) ≡ length (now plan)) × Linked (now plan) (now gone) (now links) ⌝ }
-    ensures { λ r. ⌜
-        (r ≤ name)
-        × ((k : ℕ)
-        → LastLeaving (now (gone .entry)) (crossings (now (plan .entry))) (named (crossings (now (plan .entry))) name .to) name k
-        → r ≡ k)
-        × Linked (now (plan .entry)) (now (gone .entry)) (now (links .exit))
-        ⌝ }
-{
-    let x = plans::crossing_at(plan, name);
-    let mut m = chains::behind(plan, gone, links, name);
-    while m > 0 {
-        let next = m - 1;
-        if leaves_bay(plan, gone, next, x.to) {
-            return next;
-        }
-        m = next;
-    }
-    name
-}
-
-// The next of the carrier's crossings after `name` up to `last`, or the name after `last`.
-fn next_own(plan: &[u64], gone: &[u8], links: &mut [u16], name: usize, last: usize) -> usize
-    requires { ⌜
-        (name ≤ last) × (last < length (now plan)) × (length (now gone) ≡ length (now plan)) × Linked (now plan) (now gone) (now links)
-        ⌝ }
-    ensures { λ r. ⌜
-        (name < r)
-        × (r ≤ suc last)
-        × Passed (now (plan .entry)) (now (gone .entry)) 1 (named (crossings (now (plan .entry))) name .carrier) (suc name) r
-        × (r ≤ last → named (crossings (now (plan .entry))) r .carrier ≡ named (crossings (now (plan .entry))) name .carrier)
-        × Linked (now (plan .entry)) (now (gone .entry)) (now (links .exit))
-        ⌝ }
-{
-    let r = chains::ahead(plan, gone, links, name, 2, 2);
-    if r <= last { r } else { last + 1 }
-}
-
-// Where the crossing is the carrier's, the last leaving of the bay that it enters is to be looked at again. The lower of `low` and that name.
-fn note_one(
-    plan: &[u64],
-    gone: &[u8],
-    todo: &mut [u8],
-    links: &mut [u16],
-    name: usize,
-    carrier: Carrier,
-    low: usize,
-) -> usize
-    requires { ⌜
-        (name < length (now plan))
-        × (length (now gone) ≡ length (now plan))
-        × (length (now todo) ≡ length (now plan))
-        × Linked (now plan) (now gone) (now links)
-        ⌝ }
-    ensures { λ r. ⌜
-        (r ≤ low)
-        × Noted (now (gone .entry)) (crossings (now (plan .entry))) (carrier .0) name 1 (now (todo .entry)) (now (todo .exit)) r
-        × Linked (now (plan .entry)) (now (gone .entry)) (now (links .exit))
-        ⌝ }
-{
-    if gone[name] != 0 {
-        return low;
-    }
-    let x = plans::crossing_at(plan, name);
-    if x.carrier.0 != carrier.0 {
-        return low;
-    }
-    let leaving = last_leaving(plan, gone, links, name);
-    todo[leaving] = 1;
-    if leaving < low { leaving } else { low }
-}
-
-// The same for each crossing from `name` to `last`; the lowest name to be looked at again, or `name`.
-fn note_leavings(
-    plan: &[u64],
-    gone: &[u8],
-    todo: &mut [u8],
-    links: &mut [u16],
-    name: usize,
-    last: usize,
-    carrier: Carrier,
-) -> usize
-    requires { ⌜
-        (name ≤ last)
-        × (last < length (now plan))
-        × (length (now gone) ≡ length (now plan))
-        × (length (now todo) ≡ length (now plan))
-        × Linked (now plan) (now gone) (now links)
-        × (isOf (carrier .0) (named (crossings (now plan)) name) ≡ true)
-        ⌝ }
-    ensures { λ r. ⌜
-        (r ≤ name)
-        × Noted (now (gone .entry)) (crossings (now (plan .entry))) (carrier .0) name (suc last - name) (now (todo .entry)) (now (todo .exit)) r
-        × Linked (now (plan .entry)) (now (gone .entry)) (now (links .exit))
-        ⌝ }
-{
-    let mut low = name;
-    let mut m = name;
-    while m <= last {
-        low = note_one(plan, gone, todo, links, m, carrier, low);
-        m = next_own(plan, gone, links, m, last);
-    }
-    low
-}
-
-// The byte of a crossing after a cut: dropped where it is the carrier's.
-fn byte_after(byte: u8, own: bool) -> u8
-    ensures { λ r. ⌜ r ≡ if own then 1 else byte ⌝ }
-{
-    if own { 1 } else { byte }
-}
-
-// The carrier's crossings from `name` to `last` are dropped: the leaving, which is at `name`, and those after it.
-fn drop_trip(
-    plan: &[u64],
-    gone: &mut [u8],
-    links: &mut [u16],
-    name: usize,
-    last: usize,
-    carrier: Carrier,
-)
-    requires { ⌜
-        (isOf (carrier .0) (named (crossings (now plan)) name) ≡ true)
-        × (name ≤ last)
-        × (last < length (now plan))
-        × (length (now gone) ≡ length (now plan))
-        × Linked (now plan) (now gone) (now links)
-        × (getD (now gone) name 0 ≡ 0)
-        ⌝ }
-    ensures { λ _. ⌜
-        (now (gone .exit) ≡ dropTrip (carrier .0) name (suc last - name) (now (gone .entry)) (crossings (now (plan .entry))))
-        × Linked (now (plan .entry)) (now (gone .exit)) (now (links .exit))
-        ⌝ }
-{
-    let mut m = next_own(plan, gone, links, name, last);
-    gone[name] = 1;
-    while m <= last {
-        gone[m] = byte_after(gone[m], returning::is_of(plan, m, carrier));
-        m = next_own(plan, gone, links, m, last);
-    }
-}
-
-// One look: at a name where a trip begins it is cut, and the look goes back to the lowest name that this may have freed.
-fn look(plan: &[u64], gone: &mut [u8], todo: &mut [u8], links: &mut [u16], name: usize) -> usize
-    requires { ⌜ (name < length (now plan)) × Going (now plan) (now gone) (now todo) name × Linked (now plan) (now gone) (now links) ⌝ }
-    ensures { λ r. ⌜
-        Going (now (plan .entry)) (now (gone .exit)) (now (todo .exit)) r
-        × (rank (now (plan .entry)) (now (gone .exit)) r < rank (now (plan .entry)) (now (gone .entry)) name)
-        × Linked (now (plan .entry)) (now (gone .exit)) (now (links .exit))
-        ⌝ }
-{
-    if gone[name] != 0 {
-        return name + 1;
-    }
-    if todo[name] == 0 {
-        return name + 1;
-    }
-    let last = returning::last_return(plan, gone, links, name);
-    if last == name {
-        todo[name] = 0;
-        return name + 1;
-    }
-    let x = plans::crossing_at(plan, name);
-    let low = note_leavings(plan, gone, todo, links, name, last, x.carrier);
-    drop_trip(plan, gone, links, name, last, x.carrier);
-    low
-}
-
-// Cut after cut, the lowest name first, until there is none.
-fn drop_trips(plan: &[u64], gone: &mut [u8], todo: &mut [u8], links: &mut [u16])
-    requires { ⌜ Going (now plan) (now gone) (now todo) 0 × Linked (now plan) (now gone) (now links) ⌝ }
-    ensures { λ _. ⌜
-        (length (now (gone .exit)) ≡ length (now (plan .entry)))
-        × (left (now (gone .exit)) (crossings (now (plan .entry))) ≡ shortenOf (crossings (now (plan .entry))))
-        ⌝ }
-{
-    let mut name = 0;
-    while name < plan.len() {
-        name = look(plan, gone, todo, links, name);
-    }
-}
-
-// The whole work, in lists that are lent: nothing is dropped yet, and every name is to be looked at.
+// The whole work, in lists that are lent: nothing is dropped yet.
 fn shorten_in(
     plan: &[u64],
     gone: &mut [u8],
-    todo: &mut [u8],
+    todo: &mut [u64],
     links: &mut [u16],
     out: &mut [u64],
 ) -> Verdict
-    requires { ⌜
-        Lawful (crossings (now plan))
-        × (length (now plan) ≤ most-crossings)
-        × (now gone ≡ replicate (length (now plan)) 0)
-        × (now todo ≡ replicate (length (now plan)) 1)
-        × (length (now links) ≡ length (now plan) * links-each)
-        × Fits most-bays most-bays (now plan)
-        ⌝ }
+    requires { ⌜ RoomAsks (now plan) (now gone) (now todo) (now links) ⌝ }
     ensures { λ r. ⌜ RoomSays (now (plan .entry)) (now (out .entry)) r (now (out .exit)) ⌝ }
 {
     chains::fill(plan, links);
-    drop_trips(plan, gone, todo, links);
+    setting_out::set_out(plan, links, todo);
+    dropping::drop_trips(plan, gone, todo, links);
     remaining::finish(plan, gone, out)
 }
 
-// The same, with working room for the longest plan.
-fn shorten_most(plan: &[u64], out: &mut [u64]) -> Verdict
-    requires { ⌜ Lawful (crossings (now plan)) × (length (now plan) ≤ most-crossings) × Fits most-bays most-bays (now plan) ⌝ }
-    ensures { λ r. ⌜ RoomSays (now (plan .entry)) (now (out .entry)) r (now (out .exit)) ⌝ }
-{
-    let count = plan.len();
-    let long = count * chains::LINKS;
-    let mut gone = [0u8; Yard::CROSSINGS];
-    let mut todo = [1u8; Yard::CROSSINGS];
-    let mut links = [0u16; LINKS];
-    shorten_in(
-        plan,
-        &mut gone[..count],
-        &mut todo[..count],
-        &mut links[..long],
-        out,
-    )
-}
-
-// The same, with room for a plan of few crossings. Clearing room takes time.
+// The same, with room for a plan of few crossings.
 fn shorten_few(plan: &[u64], out: &mut [u64]) -> Verdict
-    requires { ⌜ Lawful (crossings (now plan)) × (length (now plan) ≤ few-crossings) × Fits most-bays most-bays (now plan) ⌝ }
+    requires { ⌜ PlanAsks (now plan) few-crossings ⌝ }
     ensures { λ r. ⌜ RoomSays (now (plan .entry)) (now (out .entry)) r (now (out .exit)) ⌝ }
 {
     let count = plan.len();
     let long = count * chains::LINKS;
     let mut gone = [0u8; FEW];
-    let mut todo = [1u8; FEW];
-    let mut links = [0u16; FEW_LINKS];
-    shorten_in(
-        plan,
-        &mut gone[..count],
-        &mut todo[..count],
-        &mut links[..long],
-        out,
-    )
+    let mut todo = [0u64; FEW / 64];
+    let mut links = [0u16; chains::LINKS * FEW];
+    shorten_in(plan, &mut gone[..count], &mut todo, &mut links[..long], out)
+}
+
+// The same, with room for a plan of some crossings.
+fn shorten_some(plan: &[u64], out: &mut [u64]) -> Verdict
+    requires { ⌜ PlanAsks (now plan) some-crossings ⌝ }
+    ensures { λ r. ⌜ RoomSays (now (plan .entry)) (now (out .entry)) r (now (out .exit)) ⌝ }
+{
+    let count = plan.len();
+    let long = count * chains::LINKS;
+    let mut gone = [0u8; SOME];
+    let mut todo = [0u64; SOME / 64];
+    let mut links = [0u16; chains::LINKS * SOME];
+    shorten_in(plan, &mut gone[..count], &mut todo, &mut links[..long], out)
+}
+
+// The same, with room for a plan of many crossings.
+fn shorten_many(plan: &[u64], out: &mut [u64]) -> Verdict
+    requires { ⌜ PlanAsks (now plan) many-crossings ⌝ }
+    ensures { λ r. ⌜ RoomSays (now (plan .entry)) (now (out .entry)) r (now (out .exit)) ⌝ }
+{
+    let count = plan.len();
+    let long = count * chains::LINKS;
+    let mut gone = [0u8; MANY];
+    let mut todo = [0u64; MANY / 64];
+    let mut links = [0u16; chains::LINKS * MANY];
+    shorten_in(plan, &mut gone[..count], &mut todo, &mut links[..long], out)
+}
+
+// The same, with room for the longest plan.
+fn shorten_most(plan: &[u64], out: &mut [u64]) -> Verdict
+    requires { ⌜ PlanAsks (now plan) most-crossings ⌝ }
+    ensures { λ r. ⌜ RoomSays (now (plan .entry)) (now (out .entry)) r (now (out .exit)) ⌝ }
+{
+    let count = plan.len();
+    let long = count * chains::LINKS;
+    let mut gone = [0u8; Yard::CROSSINGS];
+    let mut todo = [0u64; Yard::CROSSINGS / 64];
+    let mut links = [0u16; chains::LINKS * Yard::CROSSINGS];
+    shorten_in(plan, &mut gone[..count], &mut todo, &mut links[..long], out)
 }
 
 // The same, with the room that the plan needs.
 fn shorten_checked(plan: &[u64], out: &mut [u64]) -> Verdict
-    requires { ⌜ Lawful (crossings (now plan)) × (length (now plan) ≤ most-crossings) × Fits most-bays most-bays (now plan) ⌝ }
+    requires { ⌜ PlanAsks (now plan) most-crossings ⌝ }
     ensures { λ r. ⌜ RoomSays (now (plan .entry)) (now (out .entry)) r (now (out .exit)) ⌝ }
 {
     if plan.len() <= FEW {
         return shorten_few(plan, out);
     }
+    if plan.len() <= SOME {
+        return shorten_some(plan, out);
+    }
+    if plan.len() <= MANY {
+        return shorten_many(plan, out);
+    }
     shorten_most(plan, out)
 }
 
 // A plan that passes the check, shortened into the first places of `out`, as long as no crossing of it is done. A refusal changes nothing.
+// Fresh marks are told by one look at each; what other marks are refused for is asked only where there are such.
 pub fn shorten(
     bays: u64,
     rails: &[u16],
@@ -320,11 +123,11 @@ pub fn shorten(
     if let Checked::Refused(r) = checked {
         return Verdict::Denied(r);
     }
+    if begun::is_fresh(plan, marks) {
+        return shorten_checked(plan, out);
+    }
     if mark_order::bad_marks(plan, marks) {
         return Verdict::Denied(Refusal::Mismarked);
     }
-    if begun::any_done(marks) {
-        return Verdict::Denied(Refusal::Begun);
-    }
-    shorten_checked(plan, out)
+    Verdict::Denied(Refusal::Begun)
 }

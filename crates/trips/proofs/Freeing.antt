@@ -1,7 +1,7 @@
 -- Which leavings a cut can make the start of a trip: those whose next entering of the bay it drops. In a legal plan that is the last
 -- leaving of the bay before the dropped crossing, so it is enough to look there.
 use mathlib.Core.Path.{_≡_, refl, sym, _∙_, ap}
-use mathlib.Core.Bool.{true, false}
+use mathlib.Core.Bool.{Bool, true, false}
 use mathlib.Core.List.{List, [], _∷_, _++_}
 use mathlib.Core.Option.{Option, none, some}
 use Prim.Native.Nat.{ℕ, zero, suc, _≤_, _<_, _+_, _-_}
@@ -125,19 +125,18 @@ pub record LastLeaving (gs : List ℕ) (xs : List Crossing) (b : Bay) (e k : ℕ
   pub last : (m : ℕ) → k < m → m < e → getD gs m 0 ≡ 0 → named xs m .from ≡ b → ⊥
 
 -- For each of c's crossings among the n from the name i on, the last leaving of the bay that it enters is to be looked at again.
--- A byte that is not 0 says so; none below `low` has changed.
-pub record Noted (gs : List ℕ) (xs : List Crossing) (c : Carrier) (i n : ℕ) (todo todo′ : List ℕ) (low : ℕ) : Type 0 where
-  pub long : length todo′ ≡ length todo
-  pub fewer : (k : ℕ) → getD todo′ k 0 ≡ 0 → getD todo k 0 ≡ 0
-  pub below : (k : ℕ) → k < low → getD todo′ k 0 ≡ getD todo k 0
+-- It is in the set then; below `low` the set has not changed.
+pub record Noted (gs : List ℕ) (xs : List Crossing) (c : Carrier) (i n : ℕ) (todo todo′ : ℕ → Bool) (low : ℕ) : Type 0 where
+  pub fewer : (k : ℕ) → todo′ k ≡ false → todo k ≡ false
+  pub below : (k : ℕ) → k < low → todo′ k ≡ todo k
   pub noted : (e k : ℕ) → i ≤ e → e < i + n → e < length gs → getD gs e 0 ≡ 0 → named xs e .carrier ≡ c → LastLeaving gs xs (named xs e .to) e k
-      → getD todo′ k 0 ≡ 0 → ⊥
+      → todo′ k ≡ false → ⊥
 
 module _ (Y : Yard) (s : Placement) (apart : Apart s) (gs : List ℕ) (xs : List Crossing) (len : length gs ≡ length xs) (lawful : legalPlan Y s (left gs xs) ≡ true) where
   -- Where every name that need not be looked at began no trip, none of them does after the cut.
-  pub freed : (c : Carrier) (i n : ℕ) (todo todo′ : List ℕ) (low : ℕ) → Noted gs xs c i n todo todo′ low
-      → ((k : ℕ) → k < length gs → getD gs k 0 ≡ 0 → getD todo k 0 ≡ 0 → NoTrip gs xs k)
-      → (k : ℕ) → k < length gs → getD (dropTrip c i n gs xs) k 0 ≡ 0 → getD todo′ k 0 ≡ 0 → NoTrip (dropTrip c i n gs xs) xs k
+  pub freed : (c : Carrier) (i n : ℕ) (todo todo′ : ℕ → Bool) (low : ℕ) → Noted gs xs c i n todo todo′ low
+      → ((k : ℕ) → k < length gs → getD gs k 0 ≡ 0 → todo k ≡ false → NoTrip gs xs k)
+      → (k : ℕ) → k < length gs → getD (dropTrip c i n gs xs) k 0 ≡ 0 → todo′ k ≡ false → NoTrip (dropTrip c i n gs xs) xs k
   freed c i n todo todo′ low noted tested k l z t =
       let hs = dropTrip c i n gs xs in
       let long : length hs ≡ length gs = trip-length c i n gs xs in

@@ -13,7 +13,7 @@ returns : tie.Need-returns
 returns c = let s = c .before .before .before .before .before in room-refused (now (s .args .plan)) (now (s .args .gone)) (now (s .args .out)) (s .pre .1) (c .before .count-left .result) (c .before .count-left .ensures) (c .if1 .taken)
 
 write-left-requires : tie.Need-write-left-requires
-write-left-requires c κs = search needs
+write-left-requires c κs = record { long = c .before .before .before .before .before .before .pre .0; counted = c .before .before .count-left .ensures; room = c .before .if1 .left }
 
 same-length : tie.Need-same-length
 same-length c = search needs

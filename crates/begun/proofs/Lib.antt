@@ -1,0 +1,2 @@
+mod Seeing
+pub mod Fresh
