@@ -1,5 +1,6 @@
 -- `rings::keep_beside` meets its contract. What stands beside the kept bays is met with row i, and becomes both the kept ones and row i.
 -- Assumes nothing.
+use mathlib.Core.Path.{_∙_}
 use borrow.Author.Needs.{needs}
 use Rattle.rings.proofs.Narrowing.{kept-beside}
 use Rattle.rings.proofs.keep_beside.Statement.{statement}
@@ -27,10 +28,10 @@ keep-requires-2 : tie.Need-keep-requires-2
 keep-requires-2 c κs = search needs
 
 same-length : tie.Need-same-length
-same-length c = search needs
+same-length c = c .before .before .keep2 .kept .0
 
 same-length-2 : tie.Need-same-length-2
-same-length-2 c = search needs
+same-length-2 c = c .before .before .before .before .before .before .before .keep .kept .0
 
 returns : tie.Need-returns
 returns c =

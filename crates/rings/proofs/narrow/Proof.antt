@@ -44,7 +44,9 @@ slice-aggregate-keep-beside c = search needs
 keep-beside-requires : tie.Need-keep-beside-requires Inv-loop μ-loop
 keep-beside-requires c κs =
     let start = c .before .before .before .before .before .before .before .before .before .before .before .before .before .before .before in
-    let p = start .pre in let t = ended-kept (p .5) (c .before .before .before .before .before .before .keep .ensures) in (omega arith, omega arith, λ a h m. let l = narrowing-inside t (p .0) _ _ _ (c .before .before .before .loop .inv .3 t) a h m in omega (arith, l, p .3))
+    let p = start .pre in
+    let t = ended-kept (p .ended) (c .before .before .before .before .before .before .keep .ensures) in
+    (omega arith, omega arith, λ a h m. let l = narrowing-inside t (p .lent .most) _ _ _ (c .before .before .before .loop .inv .3 t) a h m in omega (arith, l, p .lent .table-size))
 
 loop-less : tie.Need-loop-less Inv-loop μ-loop
 loop-less c = search needs
@@ -52,7 +54,8 @@ loop-less c = search needs
 loop-again : tie.Need-loop-again Inv-loop μ-loop
 loop-again c =
     let start = c .before .before .before .before .before .before .before .before .before .before .before .before .before .before .before .before .before .before .before in
-    let l = c .before .before .before .before .before .before .before .loop in (omega arith, omega arith, omega arith, λ t. let e : l .i ≡ suc (l .i - 1) = omega arith in narrowing-more t (start .pre .0) _ _ _ _ _ (omega arith) (rw e at (l .inv .3 t)) (c .before .before .before .keep-beside .ensures))
+    let l = c .before .before .before .before .before .before .before .loop in
+    (omega arith, omega arith, omega arith, λ t. let e : l .i ≡ suc (l .i - 1) = omega arith in narrowing-more t (start .pre .lent .most) _ _ _ _ _ (omega arith) (rw e at (l .inv .3 t)) (c .before .before .before .keep-beside .ensures))
 
 same-length : tie.Need-same-length Inv-loop μ-loop
 same-length c = search needs
@@ -60,7 +63,7 @@ same-length c = search needs
 returns : tie.Need-returns Inv-loop μ-loop
 returns c =
     let keep = c .before .before .before .before .keep in
-    λ t. narrowing-all t (keep .ensures) _ _ _ (omega arith) (c .before .loop .inv .3 (ended-kept t (keep .ensures)))
+    record { narrowed = λ t. narrowing-all t (keep .ensures) _ _ _ (omega arith) (c .before .loop .inv .3 (ended-kept t (keep .ensures))) }
 
 pub narrow-spec : {M : Type 1} → statement M
 narrow-spec =

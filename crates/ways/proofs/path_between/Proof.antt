@@ -21,7 +21,7 @@ path-by-queue-requires c κs =
     let start = c .before .before .before .before .before .before .before .before in
     let p = start .pre in
     let t = and-right _ _ (sym (c .before .before .by-queue .ensures) ∙ c .before .if1 .taken) in
-    (p .0, p .1, p .2, p .3, p .4, p .5, not-true _ (and-left _ _ t), not-true _ (and-right _ _ t), p .6)
+    record { asks = p; start-unheld = not-true _ (and-left _ _ t); goal-unheld = not-true _ (and-right _ _ t) }
 
 same-length : tie.Need-same-length
 same-length c = search needs
