@@ -19,13 +19,17 @@ slice-aggregate-settle : tie.Need-slice-aggregate-settle
 slice-aggregate-settle c = search needs
 
 settle-requires : tie.Need-settle-requires
-settle-requires c κs = search needs
+settle-requires c κs =
+    let p = c .before .before .before .before .before .before .before .before .before .before .before .pre in
+    (c .before .before .before .before .beside .kept .1 .1 .0, p .seen-size, p .ring-size)
 
 add-keep : tie.Need-add-keep
 add-keep c = search needs
 
 keep-requires : tie.Need-keep-requires
-keep-requires c κs = search needs
+keep-requires c κs =
+    let p = c .before .before .before .before .before .before .before .before .before .before .before .before .before .before .before .before .before .before .pre in
+    (c .before .before .before .before .before .before .settle .kept .1 .1 .0 ∙ p .ring-size, omega (arith, p .rows-size))
 
 same-length : tie.Need-same-length
 same-length c = c .before .before .before .before .before .before .before .before .before .settle .kept .1 .0

@@ -41,7 +41,7 @@ lowest-common-requires : tie.Need-lowest-common-requires Inv-loop μ-loop
 lowest-common-requires c κs = search needs
 
 loop-less : tie.Need-loop-less Inv-loop μ-loop
-loop-less c = search needs
+loop-less c = omega (arith, c .before .loop-test .taken)
 
 loop-again : tie.Need-loop-again Inv-loop μ-loop
 loop-again c =

@@ -20,7 +20,9 @@ slice-aggregate-search : tie.Need-slice-aggregate-search
 slice-aggregate-search c = search needs
 
 search-requires : tie.Need-search-requires
-search-requires c κs = search needs
+search-requires c κs =
+    let p = c .before .before .before .before .before .before .before .before .before .before .pre in
+    record { lent = p .asks .lent; inside = p .asks .goal-inside; wanted-size = c .before .before .before .alone .kept .0; first-row = p .first-row }
 
 mul-is-in : tie.Need-mul-is-in
 mul-is-in c =

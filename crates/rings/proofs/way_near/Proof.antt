@@ -9,7 +9,9 @@ use Rattle.rings.proofs.way_near.Statement.{statement}
 use Rattle.rings.proofs.way_near.Tie as tie
 
 search-requires : tie.Need-search-requires
-search-requires c κs = search needs
+search-requires c κs =
+    let p = c .before .before .before .before .before .before .pre in
+    record { lent = p .asks .lent; inside = p .asks .inside; wanted-size = p .asks .wanted-size; first-row = p .first-row }
 
 in-ring-requires : tie.Need-in-ring-requires
 in-ring-requires c κs =

@@ -1,6 +1,5 @@
 -- `rings::widen` meets its contract. What is beside the ring and was not seen is the next ring.
 -- Assumes nothing.
-use mathlib.Core.Path.{_∙_}
 use borrow.Author.Needs.{needs}
 use Rattle.rings.proofs.Searching.{ring-settled}
 use Rattle.rings.proofs.widen.Statement.{statement}
