@@ -42,8 +42,8 @@ free-requires c κs =
     record {
       row = omega (arith, p .inside, p .table-size);
       rowed = table-rowed (p .shown .joins) (p .most) _ (p .inside) (p .table-size);
-      wanted-size = p .empty-size;
-      held-size = p .held-size;
+      wanted-size = search needs;
+      held-size = search needs;
     }
 
 cast-t18 : tie.Need-cast-t18
