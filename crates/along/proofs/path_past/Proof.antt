@@ -8,7 +8,7 @@ use Rattle.along.proofs.path_past.Statement.{statement}
 use Rattle.along.proofs.path_past.Tie as tie
 
 path-between-requires : tie.Need-path-between-requires
-path-between-requires c κs = c .before .before .before .before .before .pre .0
+path-between-requires c κs = search needs
 
 same-length : tie.Need-same-length
 same-length c = c .before .before .path-between .kept .1 .1 .1 .1 .1 .0
