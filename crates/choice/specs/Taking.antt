@@ -7,7 +7,7 @@ use Prim.Native.Nat.{ℕ, _+_, _*_, _≤_, _<_}
 use lib.ListN.{length}
 use Rattle.paper.specs.Basics.{filter, upTo}
 use Rattle.paper.specs.Path.{Rather}
-use Rattle.words.specs.Sets.{memRow, words, span}
+use Rattle.words.specs.Sets.{mem, memRow, words, span, Lowest}
 
 -- how many rails lead to a bay
 abbrev pub rails : List ℕ → ℕ → ℕ
@@ -23,3 +23,20 @@ pub record Taken (table : List ℕ) (f : ℕ → Bool) (r : ℕ) : Type 0 where
   pub hit : r < span → f r ≡ true
   pub missing : span ≤ r → (b : ℕ) → b < span → f b ≡ false
   pub before : r < span → (b : ℕ) → b < span → f b ≡ true → Rather (rails table) r b
+
+-- ## What is asked
+
+-- the two lowest bays of the set; the second is span where there is no other
+pub record SeveralAsks (table set : List ℕ) (first second : ℕ) : Type 0 where
+  pub set-size : length set ≡ words
+  pub rowed : Rowed table (mem set)
+  pub there : first < span
+  pub lowest : Lowest (mem set) 0 span first
+  pub next : Lowest (mem set) (first + 1) span second
+
+-- the wanted bays of row a of the table that are not held
+pub record FreeAsks (table : List ℕ) (a : ℕ) (wanted held : List ℕ) : Type 0 where
+  pub row : a * words + words ≤ length table
+  pub rowed : Rowed table (memRow table a)
+  pub wanted-size : length wanted ≡ words
+  pub held-size : length held ≡ words

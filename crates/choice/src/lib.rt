@@ -5,8 +5,8 @@ ghost use mathlib.Core.Bool.{not};
 ghost use Prim.Native.Nat.{ℕ, _+_, _*_, _≤_, _<_};
 ghost use lib.ListN.{length};
 ghost use Rattle.paper.specs.Basics.{_and_};
-ghost use Rattle.words.specs.Sets.{mem, memRow, words, span, Lowest};
-ghost use Rattle.choice.specs.Taking.{rails, Rowed, Taken};
+ghost use Rattle.words.specs.Sets.{mem, memRow, words, span};
+ghost use Rattle.choice.specs.Taking.{rails, Rowed, Taken, SeveralAsks, FreeAsks};
 
 // How many rails lead to bay a.
 pub fn count_rails(table: &[u64], a: usize) -> u64
@@ -19,13 +19,7 @@ pub fn count_rails(table: &[u64], a: usize) -> u64
 
 // The choice among the bays of the set, of which the two lowest are given. They come rising, so a later bay is taken only if it has fewer rails.
 fn of_several(table: &[u64], set: &[u64], first: usize, second: usize) -> usize
-    requires { ⌜
-        (length (now set) ≡ words)
-        × (first < span)
-        × Rowed (now table) (mem (now set))
-        × Lowest (mem (now set)) 0 span first
-        × Lowest (mem (now set)) (first + 1) span second
-        ⌝ }
+    requires { ⌜ SeveralAsks (now table) (now set) first second ⌝ }
     ensures { λ r. ⌜ Taken (now (table .entry)) (mem (now (set .entry))) r ⌝ }
 {
     let mut best = first;
@@ -96,9 +90,7 @@ pub fn in_ring(table: &[u64], rows: &[u64], d: usize, wanted: &[u64]) -> usize
 
 // The choice among the bays of row a of the table that are wanted and not held; SPAN where there is none.
 pub fn free(table: &[u64], a: usize, wanted: &[u64], held: &[u64]) -> usize
-    requires { ⌜
-        (a * words + words ≤ length (now table)) × (length (now wanted) ≡ words) × (length (now held) ≡ words) × Rowed (now table) (memRow (now table) a)
-        ⌝ }
+    requires { ⌜ FreeAsks (now table) a (now wanted) (now held) ⌝ }
     ensures { λ r. ⌜
         Taken (now (table .entry)) (λ b. memRow (now (table .entry)) a b and (mem (now (wanted .entry)) b and not (mem (now (held .entry)) b))) r
         ⌝ }

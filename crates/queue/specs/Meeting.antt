@@ -3,10 +3,10 @@
 use mathlib.Core.Path.{_≡_}
 use mathlib.Core.Bool.{Bool, not}
 use mathlib.Core.List.{List, _∷_, _++_}
-use Prim.Native.Nat.{ℕ, zero, suc, _+_, _-_, _*_, _<_}
+use Prim.Native.Nat.{ℕ, zero, suc, _+_, _-_, _*_, _≤_, _<_}
 use lib.ListN.{length, getD, take}
 use Rattle.paper.specs.Basics.{_and_, _or_, filter, elem, countFrom, upTo, In, Out}
-use Rattle.words.specs.Sets.{on, mem, memRow, span}
+use Rattle.words.specs.Sets.{on, mem, memRow, words, span}
 
 -- ## Which bays are new
 
@@ -42,6 +42,26 @@ pub record Queued (f : List ℕ) (a count : ℕ) (met before met′ before′ : 
 pub record Meets (f : List ℕ) (a count : ℕ) (seen met before seen′ met′ before′ : List ℕ) (r : ℕ) : Type 0 where
   pub queued : Queued f a count met before met′ before′ r
   pub seeing : (b : ℕ) → b < span → mem seen′ b ≡ mem seen b or elem b f
+
+-- ## What is asked
+
+-- the queue has room for the bays of the word
+pub record EnqueueAsks (i word : ℕ) (met before : List ℕ) (count : ℕ) : Type 0 where
+  pub word-there : i < words
+  pub before-size : length before ≡ span
+  pub room : count + length (inWord i word) ≤ length met
+
+-- a has its row in the table, and the queue has room for the list's bays
+pub record MeetAsks (f table : List ℕ) (a : ℕ) (seen met before : List ℕ) (count : ℕ) : Type 0 where
+  pub row : a * words + words ≤ length table
+  pub seen-size : length seen ≡ words
+  pub before-size : length before ≡ span
+  pub room : count + length f ≤ length met
+
+-- the same of the new bays of word i
+pub record MeetWordAsks (table : List ℕ) (a i : ℕ) (seen met before : List ℕ) (count : ℕ) : Type 0 where
+  pub word-there : i < words
+  pub asks : MeetAsks (newIn table seen a i) table a seen met before count
 
 -- ## The path back
 

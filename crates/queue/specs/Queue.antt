@@ -5,10 +5,10 @@ use mathlib.Core.Path.{_≡_}
 use mathlib.Core.Bool.{true, false}
 use mathlib.Core.List.{List}
 use mathlib.Core.Logic.{_⊎_}
-use Prim.Native.Nat.{ℕ, _≤_, _<_}
+use Prim.Native.Nat.{ℕ, _*_, _≤_, _<_}
 use lib.ListN.{length, getD, take}
 use Rattle.paper.specs.Basics.{_or_, elem, In, NoDup}
-use Rattle.words.specs.Sets.{mem, memRow, span}
+use Rattle.words.specs.Sets.{mem, memRow, words, span}
 
 -- a rail leads from the bay at place l of the queue to z, which is not held
 abbrev pub Leads : List ℕ → List ℕ → List ℕ → ℕ → ℕ → Type 0
@@ -49,3 +49,20 @@ pub record Passed (n : ℕ) (table held : List ℕ) (x : ℕ) (met : List ℕ) (
   pub kept : take count met′ ≡ take count met
   pub more : count ≤ r
   pub most : r ≤ n
+
+-- ## What is asked, what is said
+
+-- the bays from `start` to `count` are still to be passed, in room for every bay
+pub record PassAsks (n : ℕ) (table : List ℕ) (start count : ℕ) (seen met before : List ℕ) : Type 0 where
+  pub most : n ≤ span
+  pub table-size : n * words ≤ length table
+  pub some-left : start < count
+  pub few : count ≤ n
+  pub seen-size : length seen ≡ words
+  pub room : n ≤ length met
+  pub before-size : length before ≡ span
+  pub standing : Standing n table seen met before start count
+
+-- they are passed
+pub record PassSays (n : ℕ) (table : List ℕ) (start count : ℕ) (seen met before seen′ met′ before′ : List ℕ) (r : ℕ) : Type 0 where
+  pub passes : (held : List ℕ) (x : ℕ) → Met n table held x seen (take count met) before start → Passed n table held x met count seen′ met′ before′ count r

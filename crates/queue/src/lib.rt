@@ -1,16 +1,16 @@
 // The queue of a search, in which bays are met one by one: each stands in it from when it was met, with the bay from which it was. A ring of
 // bays is passed at once, and the path to a bay is read back from it.
 ghost use mathlib.Core.Path.{_≡_};
-ghost use mathlib.Core.List.{List, []};
-ghost use Prim.Native.Nat.{ℕ, _+_, _*_, _≤_, _<_};
+ghost use mathlib.Core.List.{[]};
+ghost use Prim.Native.Nat.{_+_, _<_};
 ghost use lib.ListN.{length, take};
-ghost use Rattle.words.specs.Sets.{words, span};
-ghost use Rattle.queue.specs.Meeting.{inWord, newIn, new, Queued, Meets, back};
-ghost use Rattle.queue.specs.Queue.{Low, Met, Standing, Passed};
+ghost use Rattle.words.specs.Sets.{span};
+ghost use Rattle.queue.specs.Meeting.{inWord, newIn, new, Queued, Meets, EnqueueAsks, MeetWordAsks, MeetAsks, back};
+ghost use Rattle.queue.specs.Queue.{Low, PassAsks, PassSays};
 
 // The bays of word i go to the queue's end, rising, as met from a.
 fn enqueue(i: usize, word: u64, a: u16, met: &mut [u16], before: &mut [u16], count: usize) -> usize
-    requires { ⌜ (i < words) × (length (now before) ≡ span) × (count + length (inWord i word) ≤ length (now met)) ⌝ }
+    requires { ⌜ EnqueueAsks i word (now met) (now before) count ⌝ }
     ensures { λ r. ⌜ Queued (inWord i word) a count (now (met .entry)) (now (before .entry)) (now (met .exit)) (now (before .exit)) r ⌝ }
 {
     let mut left = word;
@@ -35,13 +35,7 @@ fn meet_word(
     before: &mut [u16],
     count: usize,
 ) -> usize
-    requires { ⌜
-        (i < words)
-        × (a * words + words ≤ length (now table))
-        × (length (now seen) ≡ words)
-        × (length (now before) ≡ span)
-        × (count + length (newIn (now table) (now seen) a i) ≤ length (now met))
-        ⌝ }
+    requires { ⌜ MeetWordAsks (now table) a i (now seen) (now met) (now before) count ⌝ }
     ensures { λ r. ⌜
         Meets (newIn (now (table .entry)) (now (seen .entry)) a i) a count (now (seen .entry)) (now (met .entry)) (now (before .entry))
         (now (seen .exit)) (now (met .exit)) (now (before .exit)) r
@@ -64,12 +58,7 @@ fn meet(
     before: &mut [u16],
     count: usize,
 ) -> usize
-    requires { ⌜
-        (a * words + words ≤ length (now table))
-        × (length (now seen) ≡ words)
-        × (length (now before) ≡ span)
-        × (count + length (new (now table) (now seen) a) ≤ length (now met))
-        ⌝ }
+    requires { ⌜ MeetAsks (new (now table) (now seen) a) (now table) a (now seen) (now met) (now before) count ⌝ }
     ensures { λ r. ⌜
         Meets (new (now (table .entry)) (now (seen .entry)) a) a count (now (seen .entry)) (now (met .entry)) (now (before .entry))
         (now (seen .exit)) (now (met .exit)) (now (before .exit)) r
@@ -94,20 +83,10 @@ pub fn pass(
     met: &mut [u16],
     before: &mut [u16],
 ) -> usize
-    requires { ⌜
-        (n ≤ span)
-        × (n * words ≤ length (now table))
-        × (start < count)
-        × (count ≤ n)
-        × (length (now seen) ≡ words)
-        × (n ≤ length (now met))
-        × (length (now before) ≡ span)
-        × Standing n (now table) (now seen) (now met) (now before) start count
-        ⌝ }
+    requires { ⌜ PassAsks n (now table) start count (now seen) (now met) (now before) ⌝ }
     ensures { λ r. ⌜
-        ((held : List ℕ) (x : ℕ)
-        → Met n (now (table .entry)) held x (now (seen .entry)) (take count (now (met .entry))) (now (before .entry)) start
-        → Passed n (now (table .entry)) held x (now (met .entry)) count (now (seen .exit)) (now (met .exit)) (now (before .exit)) count r)
+        PassSays n (now (table .entry)) start count (now (seen .entry)) (now (met .entry)) (now (before .entry))
+        (now (seen .exit)) (now (met .exit)) (now (before .exit)) r
         ⌝ }
 {
     let mut done = start;

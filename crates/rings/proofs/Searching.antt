@@ -23,7 +23,7 @@ use Rattle.words.proofs.Sets.{row-zero}
 use Rattle.words.proofs.Besides.{equal-tests, anyBelow-some, anyBelow-of}
 use Rattle.yard.specs.Table.{Table}
 use mathlib.Core.Logic.{⊎-elim}
-use Rattle.rings.specs.Search.{NextRing, Shown, around, ringOn, Searched, GoesOn}
+use Rattle.rings.specs.Search.{NextRingSays, Shown, around, ringOn, Searched, GoesOn}
 use Rattle.rings.specs.Widening.{Widened}
 
 pub elem-append : (b : ℕ) (xs ys : List ℕ) → elem b (xs ++ ys) ≡ elem b xs or elem b ys
@@ -133,7 +133,7 @@ ring-settled p s = record { ringed = λ b h. s .ringed b h ∙ rw (p .same b h);
 
 -- what is beside the ring, settled and kept, is the next ring
 pub ring-kept : (table : List ℕ) (d : ℕ) (seen ring rows seen′ ring′ rows′ next : List ℕ) → Beside table ring next span → Settled next seen seen′ ring′
-    → Kept rows (d + 1) ring′ rows′ → NextRing table d seen ring rows seen′ ring′ rows′
+    → Kept rows (d + 1) ring′ rows′ → NextRingSays table d seen ring rows seen′ ring′ rows′
 ring-kept table d seen ring rows seen′ ring′ rows′ next p s k = record {
   ringed = λ b h. s .ringed b h ∙ rw (p .same b h);
   all-seen = s .all-seen;
@@ -239,7 +239,7 @@ module _ {n : ℕ} {table held : List ℕ} (s : Shown n table held) (x : Bay) wh
 
   pub searching-more : (wanted : List ℕ) (d : ℕ) (seen ring rows seen′ ring′ rows′ : List ℕ) → n ≤ span → x < n → d + 1 < n
       → Searching wanted d seen ring rows → meeting ring wanted ≡ false
-      → NextRing table d seen ring rows seen′ ring′ rows′ → Searching wanted (d + 1) seen′ ring′ rows′
+      → NextRingSays table d seen ring rows seen′ ring′ rows′ → Searching wanted (d + 1) seen′ ring′ rows′
   searching-more wanted d seen ring rows seen′ ring′ rows′ most hx h g l e =
       let w = widening-more most hx h (record { seeing = g .seeing; ringing = g .ringing }) (record { ringed = e .ringed; all-seen = e .all-seen }) in
       record {

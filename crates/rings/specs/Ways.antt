@@ -4,14 +4,14 @@ use mathlib.Core.Path.{_≡_}
 use mathlib.Core.Bool.{Bool, false}
 use mathlib.Core.List.{List}
 use mathlib.Core.Option.{Option, none, some}
-use Prim.Native.Nat.{ℕ, _-_, _*_, _≤_, _<_}
+use Prim.Native.Nat.{ℕ, _+_, _-_, _*_, _≤_, _<_}
 use lib.ListN.{length, take}
 use Rattle.paper.specs.Basics.{_and_, elem, In, Out}
 use Rattle.paper.specs.Yard.{Bay, Yard}
 use Rattle.paper.specs.Path.{rings, nearestOf, inward, shortestPath, pathBetween}
 use Rattle.words.specs.Sets.{mem, memRow, words, span, anyBelow, reaches}
 use Rattle.yard.specs.Table.{Table}
-use Rattle.rings.specs.Search.{Shown, around, GoesOn}
+use Rattle.rings.specs.Search.{Shown, Lent, around, GoesOn}
 use Rattle.rings.specs.declared.Path.{Path}
 use Rattle.rings.specs.declared.Path.the-variants.{First, NoPath}
 use Rattle.docket.specs.declared.Bay.{Bay as Held}
@@ -58,6 +58,13 @@ pub record Ends (n : ℕ) (rows : List ℕ) (d : ℕ) (r : Near) : Type 0 where
   pub nowhere : r ≡ Nowhere → GoesOn n rows d
   pub few : r ≡ Farther → length rows < n * words
 
+-- What every path is read from: the table has a row for each of the n bays, and the rows go up to row d.
+pub record RowsLent (n : ℕ) (table rows : List ℕ) (d : ℕ) : Type 0 where
+  pub most : n ≤ span
+  pub far : d < n
+  pub table-size : n * words ≤ length table
+  pub rows-size : (d + 1) * words ≤ length rows
+
 -- ## The path inward
 
 -- The rows are the rings around some bay, up to the ring of x.
@@ -72,6 +79,15 @@ pub record Inside (n : ℕ) (table rows : List ℕ) (d x : ℕ) : Type 0 where
 
 abbrev pub pathIn : {n : ℕ} {table rows : List ℕ} {d x : ℕ} → Inside n table rows d x → List Bay
 pathIn {d = d} {x = x} t = inward (t .yard) (rings (t .yard) (t .held) (t .goal)) d x
+
+-- the path from x, in room for every bay
+pub record InwardAsks (n : ℕ) (table rows : List ℕ) (d x : ℕ) (path : List ℕ) : Type 0 where
+  pub lent : RowsLent n table rows d
+  pub room : n ≤ length path
+  pub inside : Inside n table rows d x
+
+pub record InwardSays (n : ℕ) (table rows : List ℕ) (d x : ℕ) (path′ : List ℕ) : Type 0 where
+  pub path : (t : Inside n table rows d x) → take (d + 1) path′ ≡ pathIn t
 
 -- ## The path outward
 
@@ -94,6 +110,14 @@ onPath {d = d} {e = e} t i b = elem b (around (t .yard) (t .held) (t .start) i) 
 pub record Narrowed {n : ℕ} {table rows : List ℕ} {d e : ℕ} (t : Ended n table rows d e) (i : ℕ) (rows′ : List ℕ) : Type 0 where
   pub rowing : (k b : ℕ) → i ≤ k → k ≤ d → b < span → memRow rows′ k b ≡ onPath t k b
 
+pub record NarrowAsks (n : ℕ) (table rows : List ℕ) (d e : ℕ) : Type 0 where
+  pub lent : RowsLent n table rows d
+  pub end-inside : e < n
+  pub ended : Ended n table rows d e
+
+pub record NarrowSays (n : ℕ) (table rows : List ℕ) (d e : ℕ) (rows′ : List ℕ) : Type 0 where
+  pub narrowed : (t : Ended n table rows d e) → Narrowed t 1 rows′
+
 -- The rows from row 1 on hold the bays on the shortest paths from x to some bay, d rails on.
 pub record Outside (n : ℕ) (table rows : List ℕ) (d x : ℕ) : Type 0 where
   pub yard : Yard
@@ -107,6 +131,15 @@ pub record Outside (n : ℕ) (table rows : List ℕ) (d x : ℕ) : Type 0 where
 
 abbrev pub pathOut : {n : ℕ} {table rows : List ℕ} {d x : ℕ} → Outside n table rows d x → List Bay
 pathOut {d = d} {x = x} t = inward (t .yard) (rings (t .yard) (t .held) (t .goal)) d x
+
+-- the path from x, in room for every bay
+pub record OutwardAsks (n : ℕ) (table rows : List ℕ) (d x : ℕ) (path : List ℕ) : Type 0 where
+  pub lent : RowsLent n table rows d
+  pub room : n ≤ length path
+  pub outside : Outside n table rows d x
+
+pub record OutwardSays (n : ℕ) (table rows : List ℕ) (d x : ℕ) (path′ : List ℕ) : Type 0 where
+  pub path : (t : Outside n table rows d x) → take (d + 1) path′ ≡ pathOut t
 
 -- row i keeps of its bays those beside the kept ones, and these are the kept ones now
 pub record KeptBeside (table : List ℕ) (i : ℕ) (rows kept rows′ kept′ : List ℕ) : Type 0 where
@@ -142,31 +175,37 @@ module _ {n : ℕ} {table held : List ℕ} (s : Shown n table held) where
 -- ## What is asked, what is said
 
 -- the path from u to v, in room for every bay
-abbrev pub PathAsks : ℕ → (table held path : List ℕ) → (u v : Bay) → Type 0
-PathAsks n table held path u v =
-    (n ≤ span)
-    × (u < n)
-    × (v < n)
-    × (n * words ≤ length table)
-    × (length held ≡ words)
-    × (n ≤ length path)
-    × Shown n table held
+pub record PathAsks (n : ℕ) (table held path : List ℕ) (u v : Bay) : Type 0 where
+  pub lent : Lent n table held
+  pub start-inside : u < n
+  pub goal-inside : v < n
+  pub room : n ≤ length path
 
-abbrev pub PathSays : ℕ → (table held : List ℕ) → (u v : Bay) → (path : List ℕ) → Path → Type 0
-PathSays n table held u v path r = (s : Shown n table held) → PathFound s u v path r
+pub record PathSays (n : ℕ) (table held : List ℕ) (u v : Bay) (path′ : List ℕ) (r : Path) : Type 0 where
+  pub found : (s : Shown n table held) → PathFound s u v path′ r
 
 -- the way from x, which is not held, to the nearest wanted bay, in room for every bay
-abbrev pub WayAsks : ℕ → (table held wanted path : List ℕ) → Bay → Type 0
-WayAsks n table held wanted path x =
-    (n ≤ span)
-    × (x < n)
-    × (n * words ≤ length table)
-    × (length held ≡ words)
-    × (length wanted ≡ words)
-    × (n ≤ length path)
-    × (mem held x ≡ false)
-    × Shown n table held
+pub record WayAsks (n : ℕ) (table held wanted path : List ℕ) (x : Bay) : Type 0 where
+  pub lent : Lent n table held
+  pub inside : x < n
+  pub unheld : mem held x ≡ false
+  pub wanted-size : length wanted ≡ words
+  pub room : n ≤ length path
 
-abbrev pub WaySays : ℕ → (table held wanted : List ℕ) → Bay → (path : List ℕ) → Way → Type 0
-WaySays n table held wanted x path r =
-    (s : Shown n table held) (q : ℕ → Bool) → ((b : ℕ) → b < n → mem wanted b ≡ q b) → WayFound s x q path r
+pub record WaySays (n : ℕ) (table held wanted : List ℕ) (x : Bay) (path′ : List ℕ) (r : Way) : Type 0 where
+  pub found : (s : Shown n table held) (q : Bay → Bool) → ((b : ℕ) → b < n → mem wanted b ≡ q b) → WayFound s x q path′ r
+
+-- the same of what is sought in few rows, one at least
+pub record PathNearAsks (n : ℕ) (table held rows path : List ℕ) (u v : Bay) : Type 0 where
+  pub asks : PathAsks n table held path u v
+  pub first-row : words ≤ length rows
+
+pub record PathNearSays (n : ℕ) (table held rows : List ℕ) (u v : Bay) (path′ : List ℕ) (r : Near) : Type 0 where
+  pub near : (s : Shown n table held) → PathNear s u v rows path′ r
+
+pub record WayNearAsks (n : ℕ) (table held wanted rows path : List ℕ) (x : Bay) : Type 0 where
+  pub asks : WayAsks n table held wanted path x
+  pub first-row : words ≤ length rows
+
+pub record WayNearSays (n : ℕ) (table held wanted rows : List ℕ) (x : Bay) (path′ : List ℕ) (r : Near) : Type 0 where
+  pub near : (s : Shown n table held) (q : Bay → Bool) → ((b : ℕ) → b < n → mem wanted b ≡ q b) → WayNear s x q rows path′ r

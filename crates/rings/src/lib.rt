@@ -2,14 +2,14 @@
 // the nearest, and the shortest path are read from them. The room for the path is lent.
 use docket::Bay;
 ghost use mathlib.Core.Path.{_≡_};
-ghost use mathlib.Core.Bool.{Bool, true, false};
+ghost use mathlib.Core.Bool.{true};
 ghost use Prim.Native.Nat.{ℕ, _+_, _*_, _≤_, _<_};
-ghost use lib.ListN.{length, take};
+ghost use lib.ListN.{length};
 ghost use Rattle.paper.specs.Basics.{_and_};
 ghost use Rattle.words.specs.Sets.{mem, memRow, words, span};
-ghost use Rattle.rings.specs.Search.{NextRing, Shown, Searched};
+ghost use Rattle.rings.specs.Search.{NextRingAsks, NextRingSays, SearchAsks, SearchSays};
 ghost use Rattle.rings.specs.Widening.{Widened};
-ghost use Rattle.rings.specs.Ways.{Inside, pathIn, Ended, Narrowed, Outside, pathOut, KeptBeside, PathNear, WayNear, Ends, pathBy, wayBy, PathAsks, PathSays, WayAsks, WaySays};
+ghost use Rattle.rings.specs.Ways.{InwardAsks, InwardSays, NarrowAsks, NarrowSays, OutwardAsks, OutwardSays, KeptBeside, PathNearAsks, PathNearSays, WayNearAsks, WayNearSays, Ends, pathBy, wayBy, PathAsks, PathSays, WayAsks, WaySays};
 
 // Words of the rows that a search has at first: 32 rings, which do in most yards and are soon cleared.
 const NEAR: usize = 32 * words::WORDS;
@@ -46,16 +46,9 @@ fn next_ring(
     ring: &mut [u64],
     rows: &mut [u64],
 )
-    requires { ⌜
-        (n * words ≤ length (now table))
-        × (length (now seen) ≡ words)
-        × (length (now ring) ≡ words)
-        × ((d + 2) * words ≤ length (now rows))
-        × (d + 1 < n)
-        × ((b : ℕ) → b < span → mem (now ring) b ≡ true → b < n)
-        ⌝ }
+    requires { ⌜ NextRingAsks n (now table) d (now seen) (now ring) (now rows) ⌝ }
     ensures { λ _. ⌜
-        NextRing (now (table .entry)) d (now (seen .entry)) (now (ring .entry)) (now (rows .entry)) (now (seen .exit)) (now (ring .exit)) (now (rows .exit))
+        NextRingSays (now (table .entry)) d (now (seen .entry)) (now (ring .entry)) (now (rows .entry)) (now (seen .exit)) (now (ring .exit)) (now (rows .exit))
         ⌝ }
 {
     let mut next = [0u64; words::WORDS];
@@ -66,16 +59,8 @@ fn next_ring(
 
 // Ring by ring around x, until a ring has a wanted bay, or there is no further one, or no row for it; answers the number of that ring.
 fn search(table: &[u64], n: usize, held: &[u64], x: Bay, wanted: &[u64], rows: &mut [u64]) -> usize
-    requires { ⌜
-        (n ≤ span)
-        × (x .0 < n)
-        × (n * words ≤ length (now table))
-        × (length (now held) ≡ words)
-        × (length (now wanted) ≡ words)
-        × (words ≤ length (now rows))
-        × Shown n (now table) (now held)
-        ⌝ }
-    ensures { λ r. ⌜ ((s : Shown n (now (table .entry)) (now (held .entry))) → Searched s (x .0) (now (wanted .entry)) (now (rows .exit)) r) ⌝ }
+    requires { ⌜ SearchAsks n (now table) (now held) (x .0) (now wanted) (now rows) ⌝ }
+    ensures { λ r. ⌜ SearchSays n (now (table .entry)) (now (held .entry)) (x .0) (now (wanted .entry)) (now (rows .exit)) r ⌝ }
 {
     let middle = x.0 as usize;
     let mut seen = [0u64; words::WORDS];
@@ -105,15 +90,8 @@ fn search(table: &[u64], n: usize, held: &[u64], x: Bay, wanted: &[u64], rows: &
 
 // The path from x, d rails from the bay in the middle of the rows: each next bay is the lowest neighbour in the ring one nearer.
 fn inward(table: &[u64], n: usize, rows: &[u64], d: usize, x: Bay, path: &mut [u16])
-    requires { ⌜
-        (n ≤ span)
-        × (d < n)
-        × (n * words ≤ length (now table))
-        × ((d + 1) * words ≤ length (now rows))
-        × (n ≤ length (now path))
-        × Inside n (now table) (now rows) d (x .0)
-        ⌝ }
-    ensures { λ _. ⌜ ((t : Inside n (now (table .entry)) (now (rows .entry)) d (x .0)) → take (d + 1) (now (path .exit)) ≡ pathIn t) ⌝ }
+    requires { ⌜ InwardAsks n (now table) (now rows) d (x .0) (now path) ⌝ }
+    ensures { λ _. ⌜ InwardSays n (now (table .entry)) (now (rows .entry)) d (x .0) (now (path .exit)) ⌝ }
 {
     let mut u = x.0 as usize;
     let mut i = 0;
@@ -155,10 +133,8 @@ fn keep_beside(table: &[u64], i: usize, rows: &mut [u64], kept: &mut [u64])
 
 // From e back, each ring keeps only the bays beside those kept in the ring after it: the bays on the shortest paths to e.
 fn narrow(table: &[u64], n: usize, rows: &mut [u64], d: usize, e: Bay)
-    requires { ⌜
-        (n ≤ span) × (d < n) × (e .0 < n) × (n * words ≤ length (now table)) × ((d + 1) * words ≤ length (now rows)) × Ended n (now table) (now rows) d (e .0)
-        ⌝ }
-    ensures { λ _. ⌜ ((t : Ended n (now (table .entry)) (now (rows .entry)) d (e .0)) → Narrowed t 1 (now (rows .exit))) ⌝ }
+    requires { ⌜ NarrowAsks n (now table) (now rows) d (e .0) ⌝ }
+    ensures { λ _. ⌜ NarrowSays n (now (table .entry)) (now (rows .entry)) d (e .0) (now (rows .exit)) ⌝ }
 {
     let last = e.0 as usize;
     let mut kept = [0u64; words::WORDS];
@@ -173,15 +149,8 @@ fn narrow(table: &[u64], n: usize, rows: &mut [u64], d: usize, e: Bay)
 
 // The path from x through the kept bays: each next bay is the lowest neighbour in the row one further.
 fn outward(table: &[u64], n: usize, rows: &[u64], d: usize, x: Bay, path: &mut [u16])
-    requires { ⌜
-        (n ≤ span)
-        × (d < n)
-        × (n * words ≤ length (now table))
-        × ((d + 1) * words ≤ length (now rows))
-        × (n ≤ length (now path))
-        × Outside n (now table) (now rows) d (x .0)
-        ⌝ }
-    ensures { λ _. ⌜ ((t : Outside n (now (table .entry)) (now (rows .entry)) d (x .0)) → take (d + 1) (now (path .exit)) ≡ pathOut t) ⌝ }
+    requires { ⌜ OutwardAsks n (now table) (now rows) d (x .0) (now path) ⌝ }
+    ensures { λ _. ⌜ OutwardSays n (now (table .entry)) (now (rows .entry)) d (x .0) (now (path .exit)) ⌝ }
 {
     let mut u = x.0 as usize;
     let mut i = 0;
@@ -203,17 +172,8 @@ fn path_near(
     rows: &mut [u64],
     path: &mut [u16],
 ) -> Near
-    requires { ⌜
-        (n ≤ span)
-        × (u .0 < n)
-        × (v .0 < n)
-        × (n * words ≤ length (now table))
-        × (length (now held) ≡ words)
-        × (words ≤ length (now rows))
-        × (n ≤ length (now path))
-        × Shown n (now table) (now held)
-        ⌝ }
-    ensures { λ r. ⌜ ((s : Shown n (now (table .entry)) (now (held .entry))) → PathNear s (u .0) (v .0) (now (rows .entry)) (now (path .exit)) r) ⌝ }
+    requires { ⌜ PathNearAsks n (now table) (now held) (now rows) (now path) (u .0) (v .0) ⌝ }
+    ensures { λ r. ⌜ PathNearSays n (now (table .entry)) (now (held .entry)) (now (rows .entry)) (u .0) (v .0) (now (path .exit)) r ⌝ }
 {
     let from = u.0 as usize;
     let mut start = [0u64; words::WORDS];
@@ -287,21 +247,8 @@ fn way_near(
     rows: &mut [u64],
     path: &mut [u16],
 ) -> Near
-    requires { ⌜
-        (n ≤ span)
-        × (x .0 < n)
-        × (n * words ≤ length (now table))
-        × (length (now held) ≡ words)
-        × (length (now wanted) ≡ words)
-        × (words ≤ length (now rows))
-        × (n ≤ length (now path))
-        × (mem (now held) (x .0) ≡ false)
-        × Shown n (now table) (now held)
-        ⌝ }
-    ensures { λ r. ⌜
-        ((s : Shown n (now (table .entry)) (now (held .entry))) (q : ℕ → Bool)
-        → ((b : ℕ) → b < n → mem (now (wanted .entry)) b ≡ q b) → WayNear s (x .0) q (now (rows .entry)) (now (path .exit)) r)
-        ⌝ }
+    requires { ⌜ WayNearAsks n (now table) (now held) (now wanted) (now rows) (now path) (x .0) ⌝ }
+    ensures { λ r. ⌜ WayNearSays n (now (table .entry)) (now (held .entry)) (now (wanted .entry)) (now (rows .entry)) (x .0) (now (path .exit)) r ⌝ }
 {
     let d = search(table, n, held, x, wanted, rows);
     let b = choice::in_ring(table, rows, d, wanted);

@@ -4,13 +4,10 @@ use docket::Bay;
 use lookup::Known;
 use rings::Way;
 ghost use mathlib.Core.Path.{_≡_};
-ghost use mathlib.Core.Bool.{Bool, false};
-ghost use Prim.Native.Nat.{ℕ, _*_, _≤_, _<_};
-ghost use lib.ListN.{length};
-ghost use Rattle.words.specs.Sets.{mem, words, span};
-ghost use Rattle.levels.specs.Levels.{Levelled};
-ghost use Rattle.rings.specs.Search.{Shown};
-ghost use Rattle.rings.specs.Ways.{WayFound};
+ghost use mathlib.Core.Bool.{false};
+ghost use Rattle.words.specs.Sets.{mem};
+ghost use Rattle.rings.specs.Ways.{WaySays};
+ghost use Rattle.lookup.specs.Told.{LookupAsks};
 ghost use Rattle.vacate.specs.Answer.{VacateAsks, VacateSays};
 
 // The bay was empty; the bay that was filled, with the count of crossings made; or nothing could be done.
@@ -23,23 +20,8 @@ pub enum Vacated {
 // The shortest path from x to the nearest empty bay, through bays not held. A table with levels is that of a crowded yard: there the way is
 // looked up, and searched for ring by ring only where the levels do not tell it.
 fn way_out(table: &[u64], n: usize, held: &[u64], x: Bay, empty: &[u64], path: &mut [u16]) -> Way
-    requires { ⌜
-        (n ≤ span)
-        × (x .0 < n)
-        × (n * words ≤ length (now table))
-        × (length (now held) ≡ words)
-        × (length (now empty) ≡ words)
-        × (n ≤ length (now path))
-        × (mem (now held) (x .0) ≡ false)
-        × Shown n (now table) (now held)
-        × Levelled n (now table)
-        × (mem (now empty) (x .0) ≡ false)
-        ⌝ }
-    ensures { λ r. ⌜
-        ((s : Shown n (now (table .entry)) (now (held .entry))) (q : ℕ → Bool)
-        → ((b : ℕ) → b < n → mem (now (empty .entry)) b ≡ q b)
-        → WayFound s (x .0) q (now (path .exit)) r)
-        ⌝ }
+    requires { ⌜ LookupAsks n (now table) (now held) (now empty) (now path) (x .0) ⌝ }
+    ensures { λ r. ⌜ WaySays n (now (table .entry)) (now (held .entry)) (now (empty .entry)) (x .0) (now (path .exit)) r ⌝ }
 {
     if table.len() < 2 * n * words::WORDS {
         return ways::way_to_nearest(table, n, held, x, empty, path);

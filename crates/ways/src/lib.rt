@@ -4,14 +4,11 @@ use docket::Bay;
 use rings::Path;
 use rings::Way;
 ghost use mathlib.Core.Path.{_≡_};
-ghost use mathlib.Core.Bool.{false, not};
-ghost use Prim.Native.Nat.{_+_, _*_, _≤_, _<_};
+ghost use Prim.Native.Nat.{_+_, _*_, _≤_};
 ghost use lib.ListN.{length};
-ghost use Rattle.paper.specs.Basics.{_and_};
-ghost use Rattle.words.specs.Sets.{mem, words, span};
-ghost use Rattle.rings.specs.Search.{Shown};
+ghost use Rattle.words.specs.Sets.{words};
 ghost use Rattle.rings.specs.Ways.{PathAsks, PathSays, WayAsks, WaySays};
-ghost use Rattle.ways.specs.Few.{few};
+ghost use Rattle.ways.specs.Few.{few, byQueue, ByQueueAsks, PathByQueueAsks};
 
 // Whether fewer than four rails lead to the bay: then a queue is faster than rings.
 fn few_rails(table: &[u64], a: usize) -> bool
@@ -86,17 +83,7 @@ pub fn way_to_nearest(
 
 // The shortest path from u to v, neither of them held, by a queue.
 fn path_by_queue(table: &[u64], n: usize, held: &[u64], u: Bay, v: Bay, path: &mut [u16]) -> Path
-    requires { ⌜
-        (n ≤ span)
-        × (u .0 < n)
-        × (v .0 < n)
-        × (n * words ≤ length (now table))
-        × (length (now held) ≡ words)
-        × (n ≤ length (now path))
-        × (mem (now held) (u .0) ≡ false)
-        × (mem (now held) (v .0) ≡ false)
-        × Shown n (now table) (now held)
-        ⌝ }
+    requires { ⌜ PathByQueueAsks n (now table) (now held) (now path) (u .0) (v .0) ⌝ }
     ensures { λ r. ⌜ PathSays n (now (table .entry)) (now (held .entry)) (u .0) (v .0) (now (path .exit)) r ⌝ }
 {
     let mut goal = [0u64; words::WORDS];
@@ -109,10 +96,8 @@ fn path_by_queue(table: &[u64], n: usize, held: &[u64], u: Bay, v: Bay, path: &m
 
 // Whether a queue serves from u to v: few rails lead to both, and neither is held.
 fn by_queue(table: &[u64], held: &[u64], u: usize, v: usize) -> bool
-    requires { ⌜ (u * words + words ≤ length (now table)) × (v * words + words ≤ length (now table)) × (length (now held) ≡ words) × (u < span) × (v < span) ⌝ }
-    ensures { λ r. ⌜
-        r ≡ (few (now (table .entry)) u and few (now (table .entry)) v) and (not (mem (now (held .entry)) u) and not (mem (now (held .entry)) v))
-        ⌝ }
+    requires { ⌜ ByQueueAsks (now table) (now held) u v ⌝ }
+    ensures { λ r. ⌜ r ≡ byQueue (now (table .entry)) (now (held .entry)) u v ⌝ }
 {
     if !few_rails(table, u) {
         return false;

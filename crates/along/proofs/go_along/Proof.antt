@@ -27,15 +27,17 @@ path-past-requires c κs =
     let turn = start .pre .1 .0 in
     let goal = start .pre .1 .1 .0 in
     let r = start .args .to .carrier .0 in (
-      (
-        ready .most,
-        ready .placed .inside r (turn .carrier-there),
-        rw (goal .own) at (goal .each .inside r (omega (arith, turn .carrier-there, goal .each .many))),
-        omega (arith, ready .table-size),
-        turn .below .size,
-        omega (arith, ready .most, start .pre .1 .1 .1),
-        settledShown (ready .tabled) r _ (turn .below),
-      ),
+      record {
+        lent = record {
+          most = ready .most;
+          table-size = omega (arith, ready .table-size);
+          held-size = turn .below .size;
+          shown = settledShown (ready .tabled) r _ (turn .below);
+        };
+        start-inside = ready .placed .inside r (turn .carrier-there);
+        goal-inside = rw (goal .own) at (goal .each .inside r (omega (arith, turn .carrier-there, goal .each .many)));
+        room = omega (arith, ready .most, start .pre .1 .1 .1);
+      },
       turn .kind,
     )
 

@@ -24,7 +24,8 @@ slice-aggregate-common c = search needs
 common-requires : tie.Need-common-requires
 common-requires c κs =
     let start = c .before .before .before .before .before .before .before .before .before .before in
-    let p = start .pre in (p .0, search needs, λ b h i. p .3 b h (and-left _ _ i))
+    let p = start .pre in
+    (p .row, search needs, λ b h i. p .rowed b h (and-left _ _ i))
 
 returns : tie.Need-returns
 returns c = taken-unheld _ _ _ _ (c .before .before .before .before .before .before .keep .ensures) (c .before .before .before .minus .ensures) (c .common .ensures)

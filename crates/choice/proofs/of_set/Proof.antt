@@ -21,7 +21,15 @@ returns-2 : tie.Need-returns-2
 returns-2 c = best-taken _ _ _ _ (best-first _ _ _ _ (c .before .before .if1 .left) (c .before .before .before .next-from .ensures) (c .before .next-from2 .ensures)) (c .if2 .taken)
 
 of-several-requires : tie.Need-of-several-requires
-of-several-requires c κs = let p = c .before .before .before .before .before .before .pre in (p .0, c .before .before .if1 .left, p .1, c .before .before .before .next-from .ensures, c .before .next-from2 .ensures)
+of-several-requires c κs =
+    let p = c .before .before .before .before .before .before .pre in
+    record {
+      set-size = p .0;
+      rowed = p .1;
+      there = c .before .before .if1 .left;
+      lowest = c .before .before .before .next-from .ensures;
+      next = c .before .next-from2 .ensures;
+    }
 
 returns-3 : tie.Need-returns-3
 returns-3 c = c .of-several .ensures

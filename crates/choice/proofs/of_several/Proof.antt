@@ -18,13 +18,13 @@ abbrev μ-loop : tie.MeasureT-loop
 μ-loop table set first second best₀ fewest₀ x₀ best fewest x = span - x
 
 count-rails-requires : tie.Need-count-rails-requires Inv-loop μ-loop
-count-rails-requires c κs = let p = c .before .before .pre in p .2 _ (p .1) (p .3 .hit (p .1))
+count-rails-requires c κs = let p = c .before .before .pre in p .rowed _ (p .there) (p .lowest .hit (p .there))
 
 loop-holds : tie.Need-loop-holds Inv-loop μ-loop
-loop-holds c = let p = c .before .before .before .pre in (c .count-rails .ensures, best-first _ _ _ _ (p .1) (p .3) (p .4))
+loop-holds c = let p = c .before .before .before .pre in (c .count-rails .ensures, best-first _ _ _ _ (p .there) (p .lowest) (p .next))
 
 count-rails-requires-2 : tie.Need-count-rails-requires-2 Inv-loop μ-loop
-count-rails-requires-2 c κs = c .before .before .before .before .before .pre .2 _ (omega arith) (c .before .loop .inv .1 .next (omega arith))
+count-rails-requires-2 c κs = c .before .before .before .before .before .pre .rowed _ (omega arith) (c .before .loop .inv .1 .next (omega arith))
 
 add-next-from : tie.Need-add-next-from Inv-loop μ-loop
 add-next-from c = search needs

@@ -28,7 +28,10 @@ cast-u c = search needs
 loop-holds : tie.Need-loop-holds Inv-loop μ-loop
 loop-holds c =
     let start = c .before .before .before .before .before in
-    let a = start .args in let p = start .pre in let first : (t : Distant (a .n) (a .table .now) (a .held .now) (a .x .0) (a .e .0) (a .d)) → Leading t 0 (a .x .0) (a .path .now) = λ t. leading-first t _ (p .6) in (omega (arith, p .1), refl, leading-inside (p .7) (p .0) 0 _ _ (first (p .7)), first)
+    let a = start .args in
+    let p = start .pre in
+    let first : (t : Distant (a .n) (a .table .now) (a .held .now) (a .x .0) (a .e .0) (a .d)) → Leading t 0 (a .x .0) (a .path .now) = λ t. leading-first t _ (p .unheld) in
+    (omega (arith, p .apart), refl, leading-inside (p .distant) (p .most) 0 _ _ (first (p .distant)), first)
 
 add-loop : tie.Need-add-loop Inv-loop μ-loop
 add-loop c = search needs
@@ -55,7 +58,9 @@ sub-row-2 c = search needs
 row-inside : (c : tie.In-loop Inv-loop μ-loop) → ((c .before .before .before .before .before .before .before .args .d - 1 - (c .before .loop .i + 1)) * c .before .before .before .before .before .before .before .args .n + c .before .before .before .before .before .before .before .args .e .0) * words + words ≤ length (c .before .before .before .before .before .before .before .args .table .now)
 row-inside c =
     let start = c .before .before .before .before .before .before .before in
-    let a = start .args in let p = start .pre in row-fits (a .d) (a .n) (a .d - 1 - (c .before .loop .i + 1)) (a .e .0) (p .3) (omega arith) (p .7 .home)
+    let a = start .args in
+    let p = start .pre in
+    row-fits (a .d) (a .n) (a .d - 1 - (c .before .loop .i + 1)) (a .e .0) (p .levels-size) (omega arith) (p .distant .home)
 
 mul-row : tie.Need-mul-row Inv-loop μ-loop
 mul-row c = let k = row-inside c in search needs
@@ -84,13 +89,17 @@ part-lowest-free-end c = let k = row-inside c in search needs
 lowest-free-requires : tie.Need-lowest-free-requires Inv-loop μ-loop
 lowest-free-requires c κs =
     let start = c .before .before .before .before .before .before .before .before in
-    let a = start .args in let p = start .pre in let l = c .before .before .loop in let j = row-fits (a .d) (a .n) 0 (l .u) (p .3) (omega arith) (l .inv .2) in let k = lent-length (a .table .now) ((a .d - 1 - (l .i + 1)) * a .n + a .e .0) (row-inside (c .before)) in search needs
+    let a = start .args in
+    let l = c .before .before .loop in
+    let j = row-fits (a .d) (a .n) 0 (l .u) (start .pre .levels-size) (omega arith) (l .inv .2) in
+    let k = lent-length (a .table .now) ((a .d - 1 - (l .i + 1)) * a .n + a .e .0) (row-inside (c .before)) in
+    search needs
 
 same-length : tie.Need-same-length Inv-loop μ-loop
 same-length c = search needs
 
 returns : tie.Need-returns Inv-loop μ-loop
-returns c = λ t k. not-both k refl
+returns c = record { leads = λ t k. not-both k refl }
 
 loop-less : tie.Need-loop-less Inv-loop μ-loop
 loop-less c = search needs
@@ -98,7 +107,11 @@ loop-less c = search needs
 loop-again : tie.Need-loop-again Inv-loop μ-loop
 loop-again c =
     let start = c .before .before .before .before .before .before .before .before .before .before in
-    let a = start .args in let p = start .pre in let l = c .before .before .before .before .loop in let on : (t : Distant (a .n) (a .table .now) (a .held .now) (a .x .0) (a .e .0) (a .d)) → Leading t (l .i + 1) (c .before .lowest-free .result) (set (l .path) (l .i) (l .u)) = λ t. leading-more t (p .0) (l .i) (l .u) (l .path) (l .inv .3 t) _ (p .3) (c .before .before .before .loop-test .taken) (omega arith) (c .before .lowest-free .ensures) (c .if1 .left) in (omega arith, simp length-set (omega arith), leading-inside (p .7) (p .0) (l .i + 1) _ _ (on (p .7)), on)
+    let a = start .args in
+    let p = start .pre in
+    let l = c .before .before .before .before .loop in
+    let on : (t : Distant (a .n) (a .table .now) (a .held .now) (a .x .0) (a .e .0) (a .d)) → Leading t (l .i + 1) (c .before .lowest-free .result) (set (l .path) (l .i) (l .u)) = λ t. leading-more t (p .most) (l .i) (l .u) (l .path) (l .inv .3 t) _ (p .levels-size) (c .before .before .before .loop-test .taken) (omega arith) (c .before .lowest-free .ensures) (c .if1 .left) in
+    (omega arith, simp length-set (omega arith), leading-inside (p .distant) (p .most) (l .i + 1) _ _ (on (p .distant)), on)
 
 cast-path-2 : tie.Need-cast-path-2 Inv-loop μ-loop
 cast-path-2 c = search needs
@@ -122,7 +135,10 @@ same-length-2 : tie.Need-same-length-2 Inv-loop μ-loop
 same-length-2 c = search needs
 
 returns-2 : tie.Need-returns-2 Inv-loop μ-loop
-returns-2 c = let p = c .before .before .before .before .before .before .before .pre in let l = c .before .loop in λ t k. leading-all t (p .0) (l .i) (l .u) (l .path) (l .inv .3 t) (omega arith) (omega arith)
+returns-2 c =
+    let p = c .before .before .before .before .before .before .before .pre in
+    let l = c .before .loop in
+    record { leads = λ t k. leading-all t (p .most) (l .i) (l .u) (l .path) (l .inv .3 t) (omega arith) (omega arith) }
 
 pub lead-spec : {M : Type 1} → statement M
 lead-spec =

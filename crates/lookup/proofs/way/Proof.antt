@@ -29,7 +29,8 @@ first-level-requires c κs = search needs
 add-if1 : tie.Need-add-if1
 add-if1 c =
     let start = c .before .before .before .before .before .before .before .before .before .before .before .before in
-    let p = start .pre in let k = levels-few (c .first-level .result) (start .args .n) (omega (arith, p .1)) (c .first-level .ensures .fits) in search needs
+    let k = levels-few (c .first-level .result) (start .args .n) (omega (arith, start .pre .way .inside)) (c .first-level .ensures .fits) in
+    search needs
 
 mul-if1 : tie.Need-mul-if1
 mul-if1 c = search needs
@@ -38,7 +39,7 @@ mul-if1-2 : tie.Need-mul-if1-2
 mul-if1-2 c = search needs
 
 returns : tie.Need-returns
-returns c = λ s q w. untold s
+returns c = record { tells = λ s q w. untold s }
 
 mul-common : tie.Need-mul-common
 mul-common c = search needs
@@ -56,7 +57,8 @@ common-requires : tie.Need-common-requires
 common-requires c κs =
     let start = c .before .before .before .before .before .before .before .before .before .before .before .before .before .before .before in
     let p = start .pre in
-    (search needs, search needs, level-rowed (p .7) (p .0) (p .8) _ (p .1) _ _ (c .before .before .if1 .left) (p .2))
+    let lent = p .way .lent in
+    (search needs, search needs, level-rowed (lent .shown) (lent .most) (p .levelled) _ (p .way .inside) _ _ (c .before .before .if1 .left) (lent .table-size))
 
 cast-t24 : tie.Need-cast-t24
 cast-t24 c = search needs
@@ -65,7 +67,8 @@ add-lead : tie.Need-add-lead
 add-lead c =
     let first-level = c .before .before .before .before .first-level in
     let start = c .before .before .before .before .before .before .before .before .before .before .before .before .before .before .before .before in
-    let p = start .pre in let k = levels-few (first-level .result) (start .args .n) (omega (arith, p .1)) (first-level .ensures .fits) in search needs
+    let k = levels-few (first-level .result) (start .args .n) (omega (arith, start .pre .way .inside)) (first-level .ensures .fits) in
+    search needs
 
 lead-requires : tie.Need-lead-requires
 lead-requires c κs =
@@ -73,7 +76,19 @@ lead-requires c κs =
     let minus = c .before .before .before .before .before .before .before .before .minus in
     let keep = c .before .before .before .before .before .before .before .before .before .before .before .keep in
     let start = c .before .before .before .before .before .before .before .before .before .before .before .before .before .before .before .before .before in
-    let p = start .pre in let g = looked (p .0) (p .8) (p .1) (p .9) (keep .ensures) (minus .ensures) (c .before .before .before .before .before .first-level .ensures) (if1 .left) (c .before .common .ensures) in (p .0, omega arith, end-short (p .7) g, if1 .left, p .3, p .5, p .6, distant (p .7) g)
+    let p = start .pre in
+    let lent = p .way .lent in
+    let g = looked (lent .most) (p .levelled) (p .way .inside) (p .unwanted) (keep .ensures) (minus .ensures) (c .before .before .before .before .before .first-level .ensures) (if1 .left) (c .before .common .ensures) in
+    record {
+      most = lent .most;
+      apart = omega arith;
+      short = end-short (lent .shown) g;
+      levels-size = if1 .left;
+      held-size = lent .held-size;
+      unheld = p .way .unheld;
+      room = p .way .room;
+      distant = distant (lent .shown) g;
+    }
 
 add-t28 : tie.Need-add-t28
 add-t28 c =
@@ -82,7 +97,10 @@ add-t28 c =
     let minus = c .before .before .before .before .before .before .before .before .before .before .before .before .minus in
     let keep = c .before .before .before .before .before .before .before .before .before .before .before .before .before .before .before .keep in
     let start = c .before .before .before .before .before .before .before .before .before .before .before .before .before .before .before .before .before .before .before .before .before in
-    let p = start .pre in let g = looked (p .0) (p .8) (p .1) (p .9) (keep .ensures) (minus .ensures) (first-level .ensures) (if1 .left) (c .before .before .before .before .before .common .ensures) in let k = end-short (p .7) g in search needs
+    let p = start .pre in
+    let g = looked (p .way .lent .most) (p .levelled) (p .way .inside) (p .unwanted) (keep .ensures) (minus .ensures) (first-level .ensures) (if1 .left) (c .before .before .before .before .before .common .ensures) in
+    let k = end-short (p .way .lent .shown) g in
+    search needs
 
 same-length : tie.Need-same-length
 same-length c = search needs
@@ -94,13 +112,15 @@ returns-2 c =
     let minus = c .before .before .before .before .before .before .before .before .before .before .before .before .minus in
     let keep = c .before .before .before .before .before .before .before .before .before .before .before .before .before .before .before .keep in
     let start = c .before .before .before .before .before .before .before .before .before .before .before .before .before .before .before .before .before .before .before .before .before in
-    let p = start .pre in let g = looked (p .0) (p .8) (p .1) (p .9) (keep .ensures) (minus .ensures) (first-level .ensures) (if1 .left) (c .before .before .before .before .before .common .ensures) in λ s q w. way-told s g _ (c .before .before .before .lead .ensures (distant s g) (c .if2 .taken)) q w _ refl
+    let p = start .pre in
+    let g = looked (p .way .lent .most) (p .levelled) (p .way .inside) (p .unwanted) (keep .ensures) (minus .ensures) (first-level .ensures) (if1 .left) (c .before .before .before .before .before .common .ensures) in
+    record { tells = λ s q w. way-told s g _ (c .before .before .before .lead .ensures .leads (distant s g) (c .if2 .taken)) q w _ refl }
 
 same-length-2 : tie.Need-same-length-2
 same-length-2 c = search needs
 
 returns-3 : tie.Need-returns-3
-returns-3 c = λ s q w. untold s
+returns-3 c = record { tells = λ s q w. untold s }
 
 pub way-spec : {M : Type 1} → statement M
 way-spec =

@@ -44,16 +44,16 @@ mul-met : tie.Need-mul-met Inv-loop μ-loop
 mul-met c = search needs
 
 slice-write-met : tie.Need-slice-write-met Inv-loop μ-loop
-slice-write-met c = let l = c .before .loop in let h = filling-room (l .inv .2) (omega arith) (c .before .before .pre .2) in omega arith
+slice-write-met c = let l = c .before .loop in let h = filling-room (l .inv .2) (omega arith) (c .before .before .pre .room) in omega arith
 
 add-c : tie.Need-add-c Inv-loop μ-loop
-add-c c = let l = c .before .loop in let h = filling-room (l .inv .2) (omega arith) (c .before .before .pre .2) in omega arith
+add-c c = let l = c .before .loop in let h = filling-room (l .inv .2) (omega arith) (c .before .before .pre .room) in omega arith
 
 loop-less : tie.Need-loop-less Inv-loop μ-loop
 loop-less c = let l = c .before .loop in filling-less (l .inv .2) (omega arith)
 
 loop-again : tie.Need-loop-again Inv-loop μ-loop
-loop-again c = let l = c .before .loop in let h = filling-room (l .inv .2) (omega arith) (c .before .before .pre .2) in (simp length-set (omega arith), simp length-set (omega arith), filling-more (l .inv .2) (omega arith) (omega arith) (omega arith) (omega arith))
+loop-again c = let l = c .before .loop in let h = filling-room (l .inv .2) (omega arith) (c .before .before .pre .room) in (simp length-set (omega arith), simp length-set (omega arith), filling-more (l .inv .2) (omega arith) (omega arith) (omega arith) (omega arith))
 
 same-length : tie.Need-same-length Inv-loop μ-loop
 same-length c = search needs

@@ -25,7 +25,10 @@ meet-word-requires c κs =
     let start = c .before .before .before .before .before .before .before .before .before in
     let p = start .pre in
     let l = c .before .before .before .before .loop in
-    (omega arith, p .0, l .inv .1, l .inv .3, rw (l .inv .2) (meeting-room _ _ (l .inv .4) (omega arith) (p .3)))
+    record {
+      word-there = omega arith;
+      asks = record { row = p .row; seen-size = l .inv .1; before-size = l .inv .3; room = rw (l .inv .2) (meeting-room _ _ (l .inv .4) (omega arith) (p .room)) };
+    }
 
 add-i : tie.Need-add-i Inv-loop μ-loop
 add-i c = search needs

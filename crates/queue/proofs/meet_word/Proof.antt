@@ -44,7 +44,11 @@ enqueue-requires c κs =
     let start = c .before .before .before .before .before .before .before .before .before .before in
     let p = start .pre in
     let a = start .args in
-    (p .0, omega arith, rw (word-new (a .table .now) (a .seen .now) (a .a) (a .i) (c .before .before .before .before .slice-known4 .given _ .fits)) (p .4))
+    record {
+      word-there = p .word-there;
+      before-size = p .asks .before-size;
+      room = rw (word-new (a .table .now) (a .seen .now) (a .a) (a .i) (c .before .before .before .before .slice-known4 .given _ .fits)) (p .asks .room);
+    }
 
 same-length : tie.Need-same-length
 same-length c = search needs

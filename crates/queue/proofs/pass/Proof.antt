@@ -19,7 +19,7 @@ abbrev μ-loop : tie.MeasureT-loop
 μ-loop table n start count seen₀ met₀ before₀ done₀ c₀ seen met before done c = count - done
 
 loop-holds : tie.Need-loop-holds Inv-loop μ-loop
-loop-holds c = let p = c .before .before .before .before .pre in (omega arith, p .4, refl, p .6, λ held x m. passed-first (p .3) m)
+loop-holds c = let p = c .before .before .before .before .pre in (omega arith, p .seen-size, refl, p .before-size, λ held x m. passed-first (p .few) m)
 
 mul-meet : tie.Need-mul-meet Inv-loop μ-loop
 mul-meet c = search needs
@@ -28,17 +28,22 @@ slice-read-meet : tie.Need-slice-read-meet Inv-loop μ-loop
 slice-read-meet c =
     let p = c .before .before .before .before .before .before .before .pre in
     let l = c .before .before .loop in
-    let g = l .inv .4 (p .7 .0) (p .7 .1) (p .7 .2) in
-    omega (arith, l .inv .2, p .5, g .more, g .most)
+    let g = l .inv .4 (p .standing .0) (p .standing .1) (p .standing .2) in
+    omega (arith, l .inv .2, p .room, g .more, g .most)
 
 meet-requires : tie.Need-meet-requires Inv-loop μ-loop
 meet-requires c κs =
     let start = c .before .before .before .before .before .before .before .before .before .before in
     let p = start .pre in
     let l = c .before .before .before .before .before .loop in
-    let g = l .inv .4 (p .7 .0) (p .7 .1) (p .7 .2) in
-    let room : start .args .n ≤ length (l .met) = omega (arith, l .inv .2, p .5) in
-    (omega (arith, passed-inside g (p .0) room (omega (arith, g .more))), l .inv .1, l .inv .3, omega (arith, room, passed-room g (p .0) room (omega (arith, g .more))))
+    let g = l .inv .4 (p .standing .0) (p .standing .1) (p .standing .2) in
+    let room : start .args .n ≤ length (l .met) = omega (arith, l .inv .2, p .room) in
+    record {
+      row = omega (arith, p .table-size, passed-inside g (p .most) room (omega (arith, g .more)));
+      seen-size = l .inv .1;
+      before-size = l .inv .3;
+      room = omega (arith, room, passed-room g (p .most) room (omega (arith, g .more)));
+    }
 
 add-done : tie.Need-add-done Inv-loop μ-loop
 add-done c = search needs
@@ -57,7 +62,7 @@ loop-again c =
       search needs,
       λ held x m.
           let g = l .inv .4 held x m in
-          passed-more g (p .0) (omega (arith, l .inv .2, p .5)) (omega (arith, g .more)) _ _ _ _ (c .before .before .before .before .before .before .meet .ensures),
+          passed-more g (p .most) (omega (arith, l .inv .2, p .room)) (omega (arith, g .more)) _ _ _ _ (c .before .before .before .before .before .before .meet .ensures),
     )
 
 same-length : tie.Need-same-length Inv-loop μ-loop
@@ -73,7 +78,7 @@ returns : tie.Need-returns Inv-loop μ-loop
 returns c =
     let l = c .before .loop in
     let e : l .done ≡ c .before .before .before .before .before .before .args .count = omega arith in
-    λ held x m. rw e at (l .inv .4 held x m)
+    record { passes = λ held x m. rw e at (l .inv .4 held x m) }
 
 pub pass-spec : {M : Type 1} → statement M
 pass-spec =

@@ -22,7 +22,8 @@ cast-u c = search needs
 loop-holds : tie.Need-loop-holds Inv-loop μ-loop
 loop-holds c =
     let start = c .before .before .before .before in
-    let t = start .pre .5 in (omega arith, refl, walked-inside t 0 _ _ (walked-none t (start .args .path .now)), λ t. walked-none t _)
+    let t = start .pre .inside in
+    (omega arith, refl, walked-inside t 0 _ _ (walked-none t (start .args .path .now)), λ t. walked-none t _)
 
 cast-path : tie.Need-cast-path Inv-loop μ-loop
 cast-path c = search needs
@@ -46,12 +47,16 @@ add-i : tie.Need-add-i Inv-loop μ-loop
 add-i c = search needs
 
 loop-less : tie.Need-loop-less Inv-loop μ-loop
-loop-less c = search needs
+loop-less c = omega (arith, c .before .loop-test .taken)
 
 loop-again : tie.Need-loop-again Inv-loop μ-loop
 loop-again c =
     let start = c .before .before .before .before .before .before .before in
-    let a = start .args in let p = start .pre in let l = c .before .before .loop in let on : (t : Inside (a .n) (a .table .now) (a .rows .now) (a .d) (a .x .0)) → Walked t (l .i + 1) (c .lowest-common .result) (set (l .path) (l .i) (l .u)) = λ t. walked-more t (l .i) (l .u) (c .lowest-common .result) (l .path) (p .0) (c .before .loop-test .taken) (omega arith) (l .inv .3 t) (c .lowest-common .ensures) in (omega arith, simp length-set (omega arith), walked-inside (p .5) _ _ _ (on (p .5)), on)
+    let a = start .args in
+    let p = start .pre in
+    let l = c .before .before .loop in
+    let on : (t : Inside (a .n) (a .table .now) (a .rows .now) (a .d) (a .x .0)) → Walked t (l .i + 1) (c .lowest-common .result) (set (l .path) (l .i) (l .u)) = λ t. walked-more t (l .i) (l .u) (c .lowest-common .result) (l .path) (p .lent .most) (c .before .loop-test .taken) (omega arith) (l .inv .3 t) (c .lowest-common .ensures) in
+    (omega arith, simp length-set (omega arith), walked-inside (p .inside) _ _ _ (on (p .inside)), on)
 
 cast-path-2 : tie.Need-cast-path-2 Inv-loop μ-loop
 cast-path-2 c = search needs
@@ -66,7 +71,7 @@ same-length : tie.Need-same-length Inv-loop μ-loop
 same-length c = search needs
 
 returns : tie.Need-returns Inv-loop μ-loop
-returns c = λ t. walked-all t _ _ _ (omega arith) (omega arith) (c .before .loop .inv .3 t)
+returns c = record { path = λ t. walked-all t _ _ _ (omega arith) (omega arith) (c .before .loop .inv .3 t) }
 
 pub inward-spec : {M : Type 1} → statement M
 inward-spec =

@@ -1,5 +1,7 @@
 -- `rings::keep_beside` meets its contract. What stands beside the kept bays is met with row i, and becomes both the kept ones and row i.
 -- Assumes nothing.
+use mathlib.Core.Path.{sym, _∙_}
+use native.Mathlib.Omega.{arith}
 use borrow.Author.Needs.{needs}
 use Rattle.rings.proofs.Narrowing.{kept-beside}
 use Rattle.rings.proofs.keep_beside.Statement.{statement}
@@ -15,22 +17,24 @@ slice-aggregate-meet-row : tie.Need-slice-aggregate-meet-row
 slice-aggregate-meet-row c = search needs
 
 meet-row-requires : tie.Need-meet-row-requires
-meet-row-requires c κs = search needs
+meet-row-requires c κs = (c .before .before .before .beside .kept .1 .1 .0, c .before .before .before .before .before .before .before .before .before .pre .1)
 
 slice-aggregate-keep : tie.Need-slice-aggregate-keep
-slice-aggregate-keep c = search needs
+slice-aggregate-keep c = sym (c .before .before .before .meet-row .kept .0 ∙ c .before .before .before .before .before .before .before .beside .kept .1 .1 .0)
 
 keep-requires : tie.Need-keep-requires
-keep-requires c κs = search needs
+keep-requires c κs = (c .before .before .before .meet-row .kept .0 ∙ c .before .before .before .before .before .before .before .beside .kept .1 .1 .0, omega (arith, c .before .before .before .before .before .before .before .before .before .before .before .before .before .pre .0))
 
 keep-requires-2 : tie.Need-keep-requires-2
-keep-requires-2 c κs = search needs
+keep-requires-2 c κs =
+    let p = c .before .before .before .before .before .before .before .before .before .before .before .before .before .before .before .before .before .before .pre in
+    (c .before .before .before .before .keep .kept .0 ∙ p .0, p .1)
 
 same-length : tie.Need-same-length
-same-length c = search needs
+same-length c = c .before .before .keep2 .kept .0
 
 same-length-2 : tie.Need-same-length-2
-same-length-2 c = search needs
+same-length-2 c = c .before .before .before .before .before .before .before .keep .kept .0
 
 returns : tie.Need-returns
 returns c =

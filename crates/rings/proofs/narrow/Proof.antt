@@ -1,6 +1,6 @@
 -- `rings::narrow` meets its contract. The rows from i on hold the bays on shortest paths to e, and the rows below i are still the rings.
 -- Assumes nothing.
-use mathlib.Core.Path.{_≡_, refl}
+use mathlib.Core.Path.{_≡_, refl, sym, _∙_}
 use Prim.Native.Nat.{suc, _-_, _≤_}
 use native.Mathlib.Omega.{arith}
 use lib.ListN.{length}
@@ -39,28 +39,33 @@ sub-i : tie.Need-sub-i Inv-loop μ-loop
 sub-i c = search needs
 
 slice-aggregate-keep-beside : tie.Need-slice-aggregate-keep-beside Inv-loop μ-loop
-slice-aggregate-keep-beside c = search needs
+slice-aggregate-keep-beside c = sym (c .before .before .before .loop .inv .2)
 
 keep-beside-requires : tie.Need-keep-beside-requires Inv-loop μ-loop
 keep-beside-requires c κs =
     let start = c .before .before .before .before .before .before .before .before .before .before .before .before .before .before .before in
-    let p = start .pre in let t = ended-kept (p .5) (c .before .before .before .before .before .before .keep .ensures) in (omega arith, omega arith, λ a h m. let l = narrowing-inside t (p .0) _ _ _ (c .before .before .before .loop .inv .3 t) a h m in omega (arith, l, p .3))
+    let p = start .pre in
+    let t = ended-kept (p .ended) (c .before .before .before .before .before .before .keep .ensures) in
+    let inv = c .before .before .before .loop .inv in
+    (inv .2, omega (arith, inv .0, inv .1, c .before .before .before .before .before .before .keep .kept .0, p .lent .rows-size), λ a h m. let l = narrowing-inside t (p .lent .most) _ _ _ (inv .3 t) a h m in omega (arith, l, p .lent .table-size))
 
 loop-less : tie.Need-loop-less Inv-loop μ-loop
-loop-less c = search needs
+loop-less c = omega (arith, c .before .before .before .before .before .before .loop-test .taken)
 
 loop-again : tie.Need-loop-again Inv-loop μ-loop
 loop-again c =
     let start = c .before .before .before .before .before .before .before .before .before .before .before .before .before .before .before .before .before .before .before in
-    let l = c .before .before .before .before .before .before .before .loop in (omega arith, omega arith, omega arith, λ t. let e : l .i ≡ suc (l .i - 1) = omega arith in narrowing-more t (start .pre .0) _ _ _ _ _ (omega arith) (rw e at (l .inv .3 t)) (c .before .before .before .keep-beside .ensures))
+    let l = c .before .before .before .before .before .before .before .loop in
+    let kept = c .before .before .before .keep-beside .kept in
+    (omega (arith, l .inv .0), kept .1 .1 .0 ∙ l .inv .1, kept .1 .1 .1 .0 ∙ l .inv .2, λ t. let e : l .i ≡ suc (l .i - 1) = omega arith in narrowing-more t (start .pre .lent .most) _ _ _ _ _ (omega arith) (rw e at (l .inv .3 t)) (c .before .before .before .keep-beside .ensures))
 
 same-length : tie.Need-same-length Inv-loop μ-loop
-same-length c = search needs
+same-length c = c .before .loop .inv .1 ∙ c .before .before .before .before .keep .kept .0
 
 returns : tie.Need-returns Inv-loop μ-loop
 returns c =
     let keep = c .before .before .before .before .keep in
-    λ t. narrowing-all t (keep .ensures) _ _ _ (omega arith) (c .before .loop .inv .3 (ended-kept t (keep .ensures)))
+    record { narrowed = λ t. narrowing-all t (keep .ensures) _ _ _ (omega arith) (c .before .loop .inv .3 (ended-kept t (keep .ensures))) }
 
 pub narrow-spec : {M : Type 1} → statement M
 narrow-spec =

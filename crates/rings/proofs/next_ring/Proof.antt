@@ -1,5 +1,6 @@
 -- `rings::next_ring` meets its contract. What is beside the ring and was not seen is the next ring; it is kept as the next row.
 -- Assumes nothing.
+use mathlib.Core.Path.{_∙_}
 use native.Mathlib.Omega.{arith}
 use borrow.Author.Needs.{needs}
 use Rattle.rings.proofs.Searching.{ring-kept}
@@ -12,28 +13,32 @@ slice-aggregate-beside c = search needs
 beside-requires : tie.Need-beside-requires
 beside-requires c κs =
     let start = c .before .before .before .before .before .before in
-    (search needs, search needs, λ a h m. let l = start .pre .5 a h m in omega (arith, l, start .pre .0))
+    (search needs, search needs, λ a h m. let l = start .pre .inside a h m in omega (arith, l, start .pre .table-size))
 
 slice-aggregate-settle : tie.Need-slice-aggregate-settle
 slice-aggregate-settle c = search needs
 
 settle-requires : tie.Need-settle-requires
-settle-requires c κs = search needs
+settle-requires c κs =
+    let p = c .before .before .before .before .before .before .before .before .before .before .before .pre in
+    (c .before .before .before .before .beside .kept .1 .1 .0, p .seen-size, p .ring-size)
 
 add-keep : tie.Need-add-keep
 add-keep c = search needs
 
 keep-requires : tie.Need-keep-requires
-keep-requires c κs = search needs
+keep-requires c κs =
+    let p = c .before .before .before .before .before .before .before .before .before .before .before .before .before .before .before .before .before .before .pre in
+    (c .before .before .before .before .before .before .settle .kept .1 .1 .0 ∙ p .ring-size, omega (arith, p .rows-size))
 
 same-length : tie.Need-same-length
-same-length c = search needs
+same-length c = c .before .before .before .before .before .before .before .before .before .settle .kept .1 .0
 
 same-length-2 : tie.Need-same-length-2
-same-length-2 c = search needs
+same-length-2 c = c .before .before .before .before .before .before .before .before .before .settle .kept .1 .1 .0
 
 same-length-3 : tie.Need-same-length-3
-same-length-3 c = search needs
+same-length-3 c = c .before .before .keep .kept .0
 
 returns : tie.Need-returns
 returns c =

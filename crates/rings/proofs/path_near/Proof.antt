@@ -20,61 +20,89 @@ slice-aggregate-search : tie.Need-slice-aggregate-search
 slice-aggregate-search c = search needs
 
 search-requires : tie.Need-search-requires
-search-requires c κs = search needs
+search-requires c κs =
+    let p = c .before .before .before .before .before .before .before .before .before .before .pre in
+    record { lent = p .asks .lent; inside = p .asks .goal-inside; wanted-size = c .before .before .before .alone .kept .0; first-row = p .first-row }
 
 mul-is-in : tie.Need-mul-is-in
 mul-is-in c =
     let start = c .before .before .before .before .before .before .before .before .before .before .before .before .before .before in
-    let f = c .before .before .before .search .ensures (start .pre .7) .far in omega (arith, f, start .pre .0)
+    let lent = start .pre .asks .lent in
+    omega (arith, c .before .before .before .search .ensures .searched (lent .shown) .far, lent .most)
 
 add-is-in : tie.Need-add-is-in
 add-is-in c =
     let start = c .before .before .before .before .before .before .before .before .before .before .before .before .before .before in
-    let f = c .before .before .before .search .ensures (start .pre .7) .far in omega (arith, f, start .pre .0, start .pre .1)
+    let asks = start .pre .asks in
+    omega (arith, c .before .before .before .search .ensures .searched (asks .lent .shown) .far, asks .lent .most, asks .start-inside)
 
 is-in-requires : tie.Need-is-in-requires
 is-in-requires c κs =
     let start = c .before .before .before .before .before .before .before .before .before .before .before .before .before .before in
-    let f = c .before .before .before .search .ensures (start .pre .7) in omega (arith, f .roomy, start .pre .0, start .pre .1)
+    let asks = start .pre .asks in
+    omega (arith, c .before .before .before .search .ensures .searched (asks .lent .shown) .roomy, asks .lent .most, asks .start-inside)
 
 inward-requires : tie.Need-inward-requires
 inward-requires c κs =
     let alone = c .before .before .before .before .before .before .before .before .before .before .before .alone in
     let start = c .before .before .before .before .before .before .before .before .before .before .before .before .before .before .before .before .before .before in
-    let p = start .pre in let f = c .before .before .before .before .before .before .before .search .ensures (p .7) in (p .0, f .far, p .3, f .roomy, p .6, inside (p .7) (p .0) _ _ (p .2) _ _ _ (alone .ensures) f (p .1) (sym (c .before .before .if1 .taken) ∙ c .before .before .before .is-in .ensures))
+    let asks = start .pre .asks in
+    let lent = asks .lent in
+    let f = c .before .before .before .before .before .before .before .search .ensures .searched (lent .shown) in
+    record {
+      lent = record { most = lent .most; far = f .far; table-size = lent .table-size; rows-size = f .roomy };
+      room = asks .room;
+      inside = inside (lent .shown) (lent .most) _ _ (asks .goal-inside) _ _ _ (alone .ensures) f (asks .start-inside) (sym (c .before .before .if1 .taken) ∙ c .before .before .before .is-in .ensures);
+    }
 
 add-t28 : tie.Need-add-t28
 add-t28 c =
     let search-place = c .before .before .before .before .before .before .before .before .before .before .search in
     let start = c .before .before .before .before .before .before .before .before .before .before .before .before .before .before .before .before .before .before .before .before .before in
-    let f = search-place .ensures (start .pre .7) .far in omega (arith, f, start .pre .0)
+    let lent = start .pre .asks .lent in
+    omega (arith, search-place .ensures .searched (lent .shown) .far, lent .most)
 
 same-length : tie.Need-same-length
-same-length c = search needs
+same-length c = c .before .before .before .before .before .before .before .before .before .before .search .kept .1 .1 .1 .1 .1 .0
 
 same-length-2 : tie.Need-same-length-2
-same-length-2 c = search needs
+same-length-2 c = c .before .before .inward .kept .1 .1 .1 .1 .1 .0
 
 returns : tie.Need-returns
 returns c =
     let search-place = c .before .before .before .before .before .before .before .before .before .before .search in
     let alone = c .before .before .before .before .before .before .before .before .before .before .before .before .before .before .alone in
     let start = c .before .before .before .before .before .before .before .before .before .before .before .before .before .before .before .before .before .before .before .before .before in
-    let p = start .pre in λ s. let f = search-place .ensures s in let w = alone .ensures in let k = sym (c .before .before .before .before .before .if1 .taken) ∙ c .before .before .before .before .before .before .is-in .ensures in path-near s (path-first s (p .0) _ _ (p .2) _ _ _ w f (p .1) k _ (c .before .before .inward .ensures (inside s (p .0) _ _ (p .2) _ _ _ w f (p .1) k)))
+    let asks = start .pre .asks in
+    let most = asks .lent .most in
+    let w = alone .ensures in
+    let k = sym (c .before .before .before .before .before .if1 .taken) ∙ c .before .before .before .before .before .before .is-in .ensures in
+    record {
+      near = λ s.
+          let f = search-place .ensures .searched s in
+          path-near s (path-first s most _ _ (asks .goal-inside) _ _ _ w f (asks .start-inside) k _ (c .before .before .inward .ensures .path (inside s most _ _ (asks .goal-inside) _ _ _ w f (asks .start-inside) k)));
+    }
 
 ended-requires : tie.Need-ended-requires
 ended-requires c κs =
     let start = c .before .before .before .before .before .before .before .before .before .before .before .before .before .before .before .before .before in
-    (start .pre .0, c .before .before .before .before .before .before .search .ensures (start .pre .7) .far)
+    let lent = start .pre .asks .lent in
+    (lent .most, c .before .before .before .before .before .before .search .ensures .searched (lent .shown) .far)
 
 same-length-3 : tie.Need-same-length-3
-same-length-3 c = search needs
+same-length-3 c = c .before .before .before .before .before .before .before .search .kept .1 .1 .1 .1 .1 .0
 
 returns-2 : tie.Need-returns-2
 returns-2 c =
     let alone = c .before .before .before .before .before .before .before .before .before .before .before .alone in
     let start = c .before .before .before .before .before .before .before .before .before .before .before .before .before .before .before .before .before .before in
-    let p = start .pre in λ s. let f = c .before .before .before .before .before .before .before .search .ensures s in path-ended s (c .ended .ensures) (search needs) (path-none s (p .0) _ _ (p .2) _ _ _ (alone .ensures) f (p .1) _ (sym (c .before .before .if1 .left) ∙ c .before .before .before .is-in .ensures))
+    let asks = start .pre .asks in
+    let search-place = c .before .before .before .before .before .before .before .search in
+    record {
+      near = λ s.
+          path-ended s (c .ended .ensures) (search-place .kept .1 .1 .1 .1 .1 .0)
+          (path-none s (asks .lent .most) _ _ (asks .goal-inside) _ _ _ (alone .ensures) (search-place .ensures .searched s) (asks .start-inside) _ (sym (c .before .before .if1 .left) ∙ c .before .before .before .is-in .ensures));
+    }
 
 pub path-near-spec : {M : Type 1} → statement M
 path-near-spec =

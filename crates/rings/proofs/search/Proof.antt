@@ -49,86 +49,97 @@ loop-holds c =
     let join = c .before .before .before .before .before .before .before .before .before .join in
     let keep = c .before .before .before .before .before .before .before .before .before .before .before .before .keep in
     let start = c .before .before .before .before .before .before .before .before .before .before .before .before .before .before .before .before .before .before .before in
-    (refl, omega arith, omega arith, omega arith, omega arith, λ s. searching-first s _ _ _ _ _ _ _ _ (start .pre .1) (keep .ensures) (join .ensures) (c .before .before .before .before .before .before .alone .ensures) (c .before .before .keep2 .ensures))
+    let rows = c .before .before .keep2 .kept .0 in
+    (refl, join .kept .0 ∙ keep .kept .0, c .before .before .before .before .before .before .alone .kept .0, omega (arith, start .pre .inside), omega (arith, start .pre .first-row, rows), λ s. searching-first s _ _ _ _ _ _ _ _ (start .pre .inside) (keep .ensures) (join .ensures) (c .before .before .before .before .before .before .alone .ensures) (c .before .before .keep2 .ensures))
 
 slice-aggregate-meets : tie.Need-slice-aggregate-meets Inv-loop μ-loop
-slice-aggregate-meets c = search needs
+slice-aggregate-meets c = sym (c .before .loop .inv .2)
 
 meets-requires : tie.Need-meets-requires Inv-loop μ-loop
-meets-requires c κs = search needs
+meets-requires c κs = let ring = c .before .loop .inv .2 in
+    (omega (arith, ring), omega (arith, c .before .before .before .before .before .before .before .before .before .before .before .before .before .before .before .before .before .before .before .before .before .pre .wanted-size))
 
 same-length : tie.Need-same-length Inv-loop μ-loop
-same-length c = search needs
+same-length c = c .before .before .before .loop .inv .0 ∙ c .before .before .before .before .before .before .keep2 .kept .0
 
 returns : tie.Need-returns Inv-loop μ-loop
 returns c =
     let loop = c .before .before .before .loop in
-    λ s. searched-wanted s _ _ _ _ _ _ (loop .inv .5 s) (sym (c .before .meets .ensures) ∙ c .if1 .taken) (loop .inv .4)
+    record { searched = λ s. searched-wanted s _ _ _ _ _ _ (loop .inv .5 s) (sym (c .before .meets .ensures) ∙ c .if1 .taken) (loop .inv .4) }
 
 slice-aggregate-is-empty : tie.Need-slice-aggregate-is-empty Inv-loop μ-loop
-slice-aggregate-is-empty c = search needs
+slice-aggregate-is-empty c = sym (c .before .before .before .before .loop .inv .2)
 
 is-empty-requires : tie.Need-is-empty-requires Inv-loop μ-loop
-is-empty-requires c κs = search needs
+is-empty-requires c κs = c .before .before .before .before .loop .inv .2
 
 same-length-2 : tie.Need-same-length-2 Inv-loop μ-loop
-same-length-2 c = search needs
+same-length-2 c = c .before .before .before .before .before .before .loop .inv .0 ∙ c .before .before .before .before .before .before .before .before .before .keep2 .kept .0
 
 returns-2 : tie.Need-returns-2 Inv-loop μ-loop
 returns-2 c =
     let loop = c .before .before .before .before .before .before .loop in
     let start = c .before .before .before .before .before .before .before .before .before .before .before .before .before .before .before .before .before .before .before .before .before .before .before .before .before .before in
-    let p = start .pre in λ s. searched-dry s _ _ _ _ _ _ (p .0) (p .1) (loop .inv .5 s) (sym (c .before .is-empty .ensures) ∙ c .if2 .taken) (loop .inv .4)
+    let p = start .pre in
+    record { searched = λ s. searched-dry s _ _ _ _ _ _ (p .lent .most) (p .inside) (loop .inv .5 s) (sym (c .before .is-empty .ensures) ∙ c .if2 .taken) (loop .inv .4) }
 
 add-if3 : tie.Need-add-if3 Inv-loop μ-loop
-add-if3 c = search needs
+add-if3 c = omega (arith, c .before .before .before .before .before .before .before .before .before .before .before .before .before .before .before .before .before .before .before .before .before .before .before .before .before .before .pre .lent .most, c .before .before .before .before .before .before .loop .inv .3)
 
 same-length-3 : tie.Need-same-length-3 Inv-loop μ-loop
-same-length-3 c = search needs
+same-length-3 c = c .before .before .before .before .before .before .before .loop .inv .0 ∙ c .before .before .before .before .before .before .before .before .before .before .keep2 .kept .0
 
 returns-3 : tie.Need-returns-3 Inv-loop μ-loop
 returns-3 c =
     let loop = c .before .before .before .before .before .before .before .loop in
-    λ s. searched-all s _ _ _ _ _ _ (loop .inv .5 s) (c .if3 .taken) (loop .inv .4)
+    record { searched = λ s. searched-all s _ _ _ _ _ _ (loop .inv .5 s) (c .if3 .taken) (loop .inv .4) }
 
 add-if4 : tie.Need-add-if4 Inv-loop μ-loop
 add-if4 c =
     let start = c .before .before .before .before .before .before .before .before .before .before .before .before .before .before .before .before .before .before .before .before .before .before .before .before .before .before .before in
-    omega (arith, start .pre .0, c .before .before .before .before .before .before .before .loop .inv .3)
+    omega (arith, start .pre .lent .most, c .before .before .before .before .before .before .before .loop .inv .3)
 
 mul-if4 : tie.Need-mul-if4 Inv-loop μ-loop
 mul-if4 c =
     let start = c .before .before .before .before .before .before .before .before .before .before .before .before .before .before .before .before .before .before .before .before .before .before .before .before .before .before .before in
-    omega (arith, start .pre .0, c .before .before .before .before .before .before .before .loop .inv .3)
+    omega (arith, start .pre .lent .most, c .before .before .before .before .before .before .before .loop .inv .3)
 
 same-length-4 : tie.Need-same-length-4 Inv-loop μ-loop
-same-length-4 c = search needs
+same-length-4 c = c .before .before .before .before .before .before .before .before .loop .inv .0 ∙ c .before .before .before .before .before .before .before .before .before .before .before .keep2 .kept .0
 
 returns-4 : tie.Need-returns-4 Inv-loop μ-loop
 returns-4 c =
     let loop = c .before .before .before .before .before .before .before .before .loop in
-    λ s. searched-short s _ _ _ _ _ _ (loop .inv .5 s) (omega (arith, c .before .if3 .left)) (c .if4 .taken) (loop .inv .4)
+    record { searched = λ s. searched-short s _ _ _ _ _ _ (loop .inv .5 s) (omega (arith, c .before .if3 .left)) (c .if4 .taken) (loop .inv .4) }
 
 slice-aggregate-next-ring : tie.Need-slice-aggregate-next-ring Inv-loop μ-loop
-slice-aggregate-next-ring c = search needs
+slice-aggregate-next-ring c = sym (c .before .before .before .before .before .before .before .before .before .loop .inv .1)
 
 slice-aggregate-next-ring-2 : tie.Need-slice-aggregate-next-ring-2 Inv-loop μ-loop
-slice-aggregate-next-ring-2 c = search needs
+slice-aggregate-next-ring-2 c = sym (c .before .before .before .before .before .before .before .before .before .before .loop .inv .2)
 
 next-ring-requires : tie.Need-next-ring-requires Inv-loop μ-loop
 next-ring-requires c κs =
     let loop = c .before .before .before .before .before .before .before .before .before .before .before .loop in
     let start = c .before .before .before .before .before .before .before .before .before .before .before .before .before .before .before .before .before .before .before .before .before .before .before .before .before .before .before .before .before .before .before in
-    let p = start .pre in (search needs, search needs, search needs, omega (arith, c .before .before .before .if4 .left), omega (arith, c .before .before .before .before .if3 .left), searching-inside (p .6) _ _ _ _ _ _ (p .0) (p .1) (loop .inv .5 (p .6)))
+    let p = start .pre in
+    record {
+      table-size = p .lent .table-size;
+      seen-size = loop .inv .1;
+      ring-size = loop .inv .2;
+      rows-size = omega (arith, c .before .before .before .if4 .left);
+      more = omega (arith, c .before .before .before .before .if3 .left);
+      inside = searching-inside (p .lent .shown) _ _ _ _ _ _ (p .lent .most) (p .inside) (loop .inv .5 (p .lent .shown));
+    }
 
 add-d : tie.Need-add-d Inv-loop μ-loop
 add-d c =
     let loop = c .before .before .before .before .before .before .before .before .before .before .before .before .before .before .before .before .loop in
     let start = c .before .before .before .before .before .before .before .before .before .before .before .before .before .before .before .before .before .before .before .before .before .before .before .before .before .before .before .before .before .before .before .before .before .before .before .before in
-    omega (arith, start .pre .0, loop .inv .3)
+    omega (arith, start .pre .lent .most, loop .inv .3)
 
 loop-less : tie.Need-loop-less Inv-loop μ-loop
-loop-less c = search needs
+loop-less c = omega (arith, c .before .before .before .before .before .before .before .before .before .if3 .left)
 
 loop-again : tie.Need-loop-again Inv-loop μ-loop
 loop-again c =
@@ -138,7 +149,9 @@ loop-again c =
     let meets = c .before .before .before .before .before .before .before .before .before .before .before .before .before .before .meets in
     let loop = c .before .before .before .before .before .before .before .before .before .before .before .before .before .before .before .before .loop in
     let start = c .before .before .before .before .before .before .before .before .before .before .before .before .before .before .before .before .before .before .before .before .before .before .before .before .before .before .before .before .before .before .before .before .before .before .before .before in
-    (omega arith, omega arith, omega arith, omega (arith, if3 .left), omega (arith, if4 .left), λ s. searching-more s _ _ _ _ _ _ _ _ _ (start .pre .0) (start .pre .1) (omega arith) (loop .inv .5 s) (sym (meets .ensures) ∙ if1 .left) (c .before .before .before .before .next-ring .ensures))
+    let kept = c .before .before .before .before .next-ring .kept in
+    let rows = kept .1 .1 .1 .1 .1 .0 in
+    (rows ∙ loop .inv .0, kept .1 .1 .1 .0 ∙ loop .inv .1, kept .1 .1 .1 .1 .0 ∙ loop .inv .2, if3 .left, omega (arith, if4 .left, rows), λ s. searching-more s _ _ _ _ _ _ _ _ _ (start .pre .lent .most) (start .pre .inside) (if3 .left) (loop .inv .5 s) (sym (meets .ensures) ∙ if1 .left) (c .before .before .before .before .next-ring .ensures))
 
 pub search-spec : {M : Type 1} → statement M
 search-spec =

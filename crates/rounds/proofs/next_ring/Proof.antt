@@ -38,7 +38,7 @@ same-length-4 c = search needs
 returns : tie.Need-returns
 returns c =
     let keep = c .before .before .before .before .before .before .before .before .before .before .before .before .before .before .before .before .before .before .before .before .before .keep in
-    record { passed = c .before .before .before .before .before .before .before .before .before .before .before .before .before .before .before .before .pass .ensures; ringed = ring-left _ _ _ _ _ _ _ (keep .ensures) (c .before .before .before .before .before .before .before .keep2 .ensures) (c .before .before .minus .ensures) }
+    record { passed = c .before .before .before .before .before .before .before .before .before .before .before .before .before .before .before .before .pass .ensures .passes; ringed = ring-left _ _ _ _ _ _ _ (keep .ensures) (c .before .before .before .before .before .before .before .keep2 .ensures) (c .before .before .minus .ensures) }
 
 pub next-ring-spec : {M : Type 1} → statement M
 next-ring-spec =

@@ -31,13 +31,17 @@ array-share-prefix-path : tie.Need-array-share-prefix-path
 array-share-prefix-path c =
     let path-between = c .before .before .before .before .path-between in
     let start = c .before .before .before .before .before .before .before .before .before in
-    let t = rw (c .before .m .given .1) at (path-between .ensures (start .pre .4)) in let kept : length (path-between .last .1 .1 .1 .1 .1 .0) ≡ span = path-between .kept .1 .1 .1 .1 .1 .0 in omega (arith, t .fits, start .pre .0, kept)
+    let t = rw (c .before .m .given .1) at (path-between .ensures .found (start .pre .4)) in
+    let kept : length (path-between .last .1 .1 .1 .1 .1 .0) ≡ span = path-between .kept .1 .1 .1 .1 .1 .0 in
+    omega (arith, t .fits, start .pre .0, kept)
 
 slice-aggregate-same16 : tie.Need-slice-aggregate-same16
 slice-aggregate-same16 c =
     let path-between = c .before .before .before .before .before .path-between in
     let start = c .before .before .before .before .before .before .before .before .before .before in
-    let t = rw (c .before .before .m .given .1) at (path-between .ensures (start .pre .4)) in let kept : length (path-between .last .1 .1 .1 .1 .1 .0) ≡ span = path-between .kept .1 .1 .1 .1 .1 .0 in sym (length-take-le _ _ (omega (arith, t .fits, start .pre .0, kept)))
+    let t = rw (c .before .before .m .given .1) at (path-between .ensures .found (start .pre .4)) in
+    let kept : length (path-between .last .1 .1 .1 .1 .1 .0) ≡ span = path-between .kept .1 .1 .1 .1 .1 .0 in
+    sym (length-take-le _ _ (omega (arith, t .fits, start .pre .0, kept)))
 
 same16-requires : tie.Need-same16-requires
 same16-requires c κs = search needs

@@ -30,7 +30,12 @@ path-between-requires c κs =
     let start = c .before .before .before .before .before .before .before .before .before in
     let p = start .pre .0 in
     let z = start .pre .1 in
-    (p .most, p .placed .inside (start .args .trial .carrier .0) (z .0), z .3, omega (arith, p .table-size), refl, omega (arith, p .most), freeShown (p .tabled))
+    record {
+      lent = record { most = p .most; table-size = omega (arith, p .table-size); held-size = refl; shown = freeShown (p .tabled) };
+      start-inside = p .placed .inside (start .args .trial .carrier .0) (z .0);
+      goal-inside = z .3;
+      room = omega (arith, p .most);
+    }
 
 enum-known-k : tie.Need-enum-known-k
 enum-known-k c = c .match .keys1
@@ -39,14 +44,14 @@ enum-told : tie.Need-enum-told
 enum-told c = c .match .keys2
 
 returns : tie.Need-returns
-returns c = (tt, λ t near. path-missing near ((rw (c .enum-told .given .1) at (c .before .before .before .path-between .ensures (freeShown t))) .same))
+returns c = (tt, λ t near. path-missing near ((rw (c .enum-told .given .1) at (c .before .before .before .path-between .ensures .found (freeShown t))) .same))
 
 array-share-prefix-path : tie.Need-array-share-prefix-path
 array-share-prefix-path c =
     let path-between = c .before .before .before .before .path-between in
     let start = c .before .before .before .before .before .before .before .before .before .before .before .before .before .before in
     let p = start .pre .0 in
-    let f = rw (c .before .k .given .1) at (path-between .ensures (freeShown (p .tabled))) in
+    let f = rw (c .before .k .given .1) at (path-between .ensures .found (freeShown (p .tabled))) in
     let kept : length (path-between .last .1 .1 .1 .1 .1 .0) ≡ span = path-between .kept .1 .1 .1 .1 .1 .0 in
     omega (arith, f .fits, p .most, kept)
 
@@ -55,7 +60,7 @@ slice-aggregate-try-on c =
     let path-between = c .before .before .before .before .before .path-between in
     let start = c .before .before .before .before .before .before .before .before .before .before .before .before .before .before .before in
     let p = start .pre .0 in
-    let f = rw (c .before .before .k .given .1) at (path-between .ensures (freeShown (p .tabled))) in
+    let f = rw (c .before .before .k .given .1) at (path-between .ensures .found (freeShown (p .tabled))) in
     let kept : length (path-between .last .1 .1 .1 .1 .1 .0) ≡ span = path-between .kept .1 .1 .1 .1 .1 .0 in
     sym (length-take-le _ _ (omega (arith, f .fits, p .most, kept)))
 
@@ -66,7 +71,7 @@ try-on-requires c κs =
     let start = c .before .before .before .before .before .before .before .before .before .before .before .before .before .before .before .before in
     let p = start .pre .0 in
     let z = start .pre .1 in
-    let f = rw (k .given .1) at (path-between .ensures (freeShown (p .tabled))) in
+    let f = rw (k .given .1) at (path-between .ensures .found (freeShown (p .tabled))) in
     let kept : length (path-between .last .1 .1 .1 .1 .1 .0) ≡ span = path-between .kept .1 .1 .1 .1 .1 .0 in
     let len : length (take (k .given .0 .0) (path-between .last .1 .1 .1 .1 .1 .0)) ≡ k .given .0 .0 = length-take-le _ _ (omega (arith, f .fits, p .most, kept)) in
     let q = path-found (p .tabled) _ _ _ (p .placed .inside (start .args .trial .carrier .0) (z .0)) (z .3) (f .same) in
@@ -82,7 +87,7 @@ returns-2 c =
     let p = start .pre .0 in
     let z = start .pre .1 in (
       c .before .before .try-on .ensures .0,
-      λ t near. c .before .before .try-on .ensures .1 t near (path-found t _ _ _ (p .placed .inside (start .args .trial .carrier .0) (z .0)) (z .3) ((rw (c .before .before .before .before .before .before .k .given .1) at (path-between .ensures (freeShown t))) .same) .0),
+      λ t near. c .before .before .try-on .ensures .1 t near (path-found t _ _ _ (p .placed .inside (start .args .trial .carrier .0) (z .0)) (z .3) ((rw (c .before .before .before .before .before .before .k .given .1) at (path-between .ensures .found (freeShown t))) .same) .0),
     )
 
 pub try-along-spec : {M : Type 1} → statement M

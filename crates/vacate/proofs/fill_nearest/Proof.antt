@@ -21,8 +21,19 @@ slice-aggregate-way-out c = search needs
 
 way-out-requires : tie.Need-way-out-requires
 way-out-requires c κs =
-    let p = c .before .before .before .before .before .before .before .before .pre in
-    (p .0 .most, p .0 .inside, p .0 .table-size, p .0 .held-size, p .0 .empty-size, search needs, p .1 .1, p .0 .shown, p .0 .levelled, p .1 .0)
+    let p = c .before .before .before .before .before .before .before .before .pre .0 in
+    let full = c .before .before .before .before .before .before .before .before .pre .1 in
+    record {
+      way = record {
+        lent = record { most = p .most; table-size = p .table-size; held-size = p .held-size; shown = p .shown };
+        inside = p .inside;
+        unheld = full .1;
+        wanted-size = p .empty-size;
+        room = search needs;
+      };
+      levelled = p .levelled;
+      unwanted = full .0;
+    }
 
 enum-known-e : tie.Need-enum-known-e
 enum-known-e c = c .match .keys1
@@ -38,14 +49,14 @@ returns c =
     let start = c .before .before .before .before .before .before .before .before .before .before .before .before in
     let p = start .pre .0 in
     let full = start .pre .1 in
-    λ s. vacates-none s (p .most) _ (p .inside) (p .placed) _ (sym (full .0)) (sym (full .1)) (ap endOf (sym (c .enum-told .given .1)) ∙ c .before .before .before .way-out .ensures s (isEmpty _) (p .placed .empties) .nearest ∙ sym (nearest-empty _ _ _ _))
+    λ s. vacates-none s (p .most) _ (p .inside) (p .placed) _ (sym (full .0)) (sym (full .1)) (ap endOf (sym (c .enum-told .given .1)) ∙ c .before .before .before .way-out .ensures .found s (isEmpty _) (p .placed .empties) .nearest ∙ sym (nearest-empty _ _ _ _))
 
 array-share-prefix-path : tie.Need-array-share-prefix-path
 array-share-prefix-path c =
     let start = c .before .before .before .before .before .before .before .before .before .before .before .before .before in
     let p = start .pre .0 in
     let w = c .before .before .before .before .way-out in
-    let t = way-told (c .before .e .given .1) (w .ensures (p .shown) (isEmpty _) (p .placed .empties)) in
+    let t = way-told (c .before .e .given .1) (w .ensures .found (p .shown) (isEmpty _) (p .placed .empties)) in
     let kept : length (w .last .1 .1 .1 .1 .1 .0) ≡ span = w .kept .1 .1 .1 .1 .1 .0 in
     omega (arith, t .fits, p .most, kept)
 
@@ -54,7 +65,7 @@ slice-aggregate-shift c =
     let start = c .before .before .before .before .before .before .before .before .before .before .before .before .before .before in
     let p = start .pre .0 in
     let w = c .before .before .before .before .before .way-out in
-    let t = way-told (c .before .before .e .given .1) (w .ensures (p .shown) (isEmpty _) (p .placed .empties)) in
+    let t = way-told (c .before .before .e .given .1) (w .ensures .found (p .shown) (isEmpty _) (p .placed .empties)) in
     let kept : length (w .last .1 .1 .1 .1 .1 .0) ≡ span = w .kept .1 .1 .1 .1 .1 .0 in
     sym (length-take-le _ _ (omega (arith, t .fits, p .most, kept)))
 
@@ -65,7 +76,7 @@ shift-requires c κs =
     let p = start .pre .0 in
     let full = start .pre .1 in
     let w = c .before .before .before .before .before .before .before .before .before .way-out in
-    let t = way-told (e .given .1) (w .ensures (p .shown) (isEmpty _) (p .placed .empties)) in
+    let t = way-told (e .given .1) (w .ensures .found (p .shown) (isEmpty _) (p .placed .empties)) in
     let kept : length (w .last .1 .1 .1 .1 .1 .0) ≡ span = w .kept .1 .1 .1 .1 .1 .0 in
     let len : length (take (e .given .0 .1 .0) (w .last .1 .1 .1 .1 .1 .0)) ≡ e .given .0 .1 .0 = length-take-le _ _ (omega (arith, t .fits, p .most, kept)) in
     record { most = p .most; empty-size = p .empty-size; counts = omega (arith, len, t .fits, p .most); placed = p .placed; can-shift = can-shift (p .shown) (p .most) _ (p .inside) (p .placed) (start .args .out .now) (sym (full .0)) (sym (full .1)) _ (t .nearest ∙ sym (nearest-empty _ _ _ _)) _ (t .path _ refl) }
@@ -98,11 +109,11 @@ returns-2 c =
     let p = start .pre .0 in
     let full = start .pre .1 in
     let w = c .before .before .before .before .before .before .before .before .before .before .before .before .before .before .before .before .before .before .way-out in
-    let t = way-told (e .given .1) (w .ensures (p .shown) (isEmpty _) (p .placed .empties)) in
+    let t = way-told (e .given .1) (w .ensures .found (p .shown) (isEmpty _) (p .placed .empties)) in
     let kept : length (w .last .1 .1 .1 .1 .1 .0) ≡ span = w .kept .1 .1 .1 .1 .1 .0 in
     let len : length (take (e .given .0 .1 .0) (w .last .1 .1 .1 .1 .1 .0)) ≡ e .given .0 .1 .0 = length-take-le _ _ (omega (arith, t .fits, p .most, kept)) in
     λ s.
-    let v = way-told (e .given .1) (w .ensures s (isEmpty _) (p .placed .empties)) in
+    let v = way-told (e .given .1) (w .ensures .found s (isEmpty _) (p .placed .empties)) in
     vacates-filled s (p .most) _ (p .inside) (p .placed) _ (sym (full .0)) (sym (full .1)) _ (v .nearest ∙ sym (nearest-empty _ _ _ _)) _ (v .path _ refl) _ _ _ _ _ _ refl refl (omega (arith, len, t .fits)) (shift .ensures)
 
 pub fill-nearest-spec : {M : Type 1} → statement M

@@ -39,7 +39,12 @@ free-requires : tie.Need-free-requires
 free-requires c κs =
     let start = c .before .before .before .before .before .before .before .before .before .before .before .before .before in
     let p = start .pre in
-    (search needs, search needs, search needs, table-rowed (p .shown .joins) (p .most) _ (p .inside) (p .table-size))
+    record {
+      row = omega (arith, p .inside, p .table-size);
+      rowed = table-rowed (p .shown .joins) (p .most) _ (p .inside) (p .table-size);
+      wanted-size = search needs;
+      held-size = search needs;
+    }
 
 cast-t18 : tie.Need-cast-t18
 cast-t18 c = search needs

@@ -12,7 +12,7 @@ mul-if1-2 : tie.Need-mul-if1-2
 mul-if1-2 c = search needs
 
 way-to-nearest-requires : tie.Need-way-to-nearest-requires
-way-to-nearest-requires c κs = let p = c .before .before .before .before .before .before .pre in (p .0, p .1, p .2, p .3, p .4, p .5, p .6, p .7)
+way-to-nearest-requires c κs = c .before .before .before .before .before .before .pre .way
 
 same-length : tie.Need-same-length
 same-length c = c .before .before .way-to-nearest .kept .1 .1 .1 .1 .1 .0
@@ -30,7 +30,7 @@ same-length-2 : tie.Need-same-length-2
 same-length-2 c = c .before .before .before .before .before .way .kept .1 .1 .1 .1 .1 .0
 
 returns-2 : tie.Need-returns-2
-returns-2 c = λ s q w. c .before .before .before .before .before .way .ensures s q w _ _ (c .before .known .given .1)
+returns-2 c = record { found = λ s q w. c .before .before .before .before .before .way .ensures .tells s q w _ _ (c .before .known .given .1) }
 
 enum-told : tie.Need-enum-told
 enum-told c = c .match .keys2
@@ -38,8 +38,8 @@ enum-told c = c .match .keys2
 way-to-nearest-requires-2 : tie.Need-way-to-nearest-requires-2
 way-to-nearest-requires-2 c κs =
     let way = c .before .before .before .before .before .way in
-    let p = c .before .before .before .before .before .before .before .before .before .before .before .before .pre in
-    (p .0, p .1, p .2, p .3, p .4, rw (way .kept .1 .1 .1 .1 .1 .0) (p .5), p .6, p .7)
+    let p = c .before .before .before .before .before .before .before .before .before .before .before .before .pre .way in
+    record { lent = p .lent; inside = p .inside; unheld = p .unheld; wanted-size = p .wanted-size; room = rw (way .kept .1 .1 .1 .1 .1 .0) (p .room) }
 
 same-length-3 : tie.Need-same-length-3
 same-length-3 c =

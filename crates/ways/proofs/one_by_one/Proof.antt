@@ -38,7 +38,7 @@ returns c =
     let start = c .before .before .before .before .before .before .before in
     let p = start .pre in
     let a = start .args in
-    λ s q w. way-here s (p .0) _ (p .1) (p .6) _ (sym (c .before .is-in .ensures) ∙ c .if1 .taken) q w _ _ refl (take-suc-set (a .path .now) 0 (a .x .0) (omega arith))
+    record { found = λ s q w. way-here s (p .lent .most) _ (p .inside) (p .unheld) _ (sym (c .before .is-in .ensures) ∙ c .if1 .taken) q w _ _ refl (take-suc-set (a .path .now) 0 (a .x .0) (omega arith)) }
 
 slice-aggregate-keep : tie.Need-slice-aggregate-keep Inv-loop μ-loop
 slice-aggregate-keep c = search needs
@@ -76,7 +76,7 @@ loop-holds c =
     let p = start .pre in
     let a = start .args in
     let miss = sym (is-in .ensures) ∙ if1 .left in
-    (omega arith, omega arith, omega arith, refl, simp length-set (p .5), search needs, search needs, λ s. stage-first s (p .0) _ (p .1) (p .6) _ _ _ _ _ _ zeros-low miss (keep .ensures) (c .before .before .before .before .before .before .before .join .ensures) (take-suc-set (a .path .now) 0 (a .x .0) (omega arith)))
+    (omega arith, omega arith, omega arith, refl, simp length-set (p .room), search needs, search needs, λ s. stage-first s (p .lent .most) _ (p .inside) (p .unheld) _ _ _ _ _ _ zeros-low miss (keep .ensures) (c .before .before .before .before .before .before .before .join .ensures) (take-suc-set (a .path .now) 0 (a .x .0) (omega arith)))
 
 slice-aggregate-pass : tie.Need-slice-aggregate-pass Inv-loop μ-loop
 slice-aggregate-pass c = search needs
@@ -89,7 +89,16 @@ pass-requires c κs =
     let start = c .before .before .before .before .before .before .before .before .before .before .before .before .before .before .before .before .before .before .before .before .before .before .before in
     let p = start .pre in
     let l = c .before .before .before .loop in
-    (p .0, p .2, l .inv .0, l .inv .1, l .inv .5, l .inv .4, l .inv .6, (_, _, l .inv .7 (p .7) .queue))
+    record {
+      most = p .lent .most;
+      table-size = p .lent .table-size;
+      some-left = l .inv .0;
+      few = l .inv .1;
+      seen-size = l .inv .5;
+      room = l .inv .4;
+      before-size = l .inv .6;
+      standing = (_, _, l .inv .7 (p .lent .shown) .queue);
+    }
 
 same-length-2 : tie.Need-same-length-2 Inv-loop μ-loop
 same-length-2 c =
@@ -102,12 +111,15 @@ returns-2 c =
     let p = start .pre in
     let l = c .before .before .before .before .before .before .before .before .before .loop in
     let w = c .before .before .before .before .before .pass in
-    λ s q f. way-nowhere s (p .0) _ (p .1) (p .6) _ _ _ _ _ _ _ (l .inv .7 s) _ _ _ _ (w .ensures _ _ (l .inv .7 s .queue)) (l .inv .0) (rw (w .kept .1 .1 .1 .1 .1 .0) (l .inv .4)) (c .if2 .taken) q f _
+    record {
+      found = λ s q f.
+          way-nowhere s (p .lent .most) _ (p .inside) (p .unheld) _ _ _ _ _ _ _ (l .inv .7 s) _ _ _ _ (w .ensures .passes _ _ (l .inv .7 s .queue)) (l .inv .0) (rw (w .kept .1 .1 .1 .1 .1 .0) (l .inv .4)) (c .if2 .taken) q f _;
+    }
 
 add-d : tie.Need-add-d Inv-loop μ-loop
 add-d c =
     let start = c .before .before .before .before .before .before .before .before .before .before .before .before .before .before .before .before .before .before .before .before .before .before .before .before .before .before .before .before .before in
-    let l = c .before .before .before .before .before .before .before .before .before .loop in omega (arith, l .inv .2, start .pre .0)
+    let l = c .before .before .before .before .before .before .before .before .before .loop in omega (arith, l .inv .2, start .pre .lent .most)
 
 slice-aggregate-common : tie.Need-slice-aggregate-common Inv-loop μ-loop
 slice-aggregate-common c = search needs
@@ -123,8 +135,8 @@ common-requires c κs =
     let p = start .pre in
     let l = c .before .before .before .before .before .before .before .before .before .before .before .loop in
     let w = c .before .before .before .before .before .before .before .pass in
-    let g = w .ensures _ _ (l .inv .7 (p .7) .queue) in
-    (search needs, search needs, free-rowed (p .7) (p .0) _ (p .1) (p .6) _ _ _ _ _ _ _ (l .inv .7 (p .7)) _ _ _ _ g (l .inv .0) (rw (w .kept .1 .1 .1 .1 .1 .0) (l .inv .4)) (omega (arith, g .more, c .before .before .if2 .left)) _ _ _ (keep2 .ensures) (minus .ensures) (p .2))
+    let g = w .ensures .passes _ _ (l .inv .7 (p .lent .shown) .queue) in
+    (search needs, search needs, free-rowed (p .lent .shown) (p .lent .most) _ (p .inside) (p .unheld) _ _ _ _ _ _ _ (l .inv .7 (p .lent .shown)) _ _ _ _ g (l .inv .0) (rw (w .kept .1 .1 .1 .1 .1 .0) (l .inv .4)) (omega (arith, g .more, c .before .before .if2 .left)) _ _ _ (keep2 .ensures) (minus .ensures) (p .lent .table-size))
 
 slice-aggregate-trace : tie.Need-slice-aggregate-trace Inv-loop μ-loop
 slice-aggregate-trace c = search needs
@@ -135,7 +147,7 @@ trace-requires c κs =
     let p = start .pre in
     let l = c .before .before .before .before .before .before .before .before .before .before .before .before .before .before .before .loop in
     let w = c .before .before .before .before .before .before .before .before .before .before .before .pass in
-    let g = w .ensures _ _ (l .inv .7 (p .7) .queue) in
+    let g = w .ensures .passes _ _ (l .inv .7 (p .lent .shown) .queue) in
     (search needs, c .before .before .if3 .taken, omega (arith, l .inv .0, l .inv .2, l .inv .4, w .kept .1 .1 .1 .1 .1 .0, g .more, g .most, c .before .before .before .before .before .before .if2 .left), g .queue .low)
 
 cast-t44 : tie.Need-cast-t44 Inv-loop μ-loop
@@ -145,7 +157,7 @@ add-t46 : tie.Need-add-t46 Inv-loop μ-loop
 add-t46 c =
     let start = c .before .before .before .before .before .before .before .before .before .before .before .before .before .before .before .before .before .before .before .before .before .before .before .before .before .before .before .before .before .before .before .before .before .before .before .before .before .before in
     let l = c .before .before .before .before .before .before .before .before .before .before .before .before .before .before .before .before .before .before .loop in
-    omega (arith, l .inv .0, l .inv .1, l .inv .2, start .pre .0)
+    omega (arith, l .inv .0, l .inv .1, l .inv .2, start .pre .lent .most)
 
 same-length-3 : tie.Need-same-length-3 Inv-loop μ-loop
 same-length-3 c =
@@ -162,9 +174,11 @@ returns-3 c =
     let p = start .pre in
     let l = c .before .before .before .before .before .before .before .before .before .before .before .before .before .before .before .before .before .before .loop in
     let v = c .before .before .before .before .before .before .before .before .before .before .before .before .before .before .pass in
-    λ s q f.
-    let g = v .ensures _ _ (l .inv .7 s .queue) in
-    way-found s (p .0) _ (p .1) (p .6) _ _ _ _ _ _ _ (l .inv .7 s) _ _ _ _ g (l .inv .0) (rw (v .kept .1 .1 .1 .1 .1 .0) (l .inv .4)) (omega (arith, g .more, if2 .left)) _ _ _ (keep2 .ensures) (minus .ensures) _ (c .before .before .before .before .before .before .common .ensures) (c .before .before .before .before .before .if3 .taken) q f _ _ refl (c .before .before .trace .ensures)
+    record {
+      found = λ s q f.
+          let g = v .ensures .passes _ _ (l .inv .7 s .queue) in
+          way-found s (p .lent .most) _ (p .inside) (p .unheld) _ _ _ _ _ _ _ (l .inv .7 s) _ _ _ _ g (l .inv .0) (rw (v .kept .1 .1 .1 .1 .1 .0) (l .inv .4)) (omega (arith, g .more, if2 .left)) _ _ _ (keep2 .ensures) (minus .ensures) _ (c .before .before .before .before .before .before .common .ensures) (c .before .before .before .before .before .if3 .taken) q f _ _ refl (c .before .before .trace .ensures);
+    }
 
 loop-less : tie.Need-loop-less Inv-loop μ-loop
 loop-less c = let l = c .before .before .before .before .before .before .before .before .before .before .before .before .before .loop in omega (arith, l .inv .0, l .inv .1)
@@ -177,10 +191,10 @@ loop-again c =
     let p = start .pre in
     let l = c .before .before .before .before .before .before .before .before .before .before .before .before .before .loop in
     let w = c .before .before .before .before .before .before .before .before .before .pass in
-    let g = w .ensures _ _ (l .inv .7 (p .7) .queue) in
+    let g = w .ensures .passes _ _ (l .inv .7 (p .lent .shown) .queue) in
     let kept = w .kept .1 .1 .1 .1 .1 .0 in
     let grew = c .before .before .before .before .if2 .left in
-    (omega (arith, g .more, grew), g .most, omega (arith, l .inv .0, l .inv .2), kept ∙ l .inv .3, rw kept (l .inv .4), search needs, search needs, λ s. let h = w .ensures _ _ (l .inv .7 s .queue) in stage-more s (p .0) _ (p .1) (p .6) _ _ _ _ _ _ _ (l .inv .7 s) _ _ _ _ h (l .inv .0) (rw kept (l .inv .4)) (omega (arith, h .more, grew)) _ _ _ (keep2 .ensures) (minus .ensures) _ (c .before .common .ensures) (c .if3 .left))
+    (omega (arith, g .more, grew), g .most, omega (arith, l .inv .0, l .inv .2), kept ∙ l .inv .3, rw kept (l .inv .4), search needs, search needs, λ s. let h = w .ensures .passes _ _ (l .inv .7 s .queue) in stage-more s (p .lent .most) _ (p .inside) (p .unheld) _ _ _ _ _ _ _ (l .inv .7 s) _ _ _ _ h (l .inv .0) (rw kept (l .inv .4)) (omega (arith, h .more, grew)) _ _ _ (keep2 .ensures) (minus .ensures) _ (c .before .common .ensures) (c .if3 .left))
 
 pub one-by-one-spec : {M : Type 1} → statement M
 one-by-one-spec =

@@ -1,11 +1,23 @@
 -- `ways::path_between` meets its contract. By the queue, where neither bay is held, or by the rings, it is the paper's path.
 -- Assumes nothing.
-use mathlib.Core.Path.{sym, _∙_}
+use mathlib.Core.Path.{_≡_, sym, _∙_}
+use mathlib.Core.Bool.{Bool, true, false, not}
+use mathlib.Core.List.{List}
+use Prim.Native.Nat.{ℕ}
 use borrow.Author.Tests.{not-true}
+use Rattle.paper.specs.Basics.{_and_}
 use Rattle.paper.proofs.Tests.{and-left, and-right}
+use Rattle.words.specs.Sets.{mem}
+use Rattle.ways.specs.Few.{few, byQueue}
 use borrow.Author.Needs.{needs}
 use Rattle.ways.proofs.path_between.Statement.{statement}
 use Rattle.ways.proofs.path_between.Tie as tie
+
+-- where a queue serves, neither bay is held
+unheld : (table held : List ℕ) (u v : ℕ) {r : Bool} → r ≡ byQueue table held u v → r ≡ true → (mem held u ≡ false) × (mem held v ≡ false)
+unheld table held u v e t =
+    let z = and-right (few table u and few table v) (not (mem held u) and not (mem held v)) (sym e ∙ t) in
+    (not-true (mem held u) (and-left (not (mem held u)) (not (mem held v)) z), not-true (mem held v) (and-right (not (mem held u)) (not (mem held v)) z))
 
 cast-by-queue : tie.Need-cast-by-queue
 cast-by-queue c = search needs
@@ -19,9 +31,9 @@ by-queue-requires c κs = search needs
 path-by-queue-requires : tie.Need-path-by-queue-requires
 path-by-queue-requires c κs =
     let start = c .before .before .before .before .before .before .before .before in
-    let p = start .pre in
-    let t = and-right _ _ (sym (c .before .before .by-queue .ensures) ∙ c .before .if1 .taken) in
-    (p .0, p .1, p .2, p .3, p .4, p .5, not-true _ (and-left _ _ t), not-true _ (and-right _ _ t), p .6)
+    let a = start .args in
+    let t = unheld (a .table .now) (a .held .now) (a .u .0) (a .v .0) (c .before .before .by-queue .ensures) (c .before .if1 .taken) in
+    record { asks = start .pre; start-unheld = t .0; goal-unheld = t .1 }
 
 same-length : tie.Need-same-length
 same-length c = search needs

@@ -34,7 +34,12 @@ returns c =
     let alone = c .before .before .before .before .before .before .before .before .alone in
     let start = c .before .before .before .before .before .before .before .before .before .before .before .before .before .before in
     let p = start .pre in
-    λ s. path-none s (p .0) _ _ (p .1) (p .2) (p .6) (p .7) _ (rw (c .enum-told .given .1) at (c .before .before .before .before .one-by-one .ensures s _ (λ b h. alone .ensures b)))
+    let asks = p .asks in
+    record {
+      found = λ s.
+          path-none s (asks .lent .most) _ _ (asks .start-inside) (asks .goal-inside) (p .start-unheld) (p .goal-unheld) _
+          (rw (c .enum-told .given .1) at (c .before .before .before .before .one-by-one .ensures .found s _ (λ b h. alone .ensures b)));
+    }
 
 same-length-2 : tie.Need-same-length-2
 same-length-2 c = search needs
@@ -44,7 +49,12 @@ returns-2 c =
     let alone = c .before .before .before .before .before .before .before .before .before .alone in
     let start = c .before .before .before .before .before .before .before .before .before .before .before .before .before .before .before in
     let p = start .pre in
-    λ s. path-first s (p .0) _ _ (p .1) (p .2) (p .6) (p .7) _ _ _ (rw (c .before .m .given .1) at (c .before .before .before .before .before .one-by-one .ensures s _ (λ b h. alone .ensures b)))
+    let asks = p .asks in
+    record {
+      found = λ s.
+          path-first s (asks .lent .most) _ _ (asks .start-inside) (asks .goal-inside) (p .start-unheld) (p .goal-unheld) _ _ _
+          (rw (c .before .m .given .1) at (c .before .before .before .before .before .one-by-one .ensures .found s _ (λ b h. alone .ensures b)));
+    }
 
 pub path-by-queue-spec : {M : Type 1} → statement M
 path-by-queue-spec =
