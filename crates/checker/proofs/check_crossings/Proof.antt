@@ -14,7 +14,7 @@ place-requires : tie.Need-place-requires
 place-requires c κs = search needs
 
 occupy-requires : tie.Need-occupy-requires
-occupy-requires c κs = (c .before .before .before .before .before .before .before .before .before .pre .1 .starts-inside, none-occupied)
+occupy-requires c κs = let placed = c .before .before .before .before .before .before .before .before .before .pre .1 in (search (needs, placed .starts-inside, placed .goals-inside), none-occupied)
 
 play-requires : tie.Need-play-requires
 play-requires c κs = search needs
