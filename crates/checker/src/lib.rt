@@ -1,14 +1,14 @@
 // The plan check: refusals 1 to 6 by the yard's opening, then 9 and 10 by playing the plan from the start.
 // It takes any plan and never asks the planner.
 ghost use mathlib.Core.Path.{_≡_};
-ghost use Prim.Native.Nat.{ℕ, _≤_, _<_};
-ghost use lib.ListN.{length, getD};
+ghost use Prim.Native.Nat.{_≤_};
+ghost use lib.ListN.{length};
 ghost use Rattle.paper.specs.Yard.{crossings};
 ghost use Rattle.paper.specs.Order.{order};
 ghost use Rattle.paper.specs.Answers.{check as checkOf};
 ghost use Rattle.words.specs.Sets.{span};
 ghost use Rattle.replay.specs.Playing.{legalityOf};
-ghost use Rattle.checker.specs.Reading.{checkedOf, nineTen, NineTen};
+ghost use Rattle.checker.specs.Reading.{checkedOf, Placed, nineTen, NineTen};
 use docket::Refusal;
 use replay::Away;
 use replay::Legality;
@@ -57,13 +57,7 @@ fn check_crossings(
     plan: &[u64],
     at: &mut [u16],
 ) -> Checked
-    requires { ⌜
-        (length (now at) ≡ length (now start))
-        × (length (now start) ≡ length (now goal))
-        × (length (now goal) ≤ span)
-        × ((c : ℕ) → c < length (now start) → getD (now start) c 0 < span)
-        × ((c : ℕ) → c < length (now goal) → getD (now goal) c 0 < span)
-        ⌝ }
+    requires { ⌜ (length (now at) ≡ length (now start)) × Placed (now start) (now goal) ⌝ }
     ensures { λ r. ⌜ NineTen (now (table .entry)) (now (start .entry)) (now (goal .entry)) (crossings (now (plan .entry))) (checkedOf r) ⌝ }
 {
     place(start, at);
@@ -75,12 +69,7 @@ fn check_crossings(
 
 // The same, with a working array of its own.
 fn check_from(table: &[u64; Yard::TABLE], start: &[u16], goal: &[u16], plan: &[u64]) -> Checked
-    requires { ⌜
-        (length (now start) ≡ length (now goal))
-        × (length (now goal) ≤ span)
-        × ((c : ℕ) → c < length (now start) → getD (now start) c 0 < span)
-        × ((c : ℕ) → c < length (now goal) → getD (now goal) c 0 < span)
-        ⌝ }
+    requires { ⌜ Placed (now start) (now goal) ⌝ }
     ensures { λ r. ⌜ NineTen (now (table .entry)) (now (start .entry)) (now (goal .entry)) (crossings (now (plan .entry))) (checkedOf r) ⌝ }
 {
     let carriers = start.len();

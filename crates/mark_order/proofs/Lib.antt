@@ -1,2 +1,3 @@
+pub mod Done
 pub mod Odd
 pub mod Ordering

@@ -1,20 +1,21 @@
 -- Why one pass tells whether the marks are in order: what is left of plan and marks decides, in view of the carriers and bays that an
 -- undone crossing has touched so far.
-use mathlib.Core.Path.{_≡_, sym, _∙_, ap, ap₂}
+use mathlib.Core.Path.{_≡_, refl, sym, _∙_, ap, ap₂}
 use mathlib.Core.Bool.{true, false}
 use mathlib.Core.List.{List, _∷_}
-use Prim.Native.Nat.{ℕ, suc, _≤_, _<_, _+_}
+use Prim.Native.Nat.{ℕ, zero, suc, _≤_, _<_, _+_}
 use native.Mathlib.Omega.{arith}
 use native.Mathlib.Numerals.{add-one}
 use borrow.Author.Tests.{eq-eqb, ne-eqb}
-use lib.ListN.{length, getD, drop, set, replicate, length-set, length-replicate}
+use lib.Dec.{eqb}
+use lib.ListN.{length, getD, drop, set, replicate, length-set, length-replicate, getD-replicate}
 use lib.Seq.{drop-cons}
 use Rattle.paper.specs.Basics.{_or_}
 use Rattle.paper.specs.Limits.{most-bays}
 use Rattle.paper.specs.Yard.{Crossing, crossings, named}
 use Rattle.paper.specs.Dependence.{outOfOrder}
 use Rattle.paper.specs.OnePass.{Fits, orderPass}
-use Rattle.paper.proofs.Tests.{or-left}
+use Rattle.paper.proofs.Tests.{or-left, or-neither}
 use Rattle.paper.proofs.Marking.{flag, order-step, order-start, order-done}
 use Rattle.plans.proofs.Rest.{rest-next, rest-none, fits-named}
 
@@ -24,14 +25,6 @@ pub record Ordering (plan marks carriers bays : List ℕ) (i : ℕ) : Type 0 whe
   pub all-carriers : length carriers ≡ most-bays
   pub all-bays : length bays ≡ most-bays
   pub so-far : outOfOrder (crossings plan) marks ≡ orderPass (flag carriers) (flag bays) (drop i (crossings plan)) (drop i marks)
-
-pub ordering-start : (plan marks : List ℕ) → Ordering plan marks (replicate most-bays 0) (replicate most-bays 0) 0
-ordering-start plan marks = record {
-  within = omega arith;
-  all-carriers = length-replicate {A = ℕ} most-bays 0;
-  all-bays = length-replicate {A = ℕ} most-bays 0;
-  so-far = order-start most-bays most-bays (crossings plan) marks;
-}
 
 module _ (plan marks carriers bays : List ℕ) (i : ℕ) (o : Ordering plan marks carriers bays i) (more : i < length plan) (len : length marks ≡ length plan) (fits : Fits most-bays most-bays plan) (x : Crossing) (is : x ≡ named (crossings plan) i) where
   abbrev m : ℕ
@@ -68,6 +61,28 @@ module _ (plan marks carriers bays : List ℕ) (i : ℕ) (o : Ordering plan mark
 
   pub ordering-met : m ≡ 1 → (flag carriers (x .carrier) or flag bays (x .from) or flag bays (x .to)) ≡ true → true ≡ outOfOrder (crossings plan) marks
   ordering-met e t = sym (done-turn e ∙ or-left _ _ t)
+
+untouched : (j : ℕ) → j < most-bays → flag (replicate most-bays 0) j ≡ false
+untouched j h = ap (λ v. eqb v 1) (getD-replicate {A = ℕ} most-bays j 0 0 h)
+
+-- While all are done nothing is touched.
+module _ (plan marks : List ℕ) (len : length marks ≡ length plan) (fits : Fits most-bays most-bays plan) where
+  pub ordering-start : (i : ℕ) → i ≤ length plan → ((k : ℕ) → k < i → getD marks k 0 ≡ 1) → Ordering plan marks (replicate most-bays 0) (replicate most-bays 0) i
+  ordering-start zero h d = record {
+    within = h;
+    all-carriers = length-replicate {A = ℕ} most-bays 0;
+    all-bays = length-replicate {A = ℕ} most-bays 0;
+    so-far = order-start most-bays most-bays (crossings plan) marks;
+  }
+  ordering-start (suc i) h d =
+      let more : i < length plan = omega arith in
+      let x = named (crossings plan) i in
+      let small = fits-named most-bays most-bays plan fits i more x refl in
+      let before = ordering-start i (omega arith) (λ k l. d k (omega arith)) in
+      rw (add-one i)
+      at
+      (ordering-done plan marks (replicate most-bays 0) (replicate most-bays 0) i before more len fits x refl (d i (omega arith))
+      (or-neither _ _ (or-neither _ _ (untouched (x .carrier) (small .0)) (untouched (x .from) (small .1))) (untouched (x .to) (small .2))))
 
 pub ordering-end : (plan marks carriers bays : List ℕ) (i : ℕ) → Ordering plan marks carriers bays i → length plan ≤ i → false ≡ outOfOrder (crossings plan) marks
 unfolding orderPass

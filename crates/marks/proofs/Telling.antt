@@ -4,6 +4,7 @@ use mathlib.Core.Bool.{Bool, true, false, not}
 use mathlib.Core.List.{List}
 use mathlib.Core.Option.{none, some}
 use Prim.Native.Nat.{ℕ, _≤_, _<_}
+use native.Mathlib.Omega.{arith}
 use borrow.Author.Tests.{eq-eqb, ne-eqb, le-leb, lt-leb}
 use lib.ListN.{length, getD}
 use Rattle.paper.specs.Basics.{_and_}
@@ -13,6 +14,7 @@ use Rattle.paper.specs.Docket.{unknown, early, mismarked, badMarks}
 use Rattle.paper.specs.Answers.{accept, already, refuse, tell}
 use Rattle.paper.proofs.Tests.{and-true}
 use Rattle.paper.proofs.Fields.{and-false}
+use Rattle.paper.proofs.Members.{Passed}
 use Rattle.marks.specs.Reading.{toldInOrder}
 
 -- the earlier crossing e keeps the crossing x waiting
@@ -25,6 +27,14 @@ module _ (xs : List Crossing) (marks : List ℕ) (x : Crossing) (e : ℕ) where
 
   pub waits-undone : (getD marks e 0 ≡ 1 → ⊥) → depend x (named xs e) ≡ waitsFor xs marks x e
   waits-undone d = sym (ap (λ v. depend x (named xs e) and not v) (ne-eqb _ _ d) ∙ and-true (depend x (named xs e)))
+
+-- no crossing waits for one before a place up to which all are done
+pub waits-none : (xs : List Crossing) (marks : List ℕ) (x : Crossing) (name e : ℕ) → ((k : ℕ) → k < e → getD marks k 0 ≡ 1) → Passed (waitsFor xs marks x) name name e
+waits-none xs marks x name e d = record {
+  most = omega arith;
+  hit = λ h. absurd (omega arith);
+  before = λ k h l. sym (waits-done xs marks x k (d k h));
+}
 
 module _ (xs : List Crossing) (marks : List ℕ) (name : ℕ) where
   pub told-mismarked : badMarks xs marks ≡ true → refuse mismarked ≡ tell xs marks name

@@ -51,7 +51,8 @@ fn waits_for(plan: &[u64], marks: &[u8], x: Crossing, e: usize) -> bool
     depends(x, plans::crossing_at(plan, e))
 }
 
-// Of the crossings before `name`, the lowest that x depends on and that is undone: going up, the first that is found ends the search.
+// Of the crossings before `name`, the lowest that x depends on and that is undone: going up, from a place before which all are done, the first that is
+// found ends the search.
 fn undone_before(plan: &[u64], marks: &[u8], x: Crossing, name: usize) -> Earlier
     requires { ⌜ (name ≤ length (now plan)) × (length (now marks) ≡ length (now plan)) ⌝ }
     ensures { λ r. ⌜
@@ -59,7 +60,7 @@ fn undone_before(plan: &[u64], marks: &[u8], x: Crossing, name: usize) -> Earlie
         ⌝ }
 {
     let mut lowest = name;
-    let mut e = 0;
+    let mut e = mark_order::done_to(marks);
     while e < lowest {
         if waits_for(plan, marks, x, e) {
             lowest = e;

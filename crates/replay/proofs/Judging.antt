@@ -5,10 +5,12 @@ use mathlib.Core.Bool.{Bool, true, false, not}
 use mathlib.Core.List.{List}
 use Prim.Native.Nat.{ℕ, _≤_, _<_}
 use native.Mathlib.Omega.{arith}
+use borrow.Author.Tests.{leb-true, leb-false}
+use lib.Dec.{leb}
 use lib.ListN.{length}
-use Rattle.paper.specs.Basics.{elem}
-use Rattle.paper.specs.Yard.{Yard, Placement, Crossing, bayOf, legal}
-use Rattle.paper.proofs.Tests.{by-cases, not-both}
+use Rattle.paper.specs.Basics.{_or_, elem}
+use Rattle.paper.specs.Yard.{Yard, Placement, Crossing, bayOf, legal, unpack}
+use Rattle.paper.proofs.Tests.{by-cases, not-both, or-none}
 use Rattle.paper.proofs.Playing.{Legal, legal-facts, legal-of}
 use Rattle.paper.proofs.Marking.{flag}
 use Rattle.words.specs.Sets.{memRow, span}
@@ -27,11 +29,19 @@ module _ (table : List ℕ) (at : Placement) (occupied : List ℕ) (x : Crossing
   pub stands-elsewhere : (bayOf at (x .carrier) ≡ x .from → ⊥) → Judged table at occupied x false
   stands-elsewhere h = refused (λ Y s l. h (l .stands))
 
-  pub from-outside : span ≤ x .from → Judged table at occupied x false
+  from-outside : span ≤ x .from → Judged table at occupied x false
   from-outside h = refused (λ Y s l. omega (arith, s .rails .inside (x .from) (x .to) (l .rail) .0, s .few))
 
-  pub to-outside : span ≤ x .to → Judged table at occupied x false
+  to-outside : span ≤ x .to → Judged table at occupied x false
   to-outside h = refused (λ Y s l. omega (arith, s .rails .inside (x .from) (x .to) (l .rail) .1, s .few))
+
+  -- one of its bays is past the table's width: so its number says
+  pub far-off : (w : ℕ) → x ≡ unpack w → (leb span (unpack w .from) or leb span (unpack w .to)) ≡ true → Judged table at occupied x false
+  unfolding _or_
+  far-off w is h =
+      by-cases (leb span (unpack w .from))
+      (λ e. from-outside (rw is (leb-true span (unpack w .from) e)))
+      (λ e. to-outside (rw is (leb-true span (unpack w .to) (rw e at h))))
 
   module _ (hc : x .carrier < length at) (stands : bayOf at (x .carrier) ≡ x .from) (hf : x .from < span) (ht : x .to < span) where
     pub no-rail : memRow table (x .from) (x .to) ≡ false → Judged table at occupied x false
@@ -49,3 +59,7 @@ module _ (table : List ℕ) (at : Placement) (occupied : List ℕ) (x : Crossing
           (λ i. same ∙ ap not i ∙ not-legal Y at x (λ l. not-both i (l .free)))
           (λ o. same ∙ ap not o ∙ sym (legal-of Y at x (record { there = hc; stands = stands; rail = sym row ∙ joins; free = o })));
     }
+
+-- neither is
+pub near-by : (x : Crossing) (w : ℕ) → x ≡ unpack w → (leb span (unpack w .from) or leb span (unpack w .to)) ≡ false → (x .from < span) × (x .to < span)
+near-by x w is h = let n = or-none _ _ h in rw is (leb-false span (unpack w .from) (n .0), leb-false span (unpack w .to) (n .1))

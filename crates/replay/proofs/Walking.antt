@@ -7,7 +7,7 @@ use mathlib.Core.Option.{none, some}
 use Prim.Native.Nat.{ℕ, suc, _≤_, _<_, _+_}
 use native.Mathlib.Omega.{arith}
 use native.Mathlib.Numerals.{add-one}
-use borrow.Author.Tests.{eqb-true, eqb-false, eq-eqb}
+use borrow.Author.Tests.{eqb-true, eqb-false, eq-eqb, lt-ltb, le-ltb}
 use lib.Dec.{eqb}
 use lib.ListN.{length, getD, take, drop, set, replicate, length-set, length-replicate, getD-replicate}
 use lib.Seq.{take-suc, take-length, getD-set-same, getD-set-other}
@@ -21,7 +21,7 @@ use Rattle.plans.proofs.Rest.{rest-next, rest-none}
 use Rattle.paper.proofs.Fields.{and-false}
 use Rattle.paper.proofs.Marking.{flag}
 use Rattle.words.specs.Sets.{span}
-use Rattle.replay.specs.Playing.{Standing, Occupied, Played}
+use Rattle.replay.specs.Playing.{Standing, Occupied, Played, legalTo}
 
 -- A mark set, and a mark taken away.
 module _ (occupied : List ℕ) (x : Bay) (h : x < length occupied) (b : Bay) where
@@ -143,3 +143,12 @@ module _ (Y : Yard) (table : List ℕ) (at₀ : Placement) (plan : List ℕ) (at
     first = sym (w .decides ∙ ap (firstIllegal Y at i) (rest-none plan i h));
     moved = λ e. sym (w .moved ∙ ap (after at) (rest-none plan i h));
   }
+
+-- The count of legal crossings is the name of the first illegal one, or that of all.
+pub legal-to-before : (i count : ℕ) → i < count → legalTo i count ≡ some i
+unfolding legalTo
+legal-to-before i count h = rw (lt-ltb i count h)
+
+pub legal-to-end : (i count : ℕ) → count ≤ i → legalTo i count ≡ none
+unfolding legalTo
+legal-to-end i count h = rw (le-ltb i count h)

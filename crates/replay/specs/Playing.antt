@@ -5,8 +5,9 @@ use mathlib.Core.Bool.{Bool, true}
 use mathlib.Core.List.{List}
 use mathlib.Core.Option.{Option, none, some}
 use Prim.Native.Nat.{ℕ, _≤_, _<_}
+use lib.Dec.{ltb}
 use lib.ListN.{length}
-use Rattle.paper.specs.Basics.{elem}
+use Rattle.paper.specs.Basics.{elem, if_then_else_}
 use Rattle.paper.specs.Yard.{Yard, Bay, Carrier, Placement, Crossing, bayOf, after, legal}
 use Rattle.paper.specs.Docket.{firstIllegal}
 use Rattle.paper.proofs.Playing.{Apart}
@@ -44,6 +45,10 @@ pub record Played (Y : Yard) (at : Placement) (xs : List Crossing) (found : Opti
 -- the same for every yard whose table, placement and marks these are
 abbrev pub PlayedFrom : List ℕ → Placement → List ℕ → List Crossing → Option ℕ → Placement → Type 0
 PlayedFrom table at occupied xs found at′ = (Y : Yard) → Standing Y table at occupied → Played Y at xs found at′
+
+-- of so many crossings the first i are legal: the next is the first that is not, if there is one
+unfoldable pub legalTo : ℕ → ℕ → Option ℕ
+legalTo i count = if ltb i count then some i else none
 
 abbrev pub legalityOf : Legality → Option ℕ
 legalityOf Legal = none

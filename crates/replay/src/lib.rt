@@ -4,19 +4,32 @@
 ghost use mathlib.Core.Path.{_≡_};
 ghost use mathlib.Core.List.{[]};
 ghost use Prim.Native.Nat.{ℕ, _≤_, _<_};
+ghost use lib.Dec.{leb};
 ghost use lib.ListN.{length, getD};
-ghost use Rattle.paper.specs.Yard.{crossings};
+ghost use Rattle.paper.specs.Basics.{_or_};
+ghost use Rattle.paper.specs.Yard.{crossings, unpack};
 ghost use Rattle.paper.specs.Docket.{notHome};
 ghost use Rattle.docket.specs.Reading.{crossingOf};
 ghost use Rattle.words.specs.Sets.{span};
-ghost use Rattle.replay.specs.Playing.{Occupied, Judged, PlayedFrom, legalityOf, awayOf};
+ghost use Rattle.replay.specs.Playing.{Occupied, Judged, PlayedFrom, legalTo, legalityOf, awayOf};
 use docket::Carrier;
 use docket::Crossing;
 use words::SPAN;
 use yard::Yard;
 
-// Whether a crossing is legal at the placement.
+// In a crossing's number, the bits that are 0 where both its bays are below SPAN.
+const FAR: u64 = 4278255360;
+
+// Whether one of a crossing's bays is SPAN or more: one test of its number for both.
+fn is_far(number: u64) -> bool
+    ensures { λ r. ⌜ r ≡ leb span (unpack number .from) or leb span (unpack number .to) ⌝ }
+{
+    number & FAR != 0
+}
+
+// Whether a crossing between bays below SPAN is legal at the placement.
 fn is_legal(table: &[u64; Yard::TABLE], at: &[u16], occupied: &[u8; SPAN], x: Crossing) -> bool
+    requires { ⌜ (crossingOf x .from < span) × (crossingOf x .to < span) ⌝ }
     ensures { λ r. ⌜ Judged (now (table .entry)) (now (at .entry)) (now (occupied .entry)) (crossingOf x) r ⌝ }
 {
     let carrier = x.carrier.0 as usize;
@@ -28,16 +41,43 @@ fn is_legal(table: &[u64; Yard::TABLE], at: &[u16], occupied: &[u8; SPAN], x: Cr
     }
     let from = x.from.0 as usize;
     let to = x.to.0 as usize;
-    if SPAN <= from {
-        return false;
-    }
-    if SPAN <= to {
-        return false;
-    }
     if !words::is_in(table, from * SPAN + to) {
         return false;
     }
     occupied[to] != 1
+}
+
+// Plays the plan as far as it is legal, and returns how many crossings that is. The answer is the loop's own count, so that nothing is kept ready at each
+// crossing for the way out.
+fn play_legal(
+    table: &[u64; Yard::TABLE],
+    at: &mut [u16],
+    occupied: &mut [u8; SPAN],
+    plan: &[u64],
+) -> usize
+    ensures { λ r. ⌜
+        PlayedFrom (now (table .entry)) (now (at .entry)) (now (occupied .entry)) (crossings (now (plan .entry)))
+        (legalTo r (length (now (plan .entry)))) (now (at .exit))
+        ⌝ }
+{
+    let mut i = 0;
+    while i < plan.len() {
+        let x = plans::crossing_at(plan, i);
+        if is_far(plan[i]) {
+            return i;
+        }
+        if !is_legal(table, at, occupied, x) {
+            return i;
+        }
+        let carrier = x.carrier.0 as usize;
+        let from = x.from.0 as usize;
+        let to = x.to.0 as usize;
+        at[carrier] = x.to.0;
+        occupied[from] = 0;
+        occupied[to] = 1;
+        i += 1;
+    }
+    i
 }
 
 // Whether all crossings of a plan are legal in their turn, or the name of the first that is not.
@@ -57,19 +97,9 @@ pub fn play(
         PlayedFrom (now (table .entry)) (now (at .entry)) (now (occupied .entry)) (crossings (now (plan .entry))) (legalityOf r) (now (at .exit))
         ⌝ }
 {
-    let mut i = 0;
-    while i < plan.len() {
-        let x = plans::crossing_at(plan, i);
-        if !is_legal(table, at, occupied, x) {
-            return Legality::Illegal(i as u64);
-        }
-        let carrier = x.carrier.0 as usize;
-        let from = x.from.0 as usize;
-        let to = x.to.0 as usize;
-        at[carrier] = x.to.0;
-        occupied[from] = 0;
-        occupied[to] = 1;
-        i += 1;
+    let legal = play_legal(table, at, occupied, plan);
+    if legal < plan.len() {
+        return Legality::Illegal(legal as u64);
     }
     Legality::Legal
 }

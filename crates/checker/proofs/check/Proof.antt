@@ -26,7 +26,14 @@ check-from-requires : tie.Need-check-from-requires
 check-from-requires c κs =
     let s = c .before .before .before .before .before .before .before .before .before in
     let passes = ap openedOf (sym (c .before .enum-told .given .1)) ∙ c .before .before .before .open-in .ensures .answer in
-    (as-many (order (s .args .bays) (now (s .args .rails)) (now (s .args .start)) (now (s .args .goal))) (now (s .args .plan)) passes, few-carriers (order (s .args .bays) (now (s .args .rails)) (now (s .args .start)) (now (s .args .goal))) (now (s .args .plan)) passes, starts-inside (order (s .args .bays) (now (s .args .rails)) (now (s .args .start)) (now (s .args .goal))) (now (s .args .plan)) passes, goals-inside (order (s .args .bays) (now (s .args .rails)) (now (s .args .start)) (now (s .args .goal))) (now (s .args .plan)) passes)
+    let o = order (s .args .bays) (now (s .args .rails)) (now (s .args .start)) (now (s .args .goal)) in
+    let plan = now (s .args .plan) in
+    record {
+      as-many = as-many o plan passes;
+      few = few-carriers o plan passes;
+      starts-inside = starts-inside o plan passes;
+      goals-inside = goals-inside o plan passes;
+    }
 
 returns : tie.Need-returns
 returns c = let s = c .before .before .before .before .before .before .before .before .before in six-refused (order (s .args .bays) (now (s .args .rails)) (now (s .args .start)) (now (s .args .goal))) (now (s .args .plan)) _ (ap openedOf (sym (c .before .opened .given .1)) ∙ c .before .before .before .open-in .ensures .answer)

@@ -14,13 +14,13 @@ place-requires : tie.Need-place-requires
 place-requires c κs = search needs
 
 occupy-requires : tie.Need-occupy-requires
-occupy-requires c κs = (search needs, none-occupied)
+occupy-requires c κs = let placed = c .before .before .before .before .before .before .before .before .before .pre .1 in (search (needs, placed .starts-inside, placed .goals-inside), none-occupied)
 
 play-requires : tie.Need-play-requires
 play-requires c κs = search needs
 
 judge-requires : tie.Need-judge-requires
-judge-requires c κs = search needs
+judge-requires c κs = let placed = c .before .before .before .before .before .before .before .before .before .before .before .before .before .before .before .before .pre .1 in (search (needs, placed .as-many), placed .few)
 
 same-length : tie.Need-same-length
 same-length c = search needs

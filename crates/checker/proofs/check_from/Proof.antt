@@ -15,16 +15,20 @@ use Rattle.checker.proofs.check_from.Tie as tie
 enough : (k : ℕ) → k ≤ most-bays → length {A = ℕ} (take k (replicate most-bays 0)) ≡ k
 enough k h = length-take-le k (replicate most-bays 0) (rw (length-replicate {A = ℕ} most-bays 0) h)
 
+-- there are no more carriers than bays
+few : (s : tie.Start) → length (now (s .args .start)) ≤ most-bays
+few s = rw (s .pre .as-many) (s .pre .few)
+
 array-borrow-prefix-at : tie.Need-array-borrow-prefix-at
-array-borrow-prefix-at c = search needs
+array-borrow-prefix-at c = few (c .before .before .before)
 
 slice-aggregate-check-crossings : tie.Need-slice-aggregate-check-crossings
-slice-aggregate-check-crossings c = sym (enough (length (now (c .before .before .before .before .args .start))) (omega arith))
+slice-aggregate-check-crossings c = let start = c .before .before .before .before in sym (enough (length (now (start .args .start))) (few start))
 
 check-crossings-requires : tie.Need-check-crossings-requires
 check-crossings-requires c κs =
     let start = c .before .before .before .before in
-    (enough (length (now (start .args .start))) (omega arith), start .pre .0, start .pre .1, start .pre .2, start .pre .3)
+    (enough (length (now (start .args .start))) (few start), start .pre)
 
 returns : tie.Need-returns
 returns c = search needs

@@ -1,4 +1,4 @@
--- `mark_order::order_pass` meets its contract. The crossing at hand has its carrier and bays below 256, so each table has its entry; the rest is the pass of proofs/Ordering.
+-- `mark_order::order_pass` meets its contract. The crossing at hand has its carrier and bays below 256, so each table has its entry. Before the place where the pass begins all are done; the rest is the pass of proofs/Ordering.
 -- Assumes nothing.
 use mathlib.Core.Path.{sym, _∙_}
 use mathlib.Core.Logic.{⊎-elim}
@@ -28,11 +28,17 @@ at-hand c = crossingOf (c .crossing-at .result)
 -- fits the tables
 small : (c : tie.After-crossing-at Inv-loop μ-loop) → (at-hand c .carrier < most-bays) × (at-hand c .from < most-bays) × (at-hand c .to < most-bays)
 small c =
-    let s = c .before .before .before .before .before in
+    let s = c .before .before .before .before .before .before in
     fits-named most-bays most-bays (now (s .args .plan)) (s .pre .1) (c .before .before .loop .i) (c .before .loop-test .taken) (at-hand c) (c .crossing-at .ensures)
 
+done-to-requires : tie.Need-done-to-requires Inv-loop μ-loop
+done-to-requires c κs = search needs
+
 loop-holds : tie.Need-loop-holds Inv-loop μ-loop
-loop-holds c = ordering-start _ _
+loop-holds c =
+    let s = c .before .before .before in
+    let d = c .done-to .ensures in
+    ordering-start (now (s .args .plan)) (now (s .args .marks)) (s .pre .0) (s .pre .1) (c .done-to .result) (rw (← s .pre .0) (d .0)) (d .1)
 
 crossing-at-requires : tie.Need-crossing-at-requires Inv-loop μ-loop
 crossing-at-requires c κs = search needs
@@ -56,7 +62,7 @@ returns : tie.Need-returns Inv-loop μ-loop
 returns c =
     let k = c .before .before .before .before .before .before .before .before .before in
     let t = k .before .before .loop in
-    let s = k .before .before .before .before .before in
+    let s = k .before .before .before .before .before .before in
     ordering-met (now (s .args .plan)) (now (s .args .marks)) (t .carriers) (t .bays) (t .i) (t .inv) (k .before .loop-test .taken) (s .pre .0) (s .pre .1) (at-hand k) (k .crossing-at .ensures) (c .before .before .before .before .if1 .taken) (sym (c .before .touched .ensures) ∙ c .if2 .taken)
 
 array-write-carriers : tie.Need-array-write-carriers Inv-loop μ-loop
@@ -78,7 +84,7 @@ loop-again : tie.Need-loop-again Inv-loop μ-loop
 loop-again c =
     let k = c .before .before .before .before .before in
     let t = k .before .before .loop in
-    let s = k .before .before .before .before .before in
+    let s = k .before .before .before .before .before .before in
     ⊎-elim
     (λ w. rw (w .5, w .6) (ordering-done (now (s .args .plan)) (now (s .args .marks)) (t .carriers) (t .bays) (t .i) (t .inv) (k .before .loop-test .taken) (s .pre .0) (s .pre .1) (at-hand k) (k .crossing-at .ensures) (w .0 .taken) (sym (w .3 .ensures) ∙ w .4 .left)))
     (λ w. rw (w .1, w .2) (ordering-undone (now (s .args .plan)) (now (s .args .marks)) (t .carriers) (t .bays) (t .i) (t .inv) (k .before .loop-test .taken) (s .pre .0) (s .pre .1) (at-hand k) (k .crossing-at .ensures) (w .0 .left)))
@@ -93,6 +99,7 @@ order-pass-spec =
     (tie.spec
     Inv-loop
     μ-loop
+    done-to-requires
     loop-holds
     crossing-at-requires
     cast-carrier

@@ -5,7 +5,7 @@ use borrow.Author.Needs.{needs}
 use borrow.Author.Tests.{not-true, not-false}
 use denote.Ref.{now}
 use Rattle.docket.specs.Reading.{crossingOf}
-use Rattle.replay.proofs.Judging.{nobody-there, stands-elsewhere, from-outside, to-outside, no-rail, by-the-mark}
+use Rattle.replay.proofs.Judging.{nobody-there, stands-elsewhere, no-rail, by-the-mark}
 use Rattle.replay.proofs.is_legal.Statement.{statement}
 use Rattle.replay.proofs.is_legal.Tie as tie
 
@@ -30,12 +30,6 @@ cast-from c = search needs
 cast-to : tie.Need-cast-to
 cast-to c = search needs
 
-returns-3 : tie.Need-returns-3
-returns-3 c = let s = c .before .before .before .before .before .before .before .before .before in from-outside (now (s .args .table)) (now (s .args .at)) (now (s .args .occupied)) (crossingOf (s .args .x)) (c .if3 .taken)
-
-returns-4 : tie.Need-returns-4
-returns-4 c = let s = c .before .before .before .before .before .before .before .before .before .before in to-outside (now (s .args .table)) (now (s .args .at)) (now (s .args .occupied)) (crossingOf (s .args .x)) (c .if4 .taken)
-
 mul-is-in : tie.Need-mul-is-in
 mul-is-in c = search needs
 
@@ -45,21 +39,20 @@ add-is-in c = search needs
 is-in-requires : tie.Need-is-in-requires
 is-in-requires c κs = search needs
 
-returns-5 : tie.Need-returns-5
-returns-5 c =
-    let if1 = c .before .before .before .before .before .before .before .before .before .before .if1 in
-    let s = c .before .before .before .before .before .before .before .before .before .before .before .before .before in
-    no-rail (now (s .args .table)) (now (s .args .at)) (now (s .args .occupied)) (crossingOf (s .args .x)) (if1 .left) (c .before .before .before .before .before .before .before .if2 .left) (c .before .before .before .before .if3 .left) (c .before .before .before .if4 .left) (sym (c .before .is-in .ensures) ∙ not-true _ (c .if5 .taken))
+returns-3 : tie.Need-returns-3
+returns-3 c =
+    let if1 = c .before .before .before .before .before .before .before .before .if1 in
+    let s = c .before .before .before .before .before .before .before .before .before .before .before in
+    no-rail (now (s .args .table)) (now (s .args .at)) (now (s .args .occupied)) (crossingOf (s .args .x)) (if1 .left) (c .before .before .before .before .before .if2 .left) (s .pre .0) (s .pre .1) (sym (c .before .is-in .ensures) ∙ not-true _ (c .if3 .taken))
 
 element-copy-out-result : tie.Need-element-copy-out-result
 element-copy-out-result c = search needs
 
-returns-6 : tie.Need-returns-6
-returns-6 c =
-    let if2 = c .before .before .before .before .before .before .before .before .if2 in
-    let if1 = c .before .before .before .before .before .before .before .before .before .before .before .if1 in
-    let s = c .before .before .before .before .before .before .before .before .before .before .before .before .before .before in
-    by-the-mark (now (s .args .table)) (now (s .args .at)) (now (s .args .occupied)) (crossingOf (s .args .x)) (if1 .left) (if2 .left) (c .before .before .before .before .before .if3 .left) (c .before .before .before .before .if4 .left) (sym (c .before .before .is-in .ensures) ∙ not-false _ (c .before .if5 .left))
+returns-4 : tie.Need-returns-4
+returns-4 c =
+    let if1 = c .before .before .before .before .before .before .before .before .before .if1 in
+    let s = c .before .before .before .before .before .before .before .before .before .before .before .before in
+    by-the-mark (now (s .args .table)) (now (s .args .at)) (now (s .args .occupied)) (crossingOf (s .args .x)) (if1 .left) (c .before .before .before .before .before .before .if2 .left) (s .pre .0) (s .pre .1) (sym (c .before .before .is-in .ensures) ∙ not-false _ (c .before .if3 .left))
     _ refl
 
 pub is-legal-spec : {M : Type 1} → statement M
@@ -73,11 +66,9 @@ is-legal-spec =
     returns-2
     cast-from
     cast-to
-    returns-3
-    returns-4
     mul-is-in
     add-is-in
     is-in-requires
-    returns-5
+    returns-3
     element-copy-out-result
-    returns-6)
+    returns-4)

@@ -1,122 +1,32 @@
--- `replay::play` meets its contract. The walk of proofs/Walking; what the test of a crossing passes has its places in the placement and in the marks.
+-- `replay::play` meets its contract. The count of legal crossings tells which of the two answers it is.
 -- Assumes nothing.
-use mathlib.Core.Path.{_≡_, refl, sym, _∙_}
-use Prim.Native.Nat.{_≤_, _<_, _-_}
-use native.Mathlib.Omega.{arith}
 use borrow.Author.Needs.{needs}
-use borrow.Author.Tests.{not-true, not-false}
 use denote.Ref.{now}
-use lib.ListN.{length, length-set}
-use Rattle.paper.specs.Yard.{Yard}
-use Rattle.words.specs.Sets.{span}
-use Rattle.docket.specs.Reading.{crossingOf}
-use Rattle.replay.specs.Playing.{Standing}
-use Rattle.replay.proofs.Walking.{Walked, walked-start, walked-on, walked-illegal, walked-end}
+use lib.ListN.{length}
+use Rattle.replay.proofs.Walking.{legal-to-before, legal-to-end}
 use Rattle.replay.proofs.play.Statement.{statement}
 use Rattle.replay.proofs.play.Tie as tie
 
-abbrev Inv-loop : tie.InvT-loop
-Inv-loop table at₀ occupied₀ plan i₀ at occupied i =
-    (i ≤ length plan) × (length at ≡ length at₀) × ((Y : Yard) → Standing Y table at₀ occupied₀ → Walked Y table at₀ plan at occupied i)
+play-legal-requires : tie.Need-play-legal-requires
+play-legal-requires c κs = search needs
 
-abbrev μ-loop : tie.MeasureT-loop
-μ-loop table at₀ occupied₀ plan i₀ at occupied i = length plan - i
+same-length : tie.Need-same-length
+same-length c = search needs
 
-loop-holds : tie.Need-loop-holds Inv-loop μ-loop
-loop-holds c = (omega arith, refl, λ Y p. walked-start Y _ _ _ _ p)
-
-crossing-at-requires : tie.Need-crossing-at-requires Inv-loop μ-loop
-crossing-at-requires c κs = search needs
-
-is-legal-requires : tie.Need-is-legal-requires Inv-loop μ-loop
-is-legal-requires c κs = search needs
-
-same-length : tie.Need-same-length Inv-loop μ-loop
-same-length c = c .before .before .before .before .before .before .loop .inv .1
-
-returns : tie.Need-returns Inv-loop μ-loop
+returns : tie.Need-returns
 returns c =
-    let crossing-at = c .before .before .before .before .crossing-at in
-    let s = c .before .before .before .before .before .before .before .before .before in
-    let t = c .before .before .before .before .before .before .loop in
-    λ Y p. walked-illegal Y (now (s .args .table)) (now (s .args .at)) (now (s .args .plan)) (t .at) (t .occupied) (t .i) (t .inv .2 Y p) (c .before .before .before .before .before .loop-test .taken) (crossingOf (crossing-at .result)) (crossing-at .ensures)
-    (sym (c .before .is-legal .ensures .right Y (t .inv .2 Y p .stands)) ∙ not-true _ (c .if1 .taken)) (t .at)
+    let s = c .before .before .before .before .before .before .before .before in
+    let legal = c .before .before .before .play-legal in
+    λ Y p. rw (legal-to-before (legal .result) (length (now (s .args .plan))) (c .if1 .taken)) at (legal .ensures Y p)
 
-cast-carrier : tie.Need-cast-carrier Inv-loop μ-loop
-cast-carrier c = search needs
+same-length-2 : tie.Need-same-length-2
+same-length-2 c = search needs
 
-cast-from : tie.Need-cast-from Inv-loop μ-loop
-cast-from c = search needs
-
-cast-to : tie.Need-cast-to Inv-loop μ-loop
-cast-to c = search needs
-
--- what the test of the crossing at hand passes
-passes : (c : tie.After-struct-known3 Inv-loop μ-loop) → let x = crossingOf (c .before .before .before .before .before .before .before .crossing-at .result) in
-    (x .carrier < length (c .before .before .before .before .before .before .before .before .before .loop .at)) × (x .from < span) × (x .to < span)
-passes c = c .before .before .before .before .is-legal .ensures .fits (not-false _ (c .before .before .before .if1 .left))
-
-mul-at : tie.Need-mul-at Inv-loop μ-loop
-mul-at c = omega (arith, passes c)
-
-slice-write-at : tie.Need-slice-write-at Inv-loop μ-loop
-slice-write-at c = passes c .0
-
-element-write-occupied : tie.Need-element-write-occupied Inv-loop μ-loop
-element-write-occupied c = passes c .1
-
-element-write-occupied-2 : tie.Need-element-write-occupied-2 Inv-loop μ-loop
-element-write-occupied-2 c = passes c .2
-
-add-i : tie.Need-add-i Inv-loop μ-loop
-add-i c = search needs
-
-loop-less : tie.Need-loop-less Inv-loop μ-loop
-loop-less c = search needs
-
-loop-again : tie.Need-loop-again Inv-loop μ-loop
-loop-again c =
-    let loop-test = c .before .before .before .before .before .before .before .before .loop-test in
-    let s = c .before .before .before .before .before .before .before .before .before .before .before .before in
-    let t = c .before .before .before .before .before .before .before .before .before .loop in
-    let more = loop-test .taken in
-    let k = c .before .before .before .before .before .before .before .crossing-at in
-    let x = crossingOf (k .result) in (
-      omega (arith, more),
-      length-set (t .at) (x .carrier) (x .to) ∙ t .inv .1,
-      λ Y p. walked-on Y (now (s .args .table)) (now (s .args .at)) (now (s .args .plan)) (t .at) (t .occupied) (t .i) (t .inv .2 Y p) more x (k .ensures)
-          (sym (c .before .before .before .before .is-legal .ensures .right Y (t .inv .2 Y p .stands)) ∙ not-false _ (c .before .before .before .if1 .left)) (passes c .1) (passes c .2),
-    )
-
-same-length-2 : tie.Need-same-length-2 Inv-loop μ-loop
-same-length-2 c = c .before .loop .inv .1
-
-returns-2 : tie.Need-returns-2 Inv-loop μ-loop
+returns-2 : tie.Need-returns-2
 returns-2 c =
-    let s = c .before .before .before .before in
-    let t = c .before .loop in
-    λ Y p. walked-end Y (now (s .args .table)) (now (s .args .at)) (now (s .args .plan)) (t .at) (t .occupied) (t .i) (t .inv .2 Y p) (c .loop-test .left)
+    let s = c .before .before .before .before .before .before .before .before in
+    let legal = c .before .before .before .play-legal in
+    λ Y p. rw (legal-to-end (legal .result) (length (now (s .args .plan))) (c .if1 .left)) at (legal .ensures Y p)
 
 pub play-spec : {M : Type 1} → statement M
-play-spec =
-    tie.close
-    (tie.spec
-    Inv-loop
-    μ-loop
-    loop-holds
-    crossing-at-requires
-    is-legal-requires
-    same-length
-    returns
-    cast-carrier
-    cast-from
-    cast-to
-    mul-at
-    slice-write-at
-    element-write-occupied
-    element-write-occupied-2
-    add-i
-    loop-less
-    loop-again
-    same-length-2
-    returns-2)
+play-spec = tie.close (tie.spec play-legal-requires same-length returns same-length-2 returns-2)
