@@ -17,14 +17,12 @@ use docket::Crossing;
 use words::SPAN;
 use yard::Yard;
 
-// In a crossing's number, the bits that are 0 where both its bays are below SPAN.
-const FAR: u64 = 4278255360;
-
-// Whether one of a crossing's bays is SPAN or more: one test of its number for both.
+// Whether one of a crossing's bays is SPAN or more. Both are compared before either is asked about: the compiler makes one test of the two.
 fn is_far(number: u64) -> bool
     ensures { λ r. ⌜ r ≡ leb span (unpack number .from) or leb span (unpack number .to) ⌝ }
 {
-    number & FAR != 0
+    let x = docket::unpack(number);
+    (SPAN <= x.from.0 as usize) | (SPAN <= x.to.0 as usize)
 }
 
 // Whether a crossing between bays below SPAN is legal at the placement.
