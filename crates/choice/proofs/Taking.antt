@@ -1,7 +1,7 @@
 -- The bays of a set come rising. So the one held is the choice of all below the next, if it is replaced only by one with fewer rails.
 -- Assumes nothing.
 use mathlib.Core.Path.{_≡_, refl, sym, ap, _∙_}
-use mathlib.Core.Bool.{Bool, true, not}
+use mathlib.Core.Bool.{Bool, true, false, not}
 use mathlib.Core.List.{List}
 use mathlib.Core.Logic.{inl, inr, ⊎-elim}
 use Prim.Native.Nat.{ℕ, _+_, _*_, _/_, _%_, _≤_, _<_}
@@ -13,8 +13,9 @@ use Rattle.paper.specs.Basics.{_and_, In}
 use Rattle.paper.specs.Yard.{Bay, Yard, railsAt}
 use Rattle.paper.specs.Path.{Rather}
 use Rattle.paper.proofs.Choosing.{Chosen}
-use Rattle.paper.proofs.Tests.{not-both}
-use Rattle.words.specs.Sets.{on, mem, memRow, words, span, Lowest, Kept}
+use Rattle.paper.proofs.Tests.{by-cases, not-both}
+use Rattle.words.specs.Sets.{on, mem, memRow, words, span, anyBelow, Lowest, Kept}
+use Rattle.words.proofs.Besides.{anyBelow-of}
 use Rattle.words.proofs.Bits.{on-and}
 use Rattle.words.proofs.Loops.{Done}
 use Rattle.words.proofs.Sets.{mem-row, row-zero}
@@ -99,6 +100,15 @@ module _ (table set : List ℕ) where
     missing = λ k b m. l .before b (omega arith) (omega arith);
     before = λ k. absurd (omega arith);
   }
+
+-- no bay passes
+pub none-passes : (table : List ℕ) (f : ℕ → Bool) → anyBelow f span ≡ false → Taken table f span
+none-passes table f none = record {
+  upto = omega arith;
+  hit = λ h. absurd (omega arith);
+  missing = λ h b l. by-cases (f b) (λ e. not-both (anyBelow-of f span b l e) none) (λ e. e);
+  before = λ h. absurd (omega arith);
+}
 
 -- ## The bays of two rows
 

@@ -64,13 +64,17 @@ fn meet_rows(s: &[u64], a: usize, t: &[u64], b: usize, both: &mut [u64])
     }
 }
 
-// The choice among the bays that are in row a of s and in row b of t; SPAN where there is none.
+// The choice among the bays that are in row a of s and in row b of t; SPAN where there is none. Mostly there is none, which all words together tell
+// sooner than one after the other.
 pub fn common(table: &[u64], s: &[u64], a: usize, t: &[u64], b: usize) -> usize
     requires { ⌜
         (a * words + words ≤ length (now s)) × (b * words + words ≤ length (now t)) × Rowed (now table) (λ x. memRow (now s) a x and memRow (now t) b x)
         ⌝ }
     ensures { λ r. ⌜ Taken (now (table .entry)) (λ x. memRow (now (s .entry)) a x and memRow (now (t .entry)) b x) r ⌝ }
 {
+    if !words::meets(s, a, t, b) {
+        return words::SPAN;
+    }
     let mut both = [0u64; words::WORDS];
     meet_rows(s, a, t, b, &mut both);
     of_set(table, &both)
