@@ -1,5 +1,5 @@
--- The bays seen grow by all that rails join to the last ring. Where the last ring is empty they are closed, but for v, which is seen from the
--- start and never passed.
+-- Around each side of a junction the bays seen grow by all that rails join to the last ring. Where there is no further ring, and none of them is free,
+-- they are shut. What is not shut holds all that the empty bays and the two carriers reach.
 -- Assumes nothing.
 use mathlib.Core.Path.{_≡_, refl, sym, _∙_, ap}
 use mathlib.Core.Bool.{true, false, not}
@@ -12,12 +12,13 @@ use borrow.Author.Tests.{eqb-true, eqb-false, eq-eqb, ne-eqb, not-true, ltb-true
 use Rattle.paper.specs.Basics.{_and_, _or_}
 use Rattle.paper.specs.Yard.{Bay, joined}
 use Rattle.paper.proofs.Members.{count-high}
+use Rattle.paper.proofs.Rings.{joined-sym}
 use Rattle.paper.proofs.Tests.{by-cases, not-both, and-left, and-right, and-both, or-left, or-right, or-cases}
 use Rattle.words.specs.Sets.{mem, memRow, words, span, anyBelow, reaches, Lowest, Kept}
 use Rattle.words.proofs.Besides.{anyBelow-some, anyBelow-of}
-use Rattle.words.proofs.Sets.{zeros, row-zero}
+use Rattle.words.proofs.Sets.{zeros, row-zero, mem-zeros}
 use Rattle.rings.specs.Widening.{Widened}
-use Rattle.outlook.specs.Outlook.{SeenBeside, AtMostTwo, Charted, OutlookSays}
+use Rattle.outlook.specs.Outlook.{SeenBeside, AtMostTwo, Shut, Charted, OutlookSays}
 
 -- ## At most two
 
@@ -61,108 +62,145 @@ module _ (table seen near : List ℕ) (v : Bay) (f : (b : ℕ) → b < span → 
         let left : mem last i ≡ true = k i ∙ and-both _ _ (sym (row-zero fewer i) ∙ and-left _ _ there) (ap not e) in
         not-both (anyBelow-of _ span i (s .low) (and-both _ _ (row-zero last i ∙ left) (and-right _ _ there))) a))
 
--- ## Ring by ring
+-- ## A side, ring by ring
 
--- what was seen at first and what is seen now, and of it the last ring
-pub record Looking (n : ℕ) (v : Bay) (table start seen ring : List ℕ) : Type 0 where
-  pub stays : (b : ℕ) → b < span → mem start b ≡ true → mem seen b ≡ true
+-- what is seen around a side, and of it the last ring: it is closed but for that ring, and none of the rings before is free
+pub record Looking (n : ℕ) (v : Bay) (table free seen ring : List ℕ) : Type 0 where
+  pub holds : mem seen v ≡ true
   pub closed : (a b : ℕ) → a < span → b < span → mem seen a ≡ true → (a ≡ v → ⊥) → mem ring a ≡ false → memRow table a b ≡ true → mem seen b ≡ true
-  pub inside : (b : ℕ) → b < span → mem ring b ≡ true → b < n
+  pub none-free : (b : ℕ) → b < span → mem seen b ≡ true → (b ≡ v → ⊥) → mem ring b ≡ false → mem free b ≡ false
 
--- the empty bays and the two are seen at first
-pub record Wanted (n : ℕ) (u w : Bay) (empty start : List ℕ) : Type 0 where
-  pub empties : (b : ℕ) → b < n → mem empty b ≡ true → mem start b ≡ true
-  pub first : mem start u ≡ true
-  pub second : mem start w ≡ true
+-- the ring's bays are in the yard
+pub record Inside (n : ℕ) (ring : List ℕ) : Type 0 where
+  pub low : (b : ℕ) → b < span → mem ring b ≡ true → b < n
 
-pub rows : {n : ℕ} {v : Bay} {table start seen ring : List ℕ} → n * words ≤ length table → Looking n v table start seen ring
-    → (b : ℕ) → b < span → mem ring b ≡ true → b * words + words ≤ length table
-rows size l b h m = let k = l .inside b h m in omega arith
+pub rows : {n : ℕ} (table : List ℕ) {ring : List ℕ} → n * words ≤ length table → Inside n ring → (b : ℕ) → b < span → mem ring b ≡ true → b * words + words ≤ length table
+rows table size l b h m = let k = l .low b h m in omega arith
 
--- At first: the empty bays, then u and w, of which all but v are the ring; and v.
-module _ {n : ℕ} (most : n ≤ span) (v u w : Bay) (empty zero-1 start with-u with-w seen : List ℕ)
-    (k1 : Kept zero-1 0 empty start) (fu : (y : ℕ) → mem with-u y ≡ mem start y or eqb y u) (fw : (y : ℕ) → mem with-w y ≡ mem with-u y or eqb y w)
-    (fs : (y : ℕ) → mem seen y ≡ mem with-w y or eqb y v) where
-  started : (b : ℕ) → b < span → mem start b ≡ mem empty b
-  started b h = sym (row-zero start b) ∙ k1 .row b h
+pub inside-first : (n : ℕ) (x : Bay) (ring : List ℕ) → x < n → ((y : ℕ) → mem ring y ≡ eqb y x) → Inside n ring
+inside-first n x ring h f = record { low = λ b l m. rw (eqb-true b x (sym (f b) ∙ m)) h }
 
-  pub wanted-first : Wanted n u w empty seen
-  wanted-first = record {
-    empties = λ b h m. fs b ∙ or-left _ _ (fw b ∙ or-left _ _ (fu b ∙ or-left _ _ (started b (omega arith) ∙ m)));
-    first = fs u ∙ or-left _ _ (fw u ∙ or-left _ _ (fu u ∙ or-right _ _ (eq-eqb u u refl)));
-    second = fs w ∙ or-left _ _ (fw w ∙ or-right _ _ (eq-eqb w w refl));
-  }
+pub inside-more : {n : ℕ} {table seen ring seen′ ring′ : List ℕ} → Charted n table → Inside n ring → Widened table seen ring seen′ ring′ → Inside n ring′
+inside-more {table = table} {ring = ring} t l d = record {
+  low = λ b h m.
+      let r = anyBelow-some (reaches table ring b) span (and-left _ _ (sym (d .ringed b h) ∙ m)) in
+      let a = r .0 in
+      let ha = l .low a (r .1) (and-left _ _ (r .2)) in
+      t .joins .inside a b (sym (t .joins .same a b ha h) ∙ and-right _ _ (r .2)) .1;
+}
 
-  pub look-first : {table zero-2 ring₁ ring : List ℕ} {e : ℕ} → u < n → w < n → Lowest (mem empty) n span e → span ≤ e
-      → Kept zero-2 0 with-w ring₁ → ((y : ℕ) → mem ring y ≡ mem ring₁ y and not (eqb y v)) → Looking n v table seen seen ring
-  look-first {ring₁ = ring₁} hu hw low he k2 fr =
-      let ringed : (b : ℕ) → b < span → mem ring₁ b ≡ mem with-w b = λ b h. sym (row-zero ring₁ b) ∙ k2 .row b h in
+module _ {n : ℕ} {v : Bay} {table free : List ℕ} where
+  -- at first what is shut, and x, which is the ring
+  pub look-first : (x : Bay) (shut zero first seen ring : List ℕ) → v < span → Shut v table free shut → Kept zero 0 shut first
+      → ((y : ℕ) → mem seen y ≡ mem first y or eqb y x) → ((y : ℕ) → mem ring y ≡ eqb y x) → Looking n v table free seen ring
+  look-first x shut zero first seen ring hv s k f g =
+      let same : (b : ℕ) → b < span → mem first b ≡ mem shut b = λ b h. sym (row-zero first b) ∙ k .row b h in
+      let was : (b : ℕ) → b < span → mem seen b ≡ true → mem ring b ≡ false → mem shut b ≡ true =
+      λ b h m nr. sym (same b h) ∙ or-cases (mem first b) (eqb b x) (sym (f b) ∙ m) (λ i. i) (λ i. not-both (g b ∙ i) nr) in
       record {
-        stays = λ b h m. m;
-        closed = λ a b ha hb m na nr j.
-            let other : eqb a v ≡ false = ne-eqb a v na in
-            or-cases (mem with-w a) (eqb a v) (sym (fs a) ∙ m)
-            (λ i. not-both (fr a ∙ and-both _ _ (ringed a ha ∙ i) (ap not other)) nr)
-            (λ i. not-both i other);
-        inside = λ b h m.
-            let i : mem with-w b ≡ true = sym (ringed b h) ∙ and-left _ _ (sym (fr b) ∙ m) in
-            or-cases (mem with-u b) (eqb b w) (sym (fw b) ∙ i)
-            (λ i2. or-cases (mem start b) (eqb b u) (sym (fu b) ∙ i2)
-            (λ i3. by-cases (ltb b n)
-            (λ l. ltb-true b n l)
-            (λ l. not-both (sym (started b h) ∙ i3) (low .before b (ltb-false b n l) (omega arith))))
-            (λ i3. rw (eqb-true b u i3) hu))
-            (λ i2. rw (eqb-true b w i2) hw);
+        holds = f v ∙ or-left _ _ (same v hv ∙ s .holds);
+        closed = λ a b ha hb m na nr j. f b ∙ or-left _ _ (same b hb ∙ s .closed a b ha hb (was a ha m nr) na j);
+        none-free = λ b h m nb nr. s .none-free b h (was b h m nr) nb;
       }
 
-module _ {n : ℕ} {v : Bay} {table : List ℕ} (t : Charted n table) where
-  pub look-more : {first seen ring seen′ ring′ : List ℕ} → Looking n v table first seen ring → Widened table seen ring seen′ ring′ → Looking n v table first seen′ ring′
-  look-more {first} {seen} {ring} {seen′} {ring′} l d =
+  -- no bay of the last ring is free: one ring more
+  pub look-more : {seen ring seen′ ring′ : List ℕ} → v < span → Looking n v table free seen ring
+      → anyBelow (λ b. memRow ring 0 b and memRow free 0 b) span ≡ false → Widened table seen ring seen′ ring′ → Looking n v table free seen′ ring′
+  look-more {seen} {ring} {seen′} {ring′} hv l none d =
       let grows : (b : ℕ) → b < span → mem seen b ≡ true → mem seen′ b ≡ true = λ b h m. d .all-seen b h ∙ or-left _ _ m in
+      let was : (b : ℕ) → b < span → mem seen′ b ≡ true → mem ring′ b ≡ false → mem seen b ≡ true =
+      λ b h m nr. or-cases (mem seen b) (mem ring′ b) (sym (d .all-seen b h) ∙ m) (λ i. i) (λ i. not-both i nr) in
       record {
-        stays = λ b h m. grows b h (l .stays b h m);
+        holds = grows v hv (l .holds);
         closed = λ a b ha hb m na nr j.
-            let was : mem seen a ≡ true = or-cases (mem seen a) (mem ring′ a) (sym (d .all-seen a ha) ∙ m) (λ i. i) (λ i. not-both i nr) in
             by-cases (mem ring a)
             (λ i. by-cases (mem seen b)
             (λ k. grows b hb k)
             (λ k. d .all-seen b hb ∙ or-right _ _ (d .ringed b hb ∙ and-both _ _ (anyBelow-of (reaches table ring b) span a ha (and-both _ _ i j)) (ap not k))))
-            (λ i. grows b hb (l .closed a b ha hb was na i j));
-        inside = λ b h m.
-            let r = anyBelow-some (reaches table ring b) span (and-left _ _ (sym (d .ringed b h) ∙ m)) in
-            let a = r .0 in
-            let in-ring : mem ring a ≡ true = and-left _ _ (r .2) in
-            let ha : a < n = l .inside a (r .1) in-ring in
-            t .joins .inside a b (sym (t .joins .same a b ha h) ∙ and-right _ _ (r .2)) .1;
+            (λ i. grows b hb (l .closed a b ha hb (was a ha m nr) na i j));
+        none-free = λ b h m nb nr.
+            by-cases (mem ring b)
+            (λ i. by-cases (mem free b)
+            (λ o. not-both (anyBelow-of (λ b. memRow ring 0 b and memRow free 0 b) span b h (and-both _ _ (row-zero ring b ∙ i) (row-zero free b ∙ o))) none)
+            (λ o. o))
+            (λ i. l .none-free b h (was b h m nr) nb i);
       }
 
--- the last ring is empty, and no three neighbours of v are seen
-pub look-last : {n : ℕ} {v u w : Bay} {table empty start seen ring : List ℕ} → n ≤ span → u < n → w < n → Wanted n u w empty start
-    → Looking n v table start seen ring → not (anyBelow (mem ring) span) ≡ true → AtMostTwo table seen v → OutlookSays n v u w table empty
-look-last {n} {v} {u} {w} {table} {empty} {start} {seen} {ring} most hu hw a l e few Y joins p same =
-    let without-v : (b : ℕ) → mem seen b ≡ true → (b ≡ v → ⊥) → mem seen b and not (eqb b v) ≡ true =
-    λ b m nv. and-both _ _ m (ap not (ne-eqb b v nv)) in
-    let ring-empty : (b : ℕ) → b < span → mem ring b ≡ false =
-    λ b h. by-cases (mem ring b) (λ m. not-both (anyBelow-of (mem ring) span b h m) (not-true (anyBelow (mem ring) span) e)) (λ m. m) in
+  -- there is no further ring: all that was seen is shut
+  pub look-last : {seen ring shut shut′ : List ℕ} → v < span → Looking n v table free seen ring → not (anyBelow (mem ring) span) ≡ true
+      → Kept shut 0 seen shut′ → Shut v table free shut′
+  look-last {seen} {ring} {shut} {shut′} hv l e k =
+      let same : (b : ℕ) → b < span → mem shut′ b ≡ mem seen b = λ b h. sym (row-zero shut′ b) ∙ k .row b h in
+      let over : (b : ℕ) → b < span → mem ring b ≡ false =
+      λ b h. by-cases (mem ring b) (λ m. not-both (anyBelow-of (mem ring) span b h m) (not-true (anyBelow (mem ring) span) e)) (λ m. m) in
+      record {
+        holds = same v hv ∙ l .holds;
+        closed = λ a b ha hb m na j. same b hb ∙ l .closed a b ha hb (sym (same a ha) ∙ m) na (over a ha) j;
+        none-free = λ b h m nb. l .none-free b h (sym (same b h) ∙ m) nb (over b h);
+      }
+
+-- ## All sides
+
+-- the sides are bays of the yard
+pub side-inside : (n : ℕ) (v x : Bay) (table sides : List ℕ) → Charted n table → v < n → ((b : ℕ) → b < span → mem sides b ≡ mem (zeros words) b or memRow table v b)
+    → x < span → mem sides x ≡ true → x < n
+side-inside n v x table sides t hv f h m =
+    or-cases (mem (zeros words) x) (memRow table v x) (sym (f x h) ∙ m)
+    (λ i. not-both i (mem-zeros words x))
+    (λ i. t .joins .inside v x (sym (t .joins .same v x hv h) ∙ i) .1)
+
+-- v alone is shut at first
+pub shut-first : {v : Bay} {table free shut : List ℕ} → ((y : ℕ) → mem shut y ≡ eqb y v) → Shut v table free shut
+shut-first {v} {table} {free} {shut} f =
+    let only : (b : ℕ) → mem shut b ≡ true → b ≡ v = λ b m. eqb-true b v (sym (f b) ∙ m) in
     record {
-      reached = λ b. mem seen b and not (eqb b v);
-      empties = λ b i o nv.
+      holds = f v ∙ eq-eqb v v refl;
+      closed = λ a b ha hb m na j. absurd (na (only a m));
+      none-free = λ b h m nb. absurd (nb (only b m));
+    }
+
+-- the empty bays and the two are free
+pub record Free (n : ℕ) (u w : Bay) (empty free : List ℕ) : Type 0 where
+  pub empties : (b : ℕ) → b < n → mem empty b ≡ true → mem free b ≡ true
+  pub first : mem free u ≡ true
+  pub second : mem free w ≡ true
+
+pub free-first : (n : ℕ) (u w : Bay) (empty zero start with-u free : List ℕ) → n ≤ span → Kept zero 0 empty start
+    → ((y : ℕ) → mem with-u y ≡ mem start y or eqb y u) → ((y : ℕ) → mem free y ≡ mem with-u y or eqb y w) → Free n u w empty free
+free-first n u w empty zero start with-u free most k fu fw = record {
+  empties = λ b h m. fw b ∙ or-left _ _ (fu b ∙ or-left _ _ (sym (row-zero start b) ∙ k .row b (omega arith) ∙ m));
+  first = fw u ∙ or-left _ _ (fu u ∙ or-right _ _ (eq-eqb u u refl));
+  second = fw w ∙ or-right _ _ (eq-eqb w w refl);
+}
+
+-- no three of v's sides are left when those that are shut have gone
+pub blocked-by : (n : ℕ) (v u w : Bay) (table empty free shut sides left zero : List ℕ) → n ≤ span → u < n → w < n → Free n u w empty free
+    → Shut v table free shut → ((b : ℕ) → b < span → mem sides b ≡ mem zero b or memRow table v b)
+    → ((b : ℕ) → mem left b ≡ mem sides b and not (mem shut b)) → AtMostTwo table left v → OutlookSays n v u w table empty
+blocked-by n v u w table empty free shut sides left zero most hu hw o s fs fl few Y joins p same =
+    let not-shut : (b : ℕ) → b < span → mem free b ≡ true → (b ≡ v → ⊥) → not (mem shut b) ≡ true =
+    λ b h m nb. by-cases (mem shut b) (λ i. not-both m (s .none-free b h i nb)) (λ i. ap not i) in
+    record {
+      reached = λ b. not (mem shut b);
+      empties = λ b i out nv.
           let z = count-high 0 (Y .bays) b i in
           let h : b < n = omega (arith, joins .bays) in
-          without-v b (l .stays b (omega arith) (a .empties b h (same b h ∙ ap not o))) nv;
-      first = λ nv. without-v u (l .stays u (omega arith) (a .first)) nv;
-      second = λ nv. without-v w (l .stays w (omega arith) (a .second)) nv;
-      closed = λ c b m j nv.
-          let k = joins .inside c b j in
-          let not-v : c ≡ v → ⊥ = eqb-false c v (not-true (eqb c v) (and-right _ _ m)) in
+          not-shut b (omega arith) (o .empties b h (same b h ∙ ap not out)) nv;
+      first = λ nv. not-shut u (omega arith) (o .first) nv;
+      second = λ nv. not-shut w (omega arith) (o .second) nv;
+      closed = λ a b m j nv.
+          let k = joins .inside a b j in
+          let ha : a < span = omega (arith, k .0) in
           let hb : b < span = omega (arith, k .1) in
-          let hc : c < span = omega (arith, k .0) in
-          without-v b (l .closed c b hc hb (and-left _ _ m) not-v (ring-empty c hc) (joins .same c b (k .0) hb ∙ j)) nv;
+          by-cases (mem shut b)
+          (λ i. not-both (s .closed b a hb ha i nv (joins .same b a (k .1) ha ∙ joined-sym Y a b j)) (not-true (mem shut a) m))
+          (λ i. ap not i);
       few = λ x y z xy xz yz jx jy jz rx ry rz.
-          let beside : (b : ℕ) → joined Y v b ≡ true → mem seen b and not (eqb b v) ≡ true → SeenBeside table seen v b =
+          let beside : (b : ℕ) → joined Y v b ≡ true → not (mem shut b) ≡ true → SeenBeside table left v b =
           λ b j m.
           let k = joins .inside v b j in
           let hb : b < span = omega (arith, k .1) in
-          record { low = hb; joins = joins .same v b (k .0) hb ∙ j; is-seen = and-left _ _ m } in
+          let there = joins .same v b (k .0) hb ∙ j in
+          record { low = hb; joins = there; is-seen = fl b ∙ and-both _ _ (fs b hb ∙ or-right _ _ there) m } in
           few x y z xy xz yz (beside x jx rx) (beside y jy ry) (beside z jz rz);
     }

@@ -21,6 +21,12 @@ abbrev pub AtMostTwo : (table seen : List ℕ) (v : Bay) → Type 0
 AtMostTwo table seen v =
     (x y z : Bay) → (x ≡ y → ⊥) → (x ≡ z → ⊥) → (y ≡ z → ⊥) → SeenBeside table seen v x → SeenBeside table seen v y → SeenBeside table seen v z → ⊥
 
+-- The bays that are shut: with each of them, but for v, all that rails join to it, and none of them, but for v, is free.
+pub record Shut (v : Bay) (table free shut : List ℕ) : Type 0 where
+  pub holds : mem shut v ≡ true
+  pub closed : (a b : Bay) → a < span → b < span → mem shut a ≡ true → (a ≡ v → ⊥) → memRow table a b ≡ true → mem shut b ≡ true
+  pub none-free : (b : Bay) → b < span → mem shut b ≡ true → (b ≡ v → ⊥) → mem free b ≡ false
+
 -- the table is that of some yard
 pub record Charted (n : ℕ) (table : List ℕ) : Type 0 where
   pub yard : Yard
@@ -35,6 +41,20 @@ pub record ThreeAsks (table seen : List ℕ) (v : Bay) : Type 0 where
 
 pub record ThreeSays (table seen : List ℕ) (v : Bay) (z : Bool) : Type 0 where
   pub few : z ≡ false → AtMostTwo table seen v
+
+-- a bay of a yard that the table shows
+pub record SideAsks (n : ℕ) (x : Bay) (table free shut : List ℕ) : Type 0 where
+  pub most : n ≤ span
+  pub table-size : n * words ≤ length table
+  pub free-size : length free ≡ words
+  pub shut-size : length shut ≡ words
+  pub inside : x < n
+  pub charted : Charted n table
+
+-- whatever junction they were shut for, they are still, and maybe more
+pub record SideSays (table free shut shut′ : List ℕ) (r : ℕ) : Type 0 where
+  pub most : r ≤ 1
+  pub stays : (v : Bay) → v < span → Shut v table free shut → Shut v table free shut′
 
 -- three bays of a yard that the table shows
 pub record OutlookAsks (n : ℕ) (v u w : Bay) (table empty : List ℕ) : Type 0 where
