@@ -2,17 +2,13 @@
 // are reached or there is no further ring.
 use docket::Bay;
 ghost use mathlib.Core.Path.{_≡_};
-ghost use mathlib.Core.Bool.{true, false};
-ghost use Prim.Native.Nat.{_+_, _*_, _≤_, _<_};
-ghost use lib.ListN.{length};
-ghost use Rattle.words.specs.Sets.{words, span};
-ghost use Rattle.outlook.specs.Outlook.{AtMostTwo, OutlookAsks, OutlookSays};
+ghost use mathlib.Core.Bool.{true};
+ghost use Rattle.outlook.specs.Outlook.{ThreeAsks, ThreeSays, OutlookAsks, OutlookSays};
 
 // Whether three neighbours of bay v are in the set.
 fn has_three(table: &[u64], v: Bay, seen: &[u64]) -> bool
-    requires { ⌜ v .0 * words + words ≤ length (now table) ⌝ }
-    requires { ⌜ length (now seen) ≡ words ⌝ }
-    ensures { λ z. ⌜ (z ≡ false → AtMostTwo (now (table .entry)) (now (seen .entry)) (v .0)) ⌝ }
+    requires { ⌜ ThreeAsks (now table) (now seen) (v .0) ⌝ }
+    ensures { λ z. ⌜ ThreeSays (now (table .entry)) (now (seen .entry)) (v .0) z ⌝ }
 {
     let mut near = [0u64; words::WORDS];
     words::join_row(&mut near, table, v.0 as usize);

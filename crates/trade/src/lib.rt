@@ -1,14 +1,12 @@
 // Two carriers trade places: what a swap comes to, in the placement and in what stands at each bay.
 use docket::Carrier;
-ghost use mathlib.Core.Path.{_≡_};
-ghost use Rattle.trade.specs.Trading.{placementTraded, standingTraded, TradeAsks};
+ghost use Rattle.trade.specs.Trading.{TradeAsks, TradeSays};
 
 // Carriers r and s trade places.
 pub fn trade(placement: &mut [u16], standing: &mut [u16], r: Carrier, s: Carrier)
     requires { ⌜ TradeAsks (r .0) (s .0) (now placement) (now standing) ⌝ }
     ensures { λ _. ⌜
-        (now (placement .exit) ≡ placementTraded (r .0) (s .0) (now (placement .entry)))
-        × (now (standing .exit) ≡ standingTraded (r .0) (s .0) (now (placement .entry)) (now (standing .entry)))
+        TradeSays (r .0) (s .0) (now (placement .entry)) (now (standing .entry)) (now (placement .exit)) (now (standing .exit))
         ⌝ }
 {
     let first = r.0 as usize;

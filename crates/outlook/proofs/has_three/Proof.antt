@@ -22,7 +22,7 @@ lowest-common-requires : tie.Need-lowest-common-requires
 lowest-common-requires c κs = search needs
 
 returns : tie.Need-returns
-returns c = λ e. none-found _ _ _ _ (c .before .before .before .before .join-row .ensures) _ (c .before .lowest-common .ensures) (c .if1 .taken)
+returns c = record { few = λ e. none-found _ _ _ _ (c .before .before .before .before .join-row .ensures) _ (c .before .lowest-common .ensures) (c .if1 .taken) }
 
 slice-aggregate-remove : tie.Need-slice-aggregate-remove
 slice-aggregate-remove c = search needs
@@ -39,7 +39,7 @@ lowest-common-requires-2 c κs = search needs
 returns-2 : tie.Need-returns-2
 returns-2 c =
     let join-row = c .before .before .before .before .before .before .before .before .before .before .join-row in
-    λ e. one-found _ _ _ _ (join-row .ensures) _ _ (c .before .before .before .before .remove .ensures) _ (c .before .lowest-common2 .ensures) (c .if2 .taken)
+    record { few = λ e. one-found _ _ _ _ (join-row .ensures) _ _ (c .before .before .before .before .remove .ensures) _ (c .before .lowest-common2 .ensures) (c .if2 .taken) }
 
 slice-aggregate-remove-2 : tie.Need-slice-aggregate-remove-2
 slice-aggregate-remove-2 c = search needs
@@ -57,7 +57,7 @@ returns-3 : tie.Need-returns-3
 returns-3 c =
     let remove = c .before .before .before .before .before .before .before .before .before .remove in
     let join-row = c .before .before .before .before .before .before .before .before .before .before .before .before .before .before .before .join-row in
-    λ e. two-found _ _ _ _ (join-row .ensures) _ _ (remove .ensures) _ _ (c .before .before .before .remove2 .ensures) (sym (c .meets .ensures) ∙ e)
+    record { few = λ e. two-found _ _ _ _ (join-row .ensures) _ _ (remove .ensures) _ _ (c .before .before .before .remove2 .ensures) (sym (c .meets .ensures) ∙ e) }
 
 pub has-three-spec : {M : Type 1} → statement M
 has-three-spec =

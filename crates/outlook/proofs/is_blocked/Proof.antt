@@ -38,7 +38,7 @@ cast-join c = search needs
 join-requires : tie.Need-join-requires Inv-loop μ-loop
 join-requires c κs =
     let start = c .before .before .before .before .before .before .before .before .before in
-    let q = start .pre in (search needs, omega (arith, q .0, q .4))
+    let q = start .pre in (search needs, omega (arith, q .most, q .first-inside))
 
 slice-aggregate-join-2 : tie.Need-slice-aggregate-join-2 Inv-loop μ-loop
 slice-aggregate-join-2 c = search needs
@@ -49,7 +49,7 @@ cast-join-2 c = search needs
 join-requires-2 : tie.Need-join-requires-2 Inv-loop μ-loop
 join-requires-2 c κs =
     let start = c .before .before .before .before .before .before .before .before .before .before .before .before .before in
-    let q = start .pre in (search needs, omega (arith, q .0, q .5))
+    let q = start .pre in (search needs, omega (arith, q .most, q .second-inside))
 
 slice-aggregate-keep-2 : tie.Need-slice-aggregate-keep-2 Inv-loop μ-loop
 slice-aggregate-keep-2 c = search needs
@@ -69,7 +69,7 @@ cast-remove c = search needs
 remove-requires : tie.Need-remove-requires Inv-loop μ-loop
 remove-requires c κs =
     let start = c .before .before .before .before .before .before .before .before .before .before .before .before .before .before .before .before .before .before .before .before .before in
-    let q = start .pre in omega (arith, q .3, q .0, c .before .before .before .keep2 .kept .0)
+    let q = start .pre in omega (arith, q .junction-inside, q .most, c .before .before .before .keep2 .kept .0)
 
 slice-aggregate-join-3 : tie.Need-slice-aggregate-join-3 Inv-loop μ-loop
 slice-aggregate-join-3 c = search needs
@@ -80,7 +80,7 @@ cast-join-3 c = search needs
 join-requires-3 : tie.Need-join-requires-3 Inv-loop μ-loop
 join-requires-3 c κs =
     let start = c .before .before .before .before .before .before .before .before .before .before .before .before .before .before .before .before .before .before .before .before .before .before .before .before .before in
-    let q = start .pre in (search needs, omega (arith, q .0, q .3))
+    let q = start .pre in (search needs, omega (arith, q .most, q .junction-inside))
 
 loop-holds : tie.Need-loop-holds Inv-loop μ-loop
 loop-holds c =
@@ -91,7 +91,7 @@ loop-holds c =
     let if1 = c .before .before .before .before .before .before .before .before .before .before .before .before .before .before .before .before .before .before .before .before .before .before .before .if1 in
     let next-from = c .before .before .before .before .before .before .before .before .before .before .before .before .before .before .before .before .before .before .before .before .before .before .before .before .next-from in
     let start = c .before .before .before .before .before .before .before .before .before .before .before .before .before .before .before .before .before .before .before .before .before .before .before .before .before .before .before in
-    let q = start .pre in (search needs, search needs, omega arith, look-first (q .0) _ _ _ _ _ _ _ _ _ (keep .ensures) (join .ensures) (join2 .ensures) (c .before .join3 .ensures) (q .4) (q .5) (next-from .ensures) (if1 .left) (keep2 .ensures) (c .before .before .before .before .before .remove .ensures))
+    let q = start .pre in (search needs, search needs, omega arith, look-first (q .most) _ _ _ _ _ _ _ _ _ (keep .ensures) (join .ensures) (join2 .ensures) (c .before .join3 .ensures) (q .first-inside) (q .second-inside) (next-from .ensures) (if1 .left) (keep2 .ensures) (c .before .before .before .before .before .remove .ensures))
 
 slice-aggregate-has-three : tie.Need-slice-aggregate-has-three Inv-loop μ-loop
 slice-aggregate-has-three c = search needs
@@ -99,7 +99,7 @@ slice-aggregate-has-three c = search needs
 has-three-requires : tie.Need-has-three-requires Inv-loop μ-loop
 has-three-requires c κs =
     let start = c .before .before .before .before .before .before .before .before .before .before .before .before .before .before .before .before .before .before .before .before .before .before .before .before .before .before .before .before .before .before in
-    let q = start .pre in (omega (arith, q .1, q .3), c .before .before .loop .inv .0)
+    let q = start .pre in record { row = omega (arith, q .table-size, q .junction-inside); seen-size = c .before .before .loop .inv .0 }
 
 returns-2 : tie.Need-returns-2 Inv-loop μ-loop
 returns-2 c = λ e. not-both e refl
@@ -117,7 +117,7 @@ returns-3 c =
     let join = c .before .before .before .before .before .before .before .before .before .before .before .before .before .before .before .before .before .before .before .before .before .before .before .before .before .join in
     let keep = c .before .before .before .before .before .before .before .before .before .before .before .before .before .before .before .before .before .before .before .before .before .before .before .before .before .before .before .before .before .keep in
     let start = c .before .before .before .before .before .before .before .before .before .before .before .before .before .before .before .before .before .before .before .before .before .before .before .before .before .before .before .before .before .before .before .before .before .before .before in
-    let q = start .pre in λ e. look-last (q .0) (q .4) (q .5) (wanted-first (q .0) _ _ _ _ _ _ _ _ _ (keep .ensures) (join .ensures) (join2 .ensures) (join3 .ensures)) (c .before .before .before .before .before .before .before .loop .inv .3) (sym (c .before .is-empty .ensures) ∙ c .if3 .taken) (c .before .before .before .before .has-three .ensures (c .before .before .before .if2 .left))
+    let q = start .pre in λ e. look-last (q .most) (q .first-inside) (q .second-inside) (wanted-first (q .most) _ _ _ _ _ _ _ _ _ (keep .ensures) (join .ensures) (join2 .ensures) (join3 .ensures)) (c .before .before .before .before .before .before .before .loop .inv .3) (sym (c .before .is-empty .ensures) ∙ c .if3 .taken) (c .before .before .before .before .has-three .ensures .few (c .before .before .before .if2 .left))
 
 slice-aggregate-widen : tie.Need-slice-aggregate-widen Inv-loop μ-loop
 slice-aggregate-widen c = search needs
@@ -129,13 +129,13 @@ widen-requires : tie.Need-widen-requires Inv-loop μ-loop
 widen-requires c κs =
     let loop = c .before .before .before .before .before .before .before .before .before .loop in
     let start = c .before .before .before .before .before .before .before .before .before .before .before .before .before .before .before .before .before .before .before .before .before .before .before .before .before .before .before .before .before .before .before .before .before .before .before .before .before in
-    let l = loop .inv in (l .0, l .1, rows (start .pre .1) (l .3))
+    let l = loop .inv in (l .0, l .1, rows (start .pre .table-size) (l .3))
 
 add-d : tie.Need-add-d Inv-loop μ-loop
 add-d c =
     let loop-test = c .before .before .before .before .before .before .before .before .before .before .before .loop-test in
     let start = c .before .before .before .before .before .before .before .before .before .before .before .before .before .before .before .before .before .before .before .before .before .before .before .before .before .before .before .before .before .before .before .before .before .before .before .before .before .before .before .before in
-    omega (arith, loop-test .taken, start .pre .0)
+    omega (arith, loop-test .taken, start .pre .most)
 
 loop-less : tie.Need-loop-less Inv-loop μ-loop
 loop-less c = search needs
@@ -144,7 +144,7 @@ loop-again : tie.Need-loop-again Inv-loop μ-loop
 loop-again c =
     let loop = c .before .before .before .before .before .before .before .before .before .before .before .before .loop in
     let start = c .before .before .before .before .before .before .before .before .before .before .before .before .before .before .before .before .before .before .before .before .before .before .before .before .before .before .before .before .before .before .before .before .before .before .before .before .before .before .before .before in
-    let l = loop .inv in (search needs, search needs, omega arith, look-more (start .pre .6) (l .3) (c .before .before .widen .ensures))
+    let l = loop .inv in (search needs, search needs, omega arith, look-more (start .pre .charted) (l .3) (c .before .before .widen .ensures))
 
 returns-4 : tie.Need-returns-4 Inv-loop μ-loop
 returns-4 c = λ e. not-both e refl

@@ -68,7 +68,7 @@ same-length-2 c = search needs
 
 returns : tie.Need-returns
 unfolding traded
-returns c = (refl, refl)
+returns c = record { moved = refl; stands = refl }
 
 pub trade-spec : {M : Type 1} → statement M
 trade-spec =
