@@ -26,10 +26,10 @@ use Rattle.acting.specs.declared.Tally.{Tally}
 use Rattle.acting.specs.declared.Tried.{Tried}
 use Rattle.clear_on.specs.Going.{Logged, Attempts}
 use Rattle.trial.proofs.Attempting.{attempts-none, attempts-some}
-use Rattle.trial.specs.Trying.{Near}
+use Rattle.trial.specs.Trying.{Beside, Near}
 use Rattle.trial.proofs.Copying.{freeShown}
 use Rattle.acting.specs.declared.Tried.the-variants.{Done, Failed}
-use Rattle.near.specs.Seeking.{Beside, fitting, TriedAt, near-rings, NoneNear}
+use Rattle.near.specs.Seeking.{fitting, TriedAt, near-rings, NoneNear}
 
 first-found : (Y : Yard) (r s : Carrier) (p : Placement) (l : List Bay)
     → firstOf (λ v. trial Y r s v p) (filter (junction Y) l) ≡ (find (fitting Y r s p) l >>= λ v. trial Y r s v p)

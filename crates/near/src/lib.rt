@@ -6,37 +6,29 @@ use docket::Carrier;
 use trial::Trial;
 ghost use mathlib.Core.Path.{_≡_};
 ghost use mathlib.Core.Bool.{true};
-ghost use Prim.Native.Nat.{min, _<_};
-ghost use lib.ListN.{length};
+ghost use Prim.Native.Nat.{min};
 ghost use Rattle.acting.specs.Acting.{Ready};
+ghost use Rattle.trial.specs.Trying.{TrialAsks};
 ghost use Rattle.near.specs.Seeking.{near-rings, SurelyFails, TryJunctionSays, NearAsks, NearSays};
 
 // So many rings are near, the carrier's own bay being the first. Farther on it pays to go ahead of the trials.
 pub const NEAR: usize = 8;
 
-// Whether the trial at v, which is not r's own bay, is bound to fail: v is blocked.
+// Whether the trial, which is not at the carrier's own bay, is bound to fail: its junction is blocked.
 fn surely_fails(
     table: &[u64],
-    v: Bay,
-    r: Carrier,
-    s: Carrier,
+    trial: Trial,
     placement: &[u16],
     standing: &[u16],
     empty: &[u64],
 ) -> bool
     requires { ⌜ Ready (now table) (now placement) (now standing) (now empty) ⌝ }
-    requires { ⌜
-        (r .0 < length (now placement))
-        × (s .0 < length (now placement))
-        × (s .0 ≡ r .0 → ⊥)
-        × (v .0 < length (now standing))
-        ⌝ }
-    ensures { λ z. ⌜
-        (z ≡ true → SurelyFails (r .0) (s .0) (v .0) (now (table .entry)) (now (placement .entry)) (now (standing .entry)))
-        ⌝ }
+    requires { ⌜ TrialAsks trial (now placement) (now standing) ⌝ }
+    ensures { λ z. ⌜ (z ≡ true → SurelyFails trial (now (table .entry)) (now (placement .entry)) (now (standing .entry))) ⌝ }
 {
-    let first = r.0 as usize;
-    let second = s.0 as usize;
+    let v = trial.junction;
+    let first = trial.carrier.0 as usize;
+    let second = trial.neighbour.0 as usize;
     let u = Bay(placement[first]);
     let w = Bay(placement[second]);
     if u.0 == v.0 {
@@ -45,40 +37,28 @@ fn surely_fails(
     outlook::is_blocked(table, standing.len(), v, u, w, empty)
 }
 
-// The trial at v, if v is a junction.
+// The trial, if its bay is a junction.
 fn try_junction(
     table: &[u64],
-    v: Bay,
-    r: Carrier,
-    s: Carrier,
+    trial: Trial,
     placement: &[u16],
     standing: &[u16],
     empty: &[u64],
     out: &mut [u64],
 ) -> Tried
     requires { ⌜ Ready (now table) (now placement) (now standing) (now empty) ⌝ }
-    requires { ⌜
-        (r .0 < length (now placement))
-        × (s .0 < length (now placement))
-        × (s .0 ≡ r .0 → ⊥)
-        × (v .0 < length (now standing))
-        ⌝ }
+    requires { ⌜ TrialAsks trial (now placement) (now standing) ⌝ }
     ensures { λ z. ⌜
-        TryJunctionSays (r .0) (s .0) (v .0)
+        TryJunctionSays trial
         (now (table .entry)) (now (placement .entry)) (now (standing .entry)) (now (out .exit)) z
         ⌝ }
 {
     let n = standing.len();
-    if acting::is_junction(table, n, v) {
-        if surely_fails(table, v, r, s, placement, standing, empty) {
+    if acting::is_junction(table, n, trial.junction) {
+        if surely_fails(table, trial, placement, standing, empty) {
             return Tried::Failed;
         }
-        let here = Trial {
-            carrier: r,
-            neighbour: s,
-            junction: v,
-        };
-        return trial::try_at(table, here, placement, standing, empty, out);
+        return trial::try_at(table, trial, placement, standing, empty, out);
     }
     Tried::Failed
 }
@@ -123,8 +103,12 @@ pub fn seek_near(
         }
         let mut v = words::next_from(&ring, 0);
         while v < words::SPAN {
-            let bay = Bay(v as u16);
-            let tried = try_junction(table, bay, r, s, placement, standing, empty, out);
+            let here = Trial {
+                carrier: r,
+                neighbour: s,
+                junction: Bay(v as u16),
+            };
+            let tried = try_junction(table, here, placement, standing, empty, out);
             if let Tried::Done(m) = tried {
                 break 'nearest Tried::Done(m);
             }

@@ -11,10 +11,11 @@ use Rattle.paper.specs.Yard.{bayOf}
 use Rattle.words.specs.Sets.{mem, words, span}
 use Rattle.words.proofs.Sets.{zeros, mem-zeros}
 use Rattle.paper.proofs.Tests.{never}
-use Rattle.near.specs.Seeking.{Beside, near-rings}
+use Rattle.near.specs.Seeking.{near-rings}
 use Rattle.rings.proofs.Searching.{Widening, widening-first, widening-more, widening-rows}
 use Rattle.acting.specs.Acting.{Tabled}
 use Rattle.acting.specs.declared.Tried.the-variants.{Done, Failed}
+use Rattle.trial.specs.Trying.{Beside}
 use Rattle.trial.proofs.Copying.{freeShown}
 use Rattle.near.proofs.Seeking.{Sought, sought-first, sought-found, none-near, sought-start, sought-more, sought-next, reached-from, ring-low, near-of, swap-some}
 use Rattle.near.proofs.seek_near.Statement.{statement}
@@ -117,7 +118,7 @@ try-junction-requires c κs =
     let hu = p .placed .inside (a .r .0) (z .first) in
     let h = c .before .loop-test .taken in
     let i = sym (c .before .before .before .before .before .before .nearest .inv .4 (p .tabled) (c .before .before .before .before .before .if1 .left) .ringing _ h) ∙ c .before .before .loop .inv .2 h in
-    (p, (z .first, z .second, z .differ, ring-low (p .tabled) (a .r .0) (a .s .0) (a .placement .now) (p .most) hu _ _ i))
+    (p, record { first = z .first; second = z .second; differ = z .differ; inside = ring-low (p .tabled) (a .r .0) (a .s .0) (a .placement .now) (p .most) hu _ _ i })
 
 enum-known-tried : tie.Need-enum-known-tried Inv-loop μ-loop Inv-nearest μ-nearest
 enum-known-tried c = search needs
@@ -160,7 +161,7 @@ loop-again c =
           let same = nearest .inv .4 t (if1 .left) .ringing in
           let i = sym (same _ h) ∙ loop .inv .2 h in
           let near = near-of b (reached-from t (a .r .0) (a .s .0) (a .placement .now) (p .most) hu _ _ i) in
-          sought-more t _ _ _ (p .most) hu _ _ same _ _ (loop .inv .3 t b) (try-junction .ensures .1 t near .fails e) l,
+          sought-more t _ _ _ (p .most) hu _ _ same _ _ (loop .inv .3 t b) (try-junction .ensures .tried t near .fails e) l,
     )
 
 slice-aggregate-widen : tie.Need-slice-aggregate-widen Inv-loop μ-loop Inv-nearest μ-nearest
@@ -231,11 +232,11 @@ returns-2 c =
     let h = c .before .before .before .before .before .before .before .loop-test .taken in
     let e : try-junction .result ≡ Done (c .before .tried .given .0 .0) = c .before .tried .given .1 in
     record {
-      few = rw e at (try-junction .ensures .0);
+      few = rw e at (try-junction .ensures .few);
       found = λ m same t b.
           let i = sym (nearest .inv .4 t (if1 .left) .ringing _ h) ∙ loop .inv .2 h in
           let near = near-of b (reached-from t (a .r .0) (a .s .0) (a .placement .now) (p .most) hu _ _ i) in
-          let w = try-junction .ensures .1 t near in
+          let w = try-junction .ensures .tried t near in
           let it : try-junction .result ≡ Done m = e ∙ same in
           swap-some _ _ _ _ (sought-found t _ _ _ _ _ (loop .inv .3 t b) i (w .fits _ e)) (w .logged m it);
       missed = λ f. never (cc);
