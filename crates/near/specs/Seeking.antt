@@ -19,6 +19,8 @@ use Rattle.acting.specs.declared.Tried.the-variants.{Done, Failed}
 use Rattle.clear_on.specs.Going.{Logged, Attempts}
 use Rattle.trial.specs.Trying.{Beside, SideBySide, Nears, tries}
 use Rattle.trial.specs.declared.Trial.{Trial}
+use Rattle.near.specs.declared.Nearby.{Nearby}
+use Rattle.near.specs.declared.Nearby.the-variants.{Found, Farther, Nowhere}
 
 -- v is a junction whose trial succeeds
 unfoldable pub fitting : Yard → Carrier → Carrier → Placement → Bay → Bool
@@ -68,8 +70,9 @@ pub record NearAsks (r s : Carrier) (p : List ℕ) : Type 0 where
   pub second : s < length p
   pub differ : s ≡ r → ⊥
 
--- the trial that is the paper's swap, or that none near succeeds
-pub record NearSays (r s : Carrier) (table p standing log : List ℕ) (z : Tried) : Type 0 where
-  pub few : Within nothing swap-most z
-  pub found : (m : Tally) → z ≡ Done m → (t : Tabled (length standing) table) → Beside (t .yard) r s p → Attempts (swap (t .yard) r s p) log (Done m)
-  pub missed : z ≡ Failed → (t : Tabled (length standing) table) → Beside (t .yard) r s p → NoneNear (t .yard) r s p
+-- the trial that is the paper's swap; that none near succeeds; or that there is no swap
+pub record NearSays (r s : Carrier) (table p standing log : List ℕ) (z : Nearby) : Type 0 where
+  pub few : (m : Tally) → z ≡ Found m → Within nothing swap-most (Done m)
+  pub found : (m : Tally) → z ≡ Found m → (t : Tabled (length standing) table) → Beside (t .yard) r s p → Attempts (swap (t .yard) r s p) log (Done m)
+  pub farther : z ≡ Farther → (t : Tabled (length standing) table) → Beside (t .yard) r s p → NoneNear (t .yard) r s p
+  pub nowhere : z ≡ Nowhere → (t : Tabled (length standing) table) → Beside (t .yard) r s p → Attempts (swap (t .yard) r s p) log Failed

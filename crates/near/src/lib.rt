@@ -1,5 +1,6 @@
 // The junctions near a carrier, tried one by one, nearest first and ties lowest: the first of them whose trial succeeds is that of its swap. Most swaps find
 // theirs within a few rails.
+use acting::Tally;
 use acting::Tried;
 use docket::Bay;
 use docket::Carrier;
@@ -13,6 +14,13 @@ ghost use Rattle.near.specs.Seeking.{near-rings, SurelyFails, TryJunctio
 
 // So many rings are near, the carrier's own bay being the first. Farther on it pays to go ahead of the trials.
 pub const NEAR: usize = 8;
+
+// What the near rings have: a trial that succeeds, with its counts; none, though there may be one farther on; or none, and no bay is farther on.
+pub enum Nearby {
+    Found(Tally),
+    Farther,
+    Nowhere,
+}
 
 // Whether the trial, which is not at the carrier's own bay, is bound to fail: its junction is blocked.
 fn surely_fails(
@@ -73,7 +81,8 @@ fn reach(n: usize) -> usize
     NEAR
 }
 
-// The trial at the first junction among the near ones where it succeeds; the list is left as that trial leaves it.
+// The trial at the first junction among the near ones where it succeeds; the list is left as that trial leaves it. Where a ring is empty, so is every
+// ring after it.
 pub fn seek_near(
     table: &[u64],
     r: Carrier,
@@ -82,7 +91,7 @@ pub fn seek_near(
     standing: &[u16],
     empty: &[u64],
     out: &mut [u64],
-) -> Tried
+) -> Nearby
     requires { ⌜ Ready (now table) (now placement) (now standing) (now empty) ⌝ }
     requires { ⌜ NearAsks (r .0) (s .0) (now placement) ⌝ }
     ensures { λ z. ⌜
@@ -99,9 +108,12 @@ pub fn seek_near(
     let mut d = 0;
     'nearest: loop {
         if last <= d {
-            break 'nearest Tried::Failed;
+            break 'nearest Nearby::Farther;
         }
         let mut v = words::next_from(&ring, 0);
+        if words::SPAN <= v {
+            break 'nearest Nearby::Nowhere;
+        }
         while v < words::SPAN {
             let here = Trial {
                 carrier: r,
@@ -110,7 +122,7 @@ pub fn seek_near(
             };
             let tried = try_junction(table, here, placement, standing, empty, out);
             if let Tried::Done(m) = tried {
-                break 'nearest Tried::Done(m);
+                break 'nearest Nearby::Found(m);
             }
             v = words::next_from(&ring, v + 1);
         }

@@ -15,6 +15,14 @@ use Rattle.scouts.specs.Scouts.{Scouted}
 use Rattle.near.specs.Seeking.{TriedAt, SeekAsks, near-rings, NoneNear}
 use Rattle.seek.specs.declared.Turn.{Turn}
 
+-- the trial at the junction, or that it fails
+pub record TrySays (x : Trial) (table p standing log : List ℕ) (z : Turn) : Type 0 where
+  pub scouted : Scouted (x .carrier .0) (x .neighbour .0) table p (length standing) (z .scouts)
+  pub few : Within nothing swap-most (z .tried)
+  pub tried : (t : Tabled (length standing) table) → Beside (t .yard) (x .carrier .0) (x .neighbour .0) p
+      → junction (t .yard) (x .junction .0) ≡ true
+      → TriedAt (t .yard) (x .carrier .0) (x .neighbour .0) (x .junction .0) p log (z .tried)
+
 -- in ring d the lowest bay that passes the test, and none where the ring is near
 pub record FirstFar (q : ℕ → Bool) (d r : ℕ) : Type 0 where
   pub upto : r ≤ span
@@ -26,11 +34,3 @@ pub record FirstFar (q : ℕ → Bool) (d r : ℕ) : Type 0 where
 pub record FarAsks (r s : Carrier) (table p standing : List ℕ) : Type 0 where
   pub asks : SeekAsks r s table p standing
   pub missed : (t : Tabled (length standing) table) → Beside (t .yard) r s p → NoneNear (t .yard) r s p
-
--- the trial at the junction, or that it fails
-pub record TrySays (x : Trial) (table p standing log : List ℕ) (z : Turn) : Type 0 where
-  pub scouted : Scouted (x .carrier .0) (x .neighbour .0) table p (length standing) (z .scouts)
-  pub few : Within nothing swap-most (z .tried)
-  pub tried : (t : Tabled (length standing) table) → Beside (t .yard) (x .carrier .0) (x .neighbour .0) p
-      → junction (t .yard) (x .junction .0) ≡ true
-      → TriedAt (t .yard) (x .carrier .0) (x .neighbour .0) (x .junction .0) p log (z .tried)

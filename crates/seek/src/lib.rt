@@ -3,6 +3,7 @@
 use acting::Tried;
 use docket::Bay;
 use docket::Carrier;
+use near::Nearby;
 use scouts::Scouts;
 use trial::Trial;
 ghost use mathlib.Core.Path.{_≡_};
@@ -159,8 +160,9 @@ pub fn seek(
         ⌝ }
 {
     let close = near::seek_near(table, r, s, placement, standing, empty, out);
-    let Tried::Done(m) = close else {
-        return seek_far(table, r, s, placement, standing, empty, out);
-    };
-    Tried::Done(m)
+    match close {
+        Nearby::Found(m) => Tried::Done(m),
+        Nearby::Farther => seek_far(table, r, s, placement, standing, empty, out),
+        Nearby::Nowhere => Tried::Failed,
+    }
 }
