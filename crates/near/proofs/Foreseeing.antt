@@ -20,15 +20,15 @@ use Rattle.clear_on.proofs.Attempting.{in-bays}
 
 pub outlook-asks : {table p standing empty : List ℕ} (k : Ready table p standing empty) (r s : Carrier) (v : Bay) → r < length p → s < length p → v < length standing
     → OutlookAsks (length standing) v (bayOf p r) (bayOf p s) table empty
-outlook-asks k r s v hr hs hv = (
-  k .most,
-  k .table-size,
-  k .empty-size,
-  hv,
-  k .placed .inside r hr,
-  k .placed .inside s hs,
-  record { yard = k .tabled .yard; joins = k .tabled .joins },
-)
+outlook-asks k r s v hr hs hv = record {
+  most = k .most;
+  table-size = k .table-size;
+  empty-size = k .empty-size;
+  junction-inside = hv;
+  first-inside = k .placed .inside r hr;
+  second-inside = k .placed .inside s hs;
+  charted = record { yard = k .tabled .yard; joins = k .tabled .joins };
+}
 
 pub blocked-none : {n : ℕ} {table : List ℕ} (t : Tabled n table) {p standing empty : List ℕ} → Placed n p standing empty → (r s : Carrier) (v : Bay)
     → r < length p → s < length p → (s ≡ r → ⊥) → v < n → Near (t .yard) r s v p

@@ -5,9 +5,9 @@ use mathlib.Core.Path.{_≡_, sym, _∙_, ap, refl}
 use mathlib.Core.Bool.{Bool, true, false}
 use mathlib.Core.List.{List, [], _∷_}
 use mathlib.Core.Option.{none, some}
-use Prim.Native.Nat.{ℕ, suc, min, _≤_, _<_, _+_, zero}
+use Prim.Native.Nat.{ℕ, suc, min, _≤_, _<_, _+_, _-_, zero}
 use native.Mathlib.Omega.{arith}
-use lib.ListN.{getD}
+use lib.ListN.{length, getD}
 use native.Mathlib.Decide.{ℕ-discrete, decLt}
 use Rattle.paper.specs.Basics.{_and_, _>>=_, filter, find, concat, firstOf, elem, In}
 use Rattle.paper.specs.Path.{rings, nearestFirst, ringOf}
@@ -15,21 +15,23 @@ use Rattle.paper.specs.Procedure.{Made, trial, swap}
 use Rattle.paper.specs.Yard.{Bay, Carrier, Yard, Placement, bayOf, junction}
 use Rattle.paper.proofs.Members.{find-passes, find-in, find-some, nothing-in-nil, in-count, none-find, In-nil}
 use Rattle.paper.proofs.Nearest.{find-here, find-later}
-use Rattle.paper.proofs.Rings.{distance-in, in-concat, reached-sym}
+use Rattle.paper.proofs.Rings.{ring-step, distance-in, in-concat, reached-sym}
 use Rattle.paper.proofs.Shortest.{Rising, find-lowest, rings-rise}
 use Rattle.paper.proofs.Tests.{by-cases, by-option, not-both, and-right, and-both, never}
 use Rattle.docket.specs.Reading.{isSome}
 use Rattle.words.specs.Sets.{mem, span, Lowest}
 use Rattle.rings.proofs.Searching.{in-yard, ring-none}
-use Rattle.acting.specs.Acting.{Tabled}
+use Rattle.moving.specs.Bounds.{swap-most}
+use Rattle.acting.specs.Acting.{Tabled, nothing, Within}
 use Rattle.acting.specs.declared.Tally.{Tally}
 use Rattle.acting.specs.declared.Tried.{Tried}
 use Rattle.clear_on.specs.Going.{Logged, Attempts}
 use Rattle.trial.proofs.Attempting.{attempts-none, attempts-some}
-use Rattle.trial.specs.Trying.{Near}
+use Rattle.trial.specs.Trying.{Beside, Near}
 use Rattle.trial.proofs.Copying.{freeShown}
 use Rattle.acting.specs.declared.Tried.the-variants.{Done, Failed}
-use Rattle.near.specs.Seeking.{Beside, fitting, TriedAt, near-rings, NoneNear}
+use Rattle.near.specs.Seeking.{fitting, TriedAt, near-rings, NoneNear, NearSays}
+use Rattle.near.specs.declared.Nearby.the-variants.{Found, Farther, Nowhere}
 
 first-found : (Y : Yard) (r s : Carrier) (p : Placement) (l : List Bay)
     → firstOf (λ v. trial Y r s v p) (filter (junction Y) l) ≡ (find (fitting Y r s p) l >>= λ v. trial Y r s v p)
@@ -135,6 +137,18 @@ module _ {n : ℕ} {table : List ℕ} (t : Tabled n table) (r s : Carrier) (p : 
         | no m ↦ g .rings-before e b (omega arith) y
       ]))
 
+  -- where a ring has no bay, no ring after it has one
+  ring-dry : (d : ℕ) → ((b : ℕ) → In b (getD rs d []) → ⊥) → (k b : ℕ) → In b (getD rs (k + d) []) → ⊥
+  ring-dry d dry zero b i = let z : 0 + d ≡ d = omega arith in dry b (rw z at i)
+  ring-dry d dry (suc k) b i =
+      let z : suc k + d ≡ suc (k + d) = omega arith in
+      let a = ring-step (t .yard) [] (t .yard .bays) [] (bayOf p r ∷ []) (k + d) b (rw z at i) in
+      ring-dry d dry k (a .0) (a .1)
+
+  pub sought-dry : (d : ℕ) → ((b : ℕ) → In b (getD rs d []) → ⊥) → Sought (t .yard) r s p (d + 1) 0
+      → none ≡ find (fitting (t .yard) r s p) (nearestFirst (t .yard) [] (bayOf p r))
+  sought-dry d dry g = sought-end d (λ k b h i. let e : k ≡ k - d + d = omega arith in ring-dry d dry (k - d) b (rw e at i)) g
+
   module _ (most : n ≤ span) (hu : bayOf p r < n) where
     module _ (d : ℕ) (ring : List ℕ) (same : (y : ℕ) → y < span → mem ring y ≡ elem y (getD rs d [])) where
       pub sought-start : (v : ℕ) → Sought (t .yard) r s p d 0 → Lowest (mem ring) 0 span v → Sought (t .yard) r s p d v
@@ -161,6 +175,14 @@ module _ {n : ℕ} {table : List ℕ} (t : Tabled n table) (r s : Carrier) (p : 
         below = λ b i k. absurd (omega arith);
       }
 
+      -- the ring has no bay
+      pub sought-nowhere : (v : ℕ) → Sought (t .yard) r s p d 0 → Lowest (mem ring) 0 span v → span ≤ v
+          → none ≡ find (fitting (t .yard) r s p) (nearestFirst (t .yard) [] (bayOf p r))
+      sought-nowhere v g l h =
+          sought-dry d
+          (λ b i. let hb : b < n = in-yard (freeShown t) (bayOf p r) most hu d b i in not-both (same b (omega arith) ∙ i) (l .before b (omega arith) (omega arith)))
+          (sought-next v (sought-start v g l) h)
+
     pub reached-from : (d v : ℕ) → In v (getD rs d []) → In (bayOf p r) (nearestFirst (t .yard) [] v)
     reached-from d v i = reached-sym (t .yard) [] (bayOf p r) v (in-count 0 (t .yard .bays) (bayOf p r) (omega arith) (omega (arith, t .joins .bays)), nothing-in-nil (bayOf p r)) (in-concat (t .yard) v rs d i)
 
@@ -177,3 +199,22 @@ module _ {n : ℕ} {table : List ℕ} (t : Tabled n table) (r s : Carrier) (p : 
     | yes m ↦ g .rings-before i b m y
     | no m ↦ In-nil b (rw (ring-none (freeShown t) (bayOf p r) i (omega arith)) at y)
   ]
+
+-- ## What is said
+
+pub near-found : {r s : Carrier} {table p standing log : List ℕ} {m : Tally} → Within nothing swap-most (Done m)
+    → ((t : Tabled (length standing) table) → Beside (t .yard) r s p → Attempts (swap (t .yard) r s p) log (Done m)) → NearSays r s table p standing log (Found m)
+near-found {m = m} few f = record {
+  few = λ k e. let same : m ≡ k = cc in rw same at few;
+  found = λ k e. let same : m ≡ k = cc in rw same at f;
+  farther = λ e. never (cc);
+  nowhere = λ e. never (cc);
+}
+
+pub near-farther : {r s : Carrier} {table p standing log : List ℕ} → ((t : Tabled (length standing) table) → Beside (t .yard) r s p → NoneNear (t .yard) r s p)
+    → NearSays r s table p standing log Farther
+near-farther f = record { few = λ m e. never (cc); found = λ m e. never (cc); farther = λ e. f; nowhere = λ e. never (cc) }
+
+pub near-nowhere : {r s : Carrier} {table p standing log : List ℕ}
+    → ((t : Tabled (length standing) table) → Beside (t .yard) r s p → Attempts (swap (t .yard) r s p) log Failed) → NearSays r s table p standing log Nowhere
+near-nowhere f = record { few = λ m e. never (cc); found = λ m e. never (cc); farther = λ e. never (cc); nowhere = λ e. f }

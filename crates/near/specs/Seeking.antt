@@ -9,8 +9,7 @@ use lib.ListN.{length, getD}
 use Rattle.paper.specs.Basics.{_and_, In}
 use Rattle.paper.specs.Path.{rings}
 use Rattle.paper.specs.Procedure.{Made, trial, swap}
-use Rattle.paper.specs.Yard.{Bay, Carrier, Yard, Placement, bayOf, joined, junction}
-use Rattle.paper.proofs.Playing.{Sound}
+use Rattle.paper.specs.Yard.{Bay, Carrier, Yard, Placement, bayOf, junction}
 use Rattle.docket.specs.Reading.{isSome}
 use Rattle.moving.specs.Bounds.{swap-most}
 use Rattle.acting.specs.Acting.{Tabled, nothing, Within}
@@ -18,7 +17,10 @@ use Rattle.acting.specs.declared.Tally.{Tally}
 use Rattle.acting.specs.declared.Tried.{Tried}
 use Rattle.acting.specs.declared.Tried.the-variants.{Done, Failed}
 use Rattle.clear_on.specs.Going.{Logged, Attempts}
-use Rattle.trial.specs.Trying.{Near}
+use Rattle.trial.specs.Trying.{Beside, SideBySide, Nears, tries}
+use Rattle.trial.specs.declared.Trial.{Trial}
+use Rattle.near.specs.declared.Nearby.{Nearby}
+use Rattle.near.specs.declared.Nearby.the-variants.{Found, Farther, Nowhere}
 
 -- v is a junction whose trial succeeds
 unfoldable pub fitting : Yard → Carrier → Carrier → Placement → Bay → Bool
@@ -29,16 +31,6 @@ pub record TriedAt (Y : Yard) (r s : Carrier) (v : Bay) (p : Placement) (log : L
   pub fails : z ≡ Failed → fitting Y r s p v ≡ false
   pub fits : (m : Tally) → z ≡ Done m → fitting Y r s p v ≡ true
   pub logged : (m : Tally) → z ≡ Done m → (made : Made) × (trial Y r s v p ≡ some made) × Logged made log m
-
--- r and s stand side by side in a sound yard
-pub record Beside (Y : Yard) (r s : Carrier) (p : Placement) : Type 0 where
-  pub sound : Sound Y
-  pub beside : joined Y (bayOf p r) (bayOf p s) ≡ true
-
--- they do so in a yard that the table shows
-pub record SideBySide (n : ℕ) (table : List ℕ) (r s : Carrier) (p : Placement) : Type 0 where
-  pub tabled : Tabled n table
-  pub beside : Beside (tabled .yard) r s p
 
 -- r and its neighbour s
 pub record SeekAsks (r s : Carrier) (table p standing : List ℕ) : Type 0 where
@@ -62,17 +54,15 @@ near-rings = 8
 abbrev pub NoneNear : Yard → Carrier → Carrier → Placement → Type 0
 NoneNear Y r s p = (i b : ℕ) → i < near-rings → In b (getD (rings Y [] (bayOf p r)) i []) → fitting Y r s p b ≡ false
 
--- no trial at v succeeds
-abbrev pub SurelyFails : (r s : Carrier) (v : Bay) (table p standing : List ℕ) → Type 0
-SurelyFails r s v table p standing = (t : Tabled (length standing) table) → Near (t .yard) r s v p → trial (t .yard) r s v p ≡ none
+-- the trial does not succeed
+abbrev pub SurelyFails : Trial → (table p standing : List ℕ) → Type 0
+SurelyFails x table p standing = (t : Tabled (length standing) table) → Nears (t .yard) x p → tries (t .yard) x p ≡ none
 
--- the trial at v, if v is a junction
-abbrev pub TryJunctionSays : (r s : Carrier) (v : Bay) (table p standing log : List ℕ) → Tried → Type 0
-TryJunctionSays r s v table p standing log z =
-    Within nothing swap-most z
-    × ((t : Tabled (length standing) table)
-    → Near (t .yard) r s v p
-    → TriedAt (t .yard) r s v p log z)
+-- the trial, if its bay is a junction
+pub record TryJunctionSays (x : Trial) (table p standing log : List ℕ) (z : Tried) : Type 0 where
+  pub few : Within nothing swap-most z
+  pub tried : (t : Tabled (length standing) table) → Nears (t .yard) x p
+      → TriedAt (t .yard) (x .carrier .0) (x .neighbour .0) (x .junction .0) p log z
 
 -- r and its neighbour s
 pub record NearAsks (r s : Carrier) (p : List ℕ) : Type 0 where
@@ -80,8 +70,9 @@ pub record NearAsks (r s : Carrier) (p : List ℕ) : Type 0 where
   pub second : s < length p
   pub differ : s ≡ r → ⊥
 
--- the trial that is the paper's swap, or that none near succeeds
-pub record NearSays (r s : Carrier) (table p standing log : List ℕ) (z : Tried) : Type 0 where
-  pub few : Within nothing swap-most z
-  pub found : (m : Tally) → z ≡ Done m → (t : Tabled (length standing) table) → Beside (t .yard) r s p → Attempts (swap (t .yard) r s p) log (Done m)
-  pub missed : z ≡ Failed → (t : Tabled (length standing) table) → Beside (t .yard) r s p → NoneNear (t .yard) r s p
+-- the trial that is the paper's swap; that none near succeeds; or that there is no swap
+pub record NearSays (r s : Carrier) (table p standing log : List ℕ) (z : Nearby) : Type 0 where
+  pub few : (m : Tally) → z ≡ Found m → Within nothing swap-most (Done m)
+  pub found : (m : Tally) → z ≡ Found m → (t : Tabled (length standing) table) → Beside (t .yard) r s p → Attempts (swap (t .yard) r s p) log (Done m)
+  pub farther : z ≡ Farther → (t : Tabled (length standing) table) → Beside (t .yard) r s p → NoneNear (t .yard) r s p
+  pub nowhere : z ≡ Nowhere → (t : Tabled (length standing) table) → Beside (t .yard) r s p → Attempts (swap (t .yard) r s p) log Failed

@@ -1,42 +1,42 @@
 // The junctions near a carrier, tried one by one, nearest first and ties lowest: the first of them whose trial succeeds is that of its swap. Most swaps find
 // theirs within a few rails.
+use acting::Tally;
 use acting::Tried;
 use docket::Bay;
 use docket::Carrier;
 use trial::Trial;
 ghost use mathlib.Core.Path.{_≡_};
 ghost use mathlib.Core.Bool.{true};
-ghost use Prim.Native.Nat.{min, _<_};
-ghost use lib.ListN.{length};
+ghost use Prim.Native.Nat.{min};
 ghost use Rattle.acting.specs.Acting.{Ready};
+ghost use Rattle.trial.specs.Trying.{TrialAsks};
 ghost use Rattle.near.specs.Seeking.{near-rings, SurelyFails, TryJunctionSays, NearAsks, NearSays};
 
 // So many rings are near, the carrier's own bay being the first. Farther on it pays to go ahead of the trials.
 pub const NEAR: usize = 8;
 
-// Whether the trial at v, which is not r's own bay, is bound to fail: v is blocked.
+// What the near rings have: a trial that succeeds, with its counts; none, though there may be one farther on; or none, and no bay is farther on.
+pub enum Nearby {
+    Found(Tally),
+    Farther,
+    Nowhere,
+}
+
+// Whether the trial, which is not at the carrier's own bay, is bound to fail: its junction is blocked.
 fn surely_fails(
     table: &[u64],
-    v: Bay,
-    r: Carrier,
-    s: Carrier,
+    trial: Trial,
     placement: &[u16],
     standing: &[u16],
     empty: &[u64],
 ) -> bool
     requires { ⌜ Ready (now table) (now placement) (now standing) (now empty) ⌝ }
-    requires { ⌜
-        (r .0 < length (now placement))
-        × (s .0 < length (now placement))
-        × (s .0 ≡ r .0 → ⊥)
-        × (v .0 < length (now standing))
-        ⌝ }
-    ensures { λ z. ⌜
-        (z ≡ true → SurelyFails (r .0) (s .0) (v .0) (now (table .entry)) (now (placement .entry)) (now (standing .entry)))
-        ⌝ }
+    requires { ⌜ TrialAsks trial (now placement) (now standing) ⌝ }
+    ensures { λ z. ⌜ (z ≡ true → SurelyFails trial (now (table .entry)) (now (placement .entry)) (now (standing .entry))) ⌝ }
 {
-    let first = r.0 as usize;
-    let second = s.0 as usize;
+    let v = trial.junction;
+    let first = trial.carrier.0 as usize;
+    let second = trial.neighbour.0 as usize;
     let u = Bay(placement[first]);
     let w = Bay(placement[second]);
     if u.0 == v.0 {
@@ -45,40 +45,28 @@ fn surely_fails(
     outlook::is_blocked(table, standing.len(), v, u, w, empty)
 }
 
-// The trial at v, if v is a junction.
+// The trial, if its bay is a junction.
 fn try_junction(
     table: &[u64],
-    v: Bay,
-    r: Carrier,
-    s: Carrier,
+    trial: Trial,
     placement: &[u16],
     standing: &[u16],
     empty: &[u64],
     out: &mut [u64],
 ) -> Tried
     requires { ⌜ Ready (now table) (now placement) (now standing) (now empty) ⌝ }
-    requires { ⌜
-        (r .0 < length (now placement))
-        × (s .0 < length (now placement))
-        × (s .0 ≡ r .0 → ⊥)
-        × (v .0 < length (now standing))
-        ⌝ }
+    requires { ⌜ TrialAsks trial (now placement) (now standing) ⌝ }
     ensures { λ z. ⌜
-        TryJunctionSays (r .0) (s .0) (v .0)
+        TryJunctionSays trial
         (now (table .entry)) (now (placement .entry)) (now (standing .entry)) (now (out .exit)) z
         ⌝ }
 {
     let n = standing.len();
-    if acting::is_junction(table, n, v) {
-        if surely_fails(table, v, r, s, placement, standing, empty) {
+    if acting::is_junction(table, n, trial.junction) {
+        if surely_fails(table, trial, placement, standing, empty) {
             return Tried::Failed;
         }
-        let here = Trial {
-            carrier: r,
-            neighbour: s,
-            junction: v,
-        };
-        return trial::try_at(table, here, placement, standing, empty, out);
+        return trial::try_at(table, trial, placement, standing, empty, out);
     }
     Tried::Failed
 }
@@ -93,7 +81,8 @@ fn reach(n: usize) -> usize
     NEAR
 }
 
-// The trial at the first junction among the near ones where it succeeds; the list is left as that trial leaves it.
+// The trial at the first junction among the near ones where it succeeds; the list is left as that trial leaves it. Where a ring is empty, so is every
+// ring after it.
 pub fn seek_near(
     table: &[u64],
     r: Carrier,
@@ -102,7 +91,7 @@ pub fn seek_near(
     standing: &[u16],
     empty: &[u64],
     out: &mut [u64],
-) -> Tried
+) -> Nearby
     requires { ⌜ Ready (now table) (now placement) (now standing) (now empty) ⌝ }
     requires { ⌜ NearAsks (r .0) (s .0) (now placement) ⌝ }
     ensures { λ z. ⌜
@@ -119,14 +108,21 @@ pub fn seek_near(
     let mut d = 0;
     'nearest: loop {
         if last <= d {
-            break 'nearest Tried::Failed;
+            break 'nearest Nearby::Farther;
         }
         let mut v = words::next_from(&ring, 0);
+        if words::SPAN <= v {
+            break 'nearest Nearby::Nowhere;
+        }
         while v < words::SPAN {
-            let bay = Bay(v as u16);
-            let tried = try_junction(table, bay, r, s, placement, standing, empty, out);
+            let here = Trial {
+                carrier: r,
+                neighbour: s,
+                junction: Bay(v as u16),
+            };
+            let tried = try_junction(table, here, placement, standing, empty, out);
             if let Tried::Done(m) = tried {
-                break 'nearest Tried::Done(m);
+                break 'nearest Nearby::Found(m);
             }
             v = words::next_from(&ring, v + 1);
         }

@@ -1,4 +1,1 @@
-pub mod Scouting
-pub mod Sending
-pub mod Foreseeing
 pub mod Seeking

@@ -27,9 +27,9 @@ use Rattle.trial.proofs.Copying.{freeShown, path-found}
 use Rattle.trial.specs.declared.Trial.{Trial}
 use Rattle.near.specs.Seeking.{SeekAsks, NoneNear}
 use Rattle.near.proofs.Seeking.{Sought, sought-start, reached-from, ring-low, near-of}
+use Rattle.scouts.specs.Scouts.{Scouted, NoneYet, ForeseeAsks}
+use Rattle.scouts.specs.declared.Scouts.{Scouts}
 use Rattle.seek.specs.Far.{FirstFar}
-use Rattle.seek.specs.Scouts.{Scouted, NoneYet, ForeseeAsks}
-use Rattle.seek.specs.declared.Scouts.{Scouts}
 
 -- ## Near rings
 
@@ -105,13 +105,12 @@ module _ {table p standing empty : List ℕ} (k : Ready table p standing empty) 
   foresee-asks path size short e scouts sc =
       let long : length (take (d + 1) path) ≡ d + 1 = length-take-le (d + 1) path (omega arith) in
       record {
-        first = a .first;
-        second = a .second;
-        differ = a .differ;
-        inside = junction-inside;
-        bays-inside = read-path (take (d + 1) path) e (k .tabled) .2;
-        short = omega (arith, long);
-        some-bays = omega (arith, long);
+        on-path = record {
+          asks = record { first = a .first; second = a .second; differ = a .differ; inside = junction-inside };
+          bays-inside = read-path (take (d + 1) path) e (k .tabled) .2;
+          short = omega (arith, long);
+          some-bays = omega (arith, long);
+        };
         side = a .side;
         near = λ t b. near-of b (reached t);
         is-path = λ t b. read-path (take (d + 1) path) e t .0;

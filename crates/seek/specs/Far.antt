@@ -5,10 +5,23 @@ use mathlib.Core.Bool.{Bool, true}
 use mathlib.Core.List.{List}
 use Prim.Native.Nat.{ℕ, _≤_, _<_}
 use lib.ListN.{length}
-use Rattle.paper.specs.Yard.{Carrier}
+use Rattle.paper.specs.Yard.{Carrier, junction}
 use Rattle.words.specs.Sets.{span, Lowest}
-use Rattle.acting.specs.Acting.{Tabled}
-use Rattle.near.specs.Seeking.{Beside, SeekAsks, near-rings, NoneNear}
+use Rattle.moving.specs.Bounds.{swap-most}
+use Rattle.acting.specs.Acting.{Tabled, nothing, Within}
+use Rattle.trial.specs.Trying.{Beside}
+use Rattle.trial.specs.declared.Trial.{Trial}
+use Rattle.scouts.specs.Scouts.{Scouted}
+use Rattle.near.specs.Seeking.{TriedAt, SeekAsks, near-rings, NoneNear}
+use Rattle.seek.specs.declared.Turn.{Turn}
+
+-- the trial at the junction, or that it fails
+pub record TrySays (x : Trial) (table p standing log : List ℕ) (z : Turn) : Type 0 where
+  pub scouted : Scouted (x .carrier .0) (x .neighbour .0) table p (length standing) (z .scouts)
+  pub few : Within nothing swap-most (z .tried)
+  pub tried : (t : Tabled (length standing) table) → Beside (t .yard) (x .carrier .0) (x .neighbour .0) p
+      → junction (t .yard) (x .junction .0) ≡ true
+      → TriedAt (t .yard) (x .carrier .0) (x .neighbour .0) (x .junction .0) p log (z .tried)
 
 -- in ring d the lowest bay that passes the test, and none where the ring is near
 pub record FirstFar (q : ℕ → Bool) (d r : ℕ) : Type 0 where

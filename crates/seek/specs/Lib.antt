@@ -1,2 +1,1 @@
-pub mod Scouts
 pub mod Far

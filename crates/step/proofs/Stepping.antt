@@ -20,7 +20,7 @@ use Rattle.paper.proofs.Tests.{by-cases, not-both, never-some, or-right}
 use Rattle.paper.proofs.Vacating.{Vacated, vacate-vacates, vacate-empty}
 use Rattle.words.specs.Sets.{mem, span, memRow, Kept}
 use Rattle.words.proofs.Sets.{row-zero, or-false}
-use Rattle.near.specs.Seeking.{Beside}
+use Rattle.trial.specs.Trying.{Beside}
 use Rattle.rings.specs.Search.{Shown}
 use Rattle.moving.specs.Placed.{Placed}
 use Rattle.moving.proofs.Playing.{carrier-is, carrier-none}

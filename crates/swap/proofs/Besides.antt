@@ -18,7 +18,7 @@ use Rattle.paper.proofs.Members.{In-head, In-tail, in-filter}
 use Rattle.paper.proofs.Playing.{placeOf-bay, placeOf-there, bay-in}
 use Rattle.paper.proofs.Rings.{ring-zero, in-concat}
 use Rattle.paper.proofs.Swapping.{once-clears}
-use Rattle.paper.proofs.Tests.{not-both, and-left, and-right, and-both}
+use Rattle.paper.proofs.Tests.{not-both, never, and-left, and-right, and-both}
 use Rattle.words.specs.Sets.{mem, words, span, memRow, Lowest}
 use Rattle.words.proofs.Sets.{zeros, row-zero}
 use Rattle.rings.proofs.Searching.{ring-first}
@@ -26,12 +26,14 @@ use Rattle.rings.specs.Search.{around}
 use Rattle.moving.specs.Placed.{Placed}
 use Rattle.acting.specs.Acting.{Tabled}
 use Rattle.clear.proofs.Clearing.{lowest-in, clear-two, around-of, inside-of, inside-less}
-use Rattle.trial.specs.Trying.{Near}
+use Rattle.trial.specs.Trying.{Beside, Near}
 use Rattle.clear_on.proofs.Attempting.{in-bays}
 use Rattle.trial.proofs.Copying.{path-own, trial-first}
-use Rattle.near.specs.Seeking.{Beside, fitting}
+use Rattle.near.specs.Seeking.{fitting}
 use Rattle.near.proofs.Seeking.{Sought, swap-found, sought-found, near-of}
-use Rattle.swap.specs.Swapping.{TwoSpare}
+use Rattle.docket.specs.declared.Bay.{Bay as Numbered}
+use Rattle.swap.specs.Swapping.{TwoSpare, SpareSays}
+use Rattle.swap.specs.declared.Spare.the-variants.{Both, Fewer}
 
 -- ## The two lowest
 
@@ -54,6 +56,13 @@ module _ (table empty row others fewer : List ℕ) (u w : ℕ) {x y : ℕ} (f : 
         let i = inside-of t u w row others hu f g in
         clear-two (around-of t u w row others most hu f g) most k l (lowest-in empty i l hx) fewer h m (lowest-in empty (inside-less i x fewer h) m hy);
   }
+
+-- what is said of them
+pub both-spare : {table empty : List ℕ} {u w : Bay} (x y : Numbered) → TwoSpare table empty u w (x .0) (y .0) → SpareSays table empty u w (Both x y)
+both-spare x y two = record { both = λ a b e. let first : x ≡ a = cc in let second : y ≡ b = cc in rw (first, second) at two }
+
+pub fewer-spare : {table empty : List ℕ} {u w : Bay} → SpareSays table empty u w Fewer
+fewer-spare = record { both = λ a b e. never (cc) }
 
 -- ## The swap
 

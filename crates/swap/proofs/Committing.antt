@@ -21,7 +21,7 @@ use Rattle.paper.proofs.Tests.{by-cases}
 use Rattle.paper.proofs.Trading.{traded-length, trade-first, trade-second, trade-other, trade-twice, trade-there, traded-bay}
 use Rattle.paper.proofs.Vacating.{plan-apart}
 use Rattle.trade.specs.Trading.{standingTraded}
-use Rattle.near.specs.Seeking.{Beside}
+use Rattle.trial.specs.Trying.{Beside}
 use Rattle.words.proofs.Besides.{equal-tests}
 use Rattle.moving.specs.Placed.{Placed, Stored}
 use Rattle.moving.proofs.Playing.{carrier-is, carrier-none, stored-exact}

@@ -2,18 +2,22 @@
 -- Assumes nothing.
 use mathlib.Core.Path.{_≡_}
 use mathlib.Core.List.{List, [], _∷_}
-use Prim.Native.Nat.{ℕ, _≤_, _<_}
+use Prim.Native.Nat.{ℕ, _+_, _*_, _≤_, _<_}
 use lib.ListN.{length}
 use Rattle.paper.specs.Procedure.{only, clearOnce, swap}
 use Rattle.paper.specs.Yard.{Bay, Carrier}
-use Rattle.words.specs.Sets.{span}
+use Rattle.words.specs.Sets.{words, span}
+use Rattle.docket.specs.declared.Bay.{Bay as Numbered}
 use Rattle.moving.specs.Bounds.{swap-most}
 use Rattle.moving.specs.Placed.{Placed}
 use Rattle.acting.specs.Acting.{Tabled, nothing, Within, Proceeds}
 use Rattle.acting.specs.declared.Tried.{Tried}
-use Rattle.near.specs.Seeking.{Beside, SideBySide}
+use Rattle.exchange.specs.Exchanging.{Noted, exchanges}
+use Rattle.trial.specs.Trying.{Beside}
+use Rattle.trade.specs.Trading.{TradeSays}
+use Rattle.swap.specs.declared.Exchange.{Exchange}
 use Rattle.swap.specs.declared.Spare.{Spare}
-use Rattle.swap.specs.declared.Spare.the-variants.{Both, Fewer}
+use Rattle.swap.specs.declared.Spare.the-variants.{Both}
 
 -- ## At r's own bay
 
@@ -23,24 +27,24 @@ pub record TwoSpare (table empty : List ℕ) (u w x y : Bay) : Type 0 where
   pub kept : {n : ℕ} (t : Tabled n table) {p standing : List ℕ} → n ≤ span → u < n → Placed n p standing empty
       → clearOnce (t .yard) u w p ≡ record { made = only []; kept = x ∷ y ∷ [] }
 
-abbrev pub Spares : List ℕ → List ℕ → Bay → Bay → Spare → Type 0
-Spares table empty u w (Both x y) = TwoSpare table empty u w (x .0) (y .0)
-Spares table empty u w Fewer = Unit {0}
-
 -- ## What is asked, what is said
 
--- r and its neighbour s
-abbrev pub SwapAsks : (r s : Carrier) (table p standing : List ℕ) → Type 0
-SwapAsks r s table p standing =
-    (r < length p)
-    × (s < length p)
-    × (s ≡ r → ⊥)
-    × SideBySide (length standing) table r s p
+-- u has its row in the table
+pub record SpareAsks (table empty : List ℕ) (u w : Bay) : Type 0 where
+  pub row : u * words + words ≤ length table
+  pub low : w < span
+  pub empty-size : length empty ≡ words
+
+pub record SpareSays (table empty : List ℕ) (u w : Bay) (r : Spare) : Type 0 where
+  pub both : (x y : Numbered) → r ≡ Both x y → TwoSpare table empty u w (x .0) (y .0)
+
+-- the exchange is noted, and the two have traded places
+pub record SwapBesideSays (r s : Carrier) (bays : Exchange) (p standing out p′ standing′ out′ : List ℕ) (m : ℕ) : Type 0 where
+  pub traded : TradeSays r s p standing p′ standing′
+  pub noted : Noted (exchanges r s (bays .junction .0) (bays .behind .0) (bays .lower .0) (bays .higher .0)) out 0 out′ m
 
 -- the paper's swap
-abbrev pub SwapSays : (r s : Carrier) (table p standing out p′ standing′ empty′ out′ : List ℕ) → Tried → Type 0
-SwapSays r s table p standing out p′ standing′ empty′ out′ z =
-    Within nothing swap-most z
-    × ((t : Tabled (length standing) table)
-    → Beside (t .yard) r s p
-    → Proceeds (swap (t .yard) r s p) (length standing) p out nothing p′ standing′ empty′ out′ z)
+pub record SwapSays (r s : Carrier) (table p standing out p′ standing′ empty′ out′ : List ℕ) (z : Tried) : Type 0 where
+  pub few : Within nothing swap-most z
+  pub proceeds : (t : Tabled (length standing) table) → Beside (t .yard) r s p
+      → Proceeds (swap (t .yard) r s p) (length standing) p out nothing p′ standing′ empty′ out′ z

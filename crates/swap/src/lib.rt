@@ -4,14 +4,10 @@ use acting::Tally;
 use acting::Tried;
 use docket::Bay;
 use docket::Carrier;
-ghost use mathlib.Core.Path.{_≡_};
-ghost use Prim.Native.Nat.{_+_, _*_, _≤_, _<_};
-ghost use lib.ListN.{length};
-ghost use Rattle.words.specs.Sets.{words, span};
 ghost use Rattle.acting.specs.Acting.{Ready};
-ghost use Rattle.exchange.specs.Exchanging.{Noted, exchanges};
-ghost use Rattle.trade.specs.Trading.{placementTraded, standingTraded, TradeAsks};
-ghost use Rattle.swap.specs.Swapping.{Spares, SwapAsks, SwapSays};
+ghost use Rattle.trade.specs.Trading.{TradeAsks};
+ghost use Rattle.near.specs.Seeking.{SeekAsks};
+ghost use Rattle.swap.specs.Swapping.{SpareAsks, SpareSays, SwapBesideSays, SwapSays};
 
 // Two empty bays beside a junction, or that there are fewer.
 pub enum Spare {
@@ -38,7 +34,7 @@ fn swap_far(
     out: &mut [u64],
 ) -> Tried
     requires { ⌜ Ready (now table) (now placement) (now standing) (now empty) ⌝ }
-    requires { ⌜ SwapAsks (r .0) (s .0) (now table) (now placement) (now standing) ⌝ }
+    requires { ⌜ SeekAsks (r .0) (s .0) (now table) (now placement) (now standing) ⌝ }
     ensures { λ z. ⌜
         SwapSays (r .0) (s .0)
         (now (table .entry)) (now (placement .entry)) (now (standing .entry)) (now (out .entry))
@@ -59,8 +55,8 @@ fn swap_far(
 
 // The two lowest empty neighbours of bay u other than w, if there are two.
 fn spare_bays(table: &[u64], u: Bay, w: Bay, empty: &[u64]) -> Spare
-    requires { ⌜ (u .0 * words + words ≤ length (now table)) × (w .0 < span) × (length (now empty) ≡ words) ⌝ }
-    ensures { λ z. ⌜ Spares (now (table .entry)) (now (empty .entry)) (u .0) (w .0) z ⌝ }
+    requires { ⌜ SpareAsks (now table) (now empty) (u .0) (w .0) ⌝ }
+    ensures { λ z. ⌜ SpareSays (now (table .entry)) (now (empty .entry)) (u .0) (w .0) z ⌝ }
 {
     let mut others = [0u64; words::WORDS];
     words::join_row(&mut others, table, u.0 as usize);
@@ -88,10 +84,9 @@ fn swap_beside(
 ) -> usize
     requires { ⌜ TradeAsks (r .0) (s .0) (now placement) (now standing) ⌝ }
     ensures { λ m. ⌜
-        (now (placement .exit) ≡ placementTraded (r .0) (s .0) (now (placement .entry)))
-        × (now (standing .exit) ≡ standingTraded (r .0) (s .0) (now (placement .entry)) (now (standing .entry)))
-        × Noted (exchanges (r .0) (s .0) (bays .junction .0) (bays .behind .0) (bays .lower .0) (bays .higher .0))
-        (now (out .entry)) 0 (now (out .exit)) m
+        SwapBesideSays (r .0) (s .0) bays
+        (now (placement .entry)) (now (standing .entry)) (now (out .entry))
+        (now (placement .exit)) (now (standing .exit)) (now (out .exit)) m
         ⌝ }
 {
     let many = exchange::exchange(
@@ -120,7 +115,7 @@ pub fn swap(
     out: &mut [u64],
 ) -> Tried
     requires { ⌜ Ready (now table) (now placement) (now standing) (now empty) ⌝ }
-    requires { ⌜ SwapAsks (r .0) (s .0) (now table) (now placement) (now standing) ⌝ }
+    requires { ⌜ SeekAsks (r .0) (s .0) (now table) (now placement) (now standing) ⌝ }
     ensures { λ z. ⌜
         SwapSays (r .0) (s .0)
         (now (table .entry)) (now (placement .entry)) (now (standing .entry)) (now (out .entry))

@@ -9,7 +9,7 @@ use native.Mathlib.Omega.{arith}
 use lib.ListN.{length, getD, drop, take, length-drop}
 use lib.Dec.{eqb, ltb}
 use lib.Seq.{take-all, getD-drop}
-use borrow.Author.Tests.{eqb-true, le-ltb}
+use borrow.Author.Tests.{eqb-true, ltb-true}
 use Rattle.paper.specs.Basics.{_and_, elem, upTo, In}
 use Rattle.paper.specs.Path.{Free, Route, Way, nearestFirst, shortestPath, pathBetween}
 use Rattle.paper.specs.Procedure.{trialLed, trial}
@@ -135,5 +135,5 @@ part-inside l i n f k h =
     let m : k < length l - i = rw (part l i, length-drop) at h in
     rw (part l i, getD-drop) (f (i + k) (omega arith))
 
-pub never-short : (m : ℕ) (b : Bool) → ltb 1 m and b ≡ true → m < 2 → ⊥
-never-short m b e h = not-both (and-left (ltb 1 m) b e) (le-ltb 1 m (omega arith))
+pub has-second : (m : ℕ) (b : Bool) → ltb 1 m and b ≡ true → 2 ≤ m
+has-second m b e = let h = ltb-true 1 m (and-left (ltb 1 m) b e) in omega arith

@@ -15,6 +15,7 @@ use Rattle.paper.proofs.Swapping.{Chain}
 use Rattle.words.specs.Sets.{span}
 use Rattle.moving.specs.Bounds.{set-up-most, swap-most}
 use Rattle.acting.specs.Acting.{Tabled, nothing, Within}
+use Rattle.bring.specs.Bringing.{Coupled}
 use Rattle.clear_on.specs.Going.{Logged, Attempts, PairBy}
 use Rattle.attempts.specs.declared.Lead.{Lead}
 use Rattle.clear_on.specs.declared.Pair.the-variants.{Both, Missing}
@@ -46,43 +47,34 @@ pub record Led (Y : Yard) (L M : Carrier) (v : Bay) (path : List Bay) (p : Place
   pub chain : Chain Y (bayOf p L) path v
   pub beside : joined Y (bayOf p M) (bayOf p L) ≡ true
 
+-- r and s stand side by side in a sound yard
+pub record Beside (Y : Yard) (r s : Carrier) (p : Placement) : Type 0 where
+  pub sound : Sound Y
+  pub beside : joined Y (bayOf p r) (bayOf p s) ≡ true
+
+-- they do so in a yard that the table shows
+pub record SideBySide (n : ℕ) (table : List ℕ) (r s : Carrier) (p : Placement) : Type 0 where
+  pub tabled : Tabled n table
+  pub beside : Beside (tabled .yard) r s p
+
 -- v is reached from r's bay, and s is beside it
 pub record Near (Y : Yard) (r s : Carrier) (v : Bay) (p : Placement) : Type 0 where
   pub sound : Sound Y
   pub reached : In (bayOf p r) (nearestFirst Y [] v)
   pub beside : joined Y (bayOf p r) (bayOf p s) ≡ true
 
--- ## What is asked, what is said
-
--- leader and follower are two, and the path's bays are in the yard
-abbrev pub LedAsks : Lead → (path : List Bay) (p standing : List ℕ) → Type 0
-LedAsks lead path p standing =
-    (lead .couple .leader .0 < length p)
-    × (lead .couple .follower .0 < length p)
-    × (lead .couple .follower .0 ≡ lead .couple .leader .0 → ⊥)
-    × (lead .junction .0 < length standing)
-    × ((k : ℕ) → k < length path → getD path k 0 < length standing)
-    × (length path ≤ span)
+-- ## In the code's words
 
 -- the path leads the leader to the junction
 abbrev pub Leads : Yard → Lead → (path : List Bay) → Placement → Type 0
 Leads Y lead path p = Led Y (lead .couple .leader .0) (lead .couple .follower .0) (lead .junction .0) path p
 
--- bring and clear
-abbrev pub SetUpSays : Lead → (path : List Bay) (table p standing p′ log : List ℕ) → Pair → Type 0
-SetUpSays lead path table p standing p′ log r =
-    PairBy nothing set-up-most r
-    × ((t : Tabled (length standing) table)
-    → Leads (t .yard) lead path p
-    → SetsUp (t .yard) (lead .couple .leader .0) (lead .couple .follower .0) (lead .junction .0) path p p′ log r)
+-- the neighbour leads, and the carrier does
+abbrev pub neighbourLeads : Trial → Lead
+neighbourLeads x = record { couple = record { leader = x .neighbour; follower = x .carrier }; junction = x .junction }
 
--- the whole trial, where leader and follower are known
-abbrev pub LedSays : Lead → (path : List Bay) (table p standing log : List ℕ) → Tried → Type 0
-LedSays lead path table p standing log r =
-    Within nothing swap-most r
-    × ((t : Tabled (length standing) table)
-    → Leads (t .yard) lead path p
-    → Attempts (trialLed (t .yard) (lead .couple .leader .0) (lead .couple .follower .0) (lead .junction .0) path p) log r)
+abbrev pub carrierLeads : Trial → Lead
+carrierLeads x = record { couple = record { leader = x .carrier; follower = x .neighbour }; junction = x .junction }
 
 -- the junction is reached from the carrier's bay, and the neighbour is beside it
 abbrev pub Nears : Yard → Trial → Placement → Type 0
@@ -92,37 +84,48 @@ Nears Y x p = Near Y (x .carrier .0) (x .neighbour .0) (x .junction .0) p
 abbrev pub tries : Yard → Trial → Placement → Option Made
 tries Y x p = trial Y (x .carrier .0) (x .neighbour .0) (x .junction .0) p
 
+-- ## What is asked, what is said
+
+-- leader and follower are two, and the path's bays are in the yard
+pub record LedAsks (lead : Lead) (path : List Bay) (p standing : List ℕ) : Type 0 where
+  pub coupled : Coupled (lead .couple) p
+  pub inside : lead .junction .0 < length standing
+  pub bays-inside : (k : ℕ) → k < length path → getD path k 0 < length standing
+  pub short : length path ≤ span
+
+-- bring and clear
+pub record SetUpSays (lead : Lead) (path : List Bay) (table p standing p′ log : List ℕ) (r : Pair) : Type 0 where
+  pub few : PairBy nothing set-up-most r
+  pub sets-up : (t : Tabled (length standing) table) → Leads (t .yard) lead path p
+      → SetsUp (t .yard) (lead .couple .leader .0) (lead .couple .follower .0) (lead .junction .0) path p p′ log r
+
+-- the whole trial, where leader and follower are known
+pub record LedSays (lead : Lead) (path : List Bay) (table p standing log : List ℕ) (r : Tried) : Type 0 where
+  pub few : Within nothing swap-most r
+  pub attempts : (t : Tabled (length standing) table) → Leads (t .yard) lead path p
+      → Attempts (trialLed (t .yard) (lead .couple .leader .0) (lead .couple .follower .0) (lead .junction .0) path p) log r
+
 -- carrier and neighbour are two
-abbrev pub TrialAsks : Trial → (p standing : List ℕ) → Type 0
-TrialAsks x p standing =
-    (x .carrier .0 < length p)
-    × (x .neighbour .0 < length p)
-    × (x .neighbour .0 ≡ x .carrier .0 → ⊥)
-    × (x .junction .0 < length standing)
+pub record TrialAsks (x : Trial) (p standing : List ℕ) : Type 0 where
+  pub first : x .carrier .0 < length p
+  pub second : x .neighbour .0 < length p
+  pub differ : x .neighbour .0 ≡ x .carrier .0 → ⊥
+  pub inside : x .junction .0 < length standing
 
 -- the path from the carrier's bay to the junction is known
-abbrev pub TrialOnAsks : Trial → (path : List Bay) (p standing : List ℕ) → Type 0
-TrialOnAsks x path p standing =
-    (x .carrier .0 < length p)
-    × (x .neighbour .0 < length p)
-    × (x .neighbour .0 ≡ x .carrier .0 → ⊥)
-    × (x .junction .0 < length standing)
-    × ((k : ℕ) → k < length path → getD path k 0 < length standing)
-    × (length path ≤ span)
-    × (1 ≤ length path)
+pub record TrialOnAsks (x : Trial) (path : List Bay) (p standing : List ℕ) : Type 0 where
+  pub asks : TrialAsks x p standing
+  pub bays-inside : (k : ℕ) → k < length path → getD path k 0 < length standing
+  pub short : length path ≤ span
+  pub some-bays : 1 ≤ length path
 
-abbrev pub TrialOnSays : Trial → (path : List Bay) (table p standing log : List ℕ) → Tried → Type 0
-TrialOnSays x path table p standing log z =
-    Within nothing swap-most z
-    × ((t : Tabled (length standing) table)
-    → Nears (t .yard) x p
-    → path ≡ shortestPath (t .yard) [] (bayOf p (x .carrier .0)) (x .junction .0)
-    → Attempts (tries (t .yard) x p) log z)
+pub record TrialOnSays (x : Trial) (path : List Bay) (table p standing log : List ℕ) (z : Tried) : Type 0 where
+  pub few : Within nothing swap-most z
+  pub attempts : (t : Tabled (length standing) table) → Nears (t .yard) x p
+      → path ≡ shortestPath (t .yard) [] (bayOf p (x .carrier .0)) (x .junction .0)
+      → Attempts (tries (t .yard) x p) log z
 
 -- the paper's trial
-abbrev pub TrialSays : Trial → (table p standing log : List ℕ) → Tried → Type 0
-TrialSays x table p standing log z =
-    Within nothing swap-most z
-    × ((t : Tabled (length standing) table)
-    → Nears (t .yard) x p
-    → Attempts (tries (t .yard) x p) log z)
+pub record TrialSays (x : Trial) (table p standing log : List ℕ) (z : Tried) : Type 0 where
+  pub few : Within nothing swap-most z
+  pub attempts : (t : Tabled (length standing) table) → Nears (t .yard) x p → Attempts (tries (t .yard) x p) log z

@@ -14,7 +14,7 @@ ghost use lib.Dec.{eqb, ltb};
 ghost use lib.ListN.{length, getD};
 ghost use Rattle.paper.specs.Basics.{_and_};
 ghost use Rattle.acting.specs.Acting.{Ready};
-ghost use Rattle.trial.specs.Trying.{LedAsks, SetUpSays, LedSays, TrialAsks, TrialOnAsks, TrialOnSays, TrialSays};
+ghost use Rattle.trial.specs.Trying.{neighbourLeads, carrierLeads, LedAsks, SetUpSays, LedSays, TrialAsks, TrialOnAsks, TrialOnSays, TrialSays};
 
 // The swap of a carrier with its neighbour, tried at a junction.
 pub struct Trial {
@@ -149,8 +149,30 @@ pub fn second_is(path: &[u16], w: Bay) -> bool
     path[1] == w.0
 }
 
-// A trial at the junction, where the path from the carrier's bay leads: where its second bay is the neighbour's, the neighbour leads and the
-// carrier follows; otherwise the carrier leads.
+// The neighbour leads and the carrier follows.
+pub fn neighbour_leads(trial: Trial) -> Lead
+    ensures { λ r. ⌜ r ≡ neighbourLeads trial ⌝ }
+{
+    let leader = trial.neighbour;
+    let follower = trial.carrier;
+    let junction = trial.junction;
+    let couple = Couple { leader, follower };
+    Lead { couple, junction }
+}
+
+// The carrier leads and the neighbour follows.
+pub fn carrier_leads(trial: Trial) -> Lead
+    ensures { λ r. ⌜ r ≡ carrierLeads trial ⌝ }
+{
+    let leader = trial.carrier;
+    let follower = trial.neighbour;
+    let junction = trial.junction;
+    let couple = Couple { leader, follower };
+    Lead { couple, junction }
+}
+
+// A trial at the junction, where the path from the carrier's bay leads: where its second bay is the neighbour's, the neighbour leads; otherwise
+// the carrier does.
 pub fn try_on(
     table: &[u64],
     path: &[u16],
@@ -167,42 +189,14 @@ pub fn try_on(
         (now (table .entry)) (now (placement .entry)) (now (standing .entry)) (now (out .exit)) z
         ⌝ }
 {
-    let r = trial.carrier;
-    let s = trial.neighbour;
-    let junction = trial.junction;
-    let neighbour = s.0 as usize;
+    let neighbour = trial.neighbour.0 as usize;
     let w = Bay(placement[neighbour]);
     if second_is(path, w) {
-        if path.len() < 2 {
-            return Tried::Failed;
-        }
-        let couple = Couple {
-            leader: s,
-            follower: r,
-        };
-        return attempt(
-            table,
-            &path[2..],
-            Lead { couple, junction },
-            placement,
-            standing,
-            empty,
-            out,
-        );
+        let lead = neighbour_leads(trial);
+        return attempt(table, &path[2..], lead, placement, standing, empty, out);
     }
-    let couple = Couple {
-        leader: r,
-        follower: s,
-    };
-    attempt(
-        table,
-        &path[1..],
-        Lead { couple, junction },
-        placement,
-        standing,
-        empty,
-        out,
-    )
+    let lead = carrier_leads(trial);
+    attempt(table, &path[1..], lead, placement, standing, empty, out)
 }
 
 // A trial at a junction that is not the carrier's own bay: the path is found.

@@ -10,13 +10,13 @@ use Rattle.paper.specs.Basics.{_or_}
 use Rattle.paper.specs.Yard.{bayOf}
 use Rattle.words.specs.Sets.{mem, words, span}
 use Rattle.words.proofs.Sets.{zeros, mem-zeros}
-use Rattle.paper.proofs.Tests.{never}
-use Rattle.near.specs.Seeking.{Beside, near-rings}
+use Rattle.near.specs.Seeking.{near-rings}
 use Rattle.rings.proofs.Searching.{Widening, widening-first, widening-more, widening-rows}
 use Rattle.acting.specs.Acting.{Tabled}
 use Rattle.acting.specs.declared.Tried.the-variants.{Done, Failed}
+use Rattle.trial.specs.Trying.{Beside}
 use Rattle.trial.proofs.Copying.{freeShown}
-use Rattle.near.proofs.Seeking.{Sought, sought-first, sought-found, none-near, sought-start, sought-more, sought-next, reached-from, ring-low, near-of, swap-some}
+use Rattle.near.proofs.Seeking.{Sought, sought-first, sought-found, none-near, sought-start, sought-more, sought-next, reached-from, ring-low, near-of, sought-nowhere, swap-none, swap-some, near-found, near-farther, near-nowhere}
 use Rattle.near.proofs.seek_near.Statement.{statement}
 use Rattle.near.proofs.seek_near.Tie as tie
 
@@ -96,28 +96,28 @@ next-from-requires c κs = search needs
 
 loop-holds : tie.Need-loop-holds Inv-loop μ-loop Inv-nearest μ-nearest
 loop-holds c =
-    let nearest = c .before .before .before .nearest in
-    let start = c .before .before .before .before .before .before .before .before .before .before .before .before .before .before .before .before .before .before in
+    let nearest = c .before .before .before .before .nearest in
+    let start = c .before .before .before .before .before .before .before .before .before .before .before .before .before .before .before .before .before .before .before in
     let p = start .pre .0 in
     let z = start .pre .1 in
     let a = start .args in
     let hu = p .placed .inside (a .r .0) (z .first) in
-    let l = c .next-from .ensures in
-    (refl, l .upto, l .hit, λ t b. sought-start t _ _ _ (p .most) hu _ _ (nearest .inv .4 t (c .before .before .if1 .left) .ringing) _ (nearest .inv .5 t b) l)
+    let l = c .before .next-from .ensures in
+    (refl, l .upto, l .hit, λ t b. sought-start t _ _ _ (p .most) hu _ _ (nearest .inv .4 t (c .before .before .before .if1 .left) .ringing) _ (nearest .inv .5 t b) l)
 
 cast-t31 : tie.Need-cast-t31 Inv-loop μ-loop Inv-nearest μ-nearest
 cast-t31 c = search needs
 
 try-junction-requires : tie.Need-try-junction-requires Inv-loop μ-loop Inv-nearest μ-nearest
 try-junction-requires c κs =
-    let start = c .before .before .before .before .before .before .before .before .before .before .before .before .before .before .before .before .before .before .before .before .before in
+    let start = c .before .before .before .before .before .before .before .before .before .before .before .before .before .before .before .before .before .before .before .before .before .before in
     let p = start .pre .0 in
     let z = start .pre .1 in
     let a = start .args in
     let hu = p .placed .inside (a .r .0) (z .first) in
     let h = c .before .loop-test .taken in
-    let i = sym (c .before .before .before .before .before .before .nearest .inv .4 (p .tabled) (c .before .before .before .before .before .if1 .left) .ringing _ h) ∙ c .before .before .loop .inv .2 h in
-    (p, (z .first, z .second, z .differ, ring-low (p .tabled) (a .r .0) (a .s .0) (a .placement .now) (p .most) hu _ _ i))
+    let i = sym (c .before .before .before .before .before .before .before .nearest .inv .4 (p .tabled) (c .before .before .before .before .before .before .if1 .left) .ringing _ h) ∙ c .before .before .loop .inv .2 h in
+    (p, record { first = z .first; second = z .second; differ = z .differ; inside = ring-low (p .tabled) (a .r .0) (a .s .0) (a .placement .now) (p .most) hu _ _ i })
 
 enum-known-tried : tie.Need-enum-known-tried Inv-loop μ-loop Inv-nearest μ-nearest
 enum-known-tried c = search needs
@@ -143,9 +143,9 @@ loop-again c =
     let try-junction = c .before .before .before .before .before .before .try-junction in
     let loop-test = c .before .before .before .before .before .before .before .before .loop-test in
     let loop = c .before .before .before .before .before .before .before .before .before .loop in
-    let if1 = c .before .before .before .before .before .before .before .before .before .before .before .before .if1 in
-    let nearest = c .before .before .before .before .before .before .before .before .before .before .before .before .before .nearest in
-    let start = c .before .before .before .before .before .before .before .before .before .before .before .before .before .before .before .before .before .before .before .before .before .before .before .before .before .before .before .before in
+    let if1 = c .before .before .before .before .before .before .before .before .before .before .before .before .before .if1 in
+    let nearest = c .before .before .before .before .before .before .before .before .before .before .before .before .before .before .nearest in
+    let start = c .before .before .before .before .before .before .before .before .before .before .before .before .before .before .before .before .before .before .before .before .before .before .before .before .before .before .before .before .before in
     let p = start .pre .0 in
     let z = start .pre .1 in
     let a = start .args in
@@ -160,7 +160,7 @@ loop-again c =
           let same = nearest .inv .4 t (if1 .left) .ringing in
           let i = sym (same _ h) ∙ loop .inv .2 h in
           let near = near-of b (reached-from t (a .r .0) (a .s .0) (a .placement .now) (p .most) hu _ _ i) in
-          sought-more t _ _ _ (p .most) hu _ _ same _ _ (loop .inv .3 t b) (try-junction .ensures .1 t near .fails e) l,
+          sought-more t _ _ _ (p .most) hu _ _ same _ _ (loop .inv .3 t b) (try-junction .ensures .tried t near .fails e) l,
     )
 
 slice-aggregate-widen : tie.Need-slice-aggregate-widen Inv-loop μ-loop Inv-nearest μ-nearest
@@ -171,13 +171,13 @@ slice-aggregate-widen-2 c = search needs
 
 widen-requires : tie.Need-widen-requires Inv-loop μ-loop Inv-nearest μ-nearest
 widen-requires c κs =
-    let start = c .before .before .before .before .before .before .before .before .before .before .before .before .before .before .before .before .before .before .before .before .before .before in
+    let start = c .before .before .before .before .before .before .before .before .before .before .before .before .before .before .before .before .before .before .before .before .before .before .before in
     let p = start .pre .0 in
     let z = start .pre .1 in
     let a = start .args in
     let hu = p .placed .inside (a .r .0) (z .first) in
-    let n = c .before .before .before .before .before .before .before .nearest .inv in
-    (n .1, n .2, widening-rows (freeShown (p .tabled)) _ (p .most) hu (p .table-size) (n .4 (p .tabled) (c .before .before .before .before .before .before .if1 .left)))
+    let n = c .before .before .before .before .before .before .before .before .nearest .inv in
+    (n .1, n .2, widening-rows (freeShown (p .tabled)) _ (p .most) hu (p .table-size) (n .4 (p .tabled) (c .before .before .before .before .before .before .before .if1 .left)))
 
 add-d : tie.Need-add-d Inv-loop μ-loop Inv-nearest μ-nearest
 add-d c = search needs
@@ -188,9 +188,9 @@ nearest-less c = search needs
 nearest-again : tie.Need-nearest-again Inv-loop μ-loop Inv-nearest μ-nearest
 nearest-again c =
     let loop = c .before .before .before .before .before .before .loop in
-    let if1 = c .before .before .before .before .before .before .before .before .before .if1 in
-    let nearest = c .before .before .before .before .before .before .before .before .before .before .nearest in
-    let start = c .before .before .before .before .before .before .before .before .before .before .before .before .before .before .before .before .before .before .before .before .before .before .before .before .before in
+    let if1 = c .before .before .before .before .before .before .before .before .before .before .if1 in
+    let nearest = c .before .before .before .before .before .before .before .before .before .before .before .nearest in
+    let start = c .before .before .before .before .before .before .before .before .before .before .before .before .before .before .before .before .before .before .before .before .before .before .before .before .before .before in
     let p = start .pre .0 in
     let z = start .pre .1 in
     let a = start .args in
@@ -212,34 +212,41 @@ same-length c = c .before .nearest .inv .0
 returns : tie.Need-returns Inv-loop μ-loop Inv-nearest μ-nearest
 returns c =
     let n = c .before .nearest .inv in
-    record { few = tt; found = λ m e. never (cc); missed = λ e t b. none-near t _ _ _ _ (omega (arith, c .if1 .taken, n .6)) (n .5 t b) }
+    near-farther (λ t b. none-near t _ _ _ _ (omega (arith, c .if1 .taken, n .6)) (n .5 t b))
 
 same-length-2 : tie.Need-same-length-2 Inv-loop μ-loop Inv-nearest μ-nearest
-same-length-2 c = search needs
+same-length-2 c = c .before .before .before .before .nearest .inv .0
 
 returns-2 : tie.Need-returns-2 Inv-loop μ-loop Inv-nearest μ-nearest
 returns-2 c =
+    let start = c .before .before .before .before .before .before .before .before .before .before .before .before .before .before .before .before .before .before .before in
+    let p = start .pre .0 in
+    let hu = p .placed .inside (start .args .r .0) (start .pre .1 .first) in
+    let n = c .before .before .before .before .nearest .inv in
+    near-nowhere (λ t b. swap-none _ _ _ _ (sought-nowhere t _ _ _ (p .most) hu _ _ (n .4 t (c .before .before .before .if1 .left) .ringing) _ (n .5 t b) (c .before .next-from .ensures) (c .if2 .taken)))
+
+same-length-3 : tie.Need-same-length-3 Inv-loop μ-loop Inv-nearest μ-nearest
+same-length-3 c = search needs
+
+returns-3 : tie.Need-returns-3 Inv-loop μ-loop Inv-nearest μ-nearest
+returns-3 c =
     let try-junction = c .before .before .before .before .before .try-junction in
     let loop = c .before .before .before .before .before .before .before .before .loop in
-    let if1 = c .before .before .before .before .before .before .before .before .before .before .before .if1 in
-    let nearest = c .before .before .before .before .before .before .before .before .before .before .before .before .nearest in
-    let start = c .before .before .before .before .before .before .before .before .before .before .before .before .before .before .before .before .before .before .before .before .before .before .before .before .before .before .before in
+    let if1 = c .before .before .before .before .before .before .before .before .before .before .before .before .if1 in
+    let nearest = c .before .before .before .before .before .before .before .before .before .before .before .before .before .nearest in
+    let start = c .before .before .before .before .before .before .before .before .before .before .before .before .before .before .before .before .before .before .before .before .before .before .before .before .before .before .before .before in
     let p = start .pre .0 in
     let z = start .pre .1 in
     let a = start .args in
     let hu = p .placed .inside (a .r .0) (z .first) in
     let h = c .before .before .before .before .before .before .before .loop-test .taken in
     let e : try-junction .result ≡ Done (c .before .tried .given .0 .0) = c .before .tried .given .1 in
-    record {
-      few = rw e at (try-junction .ensures .0);
-      found = λ m same t b.
-          let i = sym (nearest .inv .4 t (if1 .left) .ringing _ h) ∙ loop .inv .2 h in
-          let near = near-of b (reached-from t (a .r .0) (a .s .0) (a .placement .now) (p .most) hu _ _ i) in
-          let w = try-junction .ensures .1 t near in
-          let it : try-junction .result ≡ Done m = e ∙ same in
-          swap-some _ _ _ _ (sought-found t _ _ _ _ _ (loop .inv .3 t b) i (w .fits _ e)) (w .logged m it);
-      missed = λ f. never (cc);
-    }
+    near-found (rw e at (try-junction .ensures .few))
+    (λ t b.
+    let i = sym (nearest .inv .4 t (if1 .left) .ringing _ h) ∙ loop .inv .2 h in
+    let near = near-of b (reached-from t (a .r .0) (a .s .0) (a .placement .now) (p .most) hu _ _ i) in
+    let w = try-junction .ensures .tried t near in
+    swap-some _ _ _ _ (sought-found t _ _ _ _ _ (loop .inv .3 t b) i (w .fits _ e)) (w .logged _ e))
 
 pub seek-near-spec : {M : Type 1} → statement M
 seek-near-spec =
@@ -280,4 +287,6 @@ seek-near-spec =
     same-length
     returns
     same-length-2
-    returns-2)
+    returns-2
+    same-length-3
+    returns-3)

@@ -13,32 +13,32 @@ cast-first c = search needs
 cast-second : tie.Need-cast-second
 cast-second c = search needs
 
-mul-t12 : tie.Need-mul-t12
-mul-t12 c = search needs
+mul-t11 : tie.Need-mul-t11
+mul-t11 c = search needs
 
-shared-slice-read-t14 : tie.Need-shared-slice-read-t14
-shared-slice-read-t14 c = search needs
+shared-slice-read-t13 : tie.Need-shared-slice-read-t13
+shared-slice-read-t13 c = search needs
 
-mul-t12-2 : tie.Need-mul-t12-2
-mul-t12-2 c = search needs
+mul-t11-2 : tie.Need-mul-t11-2
+mul-t11-2 c = search needs
 
-shared-slice-read-t14-2 : tie.Need-shared-slice-read-t14-2
-shared-slice-read-t14-2 c = search needs
+shared-slice-read-t13-2 : tie.Need-shared-slice-read-t13-2
+shared-slice-read-t13-2 c = search needs
 
 returns : tie.Need-returns
 returns c = λ e. not-both e refl
 
 is-blocked-requires : tie.Need-is-blocked-requires
 is-blocked-requires c κs =
-    let start = c .before .before .before .before .before .before .before .before .before .before .before in
+    let start = c .before .before .before .before .before .before .before .before .before .before .before .before in
     let z = start .pre .1 in
-    outlook-asks (start .pre .0) (start .args .r .0) (start .args .s .0) (start .args .v .0) (z .0) (z .1) (z .3)
+    outlook-asks (start .pre .0) (start .args .trial .carrier .0) (start .args .trial .neighbour .0) (start .args .trial .junction .0) (z .first) (z .second) (z .inside)
 
 returns-2 : tie.Need-returns-2
 returns-2 c =
-    let start = c .before .before .before .before .before .before .before .before .before .before .before .before in
+    let start = c .before .before .before .before .before .before .before .before .before .before .before .before .before in
     let z = start .pre .1 in
-    λ e t near. blocked-none t (start .pre .0 .placed) _ _ _ (z .0) (z .1) (z .2) (z .3) near (c .is-blocked .ensures e)
+    λ e t near. blocked-none t (start .pre .0 .placed) _ _ _ (z .first) (z .second) (z .differ) (z .inside) near (c .is-blocked .ensures e)
 
 pub surely-fails-spec : {M : Type 1} → statement M
 surely-fails-spec =
@@ -46,10 +46,10 @@ surely-fails-spec =
     (tie.spec
     cast-first
     cast-second
-    mul-t12
-    shared-slice-read-t14
-    mul-t12-2
-    shared-slice-read-t14-2
+    mul-t11
+    shared-slice-read-t13
+    mul-t11-2
+    shared-slice-read-t13-2
     returns
     is-blocked-requires
     returns-2)

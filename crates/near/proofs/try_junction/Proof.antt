@@ -13,7 +13,7 @@ surely-fails-requires : tie.Need-surely-fails-requires
 surely-fails-requires c κs = search needs
 
 returns : tie.Need-returns
-returns c = (tt, λ t near. tried-never _ _ _ _ _ _ (c .before .surely-fails .ensures (c .if2 .taken) t near))
+returns c = record { few = tt; tried = λ t near. tried-never _ _ _ _ _ _ (c .before .surely-fails .ensures (c .if2 .taken) t near) }
 
 try-at-requires : tie.Need-try-at-requires
 try-at-requires c κs = search needs
@@ -22,10 +22,16 @@ same-length : tie.Need-same-length
 same-length c = c .before .before .try-at .kept .1 .1 .1 .1 .1 .0
 
 returns-2 : tie.Need-returns-2
-returns-2 c = (c .before .before .try-at .ensures .0, λ t near. tried-at _ _ _ _ _ _ (sym (c .before .before .before .before .before .before .before .is-junction .ensures t) ∙ c .before .before .before .before .before .before .if1 .taken) (c .before .before .try-at .ensures .1 t near))
+returns-2 c =
+    let made = c .before .before .try-at .ensures in
+    let is-junction = c .before .before .before .before .before .before .before .is-junction in
+    record {
+      few = made .few;
+      tried = λ t near. tried-at _ _ _ _ _ _ (sym (is-junction .ensures t) ∙ c .before .before .before .before .before .before .if1 .taken) (made .attempts t near);
+    }
 
 returns-3 : tie.Need-returns-3
-returns-3 c = (tt, λ t near. tried-not _ _ _ _ _ _ (sym (c .before .is-junction .ensures t) ∙ c .if1 .left))
+returns-3 c = record { few = tt; tried = λ t near. tried-not _ _ _ _ _ _ (sym (c .before .is-junction .ensures t) ∙ c .if1 .left) }
 
 pub try-junction-spec : {M : Type 1} → statement M
 try-junction-spec =

@@ -14,8 +14,8 @@ use Rattle.rounds.proofs.Rounds.{Rounds}
 use Rattle.acting.specs.Acting.{Tabled}
 use Rattle.acting.specs.declared.Tried.the-variants.{Done}
 use Rattle.trial.proofs.Copying.{freeShown}
-use Rattle.near.specs.Seeking.{Beside}
-use Rattle.seek.specs.Scouts.{Scouted}
+use Rattle.trial.specs.Trying.{Beside}
+use Rattle.scouts.specs.Scouts.{Scouted}
 use Rattle.near.proofs.Seeking.{Sought, sought-first, sought-found, sought-end, sought-more, sought-next, fitting-not, ring-low, swap-none, swap-some}
 use Rattle.seek.proofs.Seeking.{sought-far, scouted-first, search-first, search-dry, search-more, foresee-asks}
 use Rattle.seek.proofs.seek_far.Statement.{statement}

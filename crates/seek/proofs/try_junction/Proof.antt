@@ -21,8 +21,7 @@ returns c =
 try-on-requires : tie.Need-try-on-requires
 try-on-requires c κs =
     let start = c .before .before .before .before .before .before .before .before .before .before in
-    let z = start .pre .1 in
-    (start .pre .0, (z .first, z .second, z .differ, z .inside, z .bays-inside, z .short, z .some-bays))
+    (start .pre .0, start .pre .1 .on-path)
 
 same-length : tie.Need-same-length
 same-length c = search needs
@@ -34,8 +33,8 @@ returns-2 c =
     let made = c .before .before .try-on .ensures in
     record {
       scouted = hope .scouted;
-      few = made .0;
-      tried = λ t b j. tried-at _ _ _ _ _ _ j (made .1 t (z .near t b) (z .is-path t b));
+      few = made .few;
+      tried = λ t b j. tried-at _ _ _ _ _ _ j (made .attempts t (z .near t b) (z .is-path t b));
     }
 
 pub try-junction-spec : {M : Type 1} → statement M

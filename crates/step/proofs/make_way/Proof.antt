@@ -103,12 +103,12 @@ swap-requires c κs =
     let ss : make-room .last .1 .1 .1 .1 .0 ≡ start .args .standing .now = u .same-standing in
     let se : make-room .last .1 .1 .1 .1 .1 .0 ≡ start .args .empty .now = u .same-empty in (
       ready-again p _ _ _ (ap length ss) (ap length se) (rw (sp, ss, se) (p .placed)),
-      (
-        rw sp (z .can .carrier-there),
-        rw (sp, ss) (m .0),
-        rw ss (met-other (p .tabled) (p .most) (z .can) (p .placed) f),
-        rw (sp, ss) (record { tabled = p .tabled; beside = b }),
-      ),
+      record {
+        first = rw sp (z .can .carrier-there);
+        second = rw (sp, ss) (m .0);
+        differ = rw ss (met-other (p .tabled) (p .most) (z .can) (p .placed) f);
+        side = rw (sp, ss) (record { tabled = p .tabled; beside = b });
+      },
     )
 
 same-length : tie.Need-same-length
@@ -135,14 +135,14 @@ returns c =
     let z = start .pre .1 in
     let e : make-room .result ≡ Failed = enum-told .given .1 in
     record {
-      few = swap .ensures .0;
+      few = swap .ensures .few;
       proceeds = λ t.
           let a = rw e at (make-room .ensures .acts (heldBy t (start .args .next .carrier .0) (z .below) (keep .ensures) (add .ensures))) in
           let f = acted-failed a in
           let u = a .fails f .1 in
           let se : make-room .last .1 .1 .1 .1 .1 .0 ≡ start .args .empty .now = u .same-empty in
           rw se (stepped-swap t (p .most) (z .can) (p .placed) f
-          ((rw (u .same-placement, u .same-standing, u .same-empty, u .same-list) at (swap .ensures .1)) t (met-beside t (p .most) (z .can) (p .placed) f)));
+          ((rw (u .same-placement, u .same-standing, u .same-empty, u .same-list) at (swap .ensures .proceeds)) t (met-beside t (p .most) (z .can) (p .placed) f)));
     }
 
 mul-t25 : tie.Need-mul-t25

@@ -88,12 +88,12 @@ swap-requires c κs =
     let z = start .pre .1 in
     let f = held-fails (p .tabled) (p .most) (z .can) (p .placed) (omega (arith, c .before .before .before .before .if2 .taken)) in (
       p,
-      (
-        z .can .carrier-there,
-        met-carrier (p .tabled) (p .most) (z .can) (p .placed) f .0,
-        met-other (p .tabled) (p .most) (z .can) (p .placed) f,
-        record { tabled = p .tabled; beside = met-beside (p .tabled) (p .most) (z .can) (p .placed) f },
-      ),
+      record {
+        first = z .can .carrier-there;
+        second = met-carrier (p .tabled) (p .most) (z .can) (p .placed) f .0;
+        differ = met-other (p .tabled) (p .most) (z .can) (p .placed) f;
+        side = record { tabled = p .tabled; beside = met-beside (p .tabled) (p .most) (z .can) (p .placed) f };
+      },
     )
 
 same-length-5 : tie.Need-same-length-5
@@ -116,10 +116,10 @@ returns-2 c =
     let p = start .pre .0 in
     let z = start .pre .1 in
     record {
-      few = swap .ensures .0;
+      few = swap .ensures .few;
       proceeds = λ t.
           let f = held-fails t (p .most) (z .can) (p .placed) (omega (arith, if2 .taken)) in
-          stepped-swap t (p .most) (z .can) (p .placed) f (swap .ensures .1 t (met-beside t (p .most) (z .can) (p .placed) f));
+          stepped-swap t (p .most) (z .can) (p .placed) f (swap .ensures .proceeds t (met-beside t (p .most) (z .can) (p .placed) f));
     }
 
 common-requires : tie.Need-common-requires

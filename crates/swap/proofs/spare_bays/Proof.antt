@@ -1,7 +1,7 @@
 -- `swap::spare_bays` meets its contract. The lowest empty one is found, taken out, and the lowest found again.
 -- Assumes nothing.
 use borrow.Author.Needs.{needs}
-use Rattle.swap.proofs.Besides.{two-spare}
+use Rattle.swap.proofs.Besides.{two-spare, both-spare, fewer-spare}
 use Rattle.swap.proofs.spare_bays.Statement.{statement}
 use Rattle.swap.proofs.spare_bays.Tie as tie
 
@@ -30,7 +30,7 @@ lowest-common-requires : tie.Need-lowest-common-requires
 lowest-common-requires c κs = search needs
 
 returns : tie.Need-returns
-returns c = search needs
+returns c = fewer-spare
 
 slice-aggregate-remove-2 : tie.Need-slice-aggregate-remove-2
 slice-aggregate-remove-2 c = search needs
@@ -45,7 +45,7 @@ lowest-common-requires-2 : tie.Need-lowest-common-requires-2
 lowest-common-requires-2 c κs = search needs
 
 returns-2 : tie.Need-returns-2
-returns-2 c = search needs
+returns-2 c = fewer-spare
 
 cast-t21 : tie.Need-cast-t21
 cast-t21 c = search needs
@@ -57,7 +57,7 @@ returns-3 : tie.Need-returns-3
 returns-3 c =
     let remove = c .before .before .before .before .before .before .before .before .before .before .remove in
     let join-row = c .before .before .before .before .before .before .before .before .before .before .before .before .before .before .join-row in
-    two-spare _ _ _ _ _ _ _ (join-row .ensures) (remove .ensures) (c .before .before .before .before .before .before .before .lowest-common .ensures) (c .before .before .before .before .before .before .if1 .left) (c .before .before .before .before .remove2 .ensures) (c .before .lowest-common2 .ensures) (c .if2 .left)
+    both-spare _ _ (two-spare _ _ _ _ _ _ _ (join-row .ensures) (remove .ensures) (c .before .before .before .before .before .before .before .lowest-common .ensures) (c .before .before .before .before .before .before .if1 .left) (c .before .before .before .before .remove2 .ensures) (c .before .lowest-common2 .ensures) (c .if2 .left))
 
 pub spare-bays-spec : {M : Type 1} → statement M
 spare-bays-spec =

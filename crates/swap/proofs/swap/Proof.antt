@@ -1,10 +1,9 @@
 -- `swap::swap` meets its contract. With two bays to spare beside r the swap is the exchange there, and else it is sought.
 -- Assumes nothing.
-use mathlib.Core.Path.{_≡_, refl}
+use mathlib.Core.Path.{refl}
 use native.Mathlib.Omega.{arith}
 use borrow.Author.Needs.{needs}
 use Rattle.exchange.proofs.Exchanging.{length-exchange}
-use Rattle.swap.specs.declared.Spare.the-variants.{Both}
 use Rattle.swap.proofs.Committing.{noted-logged, traded-proceeds}
 use Rattle.swap.proofs.Besides.{swap-own}
 use Rattle.swap.proofs.swap.Statement.{statement}
@@ -33,9 +32,9 @@ spare-bays-requires c κs =
     let start = c .before .before .before .before .before .before .before .before .before in
     let p = start .pre .0 in
     let z = start .pre .1 in
-    let hr = p .placed .inside _ (z .0) in
-    let hs = p .placed .inside _ (z .1) in
-    (omega (arith, hr, p .table-size), omega (arith, hs, p .most), p .empty-size)
+    let hr = p .placed .inside _ (z .first) in
+    let hs = p .placed .inside _ (z .second) in
+    record { row = omega (arith, hr, p .table-size); low = omega (arith, hs, p .most); empty-size = p .empty-size }
 
 enum-known-spare : tie.Need-enum-known-spare
 enum-known-spare c = c .match .keys1
@@ -45,7 +44,13 @@ swap-beside-requires c κs =
     let start = c .before .before .before .before .before .before .before .before .before .before .before .before .before .before .before .before in
     let p = start .pre .0 in
     let z = start .pre .1 in
-    (z .0, z .1, omega (arith, p .placed .few, p .most), p .placed .inside _ (z .0), p .placed .inside _ (z .1))
+    record {
+      first = z .first;
+      second = z .second;
+      few = omega (arith, p .placed .few, p .most);
+      first-shown = p .placed .inside _ (z .first);
+      second-shown = p .placed .inside _ (z .second);
+    }
 
 same-length : tie.Need-same-length
 same-length c = c .before .before .before .before .before .before .swap-beside .kept .1 .1 .1 .0
@@ -64,15 +69,15 @@ returns c =
     let p = start .pre .0 in
     let z = start .pre .1 in
     let g = spare .given in
-    let e : spare-bays .result ≡ Both (g .0 .0) (g .0 .1 .0) = g .1 in
-    let two = rw e at (spare-bays .ensures) in
+    let two = spare-bays .ensures .both (g .0 .0) (g .0 .1 .0) (g .1) in
     let swap-beside = c .before .before .before .before .before .before .swap-beside in
     let w = swap-beside .ensures in
-    let few = rw length-exchange at (w .2 .counted) in
-    let long = swap-beside .kept .1 .1 .1 .1 .1 .0 in (
-      omega (arith, few),
-      λ t b. traded-proceeds t (p .placed) refl _ _ (z .0) (z .1) (z .2) b _ _ (swap-own t (p .placed) (p .most) (z .0) (z .1) b two) (w .0) (w .1) long (noted-logged (w .2)),
-    )
+    let few = rw length-exchange at (w .noted .counted) in
+    let long = swap-beside .kept .1 .1 .1 .1 .1 .0 in
+    record {
+      few = omega (arith, few);
+      proceeds = λ t b. traded-proceeds t (p .placed) refl _ _ (z .first) (z .second) (z .differ) b _ _ (swap-own t (p .placed) (p .most) (z .first) (z .second) b two) (w .traded .moved) (w .traded .stands) long (noted-logged (w .noted));
+    }
 
 enum-told : tie.Need-enum-told
 enum-told c = c .match .keys2

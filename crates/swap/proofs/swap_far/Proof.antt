@@ -9,10 +9,7 @@ use Rattle.swap.proofs.swap_far.Statement.{statement}
 use Rattle.swap.proofs.swap_far.Tie as tie
 
 seek-requires : tie.Need-seek-requires
-seek-requires c κs =
-    let start = c .before .before .before .before .before .before .before .before in
-    let z = start .pre .1 in
-    (start .pre .0, record { first = z .0; second = z .1; differ = z .2; side = z .3 })
+seek-requires c κs = c .before .before .before .before .before .before .before .before .pre
 
 enum-known-found : tie.Need-enum-known-found
 enum-known-found c = c .match .keys1
@@ -36,14 +33,20 @@ returns c =
     let p = start .pre .0 in
     let z = start .pre .1 in
     let e : seek .result ≡ Failed = c .enum-told .given .1 in
-    (tt, λ t b. not-found t (p .placed) refl _ _ (z .0) (z .1) (z .2) b (rw e at (seek .ensures .swaps t b)))
+    record { few = tt; proceeds = λ t b. not-found t (p .placed) refl _ _ (z .first) (z .second) (z .differ) b (rw e at (seek .ensures .swaps t b)) }
 
 trade-requires : tie.Need-trade-requires
 trade-requires c κs =
     let start = c .before .before .before .before .before .before .before .before .before .before .before .before .before .before .before .before in
     let p = start .pre .0 in
     let z = start .pre .1 in
-    (z .0, z .1, omega (arith, p .placed .few, p .most), p .placed .inside _ (z .0), p .placed .inside _ (z .1))
+    record {
+      first = z .first;
+      second = z .second;
+      few = omega (arith, p .placed .few, p .most);
+      first-shown = p .placed .inside _ (z .first);
+      second-shown = p .placed .inside _ (z .second);
+    }
 
 same-length-4 : tie.Need-same-length-4
 same-length-4 c = c .before .before .before .before .trade .kept .0
@@ -64,7 +67,10 @@ returns-2 c =
     let z = start .pre .1 in
     let e : seek .result ≡ Done (found .given .0 .0) = found .given .1 in
     let long = seek .kept .1 .1 .1 .1 .1 .1 .0 in
-    (rw e at (seek .ensures .few), λ t b. committed t (p .placed) refl _ _ (z .0) (z .1) (z .2) b _ _ (trade .ensures .0) (trade .ensures .1) long (rw e at (seek .ensures .swaps t b)))
+    record {
+      few = rw e at (seek .ensures .few);
+      proceeds = λ t b. committed t (p .placed) refl _ _ (z .first) (z .second) (z .differ) b _ _ (trade .ensures .moved) (trade .ensures .stands) long (rw e at (seek .ensures .swaps t b));
+    }
 
 pub swap-far-spec : {M : Type 1} → statement M
 swap-far-spec =

@@ -50,8 +50,15 @@ attempt-on-requires c κs =
     let p = start .pre .0 in
     let z = start .pre .1 in
     let e = copy .ensures in
-    let d = copy2 .ensures in
-    (ready-copy p _ _ _ e d (search needs) (c .before .before .before .before .before .keep .ensures .row), (rw e (z .0), rw e (z .1), z .2, rw d (z .3), rw d (z .4), z .5))
+    let d = copy2 .ensures in (
+      ready-copy p _ _ _ e d (search needs) (c .before .before .before .before .before .keep .ensures .row),
+      record {
+        coupled = record { leads = rw e (z .coupled .leads); follows = rw e (z .coupled .follows); differ = z .coupled .differ };
+        inside = rw d (z .inside);
+        bays-inside = rw d (z .bays-inside);
+        short = z .short;
+      },
+    )
 
 same-length : tie.Need-same-length
 same-length c = c .before .before .before .before .before .attempt-on .kept .1 .1 .1 .1 .1 .1 .0
@@ -63,7 +70,7 @@ returns c =
     let copy = c .before .before .before .before .before .before .before .before .before .before .before .before .before .before .before .before .before .copy in
     let e = copy .ensures in
     let d = copy2 .ensures in
-    (attempt-on .ensures .0, rw (e, d) at (attempt-on .ensures .1))
+    record { few = attempt-on .ensures .few; attempts = rw (e, d) at (attempt-on .ensures .attempts) }
 
 pub attempt-spec : {M : Type 1} → statement M
 attempt-spec =

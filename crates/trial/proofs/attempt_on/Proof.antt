@@ -40,7 +40,7 @@ same-length-4 c =
 returns : tie.Need-returns
 returns c =
     let set-up = c .before .before .before .before .before .before .before .before .before .before .set-up in
-    (tt, λ t led. attempts-none (set-up .ensures .1 t led .missing (c .enum-told .given .1)))
+    record { few = tt; attempts = λ t led. attempts-none (set-up .ensures .sets-up t led .missing (c .enum-told .given .1)) }
 
 cast-follower : tie.Need-cast-follower
 cast-follower c = search needs
@@ -49,7 +49,7 @@ mul-behind : tie.Need-mul-behind
 mul-behind c = search needs
 
 slice-read-behind : tie.Need-slice-read-behind
-slice-read-behind c = search needs
+slice-read-behind c = omega (arith, c .before .before .before .before .before .before .before .before .before .before .before .before .before .before .before .set-up .kept .1 .1 .1 .0, c .before .before .before .before .before .before .before .before .before .before .before .before .before .before .before .before .before .before .before .before .before .before .before .before .before .before .pre .1 .coupled .follows)
 
 lower-requires : tie.Need-lower-requires
 lower-requires c κs = search needs
@@ -60,14 +60,14 @@ higher-requires c κs = search needs
 exchange-requires : tie.Need-exchange-requires
 exchange-requires c κs =
     let set-up = c .before .before .before .before .before .before .before .before .before .before .before .before .before .before .before .before .before .before .set-up in
-    let f = set-up .ensures .0 .few _ _ _ (c .before .before .before .before .before .before .before .before .ready .given .1) in
+    let f = set-up .ensures .few .few _ _ _ (c .before .before .before .before .before .before .before .before .ready .given .1) in
     omega (arith, f .0)
 
 undo-requires : tie.Need-undo-requires
 undo-requires c κs =
     let ready = c .before .before .before .before .before .before .before .before .before .before .before .before .ready in
     let set-up = c .before .before .before .before .before .before .before .before .before .before .before .before .before .before .before .before .before .before .before .before .before .before .set-up in
-    let f = set-up .ensures .0 .few _ _ _ (ready .given .1) in
+    let f = set-up .ensures .few .few _ _ _ (ready .given .1) in
     let e = rw length-exchange at (c .before .before .before .exchange .ensures .counted) in
     (omega (arith, e), omega (arith, e, f .0))
 
@@ -75,7 +75,7 @@ add-crossings : tie.Need-add-crossings
 add-crossings c =
     let ready = c .before .before .before .before .before .before .before .before .before .before .before .before .before .before .before .ready in
     let set-up = c .before .before .before .before .before .before .before .before .before .before .before .before .before .before .before .before .before .before .before .before .before .before .before .before .before .set-up in
-    let f = set-up .ensures .0 .few _ _ _ (ready .given .1) in
+    let f = set-up .ensures .few .few _ _ _ (ready .given .1) in
     let e = rw length-exchange at (c .before .before .before .before .before .before .exchange .ensures .counted) in
     omega (arith, e, f .0)
 
@@ -107,15 +107,16 @@ returns-2 c =
     let set-up = c .before .before .before .before .before .before .before .before .before .before .before .before .before .before .before .before .before .before .before .before .before .before .before .before .before .set-up in
     let start = c .before .before .before .before .before .before .before .before .before .before .before .before .before .before .before .before .before .before .before .before .before .before .before .before .before .before .before .before .before .before .before .before .before .before .before .before in
     let p = start .pre .0 in
-    let z = start .pre .1 in
-    let f = set-up .ensures .0 .few _ _ _ (ready .given .1) in
-    let e = rw length-exchange at (exchange .ensures .counted) in (
-      omega (arith, e, f .0),
-      λ t led.
-          let q = set-up .ensures .1 t led .both _ _ _ (ready .given .1) in
+    let z = start .pre .1 .coupled in
+    let f = set-up .ensures .few .few _ _ _ (ready .given .1) in
+    let e = rw length-exchange at (exchange .ensures .counted) in
+    record {
+      few = omega (arith, e, f .0);
+      attempts = λ t led.
+          let q = set-up .ensures .sets-up t led .both _ _ _ (ready .given .1) in
           let ex = rw (lower .ensures, c .before .before .before .before .before .before .before .higher .ensures) at (exchange .ensures) in
-          attempted q (p .placed) (z .0) (z .1) (z .2) _ (t .joins) (p .most) led ex (c .before .before .undo .ensures) (c .before .before .undo .kept .0),
-    )
+          attempted q (p .placed) (z .leads) (z .follows) (z .differ) _ (t .joins) (p .most) led ex (c .before .before .undo .ensures) (c .before .before .undo .kept .0);
+    }
 
 pub attempt-on-spec : {M : Type 1} → statement M
 attempt-on-spec =

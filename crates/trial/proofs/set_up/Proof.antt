@@ -20,7 +20,7 @@ bring-requires c κs =
     let start = c .before .before .before .before .before .before .before .before .before .before in
     let p = start .pre .0 in
     let z = start .pre .1 in
-    (p, record { coupled = record { leads = z .0; follows = z .1; differ = z .2 }; inside = z .4; short = z .5 })
+    (p, record { coupled = z .coupled; inside = z .bays-inside; short = z .short })
 
 enum-known-brought : tie.Need-enum-known-brought
 enum-known-brought c = c .match .keys1
@@ -44,7 +44,7 @@ returns : tie.Need-returns
 returns c =
     let bring = c .before .before .before .before .before .before .before .before .before .before .bring in
     let e : bring .result ≡ Failed = c .enum-told .given .1 in
-    (pair-none _ _, λ t led. not-brought (tried-failed (rw e at (bring .ensures .tries t))))
+    record { few = pair-none _ _; sets-up = λ t led. not-brought (tried-failed (rw e at (bring .ensures .tries t))) }
 
 cast-follower : tie.Need-cast-follower
 cast-follower c = search needs
@@ -86,9 +86,9 @@ clear-two-requires c κs =
     let kf = bring .kept .1 .1 .1 .1 .1 .0 in (
       ready-again p _ _ _ kw kf (d .2 .placed),
       record {
-        coupled = record { leads = rw kp (z .0); follows = rw kp (z .1); differ = z .2 };
-        junction = omega (arith, z .3, kw);
-        behind = rw kw (d .2 .placed .inside (start .args .lead .couple .follower .0) (rw kp (z .1)));
+        coupled = record { leads = rw kp (z .coupled .leads); follows = rw kp (z .coupled .follows); differ = z .coupled .differ };
+        junction = omega (arith, z .inside, kw);
+        behind = rw kw (d .2 .placed .inside (start .args .lead .couple .follower .0) (rw kp (z .coupled .follows)));
       },
     )
 
@@ -97,7 +97,7 @@ after-requires c κs =
     let bring = c .before .before .before .before .before .before .before .before .before .before .before .before .before .before .before .before .before .before .before .before .before .before .before .before .before .before .before .before .bring in
     let start = c .before .before .before .before .before .before .before .before .before .before .before .before .before .before .before .before .before .before .before .before .before .before .before .before .before .before .before .before .before .before .before .before .before .before .before .before .before .before .before in
     let e : bring .result ≡ Done (c .before .before .before .before .before .before .before .before .before .before .before .before .before .before .before .before .before .before .brought .given .0 .0) = c .before .before .before .before .before .before .before .before .before .before .before .before .before .before .before .before .before .before .brought .given .1 in
-    after-asks bring-most clear-most (omega (arith, rw e at (bring .ensures .few), start .pre .1 .5)) (c .before .before .before .before .before .before .before .before .clear-two .ensures .few) (omega arith)
+    after-asks bring-most clear-most (omega (arith, rw e at (bring .ensures .few), start .pre .1 .short)) (c .before .before .before .before .before .before .before .before .clear-two .ensures .few) (omega arith)
 
 same-length-5 : tie.Need-same-length-5
 same-length-5 c = c .before .before .before .before .before .before .before .before .before .clear-two .kept .1 .1 .1 .0 ∙ c .before .before .before .before .before .before .before .before .before .before .before .before .before .before .before .before .before .before .before .before .before .before .before .before .before .before .before .before .before .bring .kept .1 .1 .1 .0
@@ -120,13 +120,14 @@ returns-2 c =
     let p = start .pre .0 in
     let z = start .pre .1 in
     let e : bring .result ≡ Done (brought .given .0 .0) = brought .given .1 in
-    let kw : length (bring .last .1 .1 .1 .1 .0) ≡ length (start .args .standing .now) = bring .kept .1 .1 .1 .1 .0 in (
-      pair-after bring-most (omega (arith, rw e at (bring .ensures .few), z .5)) (clear-two .ensures .few) (c .after .ensures),
-      λ t led.
+    let kw : length (bring .last .1 .1 .1 .1 .0) ≡ length (start .args .standing .now) = bring .kept .1 .1 .1 .1 .0 in
+    record {
+      few = pair-after bring-most (omega (arith, rw e at (bring .ensures .few), z .short)) (clear-two .ensures .few) (c .after .ensures);
+      sets-up = λ t led.
           let x = tried-done (rw e at (bring .ensures .tries t)) in
-          let there = at-junction (x .0) led (p .placed .apart) (z .0) (z .1) (z .2) (x .1) _ (x .2 .moved) in
-          set-up-all (x .0) (x .1) (x .2) (λ more sum a. rest-lent _ (c .before .before .before .before .before .before .before .before .before .before .before .before .before .before .place-in .ensures) (c .before .before .out2 .given) a) ((rw kw at (clear-two .ensures .clears)) t (led .sound) there) (c .after .ensures),
-    )
+          let there = at-junction (x .0) led (p .placed .apart) (z .coupled .leads) (z .coupled .follows) (z .coupled .differ) (x .1) _ (x .2 .moved) in
+          set-up-all (x .0) (x .1) (x .2) (λ more sum a. rest-lent _ (c .before .before .before .before .before .before .before .before .before .before .before .before .before .before .place-in .ensures) (c .before .before .out2 .given) a) ((rw kw at (clear-two .ensures .clears)) t (led .sound) there) (c .after .ensures);
+    }
 
 pub set-up-spec : {M : Type 1} → statement M
 set-up-spec =

@@ -32,8 +32,8 @@ path-between-requires c κs =
     let z = start .pre .1 in
     record {
       lent = record { most = p .most; table-size = omega (arith, p .table-size); held-size = refl; shown = freeShown (p .tabled) };
-      start-inside = p .placed .inside (start .args .trial .carrier .0) (z .0);
-      goal-inside = z .3;
+      start-inside = p .placed .inside (start .args .trial .carrier .0) (z .first);
+      goal-inside = z .inside;
       room = omega (arith, p .most);
     }
 
@@ -44,7 +44,7 @@ enum-told : tie.Need-enum-told
 enum-told c = c .match .keys2
 
 returns : tie.Need-returns
-returns c = (tt, λ t near. path-missing near ((rw (c .enum-told .given .1) at (c .before .before .before .path-between .ensures .found (freeShown t))) .same))
+returns c = record { few = tt; attempts = λ t near. path-missing near ((rw (c .enum-told .given .1) at (c .before .before .before .path-between .ensures .found (freeShown t))) .same) }
 
 array-share-prefix-path : tie.Need-array-share-prefix-path
 array-share-prefix-path c =
@@ -74,8 +74,8 @@ try-on-requires c κs =
     let f = rw (k .given .1) at (path-between .ensures .found (freeShown (p .tabled))) in
     let kept : length (path-between .last .1 .1 .1 .1 .1 .0) ≡ span = path-between .kept .1 .1 .1 .1 .1 .0 in
     let len : length (take (k .given .0 .0) (path-between .last .1 .1 .1 .1 .1 .0)) ≡ k .given .0 .0 = length-take-le _ _ (omega (arith, f .fits, p .most, kept)) in
-    let q = path-found (p .tabled) _ _ _ (p .placed .inside (start .args .trial .carrier .0) (z .0)) (z .3) (f .same) in
-    (p, (z .0, z .1, z .2, z .3, q .2, omega (arith, len, f .fits, p .most), q .1))
+    let q = path-found (p .tabled) _ _ _ (p .placed .inside (start .args .trial .carrier .0) (z .first)) (z .inside) (f .same) in
+    (p, record { asks = z; bays-inside = q .2; short = omega (arith, len, f .fits, p .most); some-bays = q .1 })
 
 same-length : tie.Need-same-length
 same-length c = c .before .before .try-on .kept .1 .1 .1 .1 .1 .1 .0
@@ -85,10 +85,11 @@ returns-2 c =
     let path-between = c .before .before .before .before .before .before .before .before .before .path-between in
     let start = c .before .before .before .before .before .before .before .before .before .before .before .before .before .before .before .before .before .before .before in
     let p = start .pre .0 in
-    let z = start .pre .1 in (
-      c .before .before .try-on .ensures .0,
-      λ t near. c .before .before .try-on .ensures .1 t near (path-found t _ _ _ (p .placed .inside (start .args .trial .carrier .0) (z .0)) (z .3) ((rw (c .before .before .before .before .before .before .k .given .1) at (path-between .ensures .found (freeShown t))) .same) .0),
-    )
+    let z = start .pre .1 in
+    record {
+      few = c .before .before .try-on .ensures .few;
+      attempts = λ t near. c .before .before .try-on .ensures .attempts t near (path-found t _ _ _ (p .placed .inside (start .args .trial .carrier .0) (z .first)) (z .inside) ((rw (c .before .before .before .before .before .before .k .given .1) at (path-between .ensures .found (freeShown t))) .same) .0);
+    }
 
 pub try-along-spec : {M : Type 1} → statement M
 try-along-spec =

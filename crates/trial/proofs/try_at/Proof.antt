@@ -26,7 +26,7 @@ try-on-requires c κs =
     let start = c .before .before .before .before .before .before .before .before .before .before .before .before in
     let p = start .pre .0 in
     let z = start .pre .1 in
-    (p, (z .0, z .1, z .2, z .3, alone-inside _ _ (p .placed .inside (start .args .trial .carrier .0) (z .0)), omega arith, omega arith))
+    (p, record { asks = z; bays-inside = alone-inside _ _ (p .placed .inside (start .args .trial .carrier .0) (z .first)); short = omega arith; some-bays = omega arith })
 
 same-length : tie.Need-same-length
 same-length c = c .before .before .try-on .kept .1 .1 .1 .1 .1 .1 .0
@@ -36,17 +36,17 @@ returns c =
     let start = c .before .before .before .before .before .before .before .before .before .before .before .before .before .before .before in
     let z = start .pre .1 in
     let own : bayOf (start .args .placement .now) (start .args .trial .carrier .0) ≡ start .args .trial .junction .0 = c .before .before .before .before .before .if1 .taken in
-    (c .before .before .try-on .ensures .0, λ t near. c .before .before .try-on .ensures .1 t near (path-own near (in-bays t (z .3)) own))
+    record { few = c .before .before .try-on .ensures .few; attempts = λ t near. c .before .before .try-on .ensures .attempts t near (path-own near (in-bays t (z .inside)) own) }
 
 cast-is-in : tie.Need-cast-is-in
 cast-is-in c =
     let s = c .before .before .before .before .before .before .before .before .before .before in
-    omega (arith, s .pre .0 .placed .inside (s .args .trial .carrier .0) (s .pre .1 .0), s .pre .0 .most)
+    omega (arith, s .pre .0 .placed .inside (s .args .trial .carrier .0) (s .pre .1 .first), s .pre .0 .most)
 
 mul-is-in : tie.Need-mul-is-in
 mul-is-in c =
     let s = c .before .before .before .before .before .before .before .before .before .before in
-    omega (arith, s .pre .0 .placed .inside (s .args .trial .carrier .0) (s .pre .1 .0), s .pre .0 .most)
+    omega (arith, s .pre .0 .placed .inside (s .args .trial .carrier .0) (s .pre .1 .first), s .pre .0 .most)
 
 cast-is-in-2 : tie.Need-cast-is-in-2
 cast-is-in-2 c = search needs
@@ -54,12 +54,12 @@ cast-is-in-2 c = search needs
 add-is-in : tie.Need-add-is-in
 add-is-in c =
     let s = c .before .before .before .before .before .before .before .before .before .before .before in
-    omega (arith, s .pre .0 .placed .inside (s .args .trial .carrier .0) (s .pre .1 .0), s .pre .0 .most, s .pre .1 .3)
+    omega (arith, s .pre .0 .placed .inside (s .args .trial .carrier .0) (s .pre .1 .first), s .pre .0 .most, s .pre .1 .inside)
 
 is-in-requires : tie.Need-is-in-requires
 is-in-requires c κs =
     let s = c .before .before .before .before .before .before .before .before .before .before .before in
-    omega (arith, s .pre .0 .placed .inside (s .args .trial .carrier .0) (s .pre .1 .0), s .pre .0 .most, s .pre .1 .3, s .pre .0 .table-size)
+    omega (arith, s .pre .0 .placed .inside (s .args .trial .carrier .0) (s .pre .1 .first), s .pre .0 .most, s .pre .1 .inside, s .pre .0 .table-size)
 
 slice-aggregate-try-on-2 : tie.Need-slice-aggregate-try-on-2
 slice-aggregate-try-on-2 c = search needs
@@ -69,7 +69,7 @@ try-on-requires-2 c κs =
     let s = c .before .before .before .before .before .before .before .before .before .before .before .before .before .before .before in
     let p = s .pre .0 in
     let z = s .pre .1 in
-    (p, (z .0, z .1, z .2, z .3, two-inside _ _ _ (p .placed .inside (s .args .trial .carrier .0) (z .0)) (z .3), omega arith, omega arith))
+    (p, record { asks = z; bays-inside = two-inside _ _ _ (p .placed .inside (s .args .trial .carrier .0) (z .first)) (z .inside); short = omega arith; some-bays = omega arith })
 
 same-length-2 : tie.Need-same-length-2
 same-length-2 c = c .before .before .try-on2 .kept .1 .1 .1 .1 .1 .1 .0
@@ -81,7 +81,10 @@ returns-2 c =
     let p = s .pre .0 in
     let z = s .pre .1 in
     let rail = sym (c .before .before .before .before .before .if2 .taken) ∙ c .before .before .before .before .before .before .is-in .ensures in
-    (c .before .before .try-on2 .ensures .0, λ t near. c .before .before .try-on2 .ensures .1 t near (path-beside t _ _ (p .most) (p .placed .inside (s .args .trial .carrier .0) (z .0)) (z .3) (if1 .left) rail))
+    record {
+      few = c .before .before .try-on2 .ensures .few;
+      attempts = λ t near. c .before .before .try-on2 .ensures .attempts t near (path-beside t _ _ (p .most) (p .placed .inside (s .args .trial .carrier .0) (z .first)) (z .inside) (if1 .left) rail);
+    }
 
 try-along-requires : tie.Need-try-along-requires
 try-along-requires c κs = search needs

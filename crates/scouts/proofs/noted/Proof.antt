@@ -1,4 +1,4 @@
--- `seek::noted` meets its contract.
+-- `scouts::noted` meets its contract.
 -- Assumes nothing.
 use mathlib.Core.Path.{sym, _∙_}
 use mathlib.Core.Logic.{inl, inr}
@@ -6,8 +6,8 @@ use native.Mathlib.Omega.{arith}
 use borrow.Author.Needs.{needs}
 use borrow.Author.Tests.{eqb-true}
 use Rattle.paper.proofs.Tests.{or-cases}
-use Rattle.seek.proofs.noted.Statement.{statement}
-use Rattle.seek.proofs.noted.Tie as tie
+use Rattle.scouts.proofs.noted.Statement.{statement}
+use Rattle.scouts.proofs.noted.Tie as tie
 
 slice-aggregate-join : tie.Need-slice-aggregate-join
 slice-aggregate-join c = search needs

@@ -27,7 +27,7 @@ use Rattle.scout.specs.Scouting.{Gone, Sized, SetOutSays, placementIn, standing
 use Rattle.scout.specs.declared.Scout.{Scout}
 use Rattle.trial.specs.Trying.{Led}
 use Rattle.trial.proofs.Attempting.{at-junction, too-few}
-use Rattle.seek.specs.Scouts.{Came}
+use Rattle.scouts.specs.Scouts.{Came}
 
 -- ## Lists in two parts
 

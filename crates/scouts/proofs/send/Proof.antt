@@ -1,4 +1,4 @@
--- `seek::send` meets its contract. Whichever scout is on the path has come along its beginning, so it goes on along the rest.
+-- `scouts::send` meets its contract. Whichever scout is on the path has come along its beginning, so it goes on along the rest.
 -- Assumes nothing.
 use mathlib.Core.Path.{_≡_, sym, _∙_, ap}
 use native.Mathlib.Omega.{arith}
@@ -11,9 +11,9 @@ use Rattle.paper.proofs.Members.{nothing-in-nil}
 use Rattle.acting.proofs.Holding.{ready-again}
 use Rattle.clear_on.proofs.Attempting.{in-bays}
 use Rattle.trial.proofs.Copying.{part, part-inside}
-use Rattle.seek.proofs.Sending.{came-of, sent-most, sent-of}
-use Rattle.seek.proofs.send.Statement.{statement}
-use Rattle.seek.proofs.send.Tie as tie
+use Rattle.scouts.proofs.Sending.{came-of, sent-most, sent-of}
+use Rattle.scouts.proofs.send.Statement.{statement}
+use Rattle.scouts.proofs.send.Tie as tie
 
 mul-t16 : tie.Need-mul-t16
 mul-t16 c = search needs
@@ -48,7 +48,7 @@ look-requires c κs =
     let w = c .before .before .on-the-path .ensures in
     let there = c .before .before .on-the-path .result in
     let t = z .some-yard .0 in
-    let came = came-of p t (z .some-yard .2) (in-bays t (z .inside), nothing-in-nil _) (z .short) there w in
+    let came = came-of p t (z .some-yard .2) (in-bays t (z .asks .inside), nothing-in-nil _) (z .asks .short) there w in
     let few = p .placed .few in
     let kw = length-take-le (length (a .standing .now)) (there .carriers) (omega (arith, came .sized .carriers-size, p .most)) in
     let long = ap length (part (a .path .now) (there .rails + 1)) ∙ length-drop (there .rails + 1) (a .path .now) in
@@ -57,12 +57,12 @@ look-requires c κs =
       bays-fit = p .most;
       sized = came .sized;
       ready = ready-again p _ _ _ kw (came .sized .empty-size ∙ sym (p .empty-size)) (came .placed);
-      leads = z .leads;
-      follows = z .follows;
-      differ = z .differ;
-      junction-inside = z .inside;
-      inside = part-inside (a .path .now) (there .rails + 1) _ (z .bays-inside);
-      short = omega (arith, long, w .there, z .short);
+      leads = z .asks .coupled .leads;
+      follows = z .asks .coupled .follows;
+      differ = z .asks .coupled .differ;
+      junction-inside = z .asks .inside;
+      inside = part-inside (a .path .now) (there .rails + 1) _ (z .asks .bays-inside);
+      short = omega (arith, long, w .there, z .asks .short);
     }
 
 add-t16 : tie.Need-add-t16
@@ -72,7 +72,7 @@ add-t16 c =
     let there = c .before .before .before .before .before .on-the-path .result in
     let w = c .before .before .before .before .before .on-the-path .ensures in
     let long = ap length (part (start .args .path .now) (there .rails + 1)) ∙ length-drop (there .rails + 1) (start .args .path .now) in
-    omega (arith, c .before .before .look .ensures .most, long, w .there, z .short)
+    omega (arith, c .before .before .look .ensures .most, long, w .there, z .asks .short)
 
 returns : tie.Need-returns
 returns c =
@@ -87,7 +87,7 @@ returns c =
     let long = ap length (part (a .path .now) (there .rails + 1)) ∙ length-drop (there .rails + 1) (a .path .now) in
     record {
       most = omega (arith, look .ensures .most, long, w .there);
-      sends = λ t u s. rw add-one (sent-of p t s (in-bays t (z .inside), nothing-in-nil _) (z .short) there w (z .leads) (z .follows) (z .differ) (look .result) l);
+      sends = λ t u s. rw add-one (sent-of p t s (in-bays t (z .asks .inside), nothing-in-nil _) (z .asks .short) there w (z .asks .coupled .leads) (z .asks .coupled .follows) (z .asks .coupled .differ) (look .result) l);
     }
 
 pub send-spec : {M : Type 1} → statement M

@@ -1,12 +1,12 @@
--- `seek::hope` meets its contract.
+-- `scouts::hope` meets its contract.
 -- Assumes nothing.
 use mathlib.Core.Path.{sym, _∙_}
 use native.Mathlib.Omega.{arith}
 use borrow.Author.Needs.{needs}
 use Rattle.paper.proofs.Tests.{never}
-use Rattle.seek.proofs.Foreseeing.{fails-passing}
-use Rattle.seek.proofs.hope.Statement.{statement}
-use Rattle.seek.proofs.hope.Tie as tie
+use Rattle.scouts.proofs.Foreseeing.{fails-passing}
+use Rattle.scouts.proofs.hope.Statement.{statement}
+use Rattle.scouts.proofs.hope.Tie as tie
 
 slice-aggregate-passes : tie.Need-slice-aggregate-passes
 slice-aggregate-passes c = search needs
@@ -16,7 +16,7 @@ passes-requires c κs =
     let start = c .before .before .before .before .before .before .before in
     let p = start .pre .0 in
     let z = start .pre .1 in
-    record { size = z .scouted .stuck-size; low = λ k h. omega (arith, z .bays-inside k h, p .most) }
+    record { size = z .scouted .stuck-size; low = λ k h. omega (arith, z .on-path .bays-inside k h, p .most) }
 
 returns : tie.Need-returns
 returns c =

@@ -1,12 +1,12 @@
--- `seek::on_the_path` meets its contract.
+-- `scouts::on_the_path` meets its contract.
 -- Assumes nothing.
 use mathlib.Core.Path.{_≡_, refl, sym, _∙_}
 use mathlib.Core.Logic.{inl, inr}
 use Prim.Native.Nat.{_<_}
 use lib.ListN.{length, getD}
 use borrow.Author.Needs.{needs}
-use Rattle.seek.proofs.on_the_path.Statement.{statement}
-use Rattle.seek.proofs.on_the_path.Tie as tie
+use Rattle.scouts.proofs.on_the_path.Statement.{statement}
+use Rattle.scouts.proofs.on_the_path.Tie as tie
 
 mul-if2 : tie.Need-mul-if2
 mul-if2 c = search needs

@@ -1,4 +1,4 @@
--- `seek::passes` meets its contract.
+-- `scouts::passes` meets its contract.
 -- Assumes nothing.
 use mathlib.Core.Path.{sym, _∙_}
 use Prim.Native.Nat.{_≤_, _-_}
@@ -6,8 +6,8 @@ use native.Mathlib.Omega.{arith}
 use lib.ListN.{length}
 use borrow.Author.Needs.{needs}
 use Rattle.paper.proofs.Tests.{never}
-use Rattle.seek.proofs.passes.Statement.{statement}
-use Rattle.seek.proofs.passes.Tie as tie
+use Rattle.scouts.proofs.passes.Statement.{statement}
+use Rattle.scouts.proofs.passes.Tie as tie
 
 abbrev Inv-loop : tie.InvT-loop
 Inv-loop path bays i₀ i = i ≤ length path

@@ -10,23 +10,20 @@ use lib.Dec.{eqb, ltb}
 use lib.ListN.{length, getD, drop}
 use Rattle.paper.specs.Basics.{if_then_else_, _and_, In}
 use Rattle.paper.specs.Path.{Free, nearestFirst, shortestPath}
-use Rattle.paper.specs.Procedure.{Made, bring, trialLed, trial}
-use Rattle.paper.specs.Yard.{Bay, Carrier, Yard, Placement, bayOf, after, junction}
+use Rattle.paper.specs.Procedure.{Made, bring, trialLed}
+use Rattle.paper.specs.Yard.{Bay, Carrier, Yard, Placement, bayOf, after}
 use Rattle.words.specs.Sets.{mem, words, span}
 use Rattle.docket.specs.declared.Bay.{Bay as Numbered}
-use Rattle.moving.specs.Bounds.{swap-most}
 use Rattle.moving.specs.Placed.{Placed}
-use Rattle.acting.specs.Acting.{Tabled, Ready, nothing, Within}
+use Rattle.acting.specs.Acting.{Tabled}
 use Rattle.scout.specs.Scouting.{Sized, SetOutSays, placementIn, standingIn}
 use Rattle.attempts.specs.declared.Lead.{Lead}
 use Rattle.scout.specs.declared.Scout.{Scout}
 use Rattle.scout.specs.declared.Sight.{Sight}
-use Rattle.trial.specs.Trying.{Led, Near}
+use Rattle.trial.specs.Trying.{Beside, SideBySide, Leads, Nears, tries, LedAsks, TrialOnAsks}
 use Rattle.trial.specs.declared.Trial.{Trial}
-use Rattle.near.specs.Seeking.{Beside, SideBySide, TriedAt}
-use Rattle.seek.specs.declared.Outlook.{Outlook}
-use Rattle.seek.specs.declared.Scouts.{Scouts}
-use Rattle.seek.specs.declared.Turn.{Turn}
+use Rattle.scouts.specs.declared.Outlook.{Outlook}
+use Rattle.scouts.specs.declared.Scouts.{Scouts}
 
 -- ## In the paper's terms
 
@@ -70,7 +67,7 @@ pub record Sending (Y : Yard) (path : List Bay) (lead : Lead) (rails : ℕ) (p :
   pub is-path : path ≡ shortestPath Y [] start (lead .junction .0)
   pub start-free : Free Y [] start
   pub reached : In start (nearestFirst Y [] (lead .junction .0))
-  pub led : Led Y (lead .couple .leader .0) (lead .couple .follower .0) (lead .junction .0) (drop (suc rails) path) p
+  pub led : Leads Y lead (drop (suc rails) path) p
   pub came : scout .rails < span → Came Y (lead .couple .leader .0) (lead .couple .follower .0) (suc rails) start p n scout
 
 -- It came to the junction, or to a bay that it cannot enter. Where it does not fit, the trial fails.
@@ -119,12 +116,7 @@ pub record NotedSays (path bays : List ℕ) (place : ℕ) (r : List ℕ) : Type 
 
 -- two carriers, one of which leads the other along the shortest path from u past its first bays
 pub record SendAsks (path : List Bay) (lead : Lead) (rails : ℕ) (table p standing : List ℕ) (scout : Scout) : Type 0 where
-  pub leads : lead .couple .leader .0 < length p
-  pub follows : lead .couple .follower .0 < length p
-  pub differ : lead .couple .follower .0 ≡ lead .couple .leader .0 → ⊥
-  pub inside : lead .junction .0 < length standing
-  pub bays-inside : (k : ℕ) → k < length path → getD path k 0 < length standing
-  pub short : length path ≤ span
+  pub asks : LedAsks lead path p standing
   pub there : rails < length path
   pub some-yard : (t : Tabled (length standing) table) × (start : Bay) × Sending (t .yard) path lead rails p (length standing) start scout
 
@@ -136,15 +128,9 @@ pub record SendSays (path : List Bay) (lead : Lead) (rails : ℕ) (table p stand
 
 -- the path to the junction is known
 pub record ForeseeAsks (path : List Bay) (x : Trial) (table p standing : List ℕ) (scouts : Scouts) : Type 0 where
-  pub first : x .carrier .0 < length p
-  pub second : x .neighbour .0 < length p
-  pub differ : x .neighbour .0 ≡ x .carrier .0 → ⊥
-  pub inside : x .junction .0 < length standing
-  pub bays-inside : (k : ℕ) → k < length path → getD path k 0 < length standing
-  pub short : length path ≤ span
-  pub some-bays : 1 ≤ length path
+  pub on-path : TrialOnAsks x path p standing
   pub side : SideBySide (length standing) table (x .carrier .0) (x .neighbour .0) p
-  pub near : (t : Tabled (length standing) table) → Beside (t .yard) (x .carrier .0) (x .neighbour .0) p → Near (t .yard) (x .carrier .0) (x .neighbour .0) (x .junction .0) p
+  pub near : (t : Tabled (length standing) table) → Beside (t .yard) (x .carrier .0) (x .neighbour .0) p → Nears (t .yard) x p
   pub is-path : (t : Tabled (length standing) table) → Beside (t .yard) (x .carrier .0) (x .neighbour .0) p
       → path ≡ shortestPath (t .yard) [] (bayOf p (x .carrier .0)) (x .junction .0)
   pub scouted : Scouted (x .carrier .0) (x .neighbour .0) table p (length standing) scouts
@@ -153,12 +139,4 @@ pub record ForeseeAsks (path : List Bay) (x : Trial) (table p standing : List �
 pub record ForeseeSays (x : Trial) (table p standing : List ℕ) (z : Outlook) : Type 0 where
   pub scouted : Scouted (x .carrier .0) (x .neighbour .0) table p (length standing) (z .scouts)
   pub fails : z .hopeless ≡ true → (t : Tabled (length standing) table) → Beside (t .yard) (x .carrier .0) (x .neighbour .0) p
-      → trial (t .yard) (x .carrier .0) (x .neighbour .0) (x .junction .0) p ≡ none
-
--- the trial at the junction, or that it fails
-pub record TrySays (x : Trial) (table p standing log : List ℕ) (z : Turn) : Type 0 where
-  pub scouted : Scouted (x .carrier .0) (x .neighbour .0) table p (length standing) (z .scouts)
-  pub few : Within nothing swap-most (z .tried)
-  pub tried : (t : Tabled (length standing) table) → Beside (t .yard) (x .carrier .0) (x .neighbour .0) p
-      → junction (t .yard) (x .junction .0) ≡ true
-      → TriedAt (t .yard) (x .carrier .0) (x .neighbour .0) (x .junction .0) p log (z .tried)
+      → tries (t .yard) x p ≡ none

@@ -21,27 +21,18 @@ use Rattle.paper.proofs.Tests.{by-cases}
 use Rattle.parts.proofs.Paths.{path-begins}
 use Rattle.words.specs.Sets.{mem, words, span}
 use Rattle.acting.specs.Acting.{Tabled, Ready}
-use Rattle.attempts.specs.declared.Lead.{Lead}
-use Rattle.bring.specs.declared.Couple.{Couple}
 use Rattle.clear_on.proofs.Attempting.{in-bays}
 use Rattle.scout.specs.declared.Sight.{Sight}
 use Rattle.trial.specs.declared.Trial.{Trial}
 use Rattle.trial.proofs.Copying.{second-leads, first-leads, trial-second, trial-first}
-use Rattle.near.specs.Seeking.{Beside}
-use Rattle.seek.specs.Scouts.{secondLeads, broughtAlong, Stuck, Came, Scouting, Scouted, PassesSays, NotedSays, Sending, Sent, ForeseeAsks}
-use Rattle.seek.specs.declared.Scouts.{Scouts}
+use Rattle.trial.specs.Trying.{Beside, neighbourLeads, carrierLeads}
+use Rattle.scouts.specs.Scouts.{secondLeads, broughtAlong, Stuck, Came, Scouting, Scouted, PassesSays, NotedSays, Sending, Sent, ForeseeAsks}
+use Rattle.scouts.specs.declared.Scouts.{Scouts}
 
 front-bay : (l m : List Bay) (k : ℕ) → k < length l → getD (l ++ m) k 0 ≡ getD l k 0
 front-bay [] m k h = absurd (omega arith)
 front-bay (a ∷ l) m zero h = refl
 front-bay (a ∷ l) m (suc k) h = front-bay l m k (omega arith)
-
--- the neighbour leads, and the carrier does
-abbrev pub theirLead : Trial → Lead
-theirLead x = record { couple = record { leader = x .neighbour; follower = x .carrier }; junction = x .junction }
-
-abbrev pub ourLead : Trial → Lead
-ourLead x = record { couple = record { leader = x .carrier; follower = x .neighbour }; junction = x .junction }
 
 module _ {table p standing empty : List ℕ} (ready : Ready table p standing empty) {path : List Bay} {x : Trial} {scouts : Scouts} (z : ForeseeAsks path x table p standing scouts)
     (t : Tabled (length standing) table) (b : Beside (t .yard) (x .carrier .0) (x .neighbour .0) p) where
@@ -61,15 +52,15 @@ module _ {table p standing empty : List ℕ} (ready : Ready table p standing emp
   u = bayOf p r
 
   hu : In u (upTo (Y .bays))
-  hu = in-bays t (ready .placed .inside r (z .first))
+  hu = in-bays t (ready .placed .inside r (z .on-path .asks .first))
 
   hv : In v (upTo (Y .bays))
-  hv = in-bays t (z .inside)
+  hv = in-bays t (z .on-path .asks .inside)
 
   now-scouting : Scouting Y r s p (length standing) scouts
   now-scouting = z .scouted .scouting t b
 
-  pub sending-theirs : secondLeads s p path ≡ true → Sending Y path (theirLead x) 1 p (length standing) u (scouts .theirs)
+  pub sending-theirs : secondLeads s p path ≡ true → Sending Y path (neighbourLeads x) 1 p (length standing) u (scouts .theirs)
   sending-theirs h = record {
     is-path = z .is-path t b;
     start-free = (hu, nothing-in-nil u);
@@ -78,7 +69,7 @@ module _ {table p standing empty : List ℕ} (ready : Ready table p standing emp
     came = now-scouting .theirs;
   }
 
-  pub sending-ours : Sending Y path (ourLead x) 0 p (length standing) u (scouts .ours)
+  pub sending-ours : Sending Y path (carrierLeads x) 0 p (length standing) u (scouts .ours)
   sending-ours = record {
     is-path = z .is-path t b;
     start-free = (hu, nothing-in-nil u);
@@ -133,7 +124,7 @@ module _ {table p standing empty : List ℕ} (ready : Ready table p standing emp
   unfolding broughtAlong
   fails-passing w =
       let bay : Bay = getD path (w .place) 0 in
-      let low : bay < span = omega (arith, z .bays-inside (w .place) (w .there), ready .most) in
+      let low : bay < span = omega (arith, z .on-path .bays-inside (w .place) (w .there), ready .most) in
       let no = now-scouting .stuck bay low (w .passed) (drop (suc (w .place)) path) in
       let not-brought : broughtAlong Y r s path p ≡ none = ap (λ (l : List Bay). broughtAlong Y r s l p) (path-cut (w .place) (w .there)) ∙ no in
       by-cases (secondLeads s p path)

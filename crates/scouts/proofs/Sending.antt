@@ -22,8 +22,8 @@ use Rattle.attempts.specs.declared.Lead.{Lead}
 use Rattle.scout.specs.Scouting.{LookSays, SetOutSays, placementIn, standingIn}
 use Rattle.scout.specs.declared.Scout.{Scout}
 use Rattle.scout.specs.declared.Sight.{Sight}
-use Rattle.seek.specs.Scouts.{Came, PathSays, Sending, Sent}
-use Rattle.seek.proofs.Scouting.{path-splits, came-nowhere, came-there, comes-to-nothing, never-past}
+use Rattle.scouts.specs.Scouts.{Came, PathSays, Sending, Sent}
+use Rattle.scouts.proofs.Scouting.{path-splits, came-nowhere, came-there, comes-to-nothing, never-past}
 
 module _ {table p standing empty : List ℕ} (ready : Ready table p standing empty) (t : Tabled (length standing) table) {path : List Bay} {lead : Lead} {rails : ℕ} {start : Bay} {scout : Scout}
     (s : Sending (t .yard) path lead rails p (length standing) start scout) (v-free : Free (t .yard) [] (lead .junction .0)) (short : length path ≤ span) where

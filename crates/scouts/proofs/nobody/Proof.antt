@@ -1,10 +1,10 @@
--- `seek::nobody` meets its contract.
+-- `scouts::nobody` meets its contract.
 -- Assumes nothing.
 use mathlib.Core.Path.{refl}
 use Rattle.words.specs.Sets.{words}
 use Rattle.words.proofs.Sets.{mem-zeros}
-use Rattle.seek.proofs.nobody.Statement.{statement}
-use Rattle.seek.proofs.nobody.Tie as tie
+use Rattle.scouts.proofs.nobody.Statement.{statement}
+use Rattle.scouts.proofs.nobody.Tie as tie
 
 returns : tie.Need-returns
 returns c = record { ours = refl; theirs = refl; stuck-size = refl; none-stuck = λ b. mem-zeros words b }

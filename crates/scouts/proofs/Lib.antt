@@ -1,0 +1,3 @@
+pub mod Scouting
+pub mod Sending
+pub mod Foreseeing
