@@ -53,15 +53,8 @@ pub fn go_round(
         emptied,
     };
     let from = acting::place_in(out, forth.crossings);
-    let vacated = aside::vacate_both(
-        table,
-        aside,
-        x,
-        placement,
-        standing,
-        empty,
-        &mut out[from..],
-    );
+    let rest = &mut out[from..];
+    let vacated = aside::vacate_both(table, aside, x, placement, standing, empty, rest);
     let Tried::Done(more) = vacated else {
         return Tried::Failed;
     };

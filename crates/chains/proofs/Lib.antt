@@ -1,2 +1,3 @@
 pub mod Linking
+pub mod Skipping
 pub mod Filling

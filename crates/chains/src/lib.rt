@@ -2,12 +2,10 @@
 // and never come back, so a link stays right; a search that follows several puts the first one right up to what it found.
 ghost use mathlib.Core.Path.{_≡_};
 ghost use mathlib.Core.List.{[]};
-ghost use Prim.Native.Nat.{ℕ, suc, _≤_, _<_, _+_, _*_, _-_};
-ghost use lib.ListN.{length};
-ghost use Rattle.paper.specs.Limits.{most-bays};
-ghost use Rattle.paper.specs.Yard.{crossings, named, most-crossings};
-ghost use Rattle.paper.specs.OnePass.{Fits};
-ghost use Rattle.chains.specs.Links.{keyOf, links-each, own, sought, goal, Met, MetBelow, Linked, Ahead};
+ghost use Prim.Native.Nat.{_<_};
+ghost use Rattle.paper.specs.Yard.{most-crossings};
+ghost use Rattle.chains.specs.Links.{Linked, Ahead};
+ghost use Rattle.chains.specs.Asking.{SearchAsks, SkipAsks, SkipSays, AheadAsks, AheadSays, EnteringAsks, EnteringSays, SkipBackAsks, SkipBackSays, BehindSays, FillAsks};
 use docket::Bay;
 use docket::Carrier;
 
@@ -43,20 +41,8 @@ fn narrow(name: usize) -> u16
 
 // The first name from `start` on, by links, that is not dropped, or the plan's length.
 fn skip(plan: &[u64], gone: &[u8], links: &[u16], start: usize, kind: usize) -> usize
-    requires { ⌜
-        (start ≤ length (now plan))
-        × (length (now gone) ≡ length (now plan))
-        × (kind < 3)
-        × (own kind ≡ sought kind)
-        × Linked (now plan) (now gone) (now links)
-        ⌝ }
-    ensures { λ r. ⌜
-        (start ≤ r)
-        × (r ≤ length (now (plan .entry)))
-        × ((key : ℕ)
-        → (start < length (now (plan .entry)) → keyOf (sought kind) (named (crossings (now (plan .entry))) start) ≡ key)
-        → Met (now (plan .entry)) (now (gone .entry)) (sought kind) key start r)
-        ⌝ }
+    requires { ⌜ SkipAsks (now plan) (now gone) (now links) start kind ⌝ }
+    ensures { λ r. ⌜ SkipSays (now (plan .entry)) (now (gone .entry)) start kind r ⌝ }
 {
     let mut m = start;
     while m < plan.len() {
@@ -77,22 +63,8 @@ pub fn ahead(
     kind: usize,
     again: usize,
 ) -> usize
-    requires { ⌜
-        (name < length (now plan))
-        × (length (now gone) ≡ length (now plan))
-        × (length (now plan) ≤ most-crossings)
-        × (kind < 3)
-        × (again < 3)
-        × (own again ≡ sought kind)
-        × (sought again ≡ sought kind)
-        × Linked (now plan) (now gone) (now links)
-        ⌝ }
-    ensures { λ r. ⌜
-        (name < r)
-        × (r ≤ length (now (plan .entry)))
-        × Met (now (plan .entry)) (now (gone .entry)) (sought kind) (goal (now (plan .entry)) kind name) (suc name) r
-        × Linked (now (plan .entry)) (now (gone .entry)) (now (links .exit))
-        ⌝ }
+    requires { ⌜ AheadAsks (now plan) (now gone) (now links) name kind again ⌝ }
+    ensures { λ r. ⌜ AheadSays (now (plan .entry)) (now (gone .entry)) name kind (now (links .exit)) r ⌝ }
 {
     let at = name * LINKS + kind;
     let first = wide(links[at]) + 1;
@@ -103,25 +75,16 @@ pub fn ahead(
 
 // The next name that enters the bay that the crossing leaves, or the plan's length. Nothing is dropped yet, so one link leads there.
 pub fn next_entering(plan: &[u64], links: &[u16], name: usize) -> usize
-    requires { ⌜ (name < length (now plan)) × Linked (now plan) [] (now links) ⌝ }
-    ensures { λ r. ⌜
-        (name < r)
-        × (r ≤ length (now (plan .entry)))
-        × Met (now (plan .entry)) [] 0 (named (crossings (now (plan .entry))) name .from) (suc name) r
-        ⌝ }
+    requires { ⌜ EnteringAsks (now plan) (now links) name ⌝ }
+    ensures { λ r. ⌜ EnteringSays (now (plan .entry)) name r ⌝ }
 {
     wide(links[name * LINKS]) + 1
 }
 
 // One more than the last name below `start`, by links, that is not dropped, or 0.
 fn skip_back(plan: &[u64], gone: &[u8], links: &[u16], start: usize) -> usize
-    requires { ⌜ (start ≤ length (now plan)) × (length (now gone) ≡ length (now plan)) × Linked (now plan) (now gone) (now links) ⌝ }
-    ensures { λ r. ⌜
-        (r ≤ start)
-        × ((key : ℕ)
-        → ((u : ℕ) → start ≡ suc u → named (crossings (now (plan .entry))) u .from ≡ key)
-        → MetBelow (now (plan .entry)) (now (gone .entry)) key start r)
-        ⌝ }
+    requires { ⌜ SkipBackAsks (now plan) (now gone) (now links) start ⌝ }
+    ensures { λ r. ⌜ SkipBackSays (now (plan .entry)) (now (gone .entry)) start r ⌝ }
 {
     let mut m = start;
     while m > 0 {
@@ -136,17 +99,8 @@ fn skip_back(plan: &[u64], gone: &[u8], links: &[u16], start: usize) -> usize
 
 // One more than the last name before `name` that leaves the bay that the crossing enters and is not dropped, or 0.
 pub fn behind(plan: &[u64], gone: &[u8], links: &mut [u16], name: usize) -> usize
-    requires { ⌜
-        (name < length (now plan))
-        × (length (now gone) ≡ length (now plan))
-        × (length (now plan) ≤ most-crossings)
-        × Linked (now plan) (now gone) (now links)
-        ⌝ }
-    ensures { λ r. ⌜
-        (r ≤ name)
-        × MetBelow (now (plan .entry)) (now (gone .entry)) (named (crossings (now (plan .entry))) name .to) name r
-        × Linked (now (plan .entry)) (now (gone .entry)) (now (links .exit))
-        ⌝ }
+    requires { ⌜ SearchAsks (now plan) (now gone) (now links) name ⌝ }
+    ensures { λ r. ⌜ BehindSays (now (plan .entry)) (now (gone .entry)) name (now (links .exit)) r ⌝ }
 {
     let at = name * LINKS + 3;
     let first = wide(links[at]);
@@ -157,11 +111,7 @@ pub fn behind(plan: &[u64], gone: &[u8], links: &mut [u16], name: usize) -> usiz
 
 // The links up, from the last crossing down.
 fn fill_ahead(plan: &[u64], links: &mut [u16])
-    requires { ⌜
-        (length (now plan) ≤ most-crossings)
-        × (length (now links) ≡ length (now plan) * links-each)
-        × Fits most-bays most-bays (now plan)
-        ⌝ }
+    requires { ⌜ FillAsks (now plan) (now links) ⌝ }
     ensures { λ _. ⌜ Ahead (now (plan .entry)) (now (links .exit)) 0 ⌝ }
 {
     let count = plan.len();
@@ -184,12 +134,8 @@ fn fill_ahead(plan: &[u64], links: &mut [u16])
 
 // The links down, from the first crossing up.
 fn fill_behind(plan: &[u64], links: &mut [u16])
-    requires { ⌜
-        (length (now plan) ≤ most-crossings)
-        × (length (now links) ≡ length (now plan) * links-each)
-        × Fits most-bays most-bays (now plan)
-        × Ahead (now plan) (now links) 0
-        ⌝ }
+    requires { ⌜ FillAsks (now plan) (now links) ⌝ }
+    requires { ⌜ Ahead (now plan) (now links) 0 ⌝ }
     ensures { λ _. ⌜ Linked (now (plan .entry)) [] (now (links .exit)) ⌝ }
 {
     let mut leaving = [0usize; paper::BAYS];
@@ -207,11 +153,7 @@ fn fill_behind(plan: &[u64], links: &mut [u16])
 
 // All links of a plan of which nothing is dropped.
 pub fn fill(plan: &[u64], links: &mut [u16])
-    requires { ⌜
-        (length (now plan) ≤ most-crossings)
-        × (length (now links) ≡ length (now plan) * links-each)
-        × Fits most-bays most-bays (now plan)
-        ⌝ }
+    requires { ⌜ FillAsks (now plan) (now links) ⌝ }
     ensures { λ _. ⌜ Linked (now (plan .entry)) [] (now (links .exit)) ⌝ }
 {
     fill_ahead(plan, links);

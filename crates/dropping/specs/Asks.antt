@@ -11,13 +11,8 @@ use Rattle.trips.specs.Trips.{isOf}
 use Rattle.trips.specs.Names.{dropTrip}
 use Rattle.trips.proofs.Freeing.{LastLeaving, Noted}
 use Rattle.chains.specs.Links.{Passed, Linked}
+use Rattle.chains.specs.Asking.{SearchAsks}
 use Rattle.dropping.specs.Going.{Going, rank}
-
--- the name is in the plan, there is a byte for each crossing, and the links lead on
-pub record SearchAsks (plan gone links : List ℕ) (name : ℕ) : Type 0 where
-  pub inside : name < length plan
-  pub long-gone : length gone ≡ length plan
-  pub linked : Linked plan gone links
 
 -- the last leaving before the name, if there is one
 pub record LeavingSays (plan gone links′ : List ℕ) (name r : ℕ) : Type 0 where

@@ -10,8 +10,9 @@ ghost use Rattle.paper.specs.Yard.{crossings, named};
 ghost use Rattle.trips.specs.Trips.{shorten as shortenOf};
 ghost use Rattle.trips.specs.Names.{left};
 ghost use Rattle.chains.specs.Links.{Linked};
+ghost use Rattle.chains.specs.Asking.{SearchAsks};
 ghost use Rattle.dropping.specs.Going.{Going};
-ghost use Rattle.dropping.specs.Asks.{SearchAsks, LeavingSays, OwnSays, NotedSays, TripAsks, DropSays, LookAsks, LookSays};
+ghost use Rattle.dropping.specs.Asks.{LeavingSays, OwnSays, NotedSays, TripAsks, DropSays, LookAsks, LookSays};
 use docket::Bay;
 use docket::Carrier;
 

@@ -36,33 +36,20 @@ fn attempt(
     words::keep(&mut unused, 0, empty);
     let k = placement.len();
     let n = standing.len();
+    let used = &mut bays[..k];
+    let stood = &mut carriers[..n];
     if second {
-        return attempts::go_round(
-            table,
-            one,
-            x,
-            &mut bays[..k],
-            &mut carriers[..n],
-            &mut unused,
-            log,
-        );
+        return attempts::go_round(table, one, x, used, stood, &mut unused, log);
     }
     let junction = one.lead.junction;
     let held = one.behind;
     let emptied = one.kept;
-    aside::vacate_both(
-        table,
-        Aside {
-            junction,
-            held,
-            emptied,
-        },
-        x,
-        &mut bays[..k],
-        &mut carriers[..n],
-        &mut unused,
-        log,
-    )
+    let first = Aside {
+        junction,
+        held,
+        emptied,
+    };
+    aside::vacate_both(table, first, x, used, stood, &mut unused, log)
 }
 
 // The first of the others whose attempt succeeds; the log is left as that attempt leaves it.

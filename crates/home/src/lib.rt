@@ -39,10 +39,7 @@ pub fn home_at(
 {
     let v = home.bay;
     let finished = home.finished;
-    let at = Tally {
-        crossings: 0,
-        parked: 0,
-    };
+    let at = acting::NOTHING;
     let bay = v.0 as usize;
     let c = owner[bay] as usize;
     if finished <= c {

@@ -38,7 +38,8 @@ fn hand_out_again_by_rails(
     parked: usize,
     out: &mut [u64],
 ) -> Counted
-    requires { ⌜ Admitted n (now table) (now start) (now goal) × (m ≤ length (now out)) ⌝ }
+    requires { ⌜ Admitted n (now table) (now start) (now goal) ⌝ }
+    requires { ⌜ m ≤ length (now out) ⌝ }
     ensures { λ r. ⌜
         HandsOutDue n (now (table .entry)) (now (start .entry)) (now (goal .entry)) m parked (now (out .entry)) r (now (out .exit))
         ⌝ }

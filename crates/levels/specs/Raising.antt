@@ -5,7 +5,9 @@ use mathlib.Core.Bool.{Bool, true}
 use mathlib.Core.List.{List}
 use Prim.Native.Nat.{ℕ, _+_, _*_, _≤_, _<_}
 use Rattle.paper.specs.Basics.{_and_, _or_}
-use Rattle.words.specs.Sets.{memRow, span, anyBelow}
+use lib.ListN.{length, take}
+use Rattle.words.specs.Sets.{memRow, words, span, anyBelow}
+use Rattle.levels.specs.Levels.{Levelled}
 
 -- the rails of the n bays lead only to these
 abbrev pub Rails : ℕ → List ℕ → Type 0
@@ -29,3 +31,30 @@ pub record LevelRaised (n j k : ℕ) (table table′ : List ℕ) : Type 0 where
 pub record Raised (n m : ℕ) (table table′ : List ℕ) : Type 0 where
   pub rises : (j x b : ℕ) → j + 2 ≤ m → x < n → b < span → memRow table′ ((j + 1) * n + x) b ≡ above n table′ j x b
   pub rails : (x b : ℕ) → x < n → b < span → memRow table′ x b ≡ memRow table x b
+
+-- ## What is asked, what is said
+
+-- there is room for the row, and its bay's rails lead only to the n bays
+pub record RaiseRowAsks (n : ℕ) (table : List ℕ) (j x : ℕ) : Type 0 where
+  pub inside : x < n
+  pub room : (j + 2) * n * words ≤ length table
+  pub rails : (b : ℕ) → b < span → memRow table x b ≡ true → b < n
+
+-- there is room for the level
+pub record RaiseLevelAsks (n : ℕ) (table : List ℕ) (j : ℕ) : Type 0 where
+  pub room : (j + 2) * n * words ≤ length table
+  pub rails : Rails n table
+
+-- the table has the rails
+pub record RaiseAsks (n : ℕ) (table : List ℕ) : Type 0 where
+  pub most : n ≤ span
+  pub some-bay : 0 < n
+  pub table-size : n * words ≤ length table
+  pub rails : Rails n table
+
+-- the table has r levels now, and its rails are as they were
+pub record RaiseSays (n : ℕ) (table table′ : List ℕ) (r : ℕ) : Type 0 where
+  pub some-level : 1 ≤ r
+  pub room : r * n * words ≤ length table′
+  pub levelled : Levelled n (take (r * n * words) table′)
+  pub same-rails : (x b : ℕ) → x < n → b < span → memRow table′ x b ≡ memRow table x b

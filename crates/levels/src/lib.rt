@@ -2,15 +2,13 @@
 use words::WORDS;
 ghost use mathlib.Core.Path.{_≡_};
 ghost use mathlib.Core.Bool.{true};
-ghost use Prim.Native.Nat.{ℕ, _+_, _*_, _≤_, _<_};
-ghost use lib.ListN.{length, take, getD};
-ghost use Rattle.words.specs.Sets.{memRow, words, span};
-ghost use Rattle.levels.specs.Levels.{Levelled};
-ghost use Rattle.levels.specs.Raising.{Rails, RowRaised, LevelRaised};
+ghost use Prim.Native.Nat.{ℕ, _+_, _≤_, _<_};
+ghost use lib.ListN.{length, getD};
+ghost use Rattle.levels.specs.Raising.{RowRaised, LevelRaised, RaiseRowAsks, RaiseLevelAsks, RaiseAsks, RaiseSays};
 
 // Row x of level j + 1: what level j has for x, and what it has for the neighbours of x.
 fn raise_row(n: usize, table: &mut [u64], j: usize, x: usize)
-    requires { ⌜ (x < n) × ((j + 2) * n * words ≤ length (now table)) × ((b : ℕ) → b < span → memRow (now table) x b ≡ true → b < n) ⌝ }
+    requires { ⌜ RaiseRowAsks n (now table) j x ⌝ }
     ensures { λ _. ⌜ RowRaised n j x (now (table .entry)) (now (table .exit)) ⌝ }
 {
     let mut near = [0u64; WORDS];
@@ -25,7 +23,7 @@ fn raise_row(n: usize, table: &mut [u64], j: usize, x: usize)
 
 // Level j + 1, from level j.
 fn raise_level(n: usize, table: &mut [u64], j: usize)
-    requires { ⌜ ((j + 2) * n * words ≤ length (now table)) × Rails n (now table) ⌝ }
+    requires { ⌜ RaiseLevelAsks n (now table) j ⌝ }
     ensures { λ _. ⌜ LevelRaised n j n (now (table .entry)) (now (table .exit)) ⌝ }
 {
     let mut x = 0;
@@ -52,13 +50,8 @@ fn stands_twice(table: &[u64], at: usize, size: usize) -> bool
 
 // Fills level after level above the rails, as far as the table goes or until a level adds nothing; answers how many levels there are.
 pub fn raise(n: usize, table: &mut [u64]) -> usize
-    requires { ⌜ (n ≤ span) × (0 < n) × (n * words ≤ length (now table)) × Rails n (now table) ⌝ }
-    ensures { λ r. ⌜
-        (1 ≤ r)
-        × (r * n * words ≤ length (now (table .exit)))
-        × Levelled n (take (r * n * words) (now (table .exit)))
-        × ((x b : ℕ) → x < n → b < span → memRow (now (table .exit)) x b ≡ memRow (now (table .entry)) x b)
-        ⌝ }
+    requires { ⌜ RaiseAsks n (now table) ⌝ }
+    ensures { λ r. ⌜ RaiseSays n (now (table .entry)) (now (table .exit)) r ⌝ }
 {
     let mut top = 0;
     while n * WORDS <= table.len() - (top + 1) * n * WORDS {

@@ -17,9 +17,15 @@ use Rattle.paper.proofs.Tests.{never}
 use Rattle.laws.proofs.Handing.{handed-passes}
 use Rattle.docket.specs.Reading.{refusalOf}
 use Rattle.docket.specs.declared.Refusal.{Refusal as Docketed}
-use Rattle.outcome.specs.Handing.{countedOf, Hands}
+use Rattle.outcome.specs.Handing.{countedOf, Hands, HandsOut}
 use Rattle.outcome.specs.declared.Counted.the-variants.{Accepted as Counts, Refused as Denies}
 use Rattle.outcome.specs.declared.Counted.{Counted}
+use Rattle.play.specs.Playing.{Admitted}
+use Rattle.yard.specs.Opening.{openedOf, Opens}
+use Rattle.yard.specs.declared.Yard.{Yard as Numbers}
+use Rattle.yard.specs.declared.Opened.{Opened}
+use Rattle.yard.specs.declared.Opened.the-variants.{Open, Refused as Shut}
+use Rattle.planner.proofs.Letting.{let-in, tabled-of}
 use Rattle.planner.specs.Statement.{long, told, plannedOf, uncounted, PlanSays, CountSays}
 use Rattle.planner.specs.declared.Planned.the-variants.{Refused}
 use Rattle.planner.specs.declared.Planned.{Planned as Answered}
@@ -67,3 +73,15 @@ module _ (o : Order) where
   says-handed lent lent′ answer h k =
       let e = plan-clean o (length lent) (sym h) in
       record { says = says-of lent lent′ (uncounted answer) (length-counted answer ∙ rw e (k .answers)) (rw e (k .leaves)); parks = rw e (k .parks) }
+
+-- the yard's answer: where it opens, the procedure may be played, and what is handed out is the answer; else the refusal is
+module _ (o : Order) {opened : Opened} {table : List ℕ} (opens : Opens o 0 opened table) where
+  pub opens-in : {y : Numbers} → opened ≡ Open y → Admitted (y .bays) table (o .starts) (o .goals)
+  opens-in e = let-in o (ap openedOf (sym e) ∙ opens .answer) (opens .admitted _ e)
+
+  pub says-shut : {r : Docketed} (lent : List ℕ) → opened ≡ Shut r → CountSays o lent (Denies r) lent
+  says-shut lent e = says-refused o lent _ (ap openedOf (sym e) ∙ opens .answer)
+
+  pub says-open : {y : Numbers} (lent lent′ : List ℕ) (answer : Counted) → opened ≡ Open y
+      → HandsOut (y .bays) table (o .starts) (o .goals) lent answer lent′ → CountSays o lent answer lent′
+  says-open lent lent′ answer e h = says-handed o lent lent′ answer (ap openedOf (sym e) ∙ opens .answer) (h (tabled-of o (opens .admitted _ e)))

@@ -2,7 +2,7 @@
 -- Assumes nothing.
 use mathlib.Core.Path.{_≡_, _∙_, ap}
 use mathlib.Core.List.{List, _++_, append-nil}
-use Prim.Native.Nat.{ℕ, _≤_, _*_}
+use Prim.Native.Nat.{ℕ, _≤_}
 use native.Mathlib.Omega.{arith}
 use lib.ListN.{length, take, drop, replicate, length-replicate, drop-of-length-le}
 use lib.Seq.{length-take-le}
@@ -10,13 +10,12 @@ use Rattle.paper.specs.Procedure.{Outcome}
 use Rattle.paper.specs.Basics.{elem}
 use Rattle.words.specs.Sets.{words, span}
 use Rattle.words.proofs.Sets.{mem-zeros}
-use Rattle.levels.specs.Levels.{Levelled}
 use Rattle.moving.specs.Placed.{Placed}
 use Rattle.acting.specs.Acting.{Ready, nothing}
 use Rattle.step.specs.Asking.{BaysBelow}
 use Rattle.home.specs.Homing.{Owners, Stages}
 use Rattle.home.specs.declared.Staged.{Staged}
-use Rattle.play.specs.Playing.{Admitted, Plays}
+use Rattle.play.specs.Playing.{TableAsks, Plays}
 
 -- as many places as are taken of an array
 pub places : (k : ℕ) → k ≤ span → length {A = ℕ} (take k (replicate span 0)) ≡ k
@@ -26,14 +25,14 @@ places k h = length-take-le k (replicate span 0) (rw (length-replicate {A = ℕ}
 pub all-copied : (to from to′ : List ℕ) → length to ≡ length from → to′ ≡ from ++ drop (length from) to → to′ ≡ from
 all-copied to from to′ h e = e ∙ ap (λ l. from ++ l) (drop-of-length-le to {i = length from} (omega arith)) ∙ append-nil from
 
-pub ready-of : {table : List ℕ} (s g p standing empty : List ℕ) → Admitted (length standing) table s g → length standing * words ≤ length table → Levelled (length standing) table → p ≡ s → length empty ≡ words → Placed (length standing) s standing empty → Ready table p standing empty
-ready-of s g p standing empty a l v e m placed = rw e (record {
-  most = a .most;
-  table-size = l;
+pub ready-of : {table : List ℕ} (s g p standing empty : List ℕ) → TableAsks (length standing) table s g → p ≡ s → length empty ≡ words → Placed (length standing) s standing empty → Ready table p standing empty
+ready-of s g p standing empty a e m placed = rw e (record {
+  most = a .admitted .most;
+  table-size = a .table-size;
   empty-size = m;
   placed = placed;
-  tabled = a .reaching .tabled;
-  levelled = v;
+  tabled = a .admitted .reaching .tabled;
+  levelled = a .levelled;
 })
 
 -- nobody is finished yet

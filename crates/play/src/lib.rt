@@ -4,12 +4,10 @@ use home::Staged;
 use words::SPAN;
 use words::WORDS;
 use yard::Yard;
-ghost use mathlib.Core.Path.{_≡_};
 ghost use Prim.Native.Nat.{_≤_, _<_, _*_};
 ghost use lib.ListN.{length};
 ghost use Rattle.words.specs.Sets.{words, span};
-ghost use Rattle.levels.specs.Levels.{Levelled};
-ghost use Rattle.play.specs.Playing.{Admitted, OfProcedure, Plays};
+ghost use Rattle.play.specs.Playing.{Admitted, TableAsks, PlayOnAsks, PlaysOut};
 
 // Where this share of the bays is empty, or less, vacating has far to go, and many levels pay.
 const CROWDED: usize = 12;
@@ -47,16 +45,9 @@ fn play_on(
     owner: &mut [u16],
     out: &mut [u64],
 ) -> Staged
-    requires { ⌜
-        Admitted (length (now standing)) (now table) (now start) (now goal)
-        × (length (now placement) ≡ length (now start))
-        × (length (now owner) ≡ length (now standing))
-        × (length (now standing) * words ≤ length (now table))
-        × Levelled (length (now standing)) (now table)
-        ⌝ }
+    requires { ⌜ PlayOnAsks (now table) (now start) (now goal) (now placement) (now standing) (now owner) ⌝ }
     ensures { λ z. ⌜
-        OfProcedure (length (now (standing .entry))) (now (table .entry)) (now (start .entry)) (now (goal .entry))
-        (λ o. Plays o (now (out .entry)) (now (out .exit)) z)
+        PlaysOut (length (now (standing .entry))) (now (table .entry)) (now (start .entry)) (now (goal .entry)) (now (out .entry)) (now (out .exit)) z
         ⌝ }
 {
     let mut empty = [0u64; WORDS];
@@ -79,10 +70,8 @@ fn play_on(
 
 // On a table that may go on above its rails.
 fn play_in(table: &[u64], n: usize, start: &[u16], goal: &[u16], out: &mut [u64]) -> Staged
-    requires { ⌜ Admitted n (now table) (now start) (now goal) × (n * words ≤ length (now table)) × Levelled n (now table) ⌝ }
-    ensures { λ z. ⌜
-        OfProcedure n (now (table .entry)) (now (start .entry)) (now (goal .entry)) (λ o. Plays o (now (out .entry)) (now (out .exit)) z)
-        ⌝ }
+    requires { ⌜ TableAsks n (now table) (now start) (now goal) ⌝ }
+    ensures { λ z. ⌜ PlaysOut n (now (table .entry)) (now (start .entry)) (now (goal .entry)) (now (out .entry)) (now (out .exit)) z ⌝ }
 {
     let carriers = start.len();
     let mut placement = [0u16; SPAN];
@@ -107,10 +96,9 @@ pub fn play_by_rails(
     goal: &[u16],
     out: &mut [u64],
 ) -> Staged
-    requires { ⌜ Admitted n (now table) (now start) (now goal) × (n * words ≤ length (now table)) ⌝ }
-    ensures { λ z. ⌜
-        OfProcedure n (now (table .entry)) (now (start .entry)) (now (goal .entry)) (λ o. Plays o (now (out .entry)) (now (out .exit)) z)
-        ⌝ }
+    requires { ⌜ Admitted n (now table) (now start) (now goal) ⌝ }
+    requires { ⌜ n * words ≤ length (now table) ⌝ }
+    ensures { λ z. ⌜ PlaysOut n (now (table .entry)) (now (start .entry)) (now (goal .entry)) (now (out .entry)) (now (out .exit)) z ⌝ }
 {
     let rails = n * WORDS;
     play_in(&table[..rails], n, start, goal, out)
@@ -125,10 +113,10 @@ fn play_by_levels(
     wide: &mut [u64],
     out: &mut [u64],
 ) -> Staged
-    requires { ⌜ Admitted n (now table) (now start) (now goal) × (0 < n) × (span * words ≤ length (now wide)) ⌝ }
-    ensures { λ z. ⌜
-        OfProcedure n (now (table .entry)) (now (start .entry)) (now (goal .entry)) (λ o. Plays o (now (out .entry)) (now (out .exit)) z)
-        ⌝ }
+    requires { ⌜ Admitted n (now table) (now start) (now goal) ⌝ }
+    requires { ⌜ 0 < n ⌝ }
+    requires { ⌜ span * words ≤ length (now wide) ⌝ }
+    ensures { λ z. ⌜ PlaysOut n (now (table .entry)) (now (start .entry)) (now (goal .entry)) (now (out .entry)) (now (out .exit)) z ⌝ }
 {
     copies::longs(wide, table);
     let levels = levels::raise(n, wide);
@@ -144,10 +132,9 @@ fn play_high(
     goal: &[u16],
     out: &mut [u64],
 ) -> Staged
-    requires { ⌜ Admitted n (now table) (now start) (now goal) × (0 < n) ⌝ }
-    ensures { λ z. ⌜
-        OfProcedure n (now (table .entry)) (now (start .entry)) (now (goal .entry)) (λ o. Plays o (now (out .entry)) (now (out .exit)) z)
-        ⌝ }
+    requires { ⌜ Admitted n (now table) (now start) (now goal) ⌝ }
+    requires { ⌜ 0 < n ⌝ }
+    ensures { λ z. ⌜ PlaysOut n (now (table .entry)) (now (start .entry)) (now (goal .entry)) (now (out .entry)) (now (out .exit)) z ⌝ }
 {
     let mut wide = [0u64; HIGH * Yard::TABLE];
     play_by_levels(table, n, start, goal, &mut wide, out)
@@ -161,10 +148,9 @@ fn play_low(
     goal: &[u16],
     out: &mut [u64],
 ) -> Staged
-    requires { ⌜ Admitted n (now table) (now start) (now goal) × (0 < n) ⌝ }
-    ensures { λ z. ⌜
-        OfProcedure n (now (table .entry)) (now (start .entry)) (now (goal .entry)) (λ o. Plays o (now (out .entry)) (now (out .exit)) z)
-        ⌝ }
+    requires { ⌜ Admitted n (now table) (now start) (now goal) ⌝ }
+    requires { ⌜ 0 < n ⌝ }
+    ensures { λ z. ⌜ PlaysOut n (now (table .entry)) (now (start .entry)) (now (goal .entry)) (now (out .entry)) (now (out .exit)) z ⌝ }
 {
     let mut wide = [0u64; LOW * Yard::TABLE];
     play_by_levels(table, n, start, goal, &mut wide, out)
@@ -180,9 +166,7 @@ pub fn play(
     out: &mut [u64],
 ) -> Staged
     requires { ⌜ Admitted (yard .bays) (now table) (now start) (now goal) ⌝ }
-    ensures { λ z. ⌜
-        OfProcedure (yard .bays) (now (table .entry)) (now (start .entry)) (now (goal .entry)) (λ o. Plays o (now (out .entry)) (now (out .exit)) z)
-        ⌝ }
+    ensures { λ z. ⌜ PlaysOut (yard .bays) (now (table .entry)) (now (start .entry)) (now (goal .entry)) (now (out .entry)) (now (out .exit)) z ⌝ }
 {
     let n = yard.bays;
     let ends = yard.ends;

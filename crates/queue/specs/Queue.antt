@@ -52,6 +52,13 @@ pub record Passed (n : ℕ) (table held : List ℕ) (x : ℕ) (met : List ℕ) (
 
 -- ## What is asked, what is said
 
+-- the path back from e, in room for its d rails
+pub record TraceAsks (before : List ℕ) (e d : ℕ) (path : List ℕ) : Type 0 where
+  pub before-size : length before ≡ span
+  pub inside : e < span
+  pub room : d < length path
+  pub low : Low before
+
 -- the bays from `start` to `count` are still to be passed, in room for every bay
 pub record PassAsks (n : ℕ) (table : List ℕ) (start count : ℕ) (seen met before : List ℕ) : Type 0 where
   pub most : n ≤ span

@@ -2,11 +2,10 @@
 // bays is passed at once, and the path to a bay is read back from it.
 ghost use mathlib.Core.Path.{_≡_};
 ghost use mathlib.Core.List.{[]};
-ghost use Prim.Native.Nat.{_+_, _<_};
-ghost use lib.ListN.{length, take};
-ghost use Rattle.words.specs.Sets.{span};
+ghost use Prim.Native.Nat.{_+_};
+ghost use lib.ListN.{take};
 ghost use Rattle.queue.specs.Meeting.{inWord, newIn, new, Queued, Meets, EnqueueAsks, MeetWordAsks, MeetAsks, back};
-ghost use Rattle.queue.specs.Queue.{Low, PassAsks, PassSays};
+ghost use Rattle.queue.specs.Queue.{PassAsks, PassSays, TraceAsks};
 
 // The bays of word i go to the queue's end, rising, as met from a.
 fn enqueue(i: usize, word: u64, a: u16, met: &mut [u16], before: &mut [u16], count: usize) -> usize
@@ -100,7 +99,7 @@ pub fn pass(
 
 // The path to e, d rails long, is read from its end.
 pub fn trace(before: &[u16], e: usize, d: usize, path: &mut [u16])
-    requires { ⌜ (length (now before) ≡ span) × (e < span) × (d < length (now path)) × Low (now before) ⌝ }
+    requires { ⌜ TraceAsks (now before) e d (now path) ⌝ }
     ensures { λ _. ⌜ take (d + 1) (now (path .exit)) ≡ back (now (before .entry)) d e [] ⌝ }
 {
     let mut i = d;

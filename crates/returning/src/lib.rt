@@ -7,6 +7,7 @@ ghost use Rattle.paper.specs.Basics.{_and_, if_then_else_};
 ghost use Rattle.paper.specs.Yard.{crossings, named};
 ghost use Rattle.trips.specs.Trips.{enters, isOf};
 ghost use Rattle.chains.specs.Links.{Linked};
+ghost use Rattle.chains.specs.Asking.{SearchAsks};
 ghost use Rattle.returning.specs.Returns.{lastFrom};
 use docket::Bay;
 use docket::Carrier;
@@ -41,7 +42,7 @@ fn chosen(test: bool, name: usize, other: usize) -> usize
 
 // The name of the last return of the carrier that crosses at `name`, or `name` itself where it does not return.
 pub fn last_return(plan: &[u64], gone: &[u8], links: &mut [u16], name: usize) -> usize
-    requires { ⌜ (name < length (now plan)) × (length (now gone) ≡ length (now plan)) × Linked (now plan) (now gone) (now links) ⌝ }
+    requires { ⌜ SearchAsks (now plan) (now gone) (now links) name ⌝ }
     ensures { λ r. ⌜
         (r < length (now (plan .entry)))
         × (r ≡ lastFrom (named (crossings (now (plan .entry))) name) (crossings (now (plan .entry))) (now (gone .entry)) name (suc name))

@@ -49,11 +49,7 @@ free-start Y held x t h o = (in-count 0 (Y .bays) x (omega arith) (rw (t .bays) 
 pub kept-beside : (table : List ℕ) (i : ℕ) (rows kept rows′ kept′ found found′ : List ℕ) → Beside table kept found span
     → ((b : ℕ) → b < span → mem found′ b ≡ mem found b and memRow rows i b) → Kept kept 0 found′ kept′ → Kept rows i kept′ rows′
     → KeptBeside table i rows kept rows′ kept′
-kept-beside table i rows kept rows′ kept′ found found′ p m k w = record {
-  met = λ b h. sym (row-zero kept′ b) ∙ k .row b h ∙ m b h ∙ rw (p .same b h);
-  row = w .row;
-  others = w .others;
-}
+kept-beside table i rows kept rows′ kept′ found found′ p m k w = record { met = λ b h. sym (row-zero kept′ b) ∙ k .row b h ∙ m b h ∙ rw (p .same b h); row = w }
 
 module _ {n : ℕ} {table rows₀ : List ℕ} {d e : ℕ} (t : Ended n table rows₀ d e) where
   start-free : Free (t .yard) (t .held) (t .start)
@@ -91,11 +87,11 @@ module _ {n : ℕ} {table rows₀ : List ℕ} {d e : ℕ} (t : Ended n table row
           keeping = keeping;
           narrowed = record {
             rowing = λ k b i m h. elim (ℕ-discrete k j) [
-              | yes q ↦ rw q (w .row b h ∙ keeping b h)
-              | no q ↦ w .others k b q h ∙ g .narrowed .rowing k b (omega arith) m h
+              | yes q ↦ rw q (w .row .row b h ∙ keeping b h)
+              | no q ↦ w .row .others k b q h ∙ g .narrowed .rowing k b (omega arith) m h
             ];
           };
-          below = λ k b i h. w .others k b (λ q. omega arith) h ∙ g .below k b (omega arith) h;
+          below = λ k b i h. w .row .others k b (λ q. omega arith) h ∙ g .below k b (omega arith) h;
         }
 
 -- row d is no ring below d

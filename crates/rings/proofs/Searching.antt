@@ -131,16 +131,6 @@ ring-dry Y held x d (suc i) e h = elim (decLt (suc i) (Y .bays)) [
 pub ring-settled : {table seen ring seen′ ring′ next : List ℕ} → Beside table ring next span → Settled next seen seen′ ring′ → Widened table seen ring seen′ ring′
 ring-settled p s = record { ringed = λ b h. s .ringed b h ∙ rw (p .same b h); all-seen = s .all-seen }
 
--- what is beside the ring, settled and kept, is the next ring
-pub ring-kept : (table : List ℕ) (d : ℕ) (seen ring rows seen′ ring′ rows′ next : List ℕ) → Beside table ring next span → Settled next seen seen′ ring′
-    → Kept rows (d + 1) ring′ rows′ → NextRingSays table d seen ring rows seen′ ring′ rows′
-ring-kept table d seen ring rows seen′ ring′ rows′ next p s k = record {
-  ringed = λ b h. s .ringed b h ∙ rw (p .same b h);
-  all-seen = s .all-seen;
-  row = k .row;
-  others = k .others;
-}
-
 -- ## Where the search stands
 
 pub elem-one : (b x : ℕ) → elem b (x ∷ []) ≡ eqb b x
@@ -241,14 +231,14 @@ module _ {n : ℕ} {table held : List ℕ} (s : Shown n table held) (x : Bay) wh
       → Searching wanted d seen ring rows → meeting ring wanted ≡ false
       → NextRingSays table d seen ring rows seen′ ring′ rows′ → Searching wanted (d + 1) seen′ ring′ rows′
   searching-more wanted d seen ring rows seen′ ring′ rows′ most hx h g l e =
-      let w = widening-more most hx h (record { seeing = g .seeing; ringing = g .ringing }) (record { ringed = e .ringed; all-seen = e .all-seen }) in
+      let w = widening-more most hx h (record { seeing = g .seeing; ringing = g .ringing }) (e .widened) in
       record {
         far = h;
         seeing = w .seeing;
         ringing = w .ringing;
         rowing = λ i b j k. elim (ℕ-discrete i (d + 1)) [
-          | yes q ↦ rw q (e .row b k ∙ w .ringing b k)
-          | no q ↦ e .others i b q k ∙ g .rowing i b (omega arith) k
+          | yes q ↦ rw q (e .kept .row b k ∙ w .ringing b k)
+          | no q ↦ e .kept .others i b q k ∙ g .rowing i b (omega arith) k
         ];
         before = λ i b k y. elim (ℕ-discrete i d) [
           | yes q ↦

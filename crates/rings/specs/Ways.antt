@@ -1,7 +1,7 @@
 -- What is read from the rows of a search: the nearest bay of a set, and the shortest path.
 -- Assumes nothing.
 use mathlib.Core.Path.{_≡_}
-use mathlib.Core.Bool.{Bool, false}
+use mathlib.Core.Bool.{Bool, true, false}
 use mathlib.Core.List.{List}
 use mathlib.Core.Option.{Option, none, some}
 use Prim.Native.Nat.{ℕ, _+_, _-_, _*_, _≤_, _<_}
@@ -9,7 +9,7 @@ use lib.ListN.{length, take}
 use Rattle.paper.specs.Basics.{_and_, elem, In, Out}
 use Rattle.paper.specs.Yard.{Bay, Yard}
 use Rattle.paper.specs.Path.{rings, nearestOf, inward, shortestPath, pathBetween}
-use Rattle.words.specs.Sets.{mem, memRow, words, span, anyBelow, reaches}
+use Rattle.words.specs.Sets.{mem, memRow, words, span, Kept, anyBelow, reaches}
 use Rattle.yard.specs.Table.{Table}
 use Rattle.rings.specs.Search.{Shown, Lent, around, GoesOn}
 use Rattle.rings.specs.declared.Path.{Path}
@@ -141,11 +141,16 @@ pub record OutwardAsks (n : ℕ) (table rows : List ℕ) (d x : ℕ) (path : Lis
 pub record OutwardSays (n : ℕ) (table rows : List ℕ) (d x : ℕ) (path′ : List ℕ) : Type 0 where
   pub path : (t : Outside n table rows d x) → take (d + 1) path′ ≡ pathOut t
 
+-- there is a row i, and each kept bay has its row in the table
+pub record KeepBesideAsks (table : List ℕ) (i : ℕ) (rows kept : List ℕ) : Type 0 where
+  pub kept-size : length kept ≡ words
+  pub row-there : i * words + words ≤ length rows
+  pub inside : (a : ℕ) → a < span → mem kept a ≡ true → a * words + words ≤ length table
+
 -- row i keeps of its bays those beside the kept ones, and these are the kept ones now
 pub record KeptBeside (table : List ℕ) (i : ℕ) (rows kept rows′ kept′ : List ℕ) : Type 0 where
   pub met : (b : ℕ) → b < span → mem kept′ b ≡ anyBelow (reaches table kept b) span and memRow rows i b
-  pub row : (b : ℕ) → b < span → memRow rows′ i b ≡ mem kept′ b
-  pub others : (k b : ℕ) → (k ≡ i → ⊥) → b < span → memRow rows′ k b ≡ memRow rows k b
+  pub row : Kept rows i kept′ rows′
 
 -- ## What the public functions answer
 

@@ -9,7 +9,8 @@ ghost use Rattle.paper.specs.Basics.{_and_};
 ghost use Rattle.words.specs.Sets.{mem, memRow, words, span};
 ghost use Rattle.rings.specs.Search.{NextRingAsks, NextRingSays, SearchAsks, SearchSays};
 ghost use Rattle.rings.specs.Widening.{Widened};
-ghost use Rattle.rings.specs.Ways.{InwardAsks, InwardSays, NarrowAsks, NarrowSays, OutwardAsks, OutwardSays, KeptBeside, PathNearAsks, PathNearSays, WayNearAsks, WayNearSays, Ends, pathBy, wayBy, PathAsks, PathSays, WayAsks, WaySays};
+ghost use Rattle.rings.specs.Ways.{InwardAsks, InwardSays, NarrowAsks, NarrowSays, OutwardAsks, OutwardSays, KeepBesideAsks, KeptBeside};
+ghost use Rattle.rings.specs.Ways.{Ends, pathBy, wayBy, PathNearAsks, PathNearSays, PathAsks, PathSays, WayNearAsks, WayNearSays, WayAsks, WaySays};
 
 // Words of the rows that a search has at first: 32 rings, which do in most yards and are soon cleared.
 const NEAR: usize = 32 * words::WORDS;
@@ -51,9 +52,7 @@ fn next_ring(
         NextRingSays (now (table .entry)) d (now (seen .entry)) (now (ring .entry)) (now (rows .entry)) (now (seen .exit)) (now (ring .exit)) (now (rows .exit))
         ⌝ }
 {
-    let mut next = [0u64; words::WORDS];
-    words::beside(table, ring, &mut next);
-    words::settle(&next, seen, ring);
+    widen(table, seen, ring);
     words::keep(rows, d + 1, ring);
 }
 
@@ -117,11 +116,7 @@ fn meet_row(set: &mut [u64], rows: &[u64], i: usize)
 
 // Row i keeps only the bays beside those kept, and these are the kept ones now.
 fn keep_beside(table: &[u64], i: usize, rows: &mut [u64], kept: &mut [u64])
-    requires { ⌜
-        (length (now kept) ≡ words)
-        × (i * words + words ≤ length (now rows))
-        × ((a : ℕ) → a < span → mem (now kept) a ≡ true → a * words + words ≤ length (now table))
-        ⌝ }
+    requires { ⌜ KeepBesideAsks (now table) i (now rows) (now kept) ⌝ }
     ensures { λ _. ⌜ KeptBeside (now (table .entry)) i (now (rows .entry)) (now (kept .entry)) (now (rows .exit)) (now (kept .exit)) ⌝ }
 {
     let mut found = [0u64; words::WORDS];

@@ -36,7 +36,8 @@ pub fn hand_out_again(
     parked: usize,
     out: &mut [u64],
 ) -> Counted
-    requires { ⌜ Admitted (yard .bays) (now table) (now start) (now goal) × (m ≤ length (now out)) ⌝ }
+    requires { ⌜ Admitted (yard .bays) (now table) (now start) (now goal) ⌝ }
+    requires { ⌜ m ≤ length (now out) ⌝ }
     ensures { λ r. ⌜
         HandsOutDue (yard .bays) (now (table .entry)) (now (start .entry)) (now (goal .entry)) m parked (now (out .entry)) r (now (out .exit))
         ⌝ }

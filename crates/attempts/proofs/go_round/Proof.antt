@@ -22,19 +22,19 @@ enter-requires c κs =
 place-in-requires : tie.Need-place-in-requires
 place-in-requires c κs = search needs
 
-mul-vacate-both : tie.Need-mul-vacate-both
-mul-vacate-both c =
-    let start = c .before .before .before .before .before .before .before .before .before .before .before .before .before .before .before .before .before .before .before .before .before .before .before .before .before .before .before in
-    search (needs, c .before .before .before .place-in .ensures, c .before .before .before .before .before .before .before .before .before .before .before .before .before .before .before .enter .kept .1 .1 .1 .1 .1 .0, start .good)
+mul-rest : tie.Need-mul-rest
+mul-rest c =
+    let start = c .before .before .before .before .before .before .before .before .before .before .before .before .before .before .before .before .before .before .before .before .before .before .before .before in
+    search (needs, c .place-in .ensures, c .before .before .before .before .before .before .before .before .before .before .before .before .enter .kept .1 .1 .1 .1 .1 .0, start .good)
 
-sub-vacate-both : tie.Need-sub-vacate-both
-sub-vacate-both c = search needs
+sub-rest : tie.Need-sub-rest
+sub-rest c = search needs
 
-part-vacate-both-start : tie.Need-part-vacate-both-start
-part-vacate-both-start c = search needs
+part-rest-start : tie.Need-part-rest-start
+part-rest-start c = search needs
 
-part-vacate-both-end : tie.Need-part-vacate-both-end
-part-vacate-both-end c = search needs
+part-rest-end : tie.Need-part-rest-end
+part-rest-end c = search needs
 
 vacate-both-requires : tie.Need-vacate-both-requires
 vacate-both-requires c κs =
@@ -61,7 +61,7 @@ same-length-3 : tie.Need-same-length-3
 same-length-3 c = c .before .before .before .before .before .before .before .before .before .before .vacate-both .kept .1 .1 .1 .1 .1 .0 ∙ c .before .before .before .before .before .before .before .before .before .before .before .before .before .before .before .before .before .before .before .before .before .before .before .before .before .before .before .enter .kept .1 .1 .1 .1 .0
 
 same-length-4 : tie.Need-same-length-4
-same-length-4 c = c .before .before .before .out2 .given .1 ∙ c .before .before .before .before .before .before .before .before .before .before .before .before .before .before .before .before .before .before .before .before .before .before .before .before .before .before .before .enter .kept .1 .1 .1 .1 .1 .0
+same-length-4 c = c .before .before .before .before .before .before .before .before .before .out2 .given .1 ∙ c .before .before .before .before .before .before .before .before .before .before .before .before .before .before .before .before .before .before .before .before .before .before .before .before .before .before .before .enter .kept .1 .1 .1 .1 .1 .0
 
 returns : tie.Need-returns
 returns c =
@@ -90,7 +90,7 @@ place-in-requires-2 c κs = search needs
 mul-enter : tie.Need-mul-enter
 mul-enter c =
     let start = c .before .before .before .before .before .before .before .before .before .before .before .before .before .before .before .before .before .before .before .before .before .before .before .before .before .before .before .before .before .before .before .before .before .before .before .before .before .before .before .before .before .before .before .before .before .before .before .before in
-    search (needs, c .before .before .before .place-in2 .ensures, c .before .before .before .before .before .before .before .before .before .before .before .before .out2 .given .1, c .before .before .before .before .before .before .before .before .before .before .before .before .before .before .before .before .before .before .before .before .before .before .before .before .before .before .before .before .before .before .before .before .before .before .before .before .enter .kept .1 .1 .1 .1 .1 .0, start .good)
+    search (needs, c .before .before .before .place-in2 .ensures, c .before .before .before .before .before .before .before .before .before .before .before .before .before .before .before .before .before .before .out2 .given .1, c .before .before .before .before .before .before .before .before .before .before .before .before .before .before .before .before .before .before .before .before .before .before .before .before .before .before .before .before .before .before .before .before .before .before .before .before .enter .kept .1 .1 .1 .1 .1 .0, start .good)
 
 sub-enter : tie.Need-sub-enter
 sub-enter c = search needs
@@ -113,7 +113,7 @@ enter-requires-2 c κs =
     let e : vacate-both .result ≡ Done (vacated .given .0 .0) = vacated .given .1 in
     let kw : length (enter .last .1 .1 .1 .0) ≡ length (start .args .standing .now) = enter .kept .1 .1 .1 .0 in
     let kv : length (vacate-both .last .1 .1 .1 .1 .0) ≡ length (enter .last .1 .1 .1 .0) = vacate-both .kept .1 .1 .1 .1 .0 in
-    let s = tries-on-the-rest (rest-lent _ (c .before .before .before .before .before .before .before .before .before .before .before .before .before .before .before .before .before .before .before .before .before .before .before .before .before .place-in .ensures) (c .before .before .before .before .before .before .before .before .before .before .before .before .before .out2 .given) (c .before .before .before .before .before .before .before .before .add .ensures)) (rw e at ((rw kw at (vacate-both .ensures .tries)) (p .tabled))) in
+    let s = tries-on-the-rest (rest-lent _ (c .before .before .before .before .before .before .before .before .before .before .before .before .before .before .before .before .before .before .before .before .before .before .before .before .before .place-in .ensures) (c .before .before .before .before .before .before .before .before .before .before .before .before .before .before .before .before .before .before .before .out2 .given) (c .before .before .before .before .before .before .before .before .add .ensures)) (rw e at ((rw kw at (vacate-both .ensures .tries)) (p .tabled))) in
     let r = round-ready (p .tabled) (k .coupled .differ) (k .coupled .leads) (k .coupled .follows) (z .inside) (k .behind) (enter .ensures) _ s in
     record {
       coupled = record { leads = r .1; follows = r .0; differ = λ q. k .coupled .differ (sym q) };
@@ -142,7 +142,7 @@ same-length-7 : tie.Need-same-length-7
 same-length-7 c = c .before .before .before .before .before .before .before .before .before .enter2 .kept .1 .1 .1 .1 .0 ∙ c .before .before .before .before .before .before .before .before .before .before .before .before .before .before .before .before .before .before .before .before .before .before .before .before .before .before .before .before .before .before .vacate-both .kept .1 .1 .1 .1 .1 .0 ∙ c .before .before .before .before .before .before .before .before .before .before .before .before .before .before .before .before .before .before .before .before .before .before .before .before .before .before .before .before .before .before .before .before .before .before .before .before .before .before .before .before .before .before .before .before .before .before .before .enter .kept .1 .1 .1 .1 .0
 
 same-length-8 : tie.Need-same-length-8
-same-length-8 c = c .before .before .out3 .given .1 ∙ c .before .before .before .before .before .before .before .before .before .before .before .before .before .before .before .before .before .before .before .before .before .before .before .out2 .given .1 ∙ c .before .before .before .before .before .before .before .before .before .before .before .before .before .before .before .before .before .before .before .before .before .before .before .before .before .before .before .before .before .before .before .before .before .before .before .before .before .before .before .before .before .before .before .before .before .before .before .enter .kept .1 .1 .1 .1 .1 .0
+same-length-8 c = c .before .before .out3 .given .1 ∙ c .before .before .before .before .before .before .before .before .before .before .before .before .before .before .before .before .before .before .before .before .before .before .before .before .before .before .before .before .before .out2 .given .1 ∙ c .before .before .before .before .before .before .before .before .before .before .before .before .before .before .before .before .before .before .before .before .before .before .before .before .before .before .before .before .before .before .before .before .before .before .before .before .before .before .before .before .before .before .before .before .before .before .before .enter .kept .1 .1 .1 .1 .1 .0
 
 returns-2 : tie.Need-returns-2
 returns-2 c =
@@ -161,7 +161,7 @@ returns-2 c =
     record {
       few = omega (arith, two, last, rw e at (vacate-both .ensures .few), c .before .before .before .before .before .before .before .before .before .before .before .before .before .before .before .before .before .before .add .ensures .crossings, c .add2 .ensures .crossings);
       tries = λ t j.
-          let s = tries-on-the-rest (rest-lent _ (c .before .before .before .before .before .before .before .before .before .before .before .before .before .before .before .before .before .before .before .before .before .before .before .before .before .before .before .before .before .before .before .before .before .before .before .place-in .ensures) (c .before .before .before .before .before .before .before .before .before .before .before .before .before .before .before .before .before .before .before .before .before .before .before .out2 .given) (c .before .before .before .before .before .before .before .before .before .before .before .before .before .before .before .before .before .before .add .ensures)) (rw e at ((rw kw at (vacate-both .ensures .tries)) t)) in
+          let s = tries-on-the-rest (rest-lent _ (c .before .before .before .before .before .before .before .before .before .before .before .before .before .before .before .before .before .before .before .before .before .before .before .before .before .before .before .before .before .before .before .before .before .before .before .place-in .ensures) (c .before .before .before .before .before .before .before .before .before .before .before .before .before .before .before .before .before .before .before .before .before .before .before .before .before .before .before .before .before .out2 .given) (c .before .before .before .before .before .before .before .before .before .before .before .before .before .before .before .before .before .before .add .ensures)) (rw e at ((rw kw at (vacate-both .ensures .tries)) t)) in
           let back = on-the-rest (rest-lent _ (c .before .before .before .before .before .before .before .before .before .before .before .before .before .before .place-in2 .ensures) (c .before .before .out3 .given) (c .add2 .ensures)) (rw (kv, kw) at (enter2 .ensures)) in
           round-done t (k .coupled .differ) (k .coupled .leads) (k .coupled .follows) (z .inside) (k .behind) (enter .ensures) _ s j back;
     }
@@ -172,10 +172,10 @@ go-round-spec =
     (tie.spec
     enter-requires
     place-in-requires
-    mul-vacate-both
-    sub-vacate-both
-    part-vacate-both-start
-    part-vacate-both-end
+    mul-rest
+    sub-rest
+    part-rest-start
+    part-rest-end
     vacate-both-requires
     enum-known-vacated
     enum-told

@@ -13,8 +13,8 @@ use Rattle.paper.proofs.Playing.{Apart}
 use Rattle.words.specs.Sets.{span}
 use Rattle.moving.specs.Bounds.{swap-most}
 use Rattle.acting.specs.Acting.{Tabled}
-use Rattle.clear.proofs.Clearing.{ready-again}
 use Rattle.step.specs.Asking.{BaysBelow}
+use Rattle.acting.proofs.Holding.{ready-again}
 use Rattle.acting.proofs.Lending.{rest-lent}
 use Rattle.home.specs.Homing.{Owners}
 use Rattle.home.proofs.Homing.{stages-stuck, Homed, homed-none, homed-more, homed-stops, homed-all, at-most, at-most-stuck, turn-due, turn-low, turn-homed}

@@ -9,6 +9,7 @@ use Rattle.paper.specs.Text.{count}
 use Rattle.acting.specs.Acting.{Tabled}
 use Rattle.moving.specs.Bounds.{carrier-most}
 use Rattle.step.specs.Asking.{BaysBelow}
+use Rattle.acting.proofs.Holding.{ready-again}
 use Rattle.acting.proofs.Lending.{rest-lent}
 use Rattle.home.proofs.Homing.{stages-stuck}
 use Rattle.along.specs.Along.{Goals, HomeBelow, Bound}
@@ -78,14 +79,7 @@ carry-requires c κs =
     let v = l .inv in
     let b = v .7 (p .tabled) in
     let e : length (l .standing) ≡ length (start .args .standing .now) = v .3 in (
-      record {
-        most = omega (arith, p .most, e);
-        table-size = rw e (p .table-size);
-        empty-size = omega (arith, p .empty-size, v .4);
-        placed = rw e (b .played .placed);
-        tabled = rw e (p .tabled);
-        levelled = rw e (p .levelled);
-      },
+      ready-again p _ _ _ e (v .4) (b .played .placed),
       (
         record { carrier-there = omega (arith, loop-test .taken, v .2, z .each .many); loopless = rw e (z .loopless); kind = rw e (c .before .before .before .before .before .before .before .before .before .before .is-carousel .ensures); below = v .9 },
         record {

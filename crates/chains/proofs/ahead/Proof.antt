@@ -33,7 +33,7 @@ link c =
     getD (now (start .args .links)) (start .args .name * links-each + start .args .kind) 0
 
 lead : (c : tie.After-wide) → Leads (now (c .before .before .before .before .before .args .plan)) (now (c .before .before .before .before .before .args .gone)) (c .before .before .before .before .before .args .kind) (c .before .before .before .before .before .args .name) (link c)
-lead c = let s = c .before .before .before .before .before in s .pre .7 .ahead (s .args .kind) (s .args .name) (s .pre .3) (s .pre .0)
+lead c = let s = c .before .before .before .before .before in s .pre .search .linked .ahead (s .args .kind) (s .args .name) (s .pre .kind-up) (s .pre .search .inside)
 
 is-link : (c : tie.After-wide) → c .wide .result ≡ link c
 is-link c = c .wide .ensures
@@ -46,19 +46,26 @@ add-first c =
 skip-requires : tie.Need-skip-requires
 skip-requires c κs =
     let s = c .before .before .before .before .before .before in
-    (omega (arith, is-link (c .before), lead (c .before) .inside), s .pre .1, s .pre .4, s .pre .5 ∙ sym (s .pre .6), s .pre .7)
+    let p = s .pre in
+    record {
+      upto = omega (arith, is-link (c .before), lead (c .before) .inside);
+      long-gone = p .search .long-gone;
+      kind-up = p .again-up;
+      steady = p .goes-by ∙ sym (p .seeks);
+      linked = p .search .linked;
+    }
 
 met : (c : tie.After-skip) → (c .before .before .before .before .before .before .before .args .name < c .skip .result) × Met (now (c .before .before .before .before .before .before .before .args .plan)) (now (c .before .before .before .before .before .before .before .args .gone)) (sought (c .before .before .before .before .before .before .before .args .kind)) (goal (now (c .before .before .before .before .before .before .before .args .plan)) (c .before .before .before .before .before .before .before .args .kind) (c .before .before .before .before .before .before .before .args .name)) (suc (c .before .before .before .before .before .before .before .args .name)) (c .skip .result)
 met c =
     let s = c .before .before .before .before .before .before .before in
     let k = c .before .before in
-    (omega (arith, is-link k, lead k .up, c .skip .ensures .0), met-on (now (s .args .plan)) (now (s .args .gone)) (s .args .name) (link k) (k .wide .result + 1) (c .skip .result) (s .args .kind) (s .args .again) (omega (arith, is-link k)) (s .pre .6) (lead k) (c .skip .ensures .2))
+    (omega (arith, is-link k, lead k .up, c .skip .ensures .from), met-on (now (s .args .plan)) (now (s .args .gone)) (s .args .name) (link k) (k .wide .result + 1) (c .skip .result) (s .args .kind) (s .args .again) (omega (arith, is-link k)) (s .pre .seeks) (lead k) (c .skip .ensures .met))
 
 sub-narrow : tie.Need-sub-narrow
 sub-narrow c = omega (arith, met c .0)
 
 narrow-requires : tie.Need-narrow-requires
-narrow-requires c κs = let s = c .before .before .before .before .before .before .before in omega (arith, met c .0, c .skip .ensures .1, s .pre .2)
+narrow-requires c κs = let s = c .before .before .before .before .before .before .before in omega (arith, met c .0, c .skip .ensures .upto, s .pre .search .linked .short)
 
 mul-links : tie.Need-mul-links
 mul-links c = search needs
@@ -74,7 +81,13 @@ returns c =
     let s = c .before .before .before .before .before .before .before .before in
     let k = c .before in
     let m = met k in
-    (m .0, k .skip .ensures .1, m .1, linked-ahead (now (s .args .plan)) (now (s .args .gone)) (now (s .args .links)) (s .pre .7) (s .args .name) (s .args .kind) (c .narrow .result) (s .pre .0) (s .pre .3) (leads-found (now (s .args .plan)) (now (s .args .gone)) (s .args .kind) (s .args .name) (k .skip .result) (c .narrow .result) (c .narrow .ensures) (m .0) (k .skip .ensures .1) (m .1)))
+    let upto = k .skip .ensures .upto in
+    record {
+      after = m .0;
+      upto = upto;
+      met = m .1;
+      linked = linked-ahead (now (s .args .plan)) (now (s .args .gone)) (now (s .args .links)) (s .pre .search .linked) (s .args .name) (s .args .kind) (c .narrow .result) (s .pre .search .inside) (s .pre .kind-up) (leads-found (now (s .args .plan)) (now (s .args .gone)) (s .args .kind) (s .args .name) (k .skip .result) (c .narrow .result) (c .narrow .ensures) (m .0) upto (m .1));
+    }
 
 pub ahead-spec : {M : Type 1} → statement M
 ahead-spec =

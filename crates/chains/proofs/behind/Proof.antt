@@ -34,7 +34,7 @@ link c =
     getD (now (start .args .links)) (start .args .name * links-each + 3) 0
 
 lead : (c : tie.After-wide) → LeadsDown (now (c .before .before .before .before .before .args .plan)) (now (c .before .before .before .before .before .args .gone)) 3 (c .before .before .before .before .before .args .name) (link c)
-lead c = let s = c .before .before .before .before .before in s .pre .3 .behind 3 (s .args .name) (omega arith) (omega arith) (s .pre .0)
+lead c = let s = c .before .before .before .before .before in s .pre .linked .behind 3 (s .args .name) (omega arith) (omega arith) (s .pre .inside)
 
 is-link : (c : tie.After-wide) → c .wide .result ≡ link c
 is-link c = c .wide .ensures
@@ -42,16 +42,16 @@ is-link c = c .wide .ensures
 skip-back-requires : tie.Need-skip-back-requires
 skip-back-requires c κs =
     let s = c .before .before .before .before .before .before in
-    (omega (arith, is-link (c .before), lead (c .before) .down, s .pre .0), s .pre .1, s .pre .3)
+    record { upto = omega (arith, is-link (c .before), lead (c .before) .down, s .pre .inside); long-gone = s .pre .long-gone; linked = s .pre .linked }
 
 met : (c : tie.After-skip-back) → (c .skip-back .result ≤ c .before .before .before .before .before .before .before .args .name) × MetBelow (now (c .before .before .before .before .before .before .before .args .plan)) (now (c .before .before .before .before .before .before .before .args .gone)) (named (crossings (now (c .before .before .before .before .before .before .before .args .plan))) (c .before .before .before .before .before .before .before .args .name) .to) (c .before .before .before .before .before .before .before .args .name) (c .skip-back .result)
 met c =
     let s = c .before .before .before .before .before .before .before in
     let k = c .before .before in
-    (omega (arith, is-link k, lead k .down, c .skip-back .ensures .0), down-on (now (s .args .plan)) (now (s .args .gone)) (s .args .name) (link k) (k .wide .result) (c .skip-back .result) (is-link k) (lead k) (c .skip-back .ensures .1))
+    (omega (arith, is-link k, lead k .down, c .skip-back .ensures .upto), down-on (now (s .args .plan)) (now (s .args .gone)) (s .args .name) (link k) (k .wide .result) (c .skip-back .result) (is-link k) (lead k) (c .skip-back .ensures .met))
 
 narrow-requires : tie.Need-narrow-requires
-narrow-requires c κs = let s = c .before .before .before .before .before .before .before in omega (arith, met c .0, s .pre .0, s .pre .2)
+narrow-requires c κs = let s = c .before .before .before .before .before .before .before in omega (arith, met c .0, s .pre .inside, s .pre .linked .short)
 
 mul-links : tie.Need-mul-links
 mul-links c = search needs
@@ -67,7 +67,11 @@ returns c =
     let s = c .before .before .before .before .before .before .before .before in
     let k = c .before in
     let m = met k in
-    (m .0, m .1, linked-behind (now (s .args .plan)) (now (s .args .gone)) (now (s .args .links)) (s .pre .3) (s .args .name) 3 (c .narrow .result) (s .pre .0) (omega arith) (omega arith) (down-found (now (s .args .plan)) (now (s .args .gone)) (s .args .name) (k .skip-back .result) (c .narrow .result) (c .narrow .ensures) (m .0) (m .1)))
+    record {
+      upto = m .0;
+      met = m .1;
+      linked = linked-behind (now (s .args .plan)) (now (s .args .gone)) (now (s .args .links)) (s .pre .linked) (s .args .name) 3 (c .narrow .result) (s .pre .inside) (omega arith) (omega arith) (down-found (now (s .args .plan)) (now (s .args .gone)) (s .args .name) (k .skip-back .result) (c .narrow .result) (c .narrow .ensures) (m .0) (m .1));
+    }
 
 pub behind-spec : {M : Type 1} → statement M
 behind-spec =

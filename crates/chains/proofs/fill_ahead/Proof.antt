@@ -23,7 +23,7 @@ abbrev μ-loop : tie.MeasureT-loop
 μ-loop plan links₀ count entering₀ moving₀ m₀ links entering moving m = m
 
 loop-holds : tie.Need-loop-holds Inv-loop μ-loop
-loop-holds c = let s = c .before .before in (refl, up-start (now (s .args .plan)) (now (s .args .links)) (s .pre .1))
+loop-holds c = let s = c .before .before in (refl, up-start (now (s .args .plan)) (now (s .args .links)) (s .pre .long))
 
 sub-m : tie.Need-sub-m Inv-loop μ-loop
 sub-m c = search needs
@@ -39,7 +39,7 @@ inside c = omega (arith, c .before .before .loop .inv .1 .within, c .before .loo
 small : (c : tie.After-crossing-at Inv-loop μ-loop) → (crossingOf (c .crossing-at .result) .carrier < most-bays) × (crossingOf (c .crossing-at .result) .from < most-bays) × (crossingOf (c .crossing-at .result) .to < most-bays)
 small c =
     let s = c .before .before .before .before .before in
-    fits-named most-bays most-bays (now (s .args .plan)) (s .pre .2) (c .before .before .loop .m - 1) (inside c) (crossingOf (c .crossing-at .result)) (c .crossing-at .ensures)
+    fits-named most-bays most-bays (now (s .args .plan)) (s .pre .fits) (c .before .before .loop .m - 1) (inside c) (crossingOf (c .crossing-at .result)) (c .crossing-at .ensures)
 
 -- what is known once its two bays and its carrier are read
 module _ (k : tie.After-carrier-key Inv-loop μ-loop) where
@@ -102,7 +102,7 @@ module _ (k : tie.After-carrier-key Inv-loop μ-loop) where
   moves = moves-low plan links entering moving m (m - 1) one-less filling left entered carrier left-is entered-is carrier-is left-small entered-small carrier-small
 
   short : length plan ≤ most-crossings
-  short = at-hand .before .before .before .before .before .pre .0
+  short = at-hand .before .before .before .before .before .pre .short
 
   long : length links ≡ length plan * links-each
   long = filling .long
@@ -212,7 +212,7 @@ loop-again : tie.Need-loop-again Inv-loop μ-loop
 loop-again c =
     let k = c .before .before .before in
     let next = up-next (plan k) (links k) (entering k) (moving k) (m k) (m k - 1) (one-less k) (filling k) (left k) (entered k) (carrier k) (left-is k) (entered-is k) (carrier-is k) (left-small k) (entered-small k) (carrier-small k) (c .before .before .narrow .result) (c .before .narrow2 .result) (c .narrow3 .result) (c .before .before .narrow .ensures) (c .before .narrow2 .ensures) (c .narrow3 .ensures) in
-    (next .long ∙ sym (at-hand k .before .before .before .before .before .pre .1), next)
+    (next .long ∙ sym (at-hand k .before .before .before .before .before .pre .long), next)
 
 same-length : tie.Need-same-length Inv-loop μ-loop
 same-length c = c .before .loop .inv .0

@@ -23,7 +23,7 @@ abbrev μ-loop : tie.MeasureT-loop
 μ-loop plan links₀ leaving₀ m₀ links leaving m = length plan - m
 
 loop-holds : tie.Need-loop-holds Inv-loop μ-loop
-loop-holds c = let s = c .before .before in (refl, down-start (now (s .args .plan)) (now (s .args .links)) (s .pre .1) (s .pre .3))
+loop-holds c = let s = c .before .before in (refl, down-start (now (s .args .plan)) (now (s .args .links)) (s .pre .0 .long) (s .pre .1))
 
 crossing-at-requires : tie.Need-crossing-at-requires Inv-loop μ-loop
 crossing-at-requires c κs = search needs
@@ -32,7 +32,7 @@ crossing-at-requires c κs = search needs
 small : (c : tie.After-crossing-at Inv-loop μ-loop) → (crossingOf (c .crossing-at .result) .carrier < most-bays) × (crossingOf (c .crossing-at .result) .from < most-bays) × (crossingOf (c .crossing-at .result) .to < most-bays)
 small c =
     let s = c .before .before .before .before .before in
-    fits-named most-bays most-bays (now (s .args .plan)) (s .pre .2) (c .before .before .loop .m) (c .before .loop-test .taken) (crossingOf (c .crossing-at .result)) (c .crossing-at .ensures)
+    fits-named most-bays most-bays (now (s .args .plan)) (s .pre .0 .fits) (c .before .before .loop .m) (c .before .loop-test .taken) (crossingOf (c .crossing-at .result)) (c .crossing-at .ensures)
 
 -- what is known once its two bays are read
 module _ (k : tie.After-bay-key2 Inv-loop μ-loop) where
@@ -78,7 +78,7 @@ module _ (k : tie.After-bay-key2 Inv-loop μ-loop) where
   low : (key : ℕ) → key < most-bays → getD leaving key 0 < most-crossings
   low key h =
       let l = leaves-low plan links leaving m inside filling left entered left-is entered-is left-small entered-small key h in
-      omega (arith, l, inside, at-hand .before .before .before .before .before .pre .0)
+      omega (arith, l, inside, at-hand .before .before .before .before .before .pre .0 .short)
 
   long : length links ≡ length plan * links-each
   long = filling .long
@@ -147,7 +147,7 @@ loop-again : tie.Need-loop-again Inv-loop μ-loop
 loop-again c =
     let k = c .before .before in
     let next = down-next (plan k) (links k) (leaving k) (m k) (inside k) (filling k) (left k) (entered k) (left-is k) (entered-is k) (left-small k) (entered-small k) (c .before .narrow .result) (c .narrow2 .result) (c .before .narrow .ensures) (c .narrow2 .ensures) in
-    (next .long ∙ sym (at-hand k .before .before .before .before .before .pre .1), next)
+    (next .long ∙ sym (at-hand k .before .before .before .before .before .pre .0 .long), next)
 
 same-length : tie.Need-same-length Inv-loop μ-loop
 same-length c = c .before .loop .inv .0
@@ -155,7 +155,7 @@ same-length c = c .before .loop .inv .0
 returns : tie.Need-returns Inv-loop μ-loop
 returns c =
     let start = c .before .before .before .before in
-    let t = c .before .loop in let i = t .inv .1 in all-linked (now (start .args .plan)) (t .links) (t .m) (start .pre .0) (i .long) (c .loop-test .left) (i .up) (i .down)
+    let t = c .before .loop in let i = t .inv .1 in all-linked (now (start .args .plan)) (t .links) (t .m) (start .pre .0 .short) (i .long) (c .loop-test .left) (i .up) (i .down)
 
 pub fill-behind-spec : {M : Type 1} → statement M
 fill-behind-spec =

@@ -29,17 +29,17 @@ lead c =
     let s = c .before .before .before .before in
     let at : s .args .name * links-each + 0 ≡ s .args .name * links-each = omega arith in
     let is : c .wide .result ≡ getD (now (s .args .links)) (s .args .name * links-each) 0 = c .wide .ensures in
-    rw is (rw at at (s .pre .1 .ahead 0 (s .args .name) (omega arith) (s .pre .0)))
+    rw is (rw at at (s .pre .linked .ahead 0 (s .args .name) (omega arith) (s .pre .inside)))
 
 add-result : tie.Need-add-result
-add-result c = let s = c .before .before .before .before in omega (arith, lead c .inside, s .pre .1 .short)
+add-result c = let s = c .before .before .before .before in omega (arith, lead c .inside, s .pre .linked .short)
 
 returns : tie.Need-returns
 unfolding own sought
 returns c =
     let l = lead c in
     let next : c .wide .result + 1 ≡ suc (c .wide .result) = omega arith in
-    (omega (arith, l .up), omega (arith, l .inside), rw next (l .met))
+    record { after = omega (arith, l .up); upto = omega (arith, l .inside); met = rw next (l .met) }
 
 pub next-entering-spec : {M : Type 1} → statement M
 next-entering-spec = tie.close (tie.spec mul-wide mul-wide-2 shared-slice-read-wide wide-requires add-result returns)

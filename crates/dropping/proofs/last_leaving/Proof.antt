@@ -21,7 +21,7 @@ crossing-at-requires : tie.Need-crossing-at-requires Inv-loop μ-loop
 crossing-at-requires c κs = search needs
 
 behind-requires : tie.Need-behind-requires Inv-loop μ-loop
-behind-requires c κs = let s = c .before .before .before .before .before in (s .pre .inside, s .pre .long-gone, s .pre .linked .short, s .pre .linked)
+behind-requires c κs = c .before .before .before .before .before .pre
 
 loop-holds : tie.Need-loop-holds Inv-loop μ-loop
 loop-holds c =
@@ -30,7 +30,7 @@ loop-holds c =
     let b = c .before .before .behind .ensures in
     let x = crossingOf (crossing-at .result) in
     let is = ap (λ y. y .to) (sym (crossing-at .ensures)) in
-    (b .0, none-over (now (s .args .gone)) (crossings (now (s .args .plan))) (x .to) (s .args .name) (now (s .args .plan)) (named (crossings (now (s .args .plan))) (s .args .name) .to) (s .args .name) _ refl is (b .1 .passed) (none-start (now (s .args .gone)) (crossings (now (s .args .plan))) (x .to) (s .args .name)))
+    (b .upto, none-over (now (s .args .gone)) (crossings (now (s .args .plan))) (x .to) (s .args .name) (now (s .args .plan)) (named (crossings (now (s .args .plan))) (s .args .name) .to) (s .args .name) _ refl is (b .met .passed) (none-start (now (s .args .gone)) (crossings (now (s .args .plan))) (x .to) (s .args .name)))
 
 sub-next : tie.Need-sub-next Inv-loop μ-loop
 sub-next c = search needs
@@ -49,7 +49,7 @@ returns c =
     let x = crossingOf (crossing-at .result) in
     let is = ap (λ y. y .to) (crossing-at .ensures) in
     let up : suc (t .m - 1) ≡ t .m = omega (arith, c .before .before .loop-test .taken) in
-    record { upto = omega (arith, t .inv .0); is-last = λ k l. leaving-found (now (s .args .gone)) (crossings (now (s .args .plan))) (x .to) (s .args .name) (t .m - 1) (omega (arith, t .inv .0, c .before .before .loop-test .taken)) (rw up (t .inv .1)) (sym (c .before .leaves-bay .ensures) ∙ c .if1 .taken) k (rw (sym is) at l); linked = c .before .before .before .before .before .before .behind .ensures .2 }
+    record { upto = omega (arith, t .inv .0); is-last = λ k l. leaving-found (now (s .args .gone)) (crossings (now (s .args .plan))) (x .to) (s .args .name) (t .m - 1) (omega (arith, t .inv .0, c .before .before .loop-test .taken)) (rw up (t .inv .1)) (sym (c .before .leaves-bay .ensures) ∙ c .if1 .taken) k (rw (sym is) at l); linked = c .before .before .before .before .before .before .behind .ensures .linked }
 
 loop-less : tie.Need-loop-less Inv-loop μ-loop
 loop-less c = omega (arith, c .before .before .loop-test .taken)
@@ -74,7 +74,7 @@ returns-2 c =
     let x = crossingOf (crossing-at .result) in
     let is = ap (λ y. y .to) (crossing-at .ensures) in
     let z : t .m ≡ 0 = omega (arith, c .loop-test .left) in
-    record { upto = omega arith; is-last = λ k l. leaving-none (now (s .args .gone)) (crossings (now (s .args .plan))) (x .to) (s .args .name) (rw z at (t .inv .1)) k (rw (sym is) at l); linked = c .before .before .before .before .behind .ensures .2 }
+    record { upto = omega arith; is-last = λ k l. leaving-none (now (s .args .gone)) (crossings (now (s .args .plan))) (x .to) (s .args .name) (rw z at (t .inv .1)) k (rw (sym is) at l); linked = c .before .before .before .before .behind .ensures .linked }
 
 pub last-leaving-spec : {M : Type 1} → statement M
 last-leaving-spec =

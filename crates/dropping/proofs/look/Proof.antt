@@ -31,7 +31,7 @@ returns c =
     record { going = look-passed (now (s .args .plan)) (now (s .args .gone)) (now (s .args .todo)) (s .args .name) (s .pre .inside) (s .pre .going) _ (remove .kept .0) (remove .ensures) (λ z. absurd (c .before .before .before .before .if1 .taken z)); less = rank-next (now (s .args .plan)) (now (s .args .gone)) (now (s .args .todo)) (s .args .name) (s .pre .inside) (s .pre .going); linked = s .pre .linked }
 
 last-return-requires : tie.Need-last-return-requires
-last-return-requires c κs = let s = c .before .before .before .before .before .before .before .before in (s .pre .inside, s .pre .going .long-gone, s .pre .linked)
+last-return-requires c κs = let s = c .before .before .before .before .before .before .before .before in record { inside = s .pre .inside; long-gone = s .pre .going .long-gone; linked = s .pre .linked }
 
 remove-requires-2 : tie.Need-remove-requires-2
 remove-requires-2 c κs = let s = c .before .before .before .before .before .before .before .before .before .before .before .before .before in omega (arith, s .pre .inside, s .pre .going .room)

@@ -34,19 +34,17 @@ keep-requires c κs = search needs
 array-borrow-prefix-bays : tie.Need-array-borrow-prefix-bays
 array-borrow-prefix-bays c = search needs
 
-slice-aggregate-go-round : tie.Need-slice-aggregate-go-round
-slice-aggregate-go-round c =
-    let copy = c .before .before .before .before .before .before .before .before .before .copy in
-    sym (ap length (copy .ensures))
+slice-aggregate-used : tie.Need-slice-aggregate-used
+slice-aggregate-used c = sym (ap length (c .before .before .before .before .before .before .before .before .copy .ensures))
 
 array-borrow-prefix-carriers : tie.Need-array-borrow-prefix-carriers
 array-borrow-prefix-carriers c = search needs
 
-slice-aggregate-go-round-2 : tie.Need-slice-aggregate-go-round-2
-slice-aggregate-go-round-2 c = sym (ap length (c .before .before .before .before .before .before .before .copy2 .ensures))
+slice-aggregate-stood : tie.Need-slice-aggregate-stood
+slice-aggregate-stood c = sym (ap length (c .before .before .before .before .before .before .copy2 .ensures))
 
-slice-aggregate-go-round-3 : tie.Need-slice-aggregate-go-round-3
-slice-aggregate-go-round-3 c = search needs
+slice-aggregate-go-round : tie.Need-slice-aggregate-go-round
+slice-aggregate-go-round c = search needs
 
 go-round-requires : tie.Need-go-round-requires
 go-round-requires c κs =
@@ -65,7 +63,7 @@ same-length c = c .before .before .before .before .before .go-round .kept .1 .1 
 returns : tie.Need-returns
 returns c =
     let go-round = c .before .before .before .before .before .go-round in
-    let if1 = c .before .before .before .before .before .before .before .before .before .before .if1 in
+    let if1 = c .before .before .before .before .before .before .before .before .if1 in
     let copy2 = c .before .before .before .before .before .before .before .before .before .before .before .before .before .before .before .copy2 in
     let copy = c .before .before .before .before .before .before .before .before .before .before .before .before .before .before .before .before .before .before .copy in
     let start = c .before .before .before .before .before .before .before .before .before .before .before .before .before .before .before .before .before .before .before .before .before .before .before .before .before in
@@ -77,22 +75,8 @@ returns c =
       attempts = λ t j. rw (if1 .taken) (attempted {o = wayWith true (t .yard) (a .one) (a .x .0) (a .placement .now)} (rw (e, d) at (go-round .ensures .tries) t j));
     }
 
-array-borrow-prefix-bays-2 : tie.Need-array-borrow-prefix-bays-2
-array-borrow-prefix-bays-2 c = search needs
-
 slice-aggregate-vacate-both : tie.Need-slice-aggregate-vacate-both
-slice-aggregate-vacate-both c =
-    let copy = c .before .before .before .before .before .before .before .before .before .before .before .before .copy in
-    sym (ap length (copy .ensures))
-
-array-borrow-prefix-carriers-2 : tie.Need-array-borrow-prefix-carriers-2
-array-borrow-prefix-carriers-2 c = search needs
-
-slice-aggregate-vacate-both-2 : tie.Need-slice-aggregate-vacate-both-2
-slice-aggregate-vacate-both-2 c = sym (ap length (c .before .before .before .before .before .before .before .before .before .before .copy2 .ensures))
-
-slice-aggregate-vacate-both-3 : tie.Need-slice-aggregate-vacate-both-3
-slice-aggregate-vacate-both-3 c = search needs
+slice-aggregate-vacate-both c = search needs
 
 vacate-both-requires : tie.Need-vacate-both-requires
 vacate-both-requires c κs =
@@ -111,7 +95,7 @@ same-length-2 c = c .before .before .before .before .before .vacate-both .kept .
 returns-2 : tie.Need-returns-2
 returns-2 c =
     let vacate-both = c .before .before .before .before .before .vacate-both in
-    let if1 = c .before .before .before .before .before .before .before .before .before .before .before .before .before .if1 in
+    let if1 = c .before .before .before .before .before .before .before .before .before .before .before .if1 in
     let copy2 = c .before .before .before .before .before .before .before .before .before .before .before .before .before .before .before .before .before .before .copy2 in
     let copy = c .before .before .before .before .before .before .before .before .before .before .before .before .before .before .before .before .before .before .before .before .before .copy in
     let start = c .before .before .before .before .before .before .before .before .before .before .before .before .before .before .before .before .before .before .before .before .before .before .before .before .before .before .before .before in
@@ -134,18 +118,14 @@ attempt-spec =
     slice-aggregate-keep
     keep-requires
     array-borrow-prefix-bays
-    slice-aggregate-go-round
+    slice-aggregate-used
     array-borrow-prefix-carriers
-    slice-aggregate-go-round-2
-    slice-aggregate-go-round-3
+    slice-aggregate-stood
+    slice-aggregate-go-round
     go-round-requires
     same-length
     returns
-    array-borrow-prefix-bays-2
     slice-aggregate-vacate-both
-    array-borrow-prefix-carriers-2
-    slice-aggregate-vacate-both-2
-    slice-aggregate-vacate-both-3
     vacate-both-requires
     same-length-2
     returns-2)

@@ -13,6 +13,7 @@ use Rattle.acting.proofs.Acting.{tries-none}
 use Rattle.moving.specs.Bounds.{swap-most}
 use Rattle.step.specs.Asking.{BaysBelow}
 use Rattle.go.specs.Going.{Linked}
+use Rattle.acting.proofs.Holding.{ready-again}
 use Rattle.acting.proofs.Lending.{rest-lent}
 use Rattle.go.proofs.Going.{Going, going-none, going-all, going-more, going-stops, linked-on, can-go, arrived}
 use Rattle.acting.specs.declared.Tried.the-variants.{Done}
@@ -72,14 +73,7 @@ advance-requires c κs =
     let b = v .7 (p .tabled) [] in
     let can = can-go (length (a .standing .now)) (a .table .now) (a .r .0) (l .placement) (a .ahead .now) (l .i) (loop-test .taken) (v .6) (omega (arith, z .carrier-there, v .2)) (z .loopless) in
     let e : length (l .standing) ≡ length (start .args .standing .now) = v .3 in (
-      record {
-        most = omega (arith, p .most, e);
-        table-size = rw e (p .table-size);
-        empty-size = omega (arith, p .empty-size, v .4);
-        placed = rw e (b .played .placed);
-        tabled = rw e (p .tabled);
-        levelled = rw e (p .levelled);
-      },
+      ready-again p _ _ _ e (v .4) (b .played .placed),
       record { can = rw e can; below = v .9 },
     )
 

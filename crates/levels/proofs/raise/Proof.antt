@@ -38,7 +38,7 @@ sub-loop c = search needs
 raise-level-requires : tie.Need-raise-level-requires Inv-loop μ-loop
 raise-level-requires c κs =
     let z = c .before .before .before .before in
-    (omega arith, rails-kept _ 0 _ (z .pre .3) _ (c .before .before .loop .inv .3 .rails))
+    record { room = omega arith; rails = rails-kept _ 0 _ (z .pre .rails) _ (c .before .before .loop .inv .3 .rails) }
 
 mul-stands-twice : tie.Need-mul-stands-twice Inv-loop μ-loop
 mul-stands-twice c = search needs
@@ -62,9 +62,9 @@ returns : tie.Need-returns Inv-loop μ-loop
 returns c =
     let z = c .before .before .before .before .before .before .before .before .before .before in
     let l = c .before .before .before .before .before .before .before .before .loop in
-    let more = raised-more _ _ (z .pre .3) _ _ _ (l .inv .3) (c .before .before .before .before .before .raise-level .ensures) in
-    let s = raised-fewer _ _ (z .pre .3) _ _ more in
-    (omega arith, omega arith, levelled _ _ (z .pre .3) _ _ (omega arith) (omega arith) s, s .rails)
+    let more = raised-more _ _ (z .pre .rails) _ _ _ (l .inv .3) (c .before .before .before .before .before .raise-level .ensures) in
+    let s = raised-fewer _ _ (z .pre .rails) _ _ more in
+    record { some-level = omega arith; room = omega arith; levelled = levelled _ _ (z .pre .rails) _ _ (omega arith) (omega arith) s; same-rails = s .rails }
 
 add-top : tie.Need-add-top Inv-loop μ-loop
 add-top c = search needs
@@ -76,7 +76,7 @@ loop-again : tie.Need-loop-again Inv-loop μ-loop
 loop-again c =
     let z = c .before .before .before .before .before .before .before .before .before .before in
     let l = c .before .before .before .before .before .before .before .before .loop in
-    let more = raised-more _ _ (z .pre .3) _ _ _ (l .inv .3) (c .before .before .before .before .before .raise-level .ensures) in
+    let more = raised-more _ _ (z .pre .rails) _ _ _ (l .inv .3) (c .before .before .before .before .before .raise-level .ensures) in
     (omega arith, omega (arith, levels-few (z .args .n) (l .top + 2) (omega arith)), omega arith, more)
 
 add-result-2 : tie.Need-add-result-2 Inv-loop μ-loop
@@ -89,7 +89,7 @@ returns-2 : tie.Need-returns-2 Inv-loop μ-loop
 returns-2 c =
     let z = c .before .before .before in
     let s = c .before .loop .inv .3 in
-    (omega arith, omega arith, levelled _ _ (z .pre .3) _ _ (omega arith) (omega arith) s, s .rails)
+    record { some-level = omega arith; room = omega arith; levelled = levelled _ _ (z .pre .rails) _ _ (omega arith) (omega arith) s; same-rails = s .rails }
 
 pub raise-spec : {M : Type 1} → statement M
 raise-spec =

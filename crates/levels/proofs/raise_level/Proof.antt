@@ -22,8 +22,8 @@ raise-row-requires : tie.Need-raise-row-requires Inv-loop μ-loop
 raise-row-requires c κs =
     let z = c .before .before .before .before in
     let s = c .before .before .loop .inv .2 in
-    let rails = rails-kept _ (z .args .j) _ (z .pre .1) _ (λ x y l i. s .lower x y (omega arith) i) in
-    (c .before .loop-test .taken, omega arith, λ b h m. rails _ b (omega arith) h m)
+    let rails = rails-kept _ (z .args .j) _ (z .pre .rails) _ (λ x y l i. s .lower x y (omega arith) i) in
+    record { inside = c .before .loop-test .taken; room = omega arith; rails = λ b h m. rails _ b (omega arith) h m }
 
 add-x : tie.Need-add-x Inv-loop μ-loop
 add-x c = search needs
@@ -34,7 +34,7 @@ loop-less c = search needs
 loop-again : tie.Need-loop-again Inv-loop μ-loop
 loop-again c =
     let z = c .before .before .before .before .before .before .before in
-    let more = level-more _ _ _ (z .pre .1) _ _ _ (omega arith) (c .before .before .before .before .before .loop .inv .2) (c .before .before .raise-row .ensures) in
+    let more = level-more _ _ _ (z .pre .rails) _ _ _ (omega arith) (c .before .before .before .before .before .loop .inv .2) (c .before .before .raise-row .ensures) in
     (omega arith, omega arith, more)
 
 same-length : tie.Need-same-length Inv-loop μ-loop

@@ -48,7 +48,7 @@ slice-aggregate-beside-2 c = search needs
 beside-requires : tie.Need-beside-requires
 beside-requires c κs =
     let z = c .before .before .before .before .before .before .before .before .before in
-    let near = near-inside _ 0 _ _ _ (c .before .before .before .before .before .join-row .ensures) (z .pre .2) in
+    let near = near-inside _ 0 _ _ _ (c .before .before .before .before .before .join-row .ensures) (z .pre .rails) in
     (omega arith, refl, λ a h m. let l = near a h m in simp (length-take, length-drop) (omega arith))
 
 slice-aggregate-join-row-2 : tie.Need-slice-aggregate-join-row-2
@@ -77,7 +77,7 @@ returns c =
     let part = length (z .args .table .now) - z .args .j * z .args .n * words in
     let row = join-row .ensures in
     let found = beside .ensures in
-    row-raised _ _ _ _ _ row (z .pre .2) part _ _ _ (omega arith) found (c .before .before .before .before .before .before .join-row2 .ensures) (c .before .before .keep .ensures)
+    row-raised _ _ _ _ _ row (z .pre .rails) part _ _ _ (omega arith) found (c .before .before .before .before .before .before .join-row2 .ensures) (c .before .before .keep .ensures)
 
 pub raise-row-spec : {M : Type 1} → statement M
 raise-row-spec =

@@ -19,7 +19,12 @@ raise-requires c κs =
     let z = c .before .before .before .before .before .before .before .before .before .before in
     let a = z .pre .0 in
     let few : z .args .n * words ≤ length (z .args .table .now) = omega (arith, a .most) in
-    (a .most, z .pre .1, omega (arith, a .most), rails-of (tabled-same (rw (c .before .before .before .longs .ensures) (same-appended _ _ _ few)) (a .reaching .tabled)))
+    record {
+      most = a .most;
+      some-bay = z .pre .1 .0;
+      table-size = omega (arith, a .most);
+      rails = rails-of (tabled-same (rw (c .before .before .before .longs .ensures) (same-appended _ _ _ few)) (a .reaching .tabled));
+    }
 
 mul-size : tie.Need-mul-size
 mul-size c = search needs
@@ -31,7 +36,7 @@ slice-reshare-prefix-play-in : tie.Need-slice-reshare-prefix-play-in
 slice-reshare-prefix-play-in c = search needs
 
 slice-aggregate-play-in : tie.Need-slice-aggregate-play-in
-slice-aggregate-play-in c = sym (length-take-le _ _ (c .before .before .before .raise .ensures .1))
+slice-aggregate-play-in c = sym (length-take-le _ _ (c .before .before .before .raise .ensures .room))
 
 play-in-requires : tie.Need-play-in-requires
 play-in-requires c κs =
@@ -40,8 +45,8 @@ play-in-requires c κs =
     let a = z .pre .0 in
     let r = c .before .before .before .before .raise .ensures in
     let few : z .args .n * words ≤ length (z .args .table .now) = omega (arith, a .most) in
-    let same = same-raised _ _ _ _ _ _ few (longs .ensures) (r .3) (r .0) in
-    (admitted-same same a, room-raised _ _ _ (r .0) (r .1), r .2)
+    let same = same-raised _ _ _ _ _ _ few (longs .ensures) (r .same-rails) (r .some-level) in
+    record { admitted = admitted-same same a; table-size = room-raised _ _ _ (r .some-level) (r .room); levelled = r .levelled }
 
 same-length : tie.Need-same-length
 same-length c = search needs
@@ -56,7 +61,7 @@ returns c =
     let a = z .pre .0 in
     let r = c .before .before .before .before .before .before .before .raise .ensures in
     let few : z .args .n * words ≤ length (z .args .table .now) = omega (arith, a .most) in
-    let same = same-raised _ _ _ _ _ _ few (longs .ensures) (r .3) (r .0) in
+    let same = same-raised _ _ _ _ _ _ few (longs .ensures) (r .same-rails) (r .some-level) in
     λ t. c .before .before .play-in .ensures (tabled-same same t)
 
 pub play-by-levels-spec : {M : Type 1} → statement M

@@ -22,7 +22,11 @@ play-in-requires c κs =
     let table = z .args .table .now in
     let n = z .args .n in
     let size = length-take-le (n * words) table (z .pre .1) in
-    (admitted-same (same-taken n (n * words) table (omega arith)) (z .pre .0), omega (arith, size), rails-levelled n table (z .pre .1))
+    record {
+      admitted = admitted-same (same-taken n (n * words) table (omega arith)) (z .pre .0);
+      table-size = omega (arith, size);
+      levelled = rails-levelled n table (z .pre .1);
+    }
 
 same-length : tie.Need-same-length
 same-length c = search needs

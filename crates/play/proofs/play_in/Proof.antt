@@ -13,13 +13,13 @@ array-borrow-prefix-placement c = search needs
 slice-aggregate-play-on : tie.Need-slice-aggregate-play-on
 slice-aggregate-play-on c =
     let start = c .before .before .before .before .before in
-    sym (places _ (omega (arith, start .pre .0 .few, start .pre .0 .most)))
+    sym (places _ (omega (arith, start .pre .admitted .few, start .pre .admitted .most)))
 
 array-borrow-prefix-standing : tie.Need-array-borrow-prefix-standing
 array-borrow-prefix-standing c = search needs
 
 slice-aggregate-play-on-2 : tie.Need-slice-aggregate-play-on-2
-slice-aggregate-play-on-2 c = sym (places _ (c .before .before .before .before .before .before .pre .0 .most))
+slice-aggregate-play-on-2 c = sym (places _ (c .before .before .before .before .before .before .pre .admitted .most))
 
 array-borrow-prefix-owner : tie.Need-array-borrow-prefix-owner
 array-borrow-prefix-owner c = search needs
@@ -27,15 +27,13 @@ array-borrow-prefix-owner c = search needs
 slice-aggregate-play-on-3 : tie.Need-slice-aggregate-play-on-3
 slice-aggregate-play-on-3 c =
     let start = c .before .before .before .before .before .before .before in
-    sym (places _ (start .pre .0 .most))
+    sym (places _ (start .pre .admitted .most))
 
 play-on-requires : tie.Need-play-on-requires
 play-on-requires c κs =
     let start = c .before .before .before .before .before .before .before .before in
-    let pre = start .pre in
-    let a = pre .0 in
-    let e = places (start .args .n) (a .most) in
-    (rw e a, places _ (omega (arith, a .few, a .most)), refl, rw e (pre .1), rw e (pre .2))
+    let a = start .pre .admitted in
+    record { asks = rw (places (start .args .n) (a .most)) (start .pre); placement-size = places _ (omega (arith, a .few, a .most)); owner-size = refl }
 
 same-length : tie.Need-same-length
 same-length c = search needs
@@ -44,7 +42,7 @@ returns : tie.Need-returns
 returns c =
     let play-on = c .before .before .before .before .before .play-on in
     let start = c .before .before .before .before .before .before .before .before .before .before .before .before .before .before in
-    rw (places (start .args .n) (start .pre .0 .most)) at (play-on .ensures)
+    rw (places (start .args .n) (start .pre .admitted .most)) at (play-on .ensures)
 
 pub play-in-spec : {M : Type 1} → statement M
 play-in-spec =

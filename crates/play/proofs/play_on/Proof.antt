@@ -27,9 +27,9 @@ place-requires-2 : tie.Need-place-requires-2
 place-requires-2 c κs =
     let start = c .before .before .before .before .before .before .before .before .before .before .before .before .before .before .before .before .before .before .before in
     let pre = start .pre in
-    let a = pre .0 in
-    let most : length (now (start .args .owner)) ≤ span = omega (arith, a .most, pre .2) in
-    (most, refl, omega (arith, a .few, a .goals .many, pre .2), a .goals .apart, λ i h. omega (arith, a .goals .inside i h, pre .2))
+    let a = pre .asks .admitted in
+    let most : length (now (start .args .owner)) ≤ span = omega (arith, a .most, pre .owner-size) in
+    (most, refl, omega (arith, a .few, a .goals .many, pre .owner-size), a .goals .apart, λ i h. omega (arith, a .goals .inside i h, pre .owner-size))
 
 slice-aggregate-carry-all : tie.Need-slice-aggregate-carry-all
 slice-aggregate-carry-all c = search needs
@@ -44,15 +44,15 @@ carry-all-requires c κs =
     let shorts = c .before .before .before .before .before .before .before .before .before .before .before .before .before .before .before .before .before .before .before .before .shorts in
     let start = c .before .before .before .before .before .before .before .before .before .before .before .before .before .before .before .before .before .before .before .before .before .before .before .before .before .before .before .before .before in
     let pre = start .pre in
-    let a = pre .0 in
-    let e = all-copied _ _ _ (pre .1) (shorts .ensures) in
+    let a = pre .asks .admitted in
+    let e = all-copied _ _ _ (pre .placement-size) (shorts .ensures) in
     let kept : length (place .last .1 .0) ≡ length (now (start .args .standing)) = place .kept .1 .0 in
     let placed = place .ensures in
     let kept-owner : length (place2 .last .1 .0) ≡ length (now (start .args .owner)) = place2 .kept .1 .0 in (
-      ready-of (now (start .args .start)) (now (start .args .goal)) _ _ _ (rw kept a) (rw kept (pre .3)) (rw kept (pre .4)) e (search needs) (rw kept placed),
+      ready-of (now (start .args .start)) (now (start .args .goal)) _ _ _ (rw kept (pre .asks)) e (search needs) (rw kept placed),
       record {
         each = record { many = a .goals .many ∙ sym (ap length e); apart = a .goals .apart; inside = rw kept (a .goals .inside) };
-        owners = rw kept (owners-of (pre .2) kept-owner (place2 .ensures));
+        owners = rw kept (owners-of (pre .owner-size) kept-owner (place2 .ensures));
         loopless = rw kept (a .loopless);
         reaching = rw kept (a .reaching);
         below = rw e (none-settled (now (start .args .start)));
@@ -78,7 +78,7 @@ returns c =
     let shorts = c .before .before .before .before .before .before .before .before .before .before .before .before .before .before .before .before .before .before .before .before .before .before .before .before .before .before .before .before .before .shorts in
     let start = c .before .before .before .before .before .before .before .before .before .before .before .before .before .before .before .before .before .before .before .before .before .before .before .before .before .before .before .before .before .before .before .before .before .before .before .before .before .before in
     λ t.
-    let e = all-copied _ _ _ (start .pre .1) (shorts .ensures) in
+    let e = all-copied _ _ _ (start .pre .placement-size) (shorts .ensures) in
     let kept : length (place .last .1 .0) ≡ length (now (start .args .standing)) = place .kept .1 .0 in
     plays-of ((rw (kept, e) at (carry-all .ensures .stages)) t)
 

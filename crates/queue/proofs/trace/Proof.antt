@@ -48,7 +48,7 @@ loop-less c = search needs
 loop-again : tie.Need-loop-again Inv-loop μ-loop
 loop-again c =
     let l = c .before .before .loop in
-    let low = c .before .before .before .pre .3 in
+    let low = c .before .before .before .pre .low in
     (omega arith, low (l .u), simp length-set (omega arith), l .inv .3 ∙ read-more _ _ _ _ _ (omega arith) (omega arith) (omega arith))
 
 cast-path-2 : tie.Need-cast-path-2 Inv-loop μ-loop

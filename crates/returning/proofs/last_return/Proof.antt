@@ -27,7 +27,9 @@ crossing-at-requires c κs = search needs
 
 ahead-requires : tie.Need-ahead-requires Inv-loop μ-loop
 unfolding own sought
-ahead-requires c κs = let s = c .before .before .before .before .before in (s .pre .0, s .pre .1, s .pre .2 .short, omega arith, omega arith, refl, refl, s .pre .2)
+ahead-requires c κs =
+    let s = c .before .before .before .before .before in
+    record { search = s .pre; kind-up = omega arith; again-up = omega arith; goes-by = refl; seeks = refl }
 
 loop-holds : tie.Need-loop-holds Inv-loop μ-loop
 unfolding own sought
@@ -38,7 +40,7 @@ loop-holds c =
     let n = c .before .before .ahead .ensures in
     let r = c .before .before .ahead .result in
     let is = ap (λ y. y .from) (sym (crossing-at .ensures)) in
-    (n .0, n .1, n .0, refl, n .3, returning-over (now (s .args .plan)) (now (s .args .gone)) (s .pre .1) x (s .args .name) (named (crossings (now (s .args .plan))) (s .args .name) .from) (r - suc (s .args .name)) (suc (s .args .name)) r (omega (arith, n .0)) (n .1) is (n .2 .passed), λ l. n .2 .meets l ∙ is)
+    (n .after, n .upto, n .after, refl, n .linked, returning-over (now (s .args .plan)) (now (s .args .gone)) (s .pre .long-gone) x (s .args .name) (named (crossings (now (s .args .plan))) (s .args .name) .from) (r - suc (s .args .name)) (suc (s .args .name)) r (omega (arith, n .after)) (n .upto) is (n .met .passed), λ l. n .met .meets l ∙ is)
 
 enters-bay-requires : tie.Need-enters-bay-requires Inv-loop μ-loop
 enters-bay-requires c κs = search needs
@@ -56,17 +58,20 @@ returns c =
     let s = c .before .before .before .before .before .before .before .before .before .before .before .before .before .before in
     let t = c .before .before .before .before .before .loop in
     let x = crossingOf (crossing-at .result) in
-    (omega (arith, loop-test .taken, t .inv .2), returning-barred (now (s .args .plan)) (now (s .args .gone)) (s .pre .1) x (t .last) (t .m) (loop-test .taken) (sym (c .before .before .before .enters-bay .ensures) ∙ c .before .before .if1 .taken) (sym (c .before .is-of .ensures) ∙ not-true _ (c .if2 .taken)) ∙ t .inv .5 ∙ ap (λ y. lastFrom y (crossings (now (s .args .plan))) (now (s .args .gone)) (s .args .name) (suc (s .args .name))) (crossing-at .ensures), t .inv .4)
+    (omega (arith, loop-test .taken, t .inv .2), returning-barred (now (s .args .plan)) (now (s .args .gone)) (s .pre .long-gone) x (t .last) (t .m) (loop-test .taken) (sym (c .before .before .before .enters-bay .ensures) ∙ c .before .before .if1 .taken) (sym (c .before .is-of .ensures) ∙ not-true _ (c .if2 .taken)) ∙ t .inv .5 ∙ ap (λ y. lastFrom y (crossings (now (s .args .plan))) (now (s .args .gone)) (s .args .name) (suc (s .args .name))) (crossing-at .ensures), t .inv .4)
 
 chosen-requires : tie.Need-chosen-requires Inv-loop μ-loop
 chosen-requires c κs = search needs
 
 ahead-requires-2 : tie.Need-ahead-requires-2 Inv-loop μ-loop
 unfolding own sought
-ahead-requires-2 c κs = let s = c .before .before .before .before .before .before .before .before .before .before .before .before .before in let t = c .before .before .before .before .loop in (c .before .before .before .loop-test .taken, s .pre .1, t .inv .4 .short, omega arith, omega arith, refl, refl, t .inv .4)
+ahead-requires-2 c κs =
+    let s = c .before .before .before .before .before .before .before .before .before .before .before .before .before in
+    let t = c .before .before .before .before .loop in
+    record { search = record { inside = c .before .before .before .loop-test .taken; long-gone = s .pre .long-gone; linked = t .inv .4 }; kind-up = omega arith; again-up = omega arith; goes-by = refl; seeks = refl }
 
 loop-less : tie.Need-loop-less Inv-loop μ-loop
-loop-less c = let n = c .before .before .ahead2 .ensures in omega (arith, n .0, n .1, c .before .before .before .before .before .before .loop-test .taken)
+loop-less c = let n = c .before .before .ahead2 .ensures in omega (arith, n .after, n .upto, c .before .before .before .before .before .before .loop-test .taken)
 
 loop-again : tie.Need-loop-again Inv-loop μ-loop
 unfolding own sought
@@ -83,11 +88,11 @@ loop-again c =
     let inside = c .before .before .before .before .before .before .loop-test .taken in
     let step : (l ≤ t .m) × (lastFrom x (crossings (now (s .args .plan))) (now (s .args .gone)) l (t .m + 1) ≡ lastFrom x (crossings (now (s .args .plan))) (now (s .args .gone)) (s .args .name) (suc (s .args .name))) =
     ⊎-elim
-    (λ w. rw (w .4 ∙ later-one (t .last) (t .m) (w .3 .result) (t .inv .2) (w .3 .ensures)) (omega arith, returning-back (now (s .args .plan)) (now (s .args .gone)) (s .pre .1) x (t .last) (t .m) inside (sym (enters-bay .ensures) ∙ w .0 .taken) (sym (w .1 .ensures) ∙ not-false _ (w .2 .left)) ∙ t .inv .5))
-    (λ w. rw (w .1) (omega (arith, t .inv .2), returning-past (now (s .args .plan)) (now (s .args .gone)) (s .pre .1) x (t .last) (t .m) inside (sym (enters-bay .ensures) ∙ w .0 .left) ∙ t .inv .5))
+    (λ w. rw (w .4 ∙ later-one (t .last) (t .m) (w .3 .result) (t .inv .2) (w .3 .ensures)) (omega arith, returning-back (now (s .args .plan)) (now (s .args .gone)) (s .pre .long-gone) x (t .last) (t .m) inside (sym (enters-bay .ensures) ∙ w .0 .taken) (sym (w .1 .ensures) ∙ not-false _ (w .2 .left)) ∙ t .inv .5))
+    (λ w. rw (w .1) (omega (arith, t .inv .2), returning-past (now (s .args .plan)) (now (s .args .gone)) (s .pre .long-gone) x (t .last) (t .m) inside (sym (enters-bay .ensures) ∙ w .0 .left) ∙ t .inv .5))
     (if1 .came) in
     let is = t .inv .6 inside in
-    (omega (arith, t .inv .0, n .0), n .1, omega (arith, step .0, n .0), search needs, n .3, returning-over (now (s .args .plan)) (now (s .args .gone)) (s .pre .1) x l (named (crossings (now (s .args .plan))) (t .m) .to) (r - (t .m + 1)) (t .m + 1) r (omega (arith, n .0)) (n .1) is (λ k u h e. n .2 .passed k (omega arith) h e) ∙ step .1, λ u. n .2 .meets u ∙ is)
+    (omega (arith, t .inv .0, n .after), n .upto, omega (arith, step .0, n .after), search needs, n .linked, returning-over (now (s .args .plan)) (now (s .args .gone)) (s .pre .long-gone) x l (named (crossings (now (s .args .plan))) (t .m) .to) (r - (t .m + 1)) (t .m + 1) r (omega (arith, n .after)) (n .upto) is (λ k u h e. n .met .passed k (omega arith) h e) ∙ step .1, λ u. n .met .meets u ∙ is)
 
 same-length-2 : tie.Need-same-length-2 Inv-loop μ-loop
 same-length-2 c = search needs
@@ -98,7 +103,7 @@ returns-2 c =
     let s = c .before .before .before .before .before .before .before .before .before .before in
     let t = c .before .loop in
     let x = crossingOf (crossing-at .result) in
-    (omega (arith, t .inv .1, t .inv .2), returning-end (now (s .args .plan)) (now (s .args .gone)) (s .pre .1) x (t .last) (t .m) (c .loop-test .left) ∙ t .inv .5 ∙ ap (λ y. lastFrom y (crossings (now (s .args .plan))) (now (s .args .gone)) (s .args .name) (suc (s .args .name))) (crossing-at .ensures), t .inv .4)
+    (omega (arith, t .inv .1, t .inv .2), returning-end (now (s .args .plan)) (now (s .args .gone)) (s .pre .long-gone) x (t .last) (t .m) (c .loop-test .left) ∙ t .inv .5 ∙ ap (λ y. lastFrom y (crossings (now (s .args .plan))) (now (s .args .gone)) (s .args .name) (suc (s .args .name))) (crossing-at .ensures), t .inv .4)
 
 pub last-return-spec : {M : Type 1} → statement M
 last-return-spec =

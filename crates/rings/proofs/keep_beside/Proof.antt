@@ -17,18 +17,18 @@ slice-aggregate-meet-row : tie.Need-slice-aggregate-meet-row
 slice-aggregate-meet-row c = search needs
 
 meet-row-requires : tie.Need-meet-row-requires
-meet-row-requires c κs = (c .before .before .before .beside .kept .1 .1 .0, c .before .before .before .before .before .before .before .before .before .pre .1)
+meet-row-requires c κs = (c .before .before .before .beside .kept .1 .1 .0, c .before .before .before .before .before .before .before .before .before .pre .row-there)
 
 slice-aggregate-keep : tie.Need-slice-aggregate-keep
 slice-aggregate-keep c = sym (c .before .before .before .meet-row .kept .0 ∙ c .before .before .before .before .before .before .before .beside .kept .1 .1 .0)
 
 keep-requires : tie.Need-keep-requires
-keep-requires c κs = (c .before .before .before .meet-row .kept .0 ∙ c .before .before .before .before .before .before .before .beside .kept .1 .1 .0, omega (arith, c .before .before .before .before .before .before .before .before .before .before .before .before .before .pre .0))
+keep-requires c κs = (c .before .before .before .meet-row .kept .0 ∙ c .before .before .before .before .before .before .before .beside .kept .1 .1 .0, omega (arith, c .before .before .before .before .before .before .before .before .before .before .before .before .before .pre .kept-size))
 
 keep-requires-2 : tie.Need-keep-requires-2
 keep-requires-2 c κs =
     let p = c .before .before .before .before .before .before .before .before .before .before .before .before .before .before .before .before .before .before .pre in
-    (c .before .before .before .before .keep .kept .0 ∙ p .0, p .1)
+    (c .before .before .before .before .keep .kept .0 ∙ p .kept-size, p .row-there)
 
 same-length : tie.Need-same-length
 same-length c = c .before .before .keep2 .kept .0

@@ -47,7 +47,11 @@ keep-beside-requires c κs =
     let p = start .pre in
     let t = ended-kept (p .ended) (c .before .before .before .before .before .before .keep .ensures) in
     let inv = c .before .before .before .loop .inv in
-    (inv .2, omega (arith, inv .0, inv .1, c .before .before .before .before .before .before .keep .kept .0, p .lent .rows-size), λ a h m. let l = narrowing-inside t (p .lent .most) _ _ _ (inv .3 t) a h m in omega (arith, l, p .lent .table-size))
+    record {
+      kept-size = inv .2;
+      row-there = omega (arith, inv .0, inv .1, c .before .before .before .before .before .before .keep .kept .0, p .lent .rows-size);
+      inside = λ a h m. let l = narrowing-inside t (p .lent .most) _ _ _ (inv .3 t) a h m in omega (arith, l, p .lent .table-size);
+    }
 
 loop-less : tie.Need-loop-less Inv-loop μ-loop
 loop-less c = omega (arith, c .before .before .before .before .before .before .loop-test .taken)

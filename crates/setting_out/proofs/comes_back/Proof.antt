@@ -17,7 +17,7 @@ returns : tie.Need-returns
 returns c f =
     let s = c .before .before .before .before in
     let e = c .before .next-entering .ensures in
-    nobody-enters (now (s .args .plan)) (s .args .name) (c .before .next-entering .result) (e .0) (e .1) (e .2) (c .if1 .taken)
+    nobody-enters (now (s .args .plan)) (s .args .name) (c .before .next-entering .result) (e .after) (e .upto) (e .met) (c .if1 .taken)
 
 crossing-at-requires : tie.Need-crossing-at-requires
 crossing-at-requires c κs = search needs
@@ -31,7 +31,7 @@ returns-2 c f =
     let e = c .before .before .before .next-entering .ensures in
     let next = c .before .before .before .next-entering .result in
     let own = ap (λ y. isOf (y .carrier) (named (crossings (now (s .args .plan))) next)) (c .before .crossing-at .ensures) in
-    another-enters (now (s .args .plan)) (s .args .name) next (e .0) (e .1) (e .2) (omega (arith, c .before .before .if1 .left)) (sym own ∙ sym (c .is-of .ensures) ∙ f)
+    another-enters (now (s .args .plan)) (s .args .name) next (e .after) (e .upto) (e .met) (omega (arith, c .before .before .if1 .left)) (sym own ∙ sym (c .is-of .ensures) ∙ f)
 
 pub comes-back-spec : {M : Type 1} → statement M
 comes-back-spec = tie.close (tie.spec next-entering-requires returns crossing-at-requires is-of-requires returns-2)

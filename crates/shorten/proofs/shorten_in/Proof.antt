@@ -9,7 +9,7 @@ use Rattle.shorten.proofs.shorten_in.Statement.{statement}
 use Rattle.shorten.proofs.shorten_in.Tie as tie
 
 fill-requires : tie.Need-fill-requires
-fill-requires c κs = let s = c .before .before .before .before .before .before in (s .pre .asked .short, s .pre .links-long, s .pre .asked .fits)
+fill-requires c κs = let s = c .before .before .before .before .before .before in record { short = s .pre .asked .short; long = s .pre .links-long; fits = s .pre .asked .fits }
 
 set-out-requires : tie.Need-set-out-requires
 set-out-requires c κs = (c .before .before .before .before .fill .ensures, c .before .before .before .before .before .before .before .before .before .before .before .pre .room)

@@ -148,7 +148,12 @@ trace-requires c κs =
     let l = c .before .before .before .before .before .before .before .before .before .before .before .before .before .before .before .loop in
     let w = c .before .before .before .before .before .before .before .before .before .before .before .pass in
     let g = w .ensures .passes _ _ (l .inv .7 (p .lent .shown) .queue) in
-    (search needs, c .before .before .if3 .taken, omega (arith, l .inv .0, l .inv .2, l .inv .4, w .kept .1 .1 .1 .1 .1 .0, g .more, g .most, c .before .before .before .before .before .before .if2 .left), g .queue .low)
+    record {
+      before-size = search needs;
+      inside = c .before .before .if3 .taken;
+      room = omega (arith, l .inv .0, l .inv .2, l .inv .4, w .kept .1 .1 .1 .1 .1 .0, g .more, g .most, c .before .before .before .before .before .before .if2 .left);
+      low = g .queue .low;
+    }
 
 cast-t44 : tie.Need-cast-t44 Inv-loop μ-loop
 cast-t44 c = search needs
