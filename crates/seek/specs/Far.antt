@@ -28,8 +28,8 @@ pub record FarAsks (r s : Carrier) (table p standing : List ℕ) : Type 0 where
   pub missed : (t : Tabled (length standing) table) → Beside (t .yard) r s p → NoneNear (t .yard) r s p
 
 -- the trial at the junction, or that it fails
-pub record TrySays (x : Trial) (table p standing log : List ℕ) (z : Turn) : Type 0 where
-  pub scouted : Scouted (x .carrier .0) (x .neighbour .0) table p (length standing) (z .scouts)
+pub record TrySays (x : Trial) (table p standing room log : List ℕ) (z : Turn) : Type 0 where
+  pub scouted : Scouted (x .carrier .0) (x .neighbour .0) table p (length standing) (z .scouts) room
   pub few : Within nothing swap-most (z .tried)
   pub tried : (t : Tabled (length standing) table) → Beside (t .yard) (x .carrier .0) (x .neighbour .0) p
       → junction (t .yard) (x .junction .0) ≡ true
