@@ -5,7 +5,7 @@ use mathlib.Core.Bool.{false}
 use mathlib.Core.List.{List}
 use mathlib.Core.Option.{none, some}
 use Prim.Native.Nat.{ℕ, suc, _+_, _≤_, _<_}
-use lib.ListN.{length, getD, take}
+use lib.ListN.{length, getD, take, drop}
 use Rattle.paper.specs.Yard.{Bay, Placement, Yard, bayOf, after}
 use Rattle.paper.specs.Procedure.{Made, clear}
 use Rattle.paper.proofs.Playing.{Sound}
@@ -60,39 +60,53 @@ TooFew lead table p standing =
 
 -- ## Scouts
 
--- the carriers' bays that the scout has, and who stands at each of the n
-abbrev pub placementIn : ℕ → Scout → List ℕ
-placementIn k scout = take k (scout .bays)
+-- the numbers that a scout's room holds
+abbrev pub scout-room : ℕ
+scout-room = span + span
 
-abbrev pub standingIn : ℕ → Scout → List ℕ
-standingIn n scout = take n (scout .carriers)
+-- the carriers' bays that the scout's room has, and who stands at each of the n
+abbrev pub placementIn : ℕ → List ℕ → List ℕ
+placementIn k room = take k room
 
--- its arrays are as long as their types say
-pub record Sized (scout : Scout) : Type 0 where
-  pub bays-size : length (scout .bays) ≡ span
-  pub carriers-size : length (scout .carriers) ≡ span
+abbrev pub standingIn : ℕ → List ℕ → List ℕ
+standingIn n room = take n (drop span room)
+
+-- its room and its set are as long as the code has them
+pub record Sized (scout : Scout) (room : List ℕ) : Type 0 where
+  pub room-size : length room ≡ scout-room
   pub empty-size : length (scout .empty) ≡ words
 
-pub record SetOutAsks (p standing empty : List ℕ) : Type 0 where
+pub record ShowAsks (p standing room : List ℕ) : Type 0 where
+  pub carriers-fit : length p ≤ span
+  pub bays-fit : length standing ≤ span
+  pub room-size : length room ≡ scout-room
+
+-- the room shows where the carriers stand
+pub record ShowSays (p standing room : List ℕ) : Type 0 where
+  pub same-placement : placementIn (length p) room ≡ p
+  pub same-standing : standingIn (length standing) room ≡ standing
+
+pub record SetOutAsks (p standing empty room : List ℕ) : Type 0 where
   pub carriers-fit : length p ≤ span
   pub bays-fit : length standing ≤ span
   pub empty-size : length empty ≡ words
+  pub room-size : length room ≡ scout-room
 
 -- the scout stands as the carriers do
-pub record SetOutSays (p standing empty : List ℕ) (at : Numbered) (rails : ℕ) (r : Scout) : Type 0 where
-  pub sized : Sized r
-  pub same-placement : placementIn (length p) r ≡ p
-  pub same-standing : standingIn (length standing) r ≡ standing
+pub record SetOutSays (p standing empty : List ℕ) (at : Numbered) (rails : ℕ) (r : Scout) (room : List ℕ) : Type 0 where
+  pub sized : Sized r room
+  pub same-placement : placementIn (length p) room ≡ p
+  pub same-standing : standingIn (length standing) room ≡ standing
   pub same-empty : (b : ℕ) → b < span → memRow (r .empty) 0 b ≡ mem empty b
   pub there : r .at ≡ at
   pub far : r .rails ≡ rails
 
 -- what a scout is asked to look at
-pub record LookAsks (table way : List ℕ) (lead : Lead) (k n : ℕ) (scout : Scout) : Type 0 where
+pub record LookAsks (table way : List ℕ) (lead : Lead) (k n : ℕ) (scout : Scout) (room : List ℕ) : Type 0 where
   pub carriers-fit : k ≤ span
   pub bays-fit : n ≤ span
-  pub sized : Sized scout
-  pub ready : Ready table (placementIn k scout) (standingIn n scout) (scout .empty)
+  pub sized : Sized scout room
+  pub ready : Ready table (placementIn k room) (standingIn n room) (scout .empty)
   pub leads : lead .couple .leader .0 < k
   pub follows : lead .couple .follower .0 < k
   pub differ : lead .couple .follower .0 ≡ lead .couple .leader .0 → ⊥
@@ -101,13 +115,13 @@ pub record LookAsks (table way : List ℕ) (lead : Lead) (k n : ℕ) (scout : Sc
   pub short : scout .rails + length way ≤ span
 
 -- it turned back, or it stands at the junction now; where it does not fit, two bays cannot be kept there
-pub record LookSays (table way : List ℕ) (lead : Lead) (k n : ℕ) (scout : Scout) (r : Sight) : Type 0 where
-  pub sized : Sized (r .scout)
+pub record LookSays (table way : List ℕ) (lead : Lead) (k n : ℕ) (scout : Scout) (room : List ℕ) (r : Sight) (room′ : List ℕ) : Type 0 where
+  pub sized : Sized (r .scout) room′
   pub most : r .entered ≤ length way
-  pub stops : r .entered < length way → (t : Tabled n table) → brings (lead .couple) (take (suc (r .entered)) way) (t .yard) (placementIn k scout) ≡ none
-  pub stays : r .entered < length way → r .scout ≡ scout
+  pub stops : r .entered < length way → (t : Tabled n table) → brings (lead .couple) (take (suc (r .entered)) way) (t .yard) (placementIn k room) ≡ none
+  pub stays : r .entered < length way → (r .scout ≡ scout) × (room′ ≡ room)
   pub gone : r .entered ≡ length way → (t : Tabled n table)
-      → Gone (t .yard) (lead .couple) n way (placementIn k scout) (placementIn k (r .scout)) (standingIn n (r .scout)) (r .scout .empty)
+      → Gone (t .yard) (lead .couple) n way (placementIn k room) (placementIn k room′) (standingIn n room′) (r .scout .empty)
   pub there : r .entered ≡ length way → r .scout .at ≡ lead .junction
   pub far : r .entered ≡ length way → r .scout .rails ≡ scout .rails + length way
-  pub unfit : r .entered ≡ length way → r .fits ≡ false → TooFew lead table (placementIn k (r .scout)) (standingIn n (r .scout))
+  pub unfit : r .entered ≡ length way → r .fits ≡ false → TooFew lead table (placementIn k room′) (standingIn n room′)

@@ -11,12 +11,14 @@ ghost use Prim.Native.Nat.{_+_, _≤_, _<_};
 ghost use lib.ListN.{length, take};
 ghost use Rattle.words.specs.Sets.{words, span};
 ghost use Rattle.acting.specs.Acting.{Ready};
-ghost use Rattle.scout.specs.Scouting.{AdvanceAsks, AdvanceSays, ClearsAsks, TooFew, SetOutAsks, SetOutSays, LookAsks, LookSays};
+ghost use Rattle.scout.specs.Scouting.{AdvanceAsks, AdvanceSays, ClearsAsks, TooFew, ShowAsks, ShowSays, SetOutAsks, SetOutSays, LookAsks, LookSays};
 
-// Where the carriers stand when the leader has come to the bay `at`, so many rails from where the swap is asked for.
+// The numbers that a scout's room holds: the carriers' bays, and then who stands at each bay. The room is lent, so that nobody copies it who only hands
+// the scout on.
+pub const ROOM: usize = 2 * words::SPAN;
+
+// The empty bays when the leader has come to the bay `at`, so many rails from where the swap is asked for. Where the carriers stand is in the scout's room.
 pub struct Scout {
-    pub bays: [u16; words::SPAN],
-    pub carriers: [u16; words::SPAN],
     pub empty: [u64; words::WORDS],
     pub at: Bay,
     pub rails: usize,
@@ -29,22 +31,33 @@ pub struct Sight {
     pub fits: bool,
 }
 
+// The room shows where the carriers stand.
+fn show(placement: &[u16], standing: &[u16], room: &mut [u16])
+    requires { ⌜ ShowAsks (now placement) (now standing) (now room) ⌝ }
+    ensures { λ _. ⌜ ShowSays (now (placement .entry)) (now (standing .entry)) (now (room .exit)) ⌝ }
+{
+    attempts::copy(room, placement);
+    attempts::copy(&mut room[words::SPAN..], standing);
+}
+
 // A scout that starts with the leader at the bay `at`.
-pub fn set_out(placement: &[u16], standing: &[u16], empty: &[u64], at: Bay, rails: usize) -> Scout
-    requires { ⌜ SetOutAsks (now placement) (now standing) (now empty) ⌝ }
+pub fn set_out(
+    placement: &[u16],
+    standing: &[u16],
+    empty: &[u64],
+    at: Bay,
+    rails: usize,
+    room: &mut [u16],
+) -> Scout
+    requires { ⌜ SetOutAsks (now placement) (now standing) (now empty) (now room) ⌝ }
     ensures { λ r. ⌜
-        SetOutSays (now (placement .entry)) (now (standing .entry)) (now (empty .entry)) at rails r
+        SetOutSays (now (placement .entry)) (now (standing .entry)) (now (empty .entry)) at rails r (now (room .exit))
         ⌝ }
 {
-    let mut bays = [0u16; words::SPAN];
-    let mut carriers = [0u16; words::SPAN];
     let mut unused = [0u64; words::WORDS];
-    attempts::copy(&mut bays, placement);
-    attempts::copy(&mut carriers, standing);
     words::keep(&mut unused, 0, empty);
+    show(placement, standing, room);
     Scout {
-        bays: bays,
-        carriers: carriers,
         empty: unused,
         at: at,
         rails: rails,
@@ -89,8 +102,14 @@ fn advance(
     i
 }
 
-// Whether two bays beside the junction can be kept, with the leader there. It is played on copies.
-fn clears(table: &[u64], lead: Lead, placement: &[u16], standing: &[u16], empty: &[u64]) -> bool
+// Whether two bays beside the junction can be kept, with the leader there. The placement is used up.
+fn clears(
+    table: &[u64],
+    lead: Lead,
+    placement: &mut [u16],
+    standing: &mut [u16],
+    empty: &mut [u64],
+) -> bool
     requires { ⌜ Ready (now table) (now placement) (now standing) (now empty) ⌝ }
     requires { ⌜ ClearsAsks lead (now placement) (now standing) ⌝ }
     ensures { λ z. ⌜
@@ -99,38 +118,35 @@ fn clears(table: &[u64], lead: Lead, placement: &[u16], standing: &[u16], empty:
 {
     let follower = lead.couple.follower.0 as usize;
     let b = Bay(placement[follower]);
-    let mut bays = [0u16; words::SPAN];
-    let mut carriers = [0u16; words::SPAN];
-    let mut unused = [0u64; words::WORDS];
     let mut unread = [0u64; 1];
-    attempts::copy(&mut bays, placement);
-    attempts::copy(&mut carriers, standing);
-    words::keep(&mut unused, 0, empty);
-    let k = placement.len();
-    let n = standing.len();
-    let cleared = clear_on::clear_two(
-        table,
-        lead,
-        b,
-        &mut bays[..k],
-        &mut carriers[..n],
-        &mut unused,
-        &mut unread,
-    );
+    let cleared = clear_on::clear_two(table, lead, b, placement, standing, empty, &mut unread);
     let Pair::Both(_, _, _) = cleared else {
         return false;
     };
     true
 }
 
-// The scout goes along the way to the junction and looks there. Where it comes to a bay that cannot be vacated it turns back.
-pub fn look(table: &[u64], way: &[u16], lead: Lead, k: usize, n: usize, scout: Scout) -> Sight
-    requires { ⌜ LookAsks (now table) (now way) lead k n scout ⌝ }
-    ensures { λ r. ⌜ LookSays (now (table .entry)) (now (way .entry)) lead k n scout r ⌝ }
+// The scout goes along the way to the junction and looks there. Where it comes to a bay that cannot be vacated it turns back, and its room is as it was.
+pub fn look(
+    table: &[u64],
+    way: &[u16],
+    lead: Lead,
+    k: usize,
+    n: usize,
+    scout: Scout,
+    room: &mut [u16],
+) -> Sight
+    requires { ⌜ LookAsks (now table) (now way) lead k n scout (now room) ⌝ }
+    ensures { λ r. ⌜
+        LookSays (now (table .entry)) (now (way .entry)) lead k n scout (now (room .entry)) r (now (room .exit))
+        ⌝ }
 {
-    let mut bays = scout.bays;
-    let mut carriers = scout.carriers;
+    let end = words::SPAN + n;
+    let mut bays = [0u16; words::SPAN];
+    let mut carriers = [0u16; words::SPAN];
     let mut unused = scout.empty;
+    attempts::copy(&mut bays, &room[..k]);
+    attempts::copy(&mut carriers, &room[words::SPAN..end]);
     let entered = advance(
         table,
         way,
@@ -146,17 +162,16 @@ pub fn look(table: &[u64], way: &[u16], lead: Lead, k: usize, n: usize, scout: S
             fits: false,
         };
     }
-    let fits = clears(table, lead, &bays[..k], &carriers[..n], &unused);
+    show(&bays[..k], &carriers[..n], room);
     let junction = lead.junction;
+    let come = Scout {
+        empty: unused,
+        at: junction,
+        rails: scout.rails + way.len(),
+    };
     Sight {
-        scout: Scout {
-            bays: bays,
-            carriers: carriers,
-            empty: unused,
-            at: junction,
-            rails: scout.rails + way.len(),
-        },
+        scout: come,
         entered: entered,
-        fits: fits,
+        fits: clears(table, lead, &mut bays[..k], &mut carriers[..n], &mut unused),
     }
 }

@@ -22,6 +22,8 @@ use Rattle.parts.proofs.Paths.{path-begins}
 use Rattle.words.specs.Sets.{mem, words, span}
 use Rattle.acting.specs.Acting.{Tabled, Ready}
 use Rattle.clear_on.proofs.Attempting.{in-bays}
+use Rattle.scout.specs.Scouting.{scout-room}
+use Rattle.scout.specs.declared.Scout.{Scout}
 use Rattle.scout.specs.declared.Sight.{Sight}
 use Rattle.trial.specs.declared.Trial.{Trial}
 use Rattle.trial.proofs.Copying.{second-leads, first-leads, trial-second, trial-first}
@@ -34,7 +36,13 @@ front-bay [] m k h = absurd (omega arith)
 front-bay (a ∷ l) m zero h = refl
 front-bay (a ∷ l) m (suc k) h = front-bay l m k (omega arith)
 
-module _ {table p standing empty : List ℕ} (ready : Ready table p standing empty) {path : List Bay} {x : Trial} {scouts : Scouts} (z : ForeseeAsks path x table p standing scouts)
+-- a scout whose room is as it was is where it was
+pub came-kept : {Y : Yard} {L M : Carrier} {past : ℕ} {u : Bay} {p : Placement} {n : ℕ} {scout : Scout} {room room′ : List ℕ} → room′ ≡ room
+    → Came Y L M past u p n scout room → Came Y L M past u p n scout room′
+came-kept e c = rw e c
+
+module _ {table p standing empty : List ℕ} (ready : Ready table p standing empty) {path : List Bay} {x : Trial} {scouts : Scouts} {room : List ℕ}
+    (z : ForeseeAsks path x table p standing scouts room)
     (t : Tabled (length standing) table) (b : Beside (t .yard) (x .carrier .0) (x .neighbour .0) p) where
   abbrev Y : Yard
   Y = t .yard
@@ -57,10 +65,10 @@ module _ {table p standing empty : List ℕ} (ready : Ready table p standing emp
   hv : In v (upTo (Y .bays))
   hv = in-bays t (z .on-path .asks .inside)
 
-  now-scouting : Scouting Y r s p (length standing) scouts
+  now-scouting : Scouting Y r s p (length standing) scouts room
   now-scouting = z .scouted .scouting t b
 
-  pub sending-theirs : secondLeads s p path ≡ true → Sending Y path (neighbourLeads x) 1 p (length standing) u (scouts .theirs)
+  pub sending-theirs : secondLeads s p path ≡ true → Sending Y path (neighbourLeads x) 1 p (length standing) u (scouts .theirs) (drop scout-room room)
   sending-theirs h = record {
     is-path = z .is-path t b;
     start-free = (hu, nothing-in-nil u);
@@ -69,7 +77,7 @@ module _ {table p standing empty : List ℕ} (ready : Ready table p standing emp
     came = now-scouting .theirs;
   }
 
-  pub sending-ours : Sending Y path (carrierLeads x) 0 p (length standing) u (scouts .ours)
+  pub sending-ours : Sending Y path (carrierLeads x) 0 p (length standing) u (scouts .ours) (take scout-room room)
   sending-ours = record {
     is-path = z .is-path t b;
     start-free = (hu, nothing-in-nil u);

@@ -53,9 +53,9 @@ module _ (Y : Yard) (L M : Carrier) (past : ℕ) (u v : Bay) (p : Placement) (n 
   path-long j h = ap length (sym (begins j h .same)) ∙ length-take-le (suc j) path (omega arith)
 
   -- a scout that sets out at the first bay past which it goes has been brought nowhere
-  module _ (scout : Scout) (there : scout .rails < length path) (stands : getD path (scout .rails) 0 ≡ scout .at .0) where
-    pub came-nowhere : past ≡ suc (scout .rails) → Sized scout → placementIn (length p) scout ≡ p → Placed n (placementIn (length p) scout) (standingIn n scout) (scout .empty)
-        → Came Y L M past u p n scout
+  module _ (scout : Scout) (room : List ℕ) (there : scout .rails < length path) (stands : getD path (scout .rails) 0 ≡ scout .at .0) where
+    pub came-nowhere : past ≡ suc (scout .rails) → Sized scout room → placementIn (length p) room ≡ p → Placed n (placementIn (length p) room) (standingIn n room) (scout .empty)
+        → Came Y L M past u p n scout room
     unfolding bring after
     came-nowhere e sized same placed =
         let long : length (shortestPath Y [] u (scout .at .0)) ≡ suc (scout .rails) = rw stands at (path-long (scout .rails) there) in
@@ -70,7 +70,7 @@ module _ (Y : Yard) (L M : Carrier) (past : ℕ) (u v : Bay) (p : Placement) (n 
           begun = omega (arith, e);
         }
 
-    module _ (c : Came Y L M past u p n scout) where
+    module _ (c : Came Y L M past u p n scout room) where
       abbrev here : List Bay
       here = shortestPath Y [] u (scout .at .0)
 
@@ -81,21 +81,21 @@ module _ (Y : Yard) (L M : Carrier) (past : ℕ) (u v : Bay) (p : Placement) (n 
       splits = path-splits (scout .rails) there ∙ ap (λ (b : Bay). shortestPath Y [] u b ++ left) stands
 
       -- the way that it has gone, and then any other bays
-      pub goes-on : (rest : List Bay) → bring Y L M (drop past (here ++ rest)) p ≡ (bring Y L M rest (placementIn (length p) scout) >>= λ b. some (together (c .brought) b))
+      pub goes-on : (rest : List Bay) → bring Y L M (drop past (here ++ rest)) p ≡ (bring Y L M rest (placementIn (length p) room) >>= λ b. some (together (c .brought) b))
       goes-on rest =
           ap (λ (l : List Bay). bring Y L M l p) (drop-front past here rest (omega (arith, c .far, c .begun)))
           ∙ bring-on Y L M (drop past here) rest p (c .brought) (c .made)
           ∙ ap (λ (q : Placement). bring Y L M rest q >>= λ b. some (together (c .brought) b)) (sym (c .stands))
 
       -- It comes to the path's end.
-      module _ (b : Made) (made : bring Y L M left (placementIn (length p) scout) ≡ some b) where
+      module _ (b : Made) (made : bring Y L M left (placementIn (length p) room) ≡ some b) where
         pub whole : bring Y L M (drop past path) p ≡ some (together (c .brought) b)
         whole = ap (λ (l : List Bay). bring Y L M (drop past l) p) splits ∙ goes-on left ∙ ap (λ o. o >>= λ d. some (together (c .brought) d)) made
 
-        pub came-there : (next : Scout) → Sized next → placementIn (length p) next ≡ after (placementIn (length p) scout) (b .moves)
-            → Placed n (placementIn (length p) next) (standingIn n next) (next .empty) → next .at .0 ≡ v → next .rails ≡ scout .rails + length left
-            → Came Y L M past u p n next
-        came-there next sized moved placed at far =
+        pub came-there : (next : Scout) (room′ : List ℕ) → Sized next room′ → placementIn (length p) room′ ≡ after (placementIn (length p) room) (b .moves)
+            → Placed n (placementIn (length p) room′) (standingIn n room′) (next .empty) → next .at .0 ≡ v → next .rails ≡ scout .rails + length left
+            → Came Y L M past u p n next room′
+        came-there next room′ sized moved placed at far =
             let long : length left ≡ length path - suc (scout .rails) = length-drop (suc (scout .rails)) path in
             record {
               sized = sized;
@@ -108,7 +108,7 @@ module _ (Y : Yard) (L M : Carrier) (past : ℕ) (u v : Bay) (p : Placement) (n 
             }
 
         -- Two bays cannot be kept there.
-        pub comes-to-nothing : Apart p → L < length p → M < length p → (M ≡ L → ⊥) → Led Y L M v (drop past path) p → (q : Placement) → q ≡ after (placementIn (length p) scout) (b .moves)
+        pub comes-to-nothing : Apart p → L < length p → M < length p → (M ≡ L → ⊥) → Led Y L M v (drop past path) p → (q : Placement) → q ≡ after (placementIn (length p) room) (b .moves)
             → (AtJunction L M v (bayOf q M) q → length (clear Y L M v (bayOf q M) q .kept) < 2)
             → trialLed Y L M v (drop past path) p ≡ none
         unfolding trialLed
@@ -118,7 +118,7 @@ module _ (Y : Yard) (L M : Carrier) (past : ℕ) (u v : Bay) (p : Placement) (n 
             rw whole (too-few Y L M v _ _ _ (rw is at k))
 
       -- It cannot enter the bay that is e bays further.
-      module _ (e : ℕ) (short : e < length left) (stops : bring Y L M (take (suc e) left) (placementIn (length p) scout) ≡ none) where
+      module _ (e : ℕ) (short : e < length left) (stops : bring Y L M (take (suc e) left) (placementIn (length p) room) ≡ none) where
         abbrev place : ℕ
         place = suc (scout .rails) + e
 
@@ -140,4 +140,4 @@ module _ (Y : Yard) (L M : Carrier) (past : ℕ) (u v : Bay) (p : Placement) (n 
             ap (λ (l : List Bay). bring Y L M (drop past (l ++ rest)) p) to-it
             ∙ ap (λ (l : List Bay). bring Y L M (drop past l) p) (append-assoc here (take (suc e) left) rest)
             ∙ goes-on (take (suc e) left ++ rest)
-            ∙ ap (λ o. o >>= λ d. some (together (c .brought) d)) (bring-stopped Y L M (take (suc e) left) rest (placementIn (length p) scout) stops)
+            ∙ ap (λ o. o >>= λ d. some (together (c .brought) d)) (bring-stopped Y L M (take (suc e) left) rest (placementIn (length p) room) stops)

@@ -10,6 +10,9 @@ ghost use mathlib.Core.Bool.{true};
 ghost use Rattle.acting.specs.Acting.{Ready};
 ghost use Rattle.scouts.specs.Scouts.{NoneYet, PassesAsks, PassesSays, PathAsks, PathSays, NotedSays, SendAsks, SendSays, ForeseeAsks, ForeseeSays};
 
+// The numbers that the rooms of both scouts hold: ours, and then theirs.
+pub const ROOM: usize = 2 * scout::ROOM;
+
 // One scout for each of the two that may lead, and the bays that one of them could not enter. `begun` tells whether a trial was made.
 pub struct Scouts {
     pub ours: Scout,
@@ -24,13 +27,17 @@ pub struct Outlook {
     pub hopeless: bool,
 }
 
+// Who is to lead to which junction, and so many rails from the path's start the leader stands at first.
+pub struct Errand {
+    pub lead: Lead,
+    pub rails: usize,
+}
+
 // Nobody has set out: no path has so many rails.
 pub fn nobody() -> Scouts
     ensures { λ r. ⌜ NoneYet r ⌝ }
 {
     let idle = Scout {
-        bays: [0u16; words::SPAN],
-        carriers: [0u16; words::SPAN],
         empty: [0u64; words::WORDS],
         at: Bay(0),
         rails: words::SPAN,
@@ -67,10 +74,12 @@ fn on_the_path(
     from: Bay,
     rails: usize,
     scout: Scout,
+    room: &mut [u16],
 ) -> Scout
-    requires { ⌜ PathAsks (now path) (now placement) (now standing) (now empty) from rails ⌝ }
+    requires { ⌜ PathAsks (now path) (now placement) (now standing) (now empty) from rails (now room) ⌝ }
     ensures { λ r. ⌜
-        PathSays (now (path .entry)) (now (placement .entry)) (now (standing .entry)) (now (empty .entry)) from rails scout r
+        PathSays (now (path .entry)) (now (placement .entry)) (now (standing .entry)) (now (empty .entry)) from rails
+        scout (now (room .entry)) r (now (room .exit))
         ⌝ }
 {
     let at = scout.at;
@@ -80,7 +89,7 @@ fn on_the_path(
             return scout;
         }
     }
-    scout::set_out(placement, standing, empty, from, rails)
+    scout::set_out(placement, standing, empty, from, rails, room)
 }
 
 // The bays that cannot be entered, and with them the path's bay at this place, if it has one.
@@ -100,25 +109,30 @@ fn noted(stuck: [u64; words::WORDS], path: &[u16], place: usize) -> [u64; words:
 fn send(
     table: &[u64],
     path: &[u16],
-    lead: Lead,
-    rails: usize,
+    errand: Errand,
     placement: &[u16],
     standing: &[u16],
     empty: &[u64],
     scout: Scout,
+    room: &mut [u16],
 ) -> Sight
     requires { ⌜ Ready (now table) (now placement) (now standing) (now empty) ⌝ }
-    requires { ⌜ SendAsks (now path) lead rails (now table) (now placement) (now standing) scout ⌝ }
+    requires { ⌜
+        SendAsks (now path) (errand .lead) (errand .rails) (now table) (now placement) (now standing) scout (now room)
+        ⌝ }
     ensures { λ z. ⌜
-        SendSays (now (path .entry)) lead rails (now (table .entry)) (now (placement .entry)) (now (standing .entry)) scout z
+        SendSays (now (path .entry)) (errand .lead) (errand .rails) (now (table .entry)) (now (placement .entry)) (now (standing .entry))
+        scout (now (room .entry)) z (now (room .exit))
         ⌝ }
 {
+    let lead = errand.lead;
+    let rails = errand.rails;
     let from = Bay(path[rails]);
-    let there = on_the_path(path, placement, standing, empty, from, rails, scout);
+    let there = on_the_path(path, placement, standing, empty, from, rails, scout, room);
     let ahead = there.rails + 1;
     let k = placement.len();
     let n = standing.len();
-    let sight = scout::look(table, &path[ahead..], lead, k, n, there);
+    let sight = scout::look(table, &path[ahead..], lead, k, n, there, room);
     let come = sight.scout;
     Sight {
         scout: come,
@@ -136,10 +150,13 @@ fn foresee(
     standing: &[u16],
     empty: &[u64],
     scouts: Scouts,
+    room: &mut [u16],
 ) -> Outlook
     requires { ⌜ Ready (now table) (now placement) (now standing) (now empty) ⌝ }
-    requires { ⌜ ForeseeAsks (now path) trial (now table) (now placement) (now standing) scouts ⌝ }
-    ensures { λ z. ⌜ ForeseeSays trial (now (table .entry)) (now (placement .entry)) (now (standing .entry)) z ⌝ }
+    requires { ⌜ ForeseeAsks (now path) trial (now table) (now placement) (now standing) scouts (now room) ⌝ }
+    ensures { λ z. ⌜
+        ForeseeSays trial (now (table .entry)) (now (placement .entry)) (now (standing .entry)) z (now (room .exit))
+        ⌝ }
 {
     let neighbour = trial.neighbour.0 as usize;
     let w = Bay(placement[neighbour]);
@@ -147,8 +164,20 @@ fn foresee(
     let theirs = scouts.theirs;
     let stuck = scouts.stuck;
     if trial::second_is(path, w) {
-        let lead = trial::neighbour_leads(trial);
-        let sight = send(table, path, lead, 1, placement, standing, empty, theirs);
+        let errand = Errand {
+            lead: trial::neighbour_leads(trial),
+            rails: 1,
+        };
+        let sight = send(
+            table,
+            path,
+            errand,
+            placement,
+            standing,
+            empty,
+            theirs,
+            &mut room[scout::ROOM..],
+        );
         let come = sight.scout;
         return Outlook {
             scouts: Scouts {
@@ -160,8 +189,20 @@ fn foresee(
             hopeless: !sight.fits,
         };
     }
-    let lead = trial::carrier_leads(trial);
-    let sight = send(table, path, lead, 0, placement, standing, empty, ours);
+    let errand = Errand {
+        lead: trial::carrier_leads(trial),
+        rails: 0,
+    };
+    let sight = send(
+        table,
+        path,
+        errand,
+        placement,
+        standing,
+        empty,
+        ours,
+        &mut room[..scout::ROOM],
+    );
     let come = sight.scout;
     Outlook {
         scouts: Scouts {
@@ -183,10 +224,13 @@ pub fn hope(
     standing: &[u16],
     empty: &[u64],
     scouts: Scouts,
+    room: &mut [u16],
 ) -> Outlook
     requires { ⌜ Ready (now table) (now placement) (now standing) (now empty) ⌝ }
-    requires { ⌜ ForeseeAsks (now path) trial (now table) (now placement) (now standing) scouts ⌝ }
-    ensures { λ z. ⌜ ForeseeSays trial (now (table .entry)) (now (placement .entry)) (now (standing .entry)) z ⌝ }
+    requires { ⌜ ForeseeAsks (now path) trial (now table) (now placement) (now standing) scouts (now room) ⌝ }
+    ensures { λ z. ⌜
+        ForeseeSays trial (now (table .entry)) (now (placement .entry)) (now (standing .entry)) z (now (room .exit))
+        ⌝ }
 {
     let stuck = scouts.stuck;
     if passes(path, &stuck) {
@@ -196,7 +240,7 @@ pub fn hope(
         };
     }
     if scouts.begun {
-        return foresee(table, path, trial, placement, standing, empty, scouts);
+        return foresee(table, path, trial, placement, standing, empty, scouts, room);
     }
     let mut next = scouts;
     next.begun = true;

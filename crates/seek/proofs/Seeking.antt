@@ -27,7 +27,7 @@ use Rattle.trial.proofs.Copying.{freeShown, path-found}
 use Rattle.trial.specs.declared.Trial.{Trial}
 use Rattle.near.specs.Seeking.{SeekAsks, NoneNear}
 use Rattle.near.proofs.Seeking.{Sought, sought-start, reached-from, ring-low, near-of}
-use Rattle.scouts.specs.Scouts.{Scouted, NoneYet, ForeseeAsks}
+use Rattle.scouts.specs.Scouts.{Scouted, NoneYet, ForeseeAsks, scouts-room}
 use Rattle.scouts.specs.declared.Scouts.{Scouts}
 use Rattle.seek.specs.Far.{FirstFar}
 
@@ -44,8 +44,8 @@ module _ {n : ℕ} {table : List ℕ} (t : Tabled n table) (r s : Carrier) (p : 
 -- ## The search
 
 -- nobody has set out, so nothing is said of anybody
-pub scouted-first : (r s : Carrier) (table p : List ℕ) (n : ℕ) (scouts : Scouts) → NoneYet scouts → Scouted r s table p n scouts
-scouted-first r s table p n scouts y = record {
+pub scouted-first : (r s : Carrier) (table p : List ℕ) (n : ℕ) (scouts : Scouts) (room : List ℕ) → NoneYet scouts → Scouted r s table p n scouts room
+scouted-first r s table p n scouts room y = record {
   stuck-size = y .stuck-size;
   scouting = λ t b. record {
     ours = λ h. absurd (omega (arith, y .ours));
@@ -100,9 +100,9 @@ module _ {table p standing empty : List ℕ} (k : Ready table p standing empty) 
       → (path ≡ shortestPath (t .yard) [] (bayOf p (x .carrier .0)) (x .junction .0)) × (1 ≤ length path) × ((j : ℕ) → j < length path → getD path j 0 < length standing)
   read-path path e t = path-to t (k .most) (bayOf p (x .carrier .0)) hu d (g t) (x .junction .0) path (in-ring t) (reached t) e
 
-  pub foresee-asks : (path : List ℕ) → length path ≡ span → d < span → take (d + 1) path ≡ back before d (x .junction .0) [] → (scouts : Scouts)
-      → Scouted (x .carrier .0) (x .neighbour .0) table p (length standing) scouts → ForeseeAsks (take (d + 1) path) x table p standing scouts
-  foresee-asks path size short e scouts sc =
+  pub foresee-asks : (path : List ℕ) → length path ≡ span → d < span → take (d + 1) path ≡ back before d (x .junction .0) [] → (scouts : Scouts) (room : List ℕ) → length room ≡ scouts-room
+      → Scouted (x .carrier .0) (x .neighbour .0) table p (length standing) scouts room → ForeseeAsks (take (d + 1) path) x table p standing scouts room
+  foresee-asks path size short e scouts room room-size sc =
       let long : length (take (d + 1) path) ≡ d + 1 = length-take-le (d + 1) path (omega arith) in
       record {
         on-path = record {
@@ -115,4 +115,5 @@ module _ {table p standing empty : List ℕ} (k : Ready table p standing empty) 
         near = λ t b. near-of b (reached t);
         is-path = λ t b. read-path (take (d + 1) path) e t .0;
         scouted = sc;
+        room-size = room-size;
       }

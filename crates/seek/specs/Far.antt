@@ -16,8 +16,8 @@ use Rattle.near.specs.Seeking.{TriedAt, SeekAsks, near-rings, NoneNear}
 use Rattle.seek.specs.declared.Turn.{Turn}
 
 -- the trial at the junction, or that it fails
-pub record TrySays (x : Trial) (table p standing log : List ℕ) (z : Turn) : Type 0 where
-  pub scouted : Scouted (x .carrier .0) (x .neighbour .0) table p (length standing) (z .scouts)
+pub record TrySays (x : Trial) (table p standing room log : List ℕ) (z : Turn) : Type 0 where
+  pub scouted : Scouted (x .carrier .0) (x .neighbour .0) table p (length standing) (z .scouts) room
   pub few : Within nothing swap-most (z .tried)
   pub tried : (t : Tabled (length standing) table) → Beside (t .yard) (x .carrier .0) (x .neighbour .0) p
       → junction (t .yard) (x .junction .0) ≡ true

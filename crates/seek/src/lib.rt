@@ -14,6 +14,12 @@ ghost use Rattle.scouts.specs.Scouts.{ForeseeAsks};
 ghost use Rattle.near.specs.Seeking.{SeekAsks, SeekSays};
 ghost use Rattle.seek.specs.Far.{TrySays, FirstFar, FarAsks};
 
+// The trial at a junction, and where the scouts are before it.
+pub struct Outset {
+    pub trial: Trial,
+    pub scouts: Scouts,
+}
+
 // What came of a junction, and where the scouts are then.
 pub struct Turn {
     pub tried: Tried,
@@ -24,20 +30,25 @@ pub struct Turn {
 fn try_junction(
     table: &[u64],
     path: &[u16],
-    trial: Trial,
+    outset: Outset,
     placement: &[u16],
     standing: &[u16],
     empty: &[u64],
-    scouts: Scouts,
+    room: &mut [u16],
     out: &mut [u64],
 ) -> Turn
     requires { ⌜ Ready (now table) (now placement) (now standing) (now empty) ⌝ }
-    requires { ⌜ ForeseeAsks (now path) trial (now table) (now placement) (now standing) scouts ⌝ }
+    requires { ⌜
+        ForeseeAsks (now path) (outset .trial) (now table) (now placement) (now standing) (outset .scouts) (now room)
+        ⌝ }
     ensures { λ z. ⌜
-        TrySays trial (now (table .entry)) (now (placement .entry)) (now (standing .entry)) (now (out .exit)) z
+        TrySays (outset .trial) (now (table .entry)) (now (placement .entry)) (now (standing .entry))
+        (now (room .exit)) (now (out .exit)) z
         ⌝ }
 {
-    let outlook = scouts::hope(table, path, trial, placement, standing, empty, scouts);
+    let trial = outset.trial;
+    let scouts = outset.scouts;
+    let outlook = scouts::hope(table, path, trial, placement, standing, empty, scouts, room);
     let next = outlook.scouts;
     if outlook.hopeless {
         return Turn {
@@ -87,6 +98,7 @@ fn seek_far(
     let mut met = [0u16; words::SPAN];
     let mut before = [0u16; words::SPAN];
     let mut path = [0u16; words::SPAN];
+    let mut room = [0u16; scouts::ROOM];
     let mut scouts = scouts::nobody();
     words::alone(&mut seen, u as usize);
     words::alone(&mut ring, u as usize);
@@ -106,14 +118,15 @@ fn seek_far(
                     neighbour: s,
                     junction,
                 };
+                let outset = Outset { trial, scouts };
                 let turn = try_junction(
                     table,
                     &path[..rails],
-                    trial,
+                    outset,
                     placement,
                     standing,
                     empty,
-                    scouts,
+                    &mut room,
                     out,
                 );
                 let tried = turn.tried;

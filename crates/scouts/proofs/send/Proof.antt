@@ -8,6 +8,7 @@ use lib.ListN.{length, drop, length-drop}
 use lib.Seq.{length-take-le}
 use borrow.Author.Needs.{needs}
 use Rattle.paper.proofs.Members.{nothing-in-nil}
+use Rattle.words.specs.Sets.{span}
 use Rattle.acting.proofs.Holding.{ready-again}
 use Rattle.clear_on.proofs.Attempting.{in-bays}
 use Rattle.trial.proofs.Copying.{part, part-inside}
@@ -15,11 +16,11 @@ use Rattle.scouts.proofs.Sending.{came-of, sent-most, sent-of}
 use Rattle.scouts.proofs.send.Statement.{statement}
 use Rattle.scouts.proofs.send.Tie as tie
 
-mul-t16 : tie.Need-mul-t16
-mul-t16 c = search needs
+mul-t18 : tie.Need-mul-t18
+mul-t18 c = search needs
 
-shared-slice-read-t18 : tie.Need-shared-slice-read-t18
-shared-slice-read-t18 c = search needs
+shared-slice-read-t20 : tie.Need-shared-slice-read-t20
+shared-slice-read-t20 c = search needs
 
 on-the-path-requires : tie.Need-on-the-path-requires
 on-the-path-requires c κs = search needs
@@ -41,16 +42,17 @@ part-look-end c = search needs
 
 look-requires : tie.Need-look-requires
 look-requires c κs =
-    let start = c .before .before .before .before .before .before .before .before .before in
+    let start = c .before .before .before .before .before .before .before .before .before .before .before .before .before .before .before in
     let a = start .args in
     let p = start .pre .0 in
     let z = start .pre .1 in
-    let w = c .before .before .on-the-path .ensures in
-    let there = c .before .before .on-the-path .result in
+    let w = c .before .before .before .before .before .on-the-path .ensures in
+    let there = c .before .before .before .before .before .on-the-path .result in
+    let room = c .before .before .before .before .before .on-the-path .last .1 .1 .1 .1 .1 .1 .1 .0 in
     let t = z .some-yard .0 in
-    let came = came-of p t (z .some-yard .2) (in-bays t (z .asks .inside), nothing-in-nil _) (z .asks .short) there w in
+    let came = came-of p t (z .some-yard .2) (in-bays t (z .asks .inside), nothing-in-nil _) (z .asks .short) there room w in
     let few = p .placed .few in
-    let kw = length-take-le (length (a .standing .now)) (there .carriers) (omega (arith, came .sized .carriers-size, p .most)) in
+    let kw = length-take-le (length (a .standing .now)) (drop span room) (omega (arith, came .sized .room-size, length-drop span room, p .most)) in
     let long = ap length (part (a .path .now) (there .rails + 1)) ∙ length-drop (there .rails + 1) (a .path .now) in
     record {
       carriers-fit = omega (arith, few, p .most);
@@ -65,37 +67,41 @@ look-requires c κs =
       short = omega (arith, long, w .there, z .asks .short);
     }
 
-add-t16 : tie.Need-add-t16
-add-t16 c =
-    let start = c .before .before .before .before .before .before .before .before .before .before .before .before in
+add-t18 : tie.Need-add-t18
+add-t18 c =
+    let start = c .before .before .before .before .before .before .before .before .before .before .before .before .before .before .before .before .before .before .before .before in
     let z = start .pre .1 in
-    let there = c .before .before .before .before .before .on-the-path .result in
-    let w = c .before .before .before .before .before .on-the-path .ensures in
+    let there = c .before .before .before .before .before .before .before .before .before .before .on-the-path .result in
+    let w = c .before .before .before .before .before .before .before .before .before .before .on-the-path .ensures in
     let long = ap length (part (start .args .path .now) (there .rails + 1)) ∙ length-drop (there .rails + 1) (start .args .path .now) in
-    omega (arith, c .before .before .look .ensures .most, long, w .there, z .asks .short)
+    omega (arith, c .before .before .before .before .look .ensures .most, long, w .there, z .asks .short)
+
+same-length : tie.Need-same-length
+same-length c = c .before .before .before .before .look .kept .1 .1 .1 .1 .1 .1 .0 ∙ c .before .before .before .before .before .before .before .before .before .before .on-the-path .kept .1 .1 .1 .1 .1 .1 .1 .0
 
 returns : tie.Need-returns
 returns c =
-    let start = c .before .before .before .before .before .before .before .before .before .before .before .before in
+    let start = c .before .before .before .before .before .before .before .before .before .before .before .before .before .before .before .before .before .before .before .before in
     let a = start .args in
     let p = start .pre .0 in
     let z = start .pre .1 in
-    let w = c .before .before .before .before .before .on-the-path .ensures in
-    let there = c .before .before .before .before .before .on-the-path .result in
-    let look = c .before .before .look in
+    let w = c .before .before .before .before .before .before .before .before .before .before .on-the-path .ensures in
+    let there = c .before .before .before .before .before .before .before .before .before .before .on-the-path .result in
+    let look = c .before .before .before .before .look in
     let l = rw (part (a .path .now) (there .rails + 1), add-one) at (look .ensures) in
     let long = ap length (part (a .path .now) (there .rails + 1)) ∙ length-drop (there .rails + 1) (a .path .now) in
     record {
       most = omega (arith, look .ensures .most, long, w .there);
-      sends = λ t u s. rw add-one (sent-of p t s (in-bays t (z .asks .inside), nothing-in-nil _) (z .asks .short) there w (z .asks .coupled .leads) (z .asks .coupled .follows) (z .asks .coupled .differ) (look .result) l);
+      sends = λ t u s.
+          rw add-one (sent-of p t s (in-bays t (z .asks .inside), nothing-in-nil _) (z .asks .short) there _ w (z .asks .coupled .leads) (z .asks .coupled .follows) (z .asks .coupled .differ) (look .result) _ l);
     }
 
 pub send-spec : {M : Type 1} → statement M
 send-spec =
     tie.close
     (tie.spec
-    mul-t16
-    shared-slice-read-t18
+    mul-t18
+    shared-slice-read-t20
     on-the-path-requires
     add-ahead
     mul-look
@@ -103,5 +109,6 @@ send-spec =
     part-look-start
     part-look-end
     look-requires
-    add-t16
+    add-t18
+    same-length
     returns)

@@ -15,32 +15,34 @@ use Rattle.acting.specs.Acting.{Tabled}
 use Rattle.acting.specs.declared.Tried.the-variants.{Done}
 use Rattle.trial.proofs.Copying.{freeShown}
 use Rattle.trial.specs.Trying.{Beside}
-use Rattle.scouts.specs.Scouts.{Scouted}
+use Rattle.scouts.specs.Scouts.{Scouted, scouts-room}
 use Rattle.near.proofs.Seeking.{Sought, sought-first, sought-found, sought-end, sought-more, sought-next, fitting-not, ring-low, swap-none, swap-some}
 use Rattle.seek.proofs.Seeking.{sought-far, scouted-first, search-first, search-dry, search-more, foresee-asks}
 use Rattle.seek.proofs.seek_far.Statement.{statement}
 use Rattle.seek.proofs.seek_far.Tie as tie
 
 abbrev Inv-loop : tie.InvT-loop
-Inv-loop table r s placement standing empty out₀ carrier u n seen ring met before path₀ scouts₀ done count d v₀ out path scouts v =
+Inv-loop table r s placement standing empty out₀ carrier u n seen ring met before path₀ room₀ scouts₀ done count d v₀ out path room scouts v =
     (length out ≡ length out₀) × (length path ≡ span) × (v ≤ span) × (v < span → mem ring v ≡ true)
     × ((t : Tabled (length standing) table) → Beside (t .yard) (r .0) (s .0) placement → Sought (t .yard) (r .0) (s .0) placement d v)
-    × Scouted (r .0) (s .0) table placement (length standing) scouts
+    × Scouted (r .0) (s .0) table placement (length standing) scouts room
+    × (length room ≡ scouts-room)
 
 abbrev μ-loop : tie.MeasureT-loop
-μ-loop table r s placement standing empty out₀ carrier u n seen ring met before path₀ scouts₀ done count d v₀ out path scouts v =
+μ-loop table r s placement standing empty out₀ carrier u n seen ring met before path₀ room₀ scouts₀ done count d v₀ out path room scouts v =
     span - v
 
 abbrev Inv-nearest : tie.InvT-nearest
-Inv-nearest table r s placement standing empty out₀ carrier u n seen₀ ring₀ met₀ before₀ path₀ scouts₀ done₀ count₀ d₀ out seen ring met before path scouts done count d =
+Inv-nearest table r s placement standing empty out₀ carrier u n seen₀ ring₀ met₀ before₀ path₀ room₀ scouts₀ done₀ count₀ d₀ out seen ring met before path room scouts done count d =
     (length out ≡ length out₀) × (length seen ≡ words) × (length ring ≡ words) × (length met ≡ span) × (length before ≡ span) × (length path ≡ span)
     × (done < count) × (count ≤ length standing) × (d ≤ done)
     × ((t : Tabled (length standing) table) → Rounds (freeShown t) (bayOf placement (r .0)) d seen ring met before done count)
-    × Scouted (r .0) (s .0) table placement (length standing) scouts
+    × Scouted (r .0) (s .0) table placement (length standing) scouts room
     × ((t : Tabled (length standing) table) → Beside (t .yard) (r .0) (s .0) placement → Sought (t .yard) (r .0) (s .0) placement d 0)
+    × (length room ≡ scouts-room)
 
 abbrev μ-nearest : tie.MeasureT-nearest
-μ-nearest table r s placement standing empty out₀ carrier u n seen₀ ring₀ met₀ before₀ path₀ scouts₀ done₀ count₀ d₀ out seen ring met before path scouts done count d =
+μ-nearest table r s placement standing empty out₀ carrier u n seen₀ ring₀ met₀ before₀ path₀ room₀ scouts₀ done₀ count₀ d₀ out seen ring met before path room scouts done count d =
     length standing - done
 
 cast-carrier : tie.Need-cast-carrier Inv-loop μ-loop Inv-nearest μ-nearest
@@ -111,8 +113,9 @@ nearest-holds c =
       omega (arith, hu),
       omega arith,
       λ t. search-first t (p .most) _ hu _ _ _ (c .before .before .before .before .alone .ensures) (c .before .alone2 .ensures) (take-suc-set (replicate span 0) 0 _ (omega arith)),
-      scouted-first _ _ _ _ _ _ (c .before .before .before .before .before .before .nobody .ensures),
+      scouted-first _ _ _ _ _ _ _ (c .before .before .before .before .before .before .nobody .ensures),
       λ t b. sought-first t _ _ _,
+      search needs,
     )
 
 slice-aggregate-first-far :
@@ -131,10 +134,10 @@ loop-holds c =
     let hu = p .placed .inside (a .r .0) (z .first) in
     let nearest = c .before .before .nearest in
     let l = c .first-far .ensures in
-    (refl, nearest .inv .5, l .upto, l .hit, λ t b. sought-far t _ _ _ (p .most) hu _ _ (nearest .inv .9 t .ringing) (start .pre .1 .missed t b) _ (nearest .inv .11 t b) l, nearest .inv .10)
+    (refl, nearest .inv .5, l .upto, l .hit, λ t b. sought-far t _ _ _ (p .most) hu _ _ (nearest .inv .9 t .ringing) (start .pre .1 .missed t b) _ (nearest .inv .11 t b) l, nearest .inv .10, nearest .inv .12)
 
-cast-t42 : tie.Need-cast-t42 Inv-loop μ-loop Inv-nearest μ-nearest
-cast-t42 c = search needs
+cast-t44 : tie.Need-cast-t44 Inv-loop μ-loop Inv-nearest μ-nearest
+cast-t44 c = search needs
 
 is-junction-requires : tie.Need-is-junction-requires Inv-loop μ-loop Inv-nearest μ-nearest
 is-junction-requires c κs =
@@ -181,18 +184,20 @@ slice-aggregate-try-junction c =
     let size = c .before .before .trace .kept .1 .1 .1 .0 ∙ c .before .before .before .before .before .before .before .before .loop .inv .1 in
     sym (length-take-le _ _ (omega (arith, size, n .6, n .7, n .8, p .most)))
 
+slice-aggregate-try-junction-2 :
+    tie.Need-slice-aggregate-try-junction-2 Inv-loop μ-loop Inv-nearest μ-nearest
+slice-aggregate-try-junction-2 c = search (needs, c .before .before .before .before .before .before .before .before .before .loop .inv .6)
+
 try-junction-requires : tie.Need-try-junction-requires Inv-loop μ-loop Inv-nearest μ-nearest
 try-junction-requires c κs =
-    let start = c .before .before .before .before .before .before .before .before .before .before .before .before .before .before .before .before .before .before .before .before .before .before .before .before .before .before .before in
+    let start = c .before .before .before .before .before .before .before .before .before .before .before .before .before .before .before .before .before .before .before .before .before .before .before .before .before .before .before .before in
     let p = start .pre .0 in
     let z = start .pre .1 .asks in
-    let a = start .args in
-    let hu = p .placed .inside (a .r .0) (z .first) in
-    let n = c .before .before .before .before .before .before .before .before .before .before .before .before .nearest .inv in
-    let loop = c .before .before .before .before .before .before .before .before .before .loop in
-    let h = c .before .before .before .before .before .before .before .before .loop-test .taken in
-    let trace = c .before .before .before .trace in
-    (p, foresee-asks p _ z _ (n .9) h (loop .inv .3 h) _ (trace .kept .1 .1 .1 .0 ∙ loop .inv .1) (omega (arith, n .6, n .7, n .8, p .most)) (trace .ensures) _ (loop .inv .5))
+    let n = c .before .before .before .before .before .before .before .before .before .before .before .before .before .nearest .inv in
+    let loop = c .before .before .before .before .before .before .before .before .before .before .loop in
+    let h = c .before .before .before .before .before .before .before .before .before .loop-test .taken in
+    let trace = c .before .before .before .before .trace in
+    (p, foresee-asks p _ z _ (n .9) h (loop .inv .3 h) _ (trace .kept .1 .1 .1 .0 ∙ loop .inv .1) (omega (arith, n .6, n .7, n .8, p .most)) (trace .ensures) _ _ (loop .inv .6) (loop .inv .5))
 
 enum-known-tried : tie.Need-enum-known-tried Inv-loop μ-loop Inv-nearest μ-nearest
 enum-known-tried c = c .match .keys1
@@ -226,14 +231,15 @@ loop-again c =
     let l = c .next-from .ensures in
     ⊎-elim
     (λ q. (
-      ap length (q .13) ∙ q .7 .kept .1 .1 .1 .1 .1 .1 .1 .0 ∙ loop .inv .0,
-      ap length (q .14) ∙ q .3 .kept .1 .1 .1 .0 ∙ loop .inv .1,
+      ap length (q .15) ∙ q .8 .kept .1 .1 .1 .1 .1 .1 .1 .0 ∙ loop .inv .0,
+      ap length (q .16) ∙ q .3 .kept .1 .1 .1 .0 ∙ loop .inv .1,
       l .upto,
       l .hit,
       λ t b.
-          let w = q .7 .ensures .tried t b (sym (is-junction .ensures t) ∙ q .0 .taken) in
-          sought-more t _ _ _ (p .most) hu _ _ (nearest .inv .9 t .ringing) _ _ (loop .inv .4 t b) (w .fails (q .12 .given .1)) l,
-      rw (q .15) (q .7 .ensures .scouted),
+          let w = q .8 .ensures .tried t b (sym (is-junction .ensures t) ∙ q .0 .taken) in
+          sought-more t _ _ _ (p .most) hu _ _ (nearest .inv .9 t .ringing) _ _ (loop .inv .4 t b) (w .fails (q .14 .given .1)) l,
+      rw (q .17, q .18) (q .8 .ensures .scouted),
+      ap length (q .17) ∙ q .8 .kept .1 .1 .1 .1 .1 .1 .0 ∙ loop .inv .6,
     ))
     (λ q. (
       ap length (q .1) ∙ loop .inv .0,
@@ -241,7 +247,8 @@ loop-again c =
       l .upto,
       l .hit,
       λ t b. sought-more t _ _ _ (p .most) hu _ _ (nearest .inv .9 t .ringing) _ _ (loop .inv .4 t b) (fitting-not _ _ _ _ _ (sym (is-junction .ensures t) ∙ q .0 .left)) l,
-      rw (q .3) (loop .inv .5),
+      rw (q .3, q .4) (loop .inv .5),
+      ap length (q .3) ∙ loop .inv .6,
     ))
     (c .before .before .if1 .came)
 
@@ -311,24 +318,20 @@ nearest-again c =
       λ t. search-more t (p .most) _ hu _ (n .9 t) (w .ensures) (n .6) (omega (arith, met-size, p .most)) (omega (arith, g .more, grew)),
       loop .inv .5,
       λ t b. sought-next t _ _ _ (p .most) hu _ _ (n .9 t .ringing) _ (loop .inv .4 t b) (c .before .before .before .before .before .before .before .before .before .before .loop-test .left),
+      loop .inv .6,
     )
 
 same-length : tie.Need-same-length Inv-loop μ-loop Inv-nearest μ-nearest
-same-length c = c .before .before .before .before .before .before .try-junction .kept .1 .1 .1 .1 .1 .1 .1 .0 ∙ c .before .before .before .before .before .before .before .before .before .before .before .before .before .before .before .before .loop .inv .0 ∙ c .before .before .before .before .before .before .before .before .before .before .before .before .before .before .before .before .before .before .before .nearest .inv .0
+same-length c = c .before .before .before .before .before .before .before .try-junction .kept .1 .1 .1 .1 .1 .1 .1 .0 ∙ c .before .before .before .before .before .before .before .before .before .before .before .before .before .before .before .before .before .before .loop .inv .0 ∙ c .before .before .before .before .before .before .before .before .before .before .before .before .before .before .before .before .before .before .before .before .before .nearest .inv .0
 
 returns : tie.Need-returns Inv-loop μ-loop Inv-nearest μ-nearest
 returns c =
-    let start = c .before .before .before .before .before .before .before .before .before .before .before .before .before .before .before .before .before .before .before .before .before .before .before .before .before .before .before .before .before .before .before .before .before .before in
-    let p = start .pre .0 in
-    let z = start .pre .1 .asks in
-    let a = start .args in
-    let hu = p .placed .inside (a .r .0) (z .first) in
-    let try-junction = c .before .before .before .before .before .before .try-junction in
-    let if1 = c .before .before .before .before .before .before .before .before .before .before .before .before .before .if1 in
-    let is-junction = c .before .before .before .before .before .before .before .before .before .before .before .before .before .before .is-junction in
-    let loop = c .before .before .before .before .before .before .before .before .before .before .before .before .before .before .before .before .loop in
-    let n = c .before .before .before .before .before .before .before .before .before .before .before .before .before .before .before .before .before .before .before .nearest .inv in
-    let h = c .before .before .before .before .before .before .before .before .before .before .before .before .before .before .before .loop-test .taken in
+    let try-junction = c .before .before .before .before .before .before .before .try-junction in
+    let if1 = c .before .before .before .before .before .before .before .before .before .before .before .before .before .before .before .if1 in
+    let is-junction = c .before .before .before .before .before .before .before .before .before .before .before .before .before .before .before .before .is-junction in
+    let loop = c .before .before .before .before .before .before .before .before .before .before .before .before .before .before .before .before .before .before .loop in
+    let n = c .before .before .before .before .before .before .before .before .before .before .before .before .before .before .before .before .before .before .before .before .before .nearest .inv in
+    let h = c .before .before .before .before .before .before .before .before .before .before .before .before .before .before .before .before .before .loop-test .taken in
     let e : try-junction .result .tried ≡ Done (c .before .tried .given .0 .0) = c .before .tried .given .1 in
     record {
       few = rw e at (try-junction .ensures .few);
@@ -383,7 +386,7 @@ seek-far-spec =
     slice-aggregate-first-far
     first-far-requires
     loop-holds
-    cast-t42
+    cast-t44
     is-junction-requires
     slice-aggregate-trace
     slice-aggregate-trace-2
@@ -391,6 +394,7 @@ seek-far-spec =
     add-rails
     array-share-prefix-path
     slice-aggregate-try-junction
+    slice-aggregate-try-junction-2
     try-junction-requires
     enum-known-tried
     enum-told

@@ -7,11 +7,14 @@ use Rattle.seek.proofs.try_junction.Statement.{statement}
 use Rattle.seek.proofs.try_junction.Tie as tie
 
 hope-requires : tie.Need-hope-requires
-hope-requires c κs = search needs
+hope-requires c κs = c .before .before .before .before .before .before .before .before .before .before .pre
+
+same-length : tie.Need-same-length
+same-length c = c .before .before .before .before .hope .kept .1 .1 .1 .1 .1 .1 .1 .0
 
 returns : tie.Need-returns
 returns c =
-    let hope = c .before .before .hope .ensures in
+    let hope = c .before .before .before .before .hope .ensures in
     record {
       scouted = hope .scouted;
       few = tt;
@@ -20,16 +23,19 @@ returns c =
 
 try-on-requires : tie.Need-try-on-requires
 try-on-requires c κs =
-    let start = c .before .before .before .before .before .before .before .before .before .before in
+    let start = c .before .before .before .before .before .before .before .before .before .before .before .before .before .before .before .before in
     (start .pre .0, start .pre .1 .on-path)
 
-same-length : tie.Need-same-length
-same-length c = search needs
+same-length-2 : tie.Need-same-length-2
+same-length-2 c = search needs
+
+same-length-3 : tie.Need-same-length-3
+same-length-3 c = search needs
 
 returns-2 : tie.Need-returns-2
 returns-2 c =
-    let z = c .before .before .before .before .before .before .before .before .before .before .before .before .before .pre .1 in
-    let hope = c .before .before .before .before .before .before .hope .ensures in
+    let z = c .before .before .before .before .before .before .before .before .before .before .before .before .before .before .before .before .before .before .before .pre .1 in
+    let hope = c .before .before .before .before .before .before .before .before .hope .ensures in
     let made = c .before .before .try-on .ensures in
     record {
       scouted = hope .scouted;
@@ -39,4 +45,12 @@ returns-2 c =
 
 pub try-junction-spec : {M : Type 1} → statement M
 try-junction-spec =
-    tie.close (tie.spec hope-requires returns try-on-requires same-length returns-2)
+    tie.close
+    (tie.spec
+    hope-requires
+    same-length
+    returns
+    try-on-requires
+    same-length-2
+    same-length-3
+    returns-2)
