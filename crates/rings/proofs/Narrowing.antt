@@ -3,22 +3,20 @@
 -- Assumes nothing.
 use mathlib.Core.Path.{_≡_, refl, sym, _∙_}
 use mathlib.Core.Bool.{Bool, true, false}
-use mathlib.Core.List.{List, [], _++_, append-assoc}
+use mathlib.Core.List.{List, []}
 use mathlib.Core.Option.{some}
 use Prim.Native.Nat.{ℕ, suc, _+_, _-_, _*_, _/_, _%_, _≤_, _<_}
-use native.Mathlib.Decide.{ℕ-discrete, decLt}
+use native.Mathlib.Decide.{ℕ-discrete}
 use native.Mathlib.Numerals.{add-one}
 use native.Mathlib.Omega.{arith}
 use lib.Bits.{bitAnd}
 use lib.Dec.{eqb}
 use lib.ListN.{length, getD, set, take}
-use lib.Seq.{take-suc-set}
-use Rattle.paper.proofs.Members.{lowest-least, in-count, In-head}
+use Rattle.paper.proofs.Members.{in-count, In-head}
 use Rattle.paper.specs.Basics.{_and_, elem, In, Out}
-use Rattle.paper.specs.Yard.{Bay, Yard, joined}
-use Rattle.paper.specs.Path.{Free, rings, inward}
-use Rattle.paper.proofs.Tests.{not-both, and-left, and-right, and-both}
-use Rattle.paper.proofs.Shortest.{Next, next, inward-zero}
+use Rattle.paper.specs.Yard.{Bay, Yard}
+use Rattle.paper.specs.Path.{Free, rings}
+use Rattle.paper.proofs.Tests.{and-left, and-right, and-both}
 use Rattle.words.specs.Sets.{mem, memRow, on, words, span, Lowest, Kept, Beside}
 use Rattle.words.proofs.Bits.{on-and}
 use Rattle.words.proofs.Loops.{Done}
@@ -29,7 +27,7 @@ use Rattle.rings.specs.Search.{around, Shown, ringOn, Searched}
 use Rattle.rings.specs.Ways.{Ended, onPath, Narrowed, Outside, pathOut, KeptBeside, WayFound, endOf, wayLength}
 use Rattle.rings.specs.declared.Way.{Way}
 use Rattle.rings.proofs.Searching.{ring-first, ring-inside, in-yard}
-use Rattle.rings.proofs.Reading.{nearest-at}
+use Rattle.rings.proofs.Reading.{nearest-at, Read, read-none, read-next, read-more, lowest-next}
 use Rattle.rings.proofs.Between.{between-end, between-inside, between-beside, further, start-far, shortest-far}
 
 -- word by word, the bays of both
@@ -114,73 +112,47 @@ narrowing-all t k i kept rows′ l g = record { rowing = λ j b f m h. g .narrow
 -- ## From x on
 
 module _ {n : ℕ} {table rows : List ℕ} {d x : ℕ} (t : Outside n table rows d x) where
-  abbrev goalRings : List (List Bay)
-  goalRings = rings (t .yard) (t .held) (t .goal)
-
   x-free : Free (t .yard) (t .held) x
   x-free = free-start (t .yard) (t .held) x (t .joins) (t .home) (t .unheld)
 
-  -- i bays of the path are in the room, and u is the next
+  -- besides, u is i rails from x
   pub record Going (i u : ℕ) (room : List ℕ) : Type 0 where
     pub far : In u (around (t .yard) (t .held) x i)
-    pub near : In u (getD goalRings (d - i) [])
-    pub so-far : pathOut t ≡ take i room ++ inward (t .yard) goalRings (d - i) u
+    pub read : Read (t .yard) (t .held) (t .goal) d x i u room
+
+  far-inside : (i b : ℕ) → In b (around (t .yard) (t .held) x i) → b < n
+  far-inside i b far = rw (t .joins .bays) at (ring-inside (t .yard) (t .held) x i b (rw (t .joins .bays) (t .home)) far)
 
   pub going-inside : (i u : ℕ) (room : List ℕ) → Going i u room → u < n
-  going-inside i u room g = rw (t .joins .bays) at (ring-inside (t .yard) (t .held) x i u (rw (t .joins .bays) (t .home)) (g .far))
+  going-inside i u room g = far-inside i u (g .far)
 
   pub going-first : (room : List ℕ) → Going 0 x room
   going-first room =
-      let e : d - 0 ≡ d = omega arith in
       let some-bay : 0 < t .yard .bays = rw (t .joins .bays) (let h = t .home in omega arith) in
       record {
         far = rw (ring-first (t .yard) (t .held) x some-bay) (In-head x []);
-        near = rw e (start-far (t .yard) (t .held) x (t .goal) d x-free (t .there));
-        so-far = rw e;
+        read = read-none (t .yard) (t .held) (t .goal) d x room (start-far (t .yard) (t .held) x (t .goal) d x-free (t .there));
       }
 
   -- the lowest kept neighbour is the path's next bay
-  lowest-kept : (i u r : ℕ) (room : List ℕ) → n ≤ span → i < d → Going i u room → (s : Next (t .yard) (t .held) (t .goal) (d - 1 - i) u)
-      → Lowest (λ b. memRow table u b and memRow rows (i + 1) b) 0 span r
-      → (s .bay ≡ r) × In r (around (t .yard) (t .held) x (suc i)) × In r (getD goalRings (d - 1 - i) [])
-  lowest-kept i u r room most h g s l =
+  pub going-more : (i u v : ℕ) (room : List ℕ) → n ≤ span → i < d → i < length room → Going i u room
+      → Lowest (λ b. memRow table u b and memRow rows (i + 1) b) 0 span v → Going (i + 1) v (set room i u)
+  going-more i u v room most h len g l =
       let Y = t .yard in
       let k : ℕ = d - 1 - i in
       let sum : suc i + k ≡ d = omega arith in
       let row : d - (i + 1) ≡ k = omega arith in
-      let hu : u < n = going-inside i u room g in
+      let s = read-next Y (t .held) (t .goal) d x h (g .read) in
       let bay-far : In (s .bay) (around Y (t .held) x (suc i)) =
       further Y (t .held) x (t .goal) d x-free (t .there) i k sum u (s .bay) (g .far) (s .rail) (s .nearer) in
-      let hb : s .bay < n = rw (t .joins .bays) at (ring-inside Y (t .held) x (suc i) (s .bay) (rw (t .joins .bays) (t .home)) bay-far) in
-      let kept : (b : ℕ) → b < span → memRow rows (i + 1) b ≡ elem b (around Y (t .held) x (suc i)) and elem b (getD goalRings k []) =
+      let low : s .bay < n = far-inside (suc i) (s .bay) bay-far in
+      let kept : (b : ℕ) → b < span → memRow rows (i + 1) b ≡ elem b (around Y (t .held) x (suc i)) and elem b (getD (rings Y (t .held) (t .goal)) k []) =
       λ b m. t .rowing (i + 1) b (omega arith) (omega arith) m ∙ rw (row, add-one) in
-      let one : memRow table u (s .bay) ≡ true = t .joins .same u (s .bay) hu (omega arith) ∙ s .rail in
-      let two : memRow rows (i + 1) (s .bay) ≡ true = kept (s .bay) (omega arith) ∙ and-both _ _ bay-far (s .nearer) in
-      let r-low : r ≤ s .bay = elim (decLt (s .bay) r) [ yes m ↦ not-both (and-both _ _ one two) (l .before (s .bay) (omega arith) m) | no m ↦ omega arith ] in
-      let hit : memRow table u r and memRow rows (i + 1) r ≡ true = l .hit (omega arith) in
-      let r-kept : elem r (around Y (t .held) x (suc i)) and elem r (getD goalRings k []) ≡ true = sym (kept r (omega arith)) ∙ and-right _ _ hit in
-      let r-joined : joined Y u r ≡ true = sym (t .joins .same u r hu (omega arith)) ∙ and-left _ _ hit in
-      let b-low : s .bay ≤ r = lowest-least (joined Y u) (getD goalRings k []) (s .found) r (and-right _ _ r-kept) r-joined in
-      (omega arith, and-left _ _ r-kept, and-right _ _ r-kept)
-
-  pub going-more : (i u r : ℕ) (room : List ℕ) → n ≤ span → i < d → i < length room → Going i u room
-      → Lowest (λ b. memRow table u b and memRow rows (i + 1) b) 0 span r → Going (i + 1) r (set room i u)
-  going-more i u r room most h len g l =
-      let e : d - i ≡ suc (d - 1 - i) = omega arith in
-      let f : d - (i + 1) ≡ d - 1 - i = omega arith in
-      let s = next (t .yard) (t .held) (t .goal) (d - 1 - i) u (rw e at (g .near)) in
-      let z = lowest-kept i u r room most h g s l in
+      let same = lowest-next Y (t .held) (t .goal) d x rows (t .joins) most (i + 1) k u v (going-inside i u room g) s low (kept (s .bay) (omega arith) ∙ and-both _ _ bay-far (s .nearer)) (λ b m e. and-right _ _ (sym (kept b m) ∙ e)) l in
       record {
-        far = rw add-one (z .1);
-        near = rw f (z .2);
-        so-far = g .so-far ∙ rw (e, s .goes-on, z .0, f, add-one, take-suc-set room i u len, append-assoc);
+        far = rw add-one (rw same at bay-far);
+        read = read-more Y (t .held) (t .goal) d x i u v room h len (g .read) s same;
       }
-
-  pub going-all : (i u : ℕ) (room : List ℕ) → i ≡ d → i < length room → Going i u room → take (d + 1) (set room i u) ≡ pathOut t
-  going-all i u room e len g =
-      let z : d - i ≡ 0 = omega arith in
-      let f : d + 1 ≡ suc i = omega arith in
-      rw (f, take-suc-set room i u len) (sym (g .so-far ∙ rw (z, inward-zero)))
 
 -- ## The way to the nearest
 

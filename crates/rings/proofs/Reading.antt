@@ -5,7 +5,7 @@ use mathlib.Core.Path.{_≡_, refl, sym, ap, _∙_}
 use mathlib.Core.Bool.{Bool, true, false}
 use mathlib.Core.List.{List, [], _++_, append-assoc}
 use mathlib.Core.Option.{none, some}
-use Prim.Native.Nat.{ℕ, zero, suc, _+_, _-_, _*_, _≤_, _<_}
+use Prim.Native.Nat.{ℕ, suc, _+_, _-_, _*_, _≤_, _<_}
 use native.Mathlib.Decide.{ℕ-discrete, decLt}
 use native.Mathlib.Numerals.{add-one}
 use native.Mathlib.Omega.{arith}
@@ -15,7 +15,7 @@ use lib.Seq.{take-suc-set}
 use borrow.Author.Tests.{eq-eqb, ne-eqb}
 use Rattle.paper.proofs.Members.{lowest-least, In-nil}
 use Rattle.paper.specs.Basics.{_and_, elem, In}
-use Rattle.paper.specs.Yard.{Bay, joined}
+use Rattle.paper.specs.Yard.{Bay, Yard, joined}
 use Rattle.paper.specs.Path.{rings, nearestFirst, nearestOf, ringOf, inward, shortestPath, pathBetween}
 use Rattle.paper.proofs.Tests.{by-cases, not-both, and-left, and-right, and-both, never-some, never}
 use Rattle.paper.proofs.Rings.{distance-in, distance-least, in-concat}
@@ -23,6 +23,7 @@ use Rattle.paper.proofs.Nearest.{nearest-chosen, nearest-none}
 use Rattle.paper.proofs.Shortest.{Next, next, inward-zero}
 use Rattle.words.specs.Sets.{mem, memRow, Lowest, words, span}
 use Rattle.words.proofs.Sets.{row-zero}
+use Rattle.yard.specs.Table.{Table}
 use Rattle.choice.specs.Taking.{Rowed, Taken}
 use Rattle.choice.proofs.Taking.{taken-chosen}
 use Rattle.rings.specs.Search.{Shown, ringOn, Searched, GoesOn}
@@ -101,58 +102,76 @@ module _ {n : ℕ} {table held : List ℕ} (s : Shown n table held) (x : Bay) (m
         ]
       ]
 
+-- ## A path read bay by bay
+
+module _ (Y : Yard) (held : List Bay) (goal : Bay) (d x : ℕ) where
+  abbrev goalRings : List (List Bay)
+  goalRings = rings Y held goal
+
+  -- i bays of the path from x to the goal, d rails long, are in the room, and u is the next
+  pub record Read (i u : ℕ) (room : List ℕ) : Type 0 where
+    pub near : In u (getD goalRings (d - i) [])
+    pub so-far : inward Y goalRings d x ≡ take i room ++ inward Y goalRings (d - i) u
+
+  pub read-none : (room : List ℕ) → In x (getD goalRings d []) → Read 0 x room
+  read-none room i = let e : d - 0 ≡ d = omega arith in record { near = rw e i; so-far = rw e }
+
+  -- the paper's next bay after u
+  pub read-next : {i u : ℕ} {room : List ℕ} → i < d → Read i u room → Next Y held goal (d - 1 - i) u
+  read-next {i} {u} h r = let e : d - i ≡ suc (d - 1 - i) = omega arith in next Y held goal (d - 1 - i) u (rw e at (r .near))
+
+  pub read-more : (i u v : ℕ) (room : List ℕ) → i < d → i < length room → Read i u room → (s : Next Y held goal (d - 1 - i) u) → s .bay ≡ v → Read (i + 1) v (set room i u)
+  read-more i u v room h len r s same =
+      let e : d - i ≡ suc (d - 1 - i) = omega arith in
+      let f : d - (i + 1) ≡ d - 1 - i = omega arith in
+      record {
+        near = rw f (rw same at (s .nearer));
+        so-far = r .so-far ∙ rw (e, s .goes-on, same, f, add-one, take-suc-set room i u len, append-assoc);
+      }
+
+  pub read-all : (i u : ℕ) (room : List ℕ) → i ≡ d → i < length room → Read i u room → take (d + 1) (set room i u) ≡ inward Y goalRings d x
+  read-all i u room e len r =
+      let z : d - i ≡ 0 = omega arith in
+      let f : d + 1 ≡ suc i = omega arith in
+      rw (f, take-suc-set room i u len) (sym (r .so-far ∙ rw (z, inward-zero)))
+
+  -- the lowest neighbour in a row is the next bay, if that is in the row, and of the row each bay is in the ring one nearer
+  pub lowest-next : {n : ℕ} {table : List ℕ} (rows : List ℕ) → Table Y n table → n ≤ span → (row k u v : ℕ) → u < n → (s : Next Y held goal k u) → s .bay < n
+      → memRow rows row (s .bay) ≡ true → ((b : ℕ) → b < span → memRow rows row b ≡ true → In b (getD goalRings k []))
+      → Lowest (λ b. memRow table u b and memRow rows row b) 0 span v → s .bay ≡ v
+  lowest-next {n} {table} rows joins most row k u v hu s hb there nearer l =
+      let one : memRow table u (s .bay) ≡ true = joins .same u (s .bay) hu (omega arith) ∙ s .rail in
+      let both : memRow table u (s .bay) and memRow rows row (s .bay) ≡ true = and-both _ _ one there in
+      let v-low : v ≤ s .bay = elim (decLt (s .bay) v) [ yes m ↦ not-both both (l .before (s .bay) (omega arith) m) | no m ↦ omega arith ] in
+      let hit : memRow table u v and memRow rows row v ≡ true = l .hit (omega arith) in
+      let v-in : In v (getD goalRings k []) = nearer v (omega arith) (and-right _ _ hit) in
+      let v-joined : joined Y u v ≡ true = sym (joins .same u v hu (omega arith)) ∙ and-left _ _ hit in
+      let b-low : s .bay ≤ v = lowest-least (joined Y u) (getD goalRings k []) (s .found) v v-in v-joined in
+      omega arith
+
 -- ## The path inward
 
 module _ {n : ℕ} {table rows : List ℕ} {d x : ℕ} (t : Inside n table rows d x) where
-  abbrev goalRings : List (List Bay)
-  goalRings = rings (t .yard) (t .held) (t .goal)
+  abbrev pub Walked : ℕ → ℕ → List ℕ → Type 0
+  Walked i u room = Read (t .yard) (t .held) (t .goal) d x i u room
 
-  -- i bays of the path are in the room, and u is the next
-  pub record Walked (i u : ℕ) (room : List ℕ) : Type 0 where
-    pub near : In u (getD goalRings (d - i) [])
-    pub so-far : pathIn t ≡ take i room ++ inward (t .yard) goalRings (d - i) u
+  ring-low : (k b : ℕ) → In b (getD (rings (t .yard) (t .held) (t .goal)) k []) → b < n
+  ring-low k b i = rw (t .joins .bays) at (ring-inside (t .yard) (t .held) (t .goal) k b (rw (t .joins .bays) (t .home)) i)
 
   pub walked-inside : (i u : ℕ) (room : List ℕ) → Walked i u room → u < n
-  walked-inside i u room w =
-      let h : t .goal < t .yard .bays = rw (t .joins .bays) (t .home) in
-      rw (t .joins .bays) at (ring-inside (t .yard) (t .held) (t .goal) (d - i) u h (w .near))
+  walked-inside i u room w = ring-low (d - i) u (w .near)
 
   pub walked-none : (room : List ℕ) → Walked 0 x room
-  walked-none room = let e : d - 0 ≡ d = omega arith in record { near = rw e (t .start); so-far = rw e }
+  walked-none room = read-none (t .yard) (t .held) (t .goal) d x room (t .start)
 
-  -- the lowest neighbour in the ring one nearer is the path's next bay
-  lowest-next : (k u r : ℕ) → n ≤ span → k ≤ d → u < n → (s : Next (t .yard) (t .held) (t .goal) k u)
-      → Lowest (λ b. memRow table u b and memRow rows k b) 0 span r → (s .bay ≡ r) × In r (getD goalRings k [])
-  lowest-next k u r most hk hu s l =
-      let home : t .goal < t .yard .bays = rw (t .joins .bays) (t .home) in
-      let hb : s .bay < n = rw (t .joins .bays) at (ring-inside (t .yard) (t .held) (t .goal) k (s .bay) home (s .nearer)) in
-      let one : memRow table u (s .bay) ≡ true = t .joins .same u (s .bay) hu (omega arith) ∙ s .rail in
-      let two : memRow rows k (s .bay) ≡ true = t .rowing k (s .bay) hk (omega arith) ∙ s .nearer in
-      let both : memRow table u (s .bay) and memRow rows k (s .bay) ≡ true = and-both _ _ one two in
-      let r-low : r ≤ s .bay = elim (decLt (s .bay) r) [ yes m ↦ not-both both (l .before (s .bay) (omega arith) m) | no m ↦ omega arith ] in
-      let hit : memRow table u r and memRow rows k r ≡ true = l .hit (omega arith) in
-      let r-in : In r (getD goalRings k []) = sym (t .rowing k r hk (omega arith)) ∙ and-right _ _ hit in
-      let r-joined : joined (t .yard) u r ≡ true = sym (t .joins .same u r hu (omega arith)) ∙ and-left _ _ hit in
-      let b-low : s .bay ≤ r = lowest-least (joined (t .yard) u) (getD goalRings k []) (s .found) r r-in r-joined in
-      (omega arith, r-in)
-
-  pub walked-more : (i u r : ℕ) (room : List ℕ) → n ≤ span → i < d → i < length room → Walked i u room
-      → Lowest (λ b. memRow table u b and memRow rows (d - 1 - i) b) 0 span r → Walked (i + 1) r (set room i u)
-  walked-more i u r room most h len w l =
-      let e : d - i ≡ suc (d - 1 - i) = omega arith in
-      let f : d - (i + 1) ≡ d - 1 - i = omega arith in
-      let s = next (t .yard) (t .held) (t .goal) (d - 1 - i) u (rw e at (w .near)) in
-      let z = lowest-next (d - 1 - i) u r most (omega arith) (walked-inside i u room w) s l in
-      record {
-        near = rw f (z .1);
-        so-far = w .so-far ∙ rw (e, s .goes-on, z .0, f, add-one, take-suc-set room i u len, append-assoc);
-      }
-
-  pub walked-all : (i u : ℕ) (room : List ℕ) → i ≡ d → i < length room → Walked i u room → take (d + 1) (set room i u) ≡ pathIn t
-  walked-all i u room e len w =
-      let z : d - i ≡ 0 = omega arith in
-      let f : d + 1 ≡ suc i = omega arith in
-      rw (f, take-suc-set room i u len) (sym (w .so-far ∙ rw (z, inward-zero)))
+  pub walked-more : (i u v : ℕ) (room : List ℕ) → n ≤ span → i < d → i < length room → Walked i u room
+      → Lowest (λ b. memRow table u b and memRow rows (d - 1 - i) b) 0 span v → Walked (i + 1) v (set room i u)
+  walked-more i u v room most h len w l =
+      let k : ℕ = d - 1 - i in
+      let s = read-next (t .yard) (t .held) (t .goal) d x h w in
+      let low : s .bay < n = ring-low k (s .bay) (s .nearer) in
+      let same = lowest-next (t .yard) (t .held) (t .goal) d x rows (t .joins) most k k u v (walked-inside i u room w) s low (t .rowing k (s .bay) (omega arith) (omega arith) ∙ s .nearer) (λ b m e. sym (t .rowing k b (omega arith) m) ∙ e) l in
+      read-more (t .yard) (t .held) (t .goal) d x i u v room h len w s same
 
 -- ## What the functions answer
 

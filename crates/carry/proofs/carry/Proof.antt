@@ -13,6 +13,7 @@ use Rattle.paper.proofs.Playing.{Apart}
 use Rattle.words.specs.Sets.{span}
 use Rattle.moving.specs.Bounds.{swap-most}
 use Rattle.acting.specs.Acting.{Tabled}
+use Rattle.acting.specs.declared.Tally.{Tally}
 use Rattle.step.specs.Asking.{BaysBelow}
 use Rattle.acting.proofs.Holding.{ready-again}
 use Rattle.acting.proofs.Lending.{rest-lent}
@@ -37,6 +38,43 @@ Inv-loop table owner placement₀ standing₀ empty₀ settled₀ out₀ path k 
 abbrev μ-loop : tie.MeasureT-loop
 μ-loop table owner placement₀ standing₀ empty₀ settled₀ out₀ path k at finished i₀ placement standing empty settled out count i =
     i
+
+-- what is known once r has gone its path: the first k bays in the room
+module _ (g : tie.After-gone Inv-loop μ-loop) where
+  abbrev path : List ℕ
+  path = g .before .before .before .before .before .before .before .before .before .before .before .before .before .go-along .last .1 .1 .1 .1 .1 .1 .1 .0
+
+  abbrev k : ℕ
+  k = g .gone .given .0 .0
+
+  abbrev done : Tally
+  done = g .gone .given .0 .1 .0
+
+  there : g .before .before .before .before .before .before .before .before .before .before .before .before .before .go-along .result ≡ There k done
+  there = g .gone .given .1
+
+  low : k ≤ span
+  low = omega (arith, g .before .before .before .before .before .before .before .before .before .before .before .before .before .go-along .ensures .arrives .fits k done there, g .before .before .before .before .before .before .before .before .before .before .before .before .before .before .before .before .before .before .before .before .before .before .before .before .before .before .before .before .pre .0 .most)
+
+  fits : k ≤ length path
+  fits = let kept : length path ≡ span = g .before .before .before .before .before .before .before .before .before .before .before .before .before .go-along .kept .1 .1 .1 .1 .1 .1 .1 .0 in omega (arith, low, kept)
+
+  same-standing : length (g .before .before .before .before .before .before .before .before .before .before .before .before .before .go-along .last .1 .1 .1 .0) ≡ length (g .before .before .before .before .before .before .before .before .before .before .before .before .before .before .before .before .before .before .before .before .before .before .before .before .before .before .before .before .args .standing .now)
+  same-standing = g .before .before .before .before .before .before .before .before .before .before .before .before .before .go-along .kept .1 .1 .1 .0
+
+-- and of the bay that is looked after: it is between the path's first bay and its last
+module _ (t : tie.In-loop Inv-loop μ-loop) where
+  abbrev gone : tie.After-gone Inv-loop μ-loop
+  gone = t .before .before .before .before .before
+
+  one : t .before .loop .i - 1 + 1 ≡ t .before .loop .i
+  one = omega (arith, t .loop-test .taken)
+
+  here : t .before .loop .i - 1 < length (between (k gone) (path gone))
+  here = omega (arith, t .loop-test .taken, t .before .loop .inv .0, between-length (k gone) (path gone) (fits gone))
+
+  get : getD (path gone) (t .before .loop .i) 0 ≡ getD (between (k gone) (path gone)) (t .before .loop .i - 1) 0
+  get = rw one at (between-get (k gone) (path gone) (fits gone) (t .before .loop .i - 1) here)
 
 slice-aggregate-room : tie.Need-slice-aggregate-room Inv-loop μ-loop
 slice-aggregate-room c = search needs
@@ -90,26 +128,15 @@ same-length-10 c = c .before .before .before .before .before .before .before .be
 
 returns-2 : tie.Need-returns-2 Inv-loop μ-loop
 returns-2 c =
-    let gone = c .before .before .gone in
+    let g = c .before .before in
     let go-along = c .before .before .before .before .before .before .before .before .before .before .before .before .before .before .before .go-along in
     let start = c .before .before .before .before .before .before .before .before .before .before .before .before .before .before .before .before .before .before .before .before .before .before .before .before .before .before .before .before .before .before in
-    let p = start .pre .0 in
-    let z = start .pre .1 .0 in
-    let a = start .args in
-    let r = a .to .carrier .0 in
-    let room = go-along .last .1 .1 .1 .1 .1 .1 .1 .0 in
-    let k = gone .given .0 .0 in
-    let m = gone .given .0 .1 .0 in
-    let e : go-along .result ≡ There k m = gone .given .1 in
-    let kept : length room ≡ span = go-along .kept .1 .1 .1 .1 .1 .1 .1 .0 in
     let arrived = go-along .ensures .arrives in
-    let same = length-take-le k room (omega (arith, arrived .fits k m e, p .most, kept)) in
+    let same = length-take-le (k g) (path g) (fits g) in
     record {
-      at-most = at-most (omega (arith, arrived .few k m e, c .if1 .taken));
-      stages = λ t b o.
-          let g = (go-along .ensures .goes t b) .there k m e in
-          gone-short t p z b g (omega (arith, same, c .if1 .taken));
-      settles = settles (arrived .below k m e);
+      at-most = at-most (omega (arith, arrived .few (k g) (done g) (there g), c .if1 .taken));
+      stages = λ t b o. gone-short t (start .pre .0) (start .pre .1 .0) b ((go-along .ensures .goes t b) .there (k g) (done g) (there g)) (omega (arith, same, c .if1 .taken));
+      settles = settles (arrived .below (k g) (done g) (there g));
     }
 
 cast-finished : tie.Need-cast-finished Inv-loop μ-loop
@@ -123,59 +150,37 @@ sub-i c = omega (arith, c .before .if1 .left)
 
 loop-holds : tie.Need-loop-holds Inv-loop μ-loop
 loop-holds c =
-    let gone = c .before .before .before .gone in
+    let g = c .before .before .before in
     let go-along = c .before .before .before .before .before .before .before .before .before .before .before .before .before .before .before .before .go-along in
     let start = c .before .before .before .before .before .before .before .before .before .before .before .before .before .before .before .before .before .before .before .before .before .before .before .before .before .before .before .before .before .before .before in
-    let p = start .pre .0 in
-    let room = go-along .last .1 .1 .1 .1 .1 .1 .1 .0 in
-    let k = gone .given .0 .0 in
-    let m = gone .given .0 .1 .0 in
-    let e : go-along .result ≡ There k m = gone .given .1 in
-    let kept : length room ≡ span = go-along .kept .1 .1 .1 .1 .1 .1 .1 .0 in
-    let arrived = go-along .ensures .arrives in
-    let g = (go-along .ensures .goes (p .tabled) (start .pre .1 .1 .bound)) .there k m e in
-    let kw : length (go-along .last .1 .1 .1 .0) ≡ length (start .args .standing .now) = go-along .kept .1 .1 .1 .0 in
-    let all : length (between k room) ≤ k - 2 = omega (arith, between-length k room (omega (arith, arrived .fits k m e, p .most, kept))) in (
+    let went = (go-along .ensures .goes (start .pre .0 .tabled) (start .pre .1 .1 .bound)) .there (k g) (done g) (there g) in
+    let all : length (between (k g) (path g)) ≤ k g - 2 = omega (arith, between-length (k g) (path g) (fits g)) in (
       omega arith,
       omega arith,
       refl,
       refl,
       refl,
       refl,
-      λ goals h apart many same o. rw (drop-of-length-le (between k room) all) (h .settled),
-      λ t goals many o. homed-none _ _ _ _ _ _ _ _ _ _ _ all (rw kw (g .played .placed)),
+      λ goals h apart many same o. rw (drop-of-length-le (between (k g) (path g)) all) (h .settled),
+      λ t goals many o. homed-none _ _ _ _ _ _ _ _ _ _ _ all (rw (same-standing g) (went .played .placed)),
       refl,
-      arrived .below k m e,
+      go-along .ensures .arrives .below (k g) (done g) (there g),
     )
 
 mul-t40 : tie.Need-mul-t40 Inv-loop μ-loop
-mul-t40 c =
-    let l = c .before .loop in
-    let gone = c .before .before .before .before .before .gone in
-    let go-along = c .before .before .before .before .before .before .before .before .before .before .before .before .before .before .before .before .before .before .go-along in
-    let start = c .before .before .before .before .before .before .before .before .before .before .before .before .before .before .before .before .before .before .before .before .before .before .before .before .before .before .before .before .before .before .before .before .before in
-    omega (arith, l .inv .0, go-along .ensures .arrives .fits (gone .given .0 .0) (gone .given .0 .1 .0) (gone .given .1), start .pre .0 .most)
+mul-t40 c = omega (arith, c .before .loop .inv .0, low (gone c))
 
 array-read-t43 : tie.Need-array-read-t43 Inv-loop μ-loop
-array-read-t43 c =
-    let l = c .before .loop in
-    let gone = c .before .before .before .before .before .gone in
-    let go-along = c .before .before .before .before .before .before .before .before .before .before .before .before .before .before .before .before .before .before .go-along in
-    let start = c .before .before .before .before .before .before .before .before .before .before .before .before .before .before .before .before .before .before .before .before .before .before .before .before .before .before .before .before .before .before .before .before .before in
-    omega (arith, l .inv .0, go-along .ensures .arrives .fits (gone .given .0 .0) (gone .given .0 .1 .0) (gone .given .1), start .pre .0 .most)
+array-read-t43 c = omega (arith, c .before .loop .inv .0, low (gone c))
 
 place-in-requires : tie.Need-place-in-requires Inv-loop μ-loop
 place-in-requires c κs = search needs
 
 mul-rest : tie.Need-mul-rest Inv-loop μ-loop
 mul-rest c =
+    let g = c .before .before .before .before .before .before .before in
     let v = c .before .before .before .loop .inv in
-    let arrived = c .before .before .before .before .before .before .before .before .before .before .before .before .before .before .before .before .before .before .before .before .go-along .ensures .arrives in
-    let k = c .before .before .before .before .before .before .before .gone .given .0 .0 in
-    let m = c .before .before .before .before .before .before .before .gone .given .0 .1 .0 in
-    let there : c .before .before .before .before .before .before .before .before .before .before .before .before .before .before .before .before .before .before .before .before .go-along .result ≡ There k m = c .before .before .before .before .before .before .before .gone .given .1 in
-    let start = c .before .before .before .before .before .before .before .before .before .before .before .before .before .before .before .before .before .before .before .before .before .before .before .before .before .before .before .before .before .before .before .before .before .before .before in
-    omega (arith, c .place-in .ensures, v .0, v .1, arrived .few k m there, arrived .fits k m there, start .pre .0 .most)
+    omega (arith, c .place-in .ensures, v .0, v .1, c .before .before .before .before .before .before .before .before .before .before .before .before .before .before .before .before .before .before .before .before .go-along .ensures .arrives .few (k g) (done g) (there g), low g)
 
 sub-rest : tie.Need-sub-rest Inv-loop μ-loop
 sub-rest c = search needs
@@ -188,48 +193,33 @@ part-rest-end c = search needs
 
 home-at-requires : tie.Need-home-at-requires Inv-loop μ-loop
 home-at-requires c κs =
-    let loop-test = c .before .before .before .before .before .before .before .loop-test in
+    let t = c .before .before .before .before .before .before .before in
     let l = c .before .before .before .before .before .before .before .before .loop in
-    let gone = c .before .before .before .before .before .before .before .before .before .before .before .before .gone in
+    let g = c .before .before .before .before .before .before .before .before .before .before .before .before in
     let go-along = c .before .before .before .before .before .before .before .before .before .before .before .before .before .before .before .before .before .before .before .before .before .before .before .before .before .go-along in
     let start = c .before .before .before .before .before .before .before .before .before .before .before .before .before .before .before .before .before .before .before .before .before .before .before .before .before .before .before .before .before .before .before .before .before .before .before .before .before .before .before .before in
     let p = start .pre .0 in
     let z = start .pre .1 .0 in
     let b = start .pre .1 .1 .bound in
     let o = start .pre .1 .1 .owners in
-    let a = start .args in
-    let r = a .to .carrier .0 in
-    let room = go-along .last .1 .1 .1 .1 .1 .1 .1 .0 in
-    let k = gone .given .0 .0 in
-    let m = gone .given .0 .1 .0 in
-    let e : go-along .result ≡ There k m = gone .given .1 in
-    let q = go-along .last .1 .1 .0 in
-    let arrived = go-along .ensures .arrives in
-    let g = (go-along .ensures .goes (p .tabled) b) .there k m e in
-    let kept : length room ≡ span = go-along .kept .1 .1 .1 .1 .1 .1 .1 .0 in
-    let kp : length q ≡ length (a .placement .now) = go-along .kept .1 .1 .0 in
-    let kw : length (go-along .last .1 .1 .1 .0) ≡ length (a .standing .now) = go-along .kept .1 .1 .1 .0 in
-    let fits : k ≤ length room = omega (arith, arrived .fits k m e, p .most, kept) in
-    let h = gone-homeward (p .tabled) p z b g (omega (arith, length-take-le k room fits, c .before .before .before .before .before .before .before .before .before .before .if1 .left)) in
     let v = l .inv in
-    let w : length (l .standing) ≡ length (a .standing .now) = v .3 ∙ kw in
-    let i = l .i - 1 in
-    let one : l .i - 1 + 1 ≡ l .i = omega (arith, loop-test .taken) in
-    let here : i < length (between k room) = omega (arith, loop-test .taken, v .0, between-length k room fits) in
-    let get : getD room (l .i) 0 ≡ getD (between k room) i 0 = rw one at (between-get k room fits i here) in
-    let many : r + 1 ≤ length (b .goals) = omega (arith, z .carrier-there, b .each .many) in
+    let went = (go-along .ensures .goes (p .tabled) b) .there (k g) (done g) (there g) in
+    let kp : length (go-along .last .1 .1 .0) ≡ length (start .args .placement .now) = go-along .kept .1 .1 .0 in
+    let w : length (l .standing) ≡ length (start .args .standing .now) = v .3 ∙ same-standing g in
+    let h = gone-homeward (p .tabled) p z b went (omega (arith, length-take-le (k g) (path g) (fits g), c .before .before .before .before .before .before .before .before .before .before .if1 .left)) in
+    let many : start .args .to .carrier .0 + 1 ≤ length (b .goals) = omega (arith, z .carrier-there, b .each .many) in
     let len : length (l .placement) ≡ length (b .goals) = omega (arith, v .2, kp, b .each .many) in
-    let s = rw (← one) at ((rw kw at (v .6)) (b .goals) h (b .each .apart) many (omega (arith, kp, b .each .many)) o) in
-    let low = turn-low h (b .each .apart) many i here (l .placement) len s in
-    let due = turn-due h (b .each .apart) many i here (l .placement) len s o in
-    let homed = (rw kw at (v .7)) (p .tabled) (b .goals) many o in (
+    let s = rw (← (one t)) at ((rw (same-standing g) at (v .6)) (b .goals) h (b .each .apart) many (omega (arith, kp, b .each .many)) o) in
+    let inside = turn-low h (b .each .apart) many (l .i - 1) (here t) (l .placement) len s in
+    let due = turn-due h (b .each .apart) many (l .i - 1) (here t) (l .placement) len s o in
+    let homed = (rw (same-standing g) at (v .7)) (p .tabled) (b .goals) many o in (
       ready-again p _ _ _ w (v .4 ∙ go-along .kept .1 .1 .1 .1 .0) (homed .played .placed),
       record {
         finished-there = omega (arith, z .carrier-there, v .2, kp);
-        bay-there = rw (w, get) low;
+        bay-there = rw (w, get t) inside;
         owner-size = omega (arith, w, o .many);
         loopless = rw w (z .loopless);
-        due = rw get due;
+        due = rw (get t) due;
         below = v .9;
       },
     )
@@ -258,51 +248,30 @@ same-length-15 c = c .before .before .before .before .before .before .before .be
 returns-3 : tie.Need-returns-3 Inv-loop μ-loop
 returns-3 c =
     let home-at = c .before .before .before .before .before .before .before .before .before .before .before .before .home-at in
-    let loop-test = c .before .before .before .before .before .before .before .before .before .before .before .before .before .before .before .before .before .before .before .before .loop-test in
-    let l = c .before .before .before .before .before .before .before .before .before .before .before .before .before .before .before .before .before .before .before .before .before .loop in
-    let gone = c .before .before .before .before .before .before .before .before .before .before .before .before .before .before .before .before .before .before .before .before .before .before .before .before .before .gone in
-    let go-along = c .before .before .before .before .before .before .before .before .before .before .before .before .before .before .before .before .before .before .before .before .before .before .before .before .before .before .before .before .before .before .before .before .before .before .before .before .before .before .go-along in
+    let d = c .before .before .before .before .before .before .before .before .before .before .before .before .before .before .before .before .before .before .before .before in
+    let v = c .before .before .before .before .before .before .before .before .before .before .before .before .before .before .before .before .before .before .before .before .before .loop .inv in
+    let g = c .before .before .before .before .before .before .before .before .before .before .before .before .before .before .before .before .before .before .before .before .before .before .before .before .before in
     let start = c .before .before .before .before .before .before .before .before .before .before .before .before .before .before .before .before .before .before .before .before .before .before .before .before .before .before .before .before .before .before .before .before .before .before .before .before .before .before .before .before .before .before .before .before .before .before .before .before .before .before .before .before .before in
-    let p = start .pre .0 in
     let z = start .pre .1 .0 in
-    let a = start .args in
-    let r = a .to .carrier .0 in
-    let room = go-along .last .1 .1 .1 .1 .1 .1 .1 .0 in
-    let k = gone .given .0 .0 in
-    let m = gone .given .0 .1 .0 in
-    let there : go-along .result ≡ There k m = gone .given .1 in
-    let arrived = go-along .ensures .arrives in
-    let kept : length room ≡ span = go-along .kept .1 .1 .1 .1 .1 .1 .1 .0 in
-    let kw : length (go-along .last .1 .1 .1 .0) ≡ length (a .standing .now) = go-along .kept .1 .1 .1 .0 in
-    let fits : k ≤ length room = omega (arith, arrived .fits k m there, p .most, kept) in
-    let v = l .inv in
-    let w : length (l .standing) ≡ length (a .standing .now) = v .3 ∙ kw in
-    let i = l .i - 1 in
-    let one : l .i - 1 + 1 ≡ l .i = omega (arith, loop-test .taken) in
-    let here : i < length (between k room) = omega (arith, loop-test .taken, v .0, between-length k room fits) in
-    let get : getD room (l .i) 0 ≡ getD (between k room) i 0 = rw one at (between-get k room fits i here) in
+    let w : length (c .before .before .before .before .before .before .before .before .before .before .before .before .before .before .before .before .before .before .before .before .before .loop .standing) ≡ length (start .args .standing .now) = v .3 ∙ same-standing g in
     let e : home-at .result ≡ Stuck (c .enum-told2 .given .0 .0) = c .enum-told2 .given .1 in
-    let f = rw (w, get) at (home-at .ensures .stages) in
+    let f = rw (w, get d) at (home-at .ensures .stages) in
     rw e (record {
       at-most = at-most-stuck;
       stages = λ t b o.
-          let g = (go-along .ensures .goes t b) .there k m there in
-          let many : r + 1 ≤ length (b .goals) = omega (arith, z .carrier-there, b .each .many) in
-          gone-home t p z b g
-          (stages-stuck (homed-stops (rw (← one) at ((rw kw at (v .7)) t (b .goals) many o)) here (rw e at (f t (b .goals) many o))));
+          let went = (c .before .before .before .before .before .before .before .before .before .before .before .before .before .before .before .before .before .before .before .before .before .before .before .before .before .before .before .before .before .before .before .before .before .before .before .before .before .before .go-along .ensures .goes t b) .there (k g) (done g) (there g) in
+          let many : start .args .to .carrier .0 + 1 ≤ length (b .goals) = omega (arith, z .carrier-there, b .each .many) in
+          gone-home t (start .pre .0) z b went
+          (stages-stuck (homed-stops (rw (← (one d)) at ((rw (same-standing g) at (v .7)) t (b .goals) many o)) (here d) (rw e at (f t (b .goals) many o))));
       settles = settles-stuck;
     })
 
 add-requires : tie.Need-add-requires Inv-loop μ-loop
 add-requires c κs =
-    let start = c .before .before .before .before .before .before .before .before .before .before .before .before .before .before .before .before .before .before .before .before .before .before .before .before .before .before .before .before .before .before .before .before .before .before .before .before .before .before .before .before .before .before .before .before .before .before .before .before .before .before .before .before .before .before in
     let v = c .before .before .before .before .before .before .before .before .before .before .before .before .before .before .before .before .before .before .before .before .before .before .loop .inv in
-    let arrived = c .before .before .before .before .before .before .before .before .before .before .before .before .before .before .before .before .before .before .before .before .before .before .before .before .before .before .before .before .before .before .before .before .before .before .before .before .before .before .before .go-along .ensures .arrives in
-    let k = c .before .before .before .before .before .before .before .before .before .before .before .before .before .before .before .before .before .before .before .before .before .before .before .before .before .before .gone .given .0 .0 in
-    let m = c .before .before .before .before .before .before .before .before .before .before .before .before .before .before .before .before .before .before .before .before .before .before .before .before .before .before .gone .given .0 .1 .0 in
-    let there : c .before .before .before .before .before .before .before .before .before .before .before .before .before .before .before .before .before .before .before .before .before .before .before .before .before .before .before .before .before .before .before .before .before .before .before .before .before .before .before .go-along .result ≡ There k m = c .before .before .before .before .before .before .before .before .before .before .before .before .before .before .before .before .before .before .before .before .before .before .before .before .before .before .gone .given .1 in
+    let g = c .before .before .before .before .before .before .before .before .before .before .before .before .before .before .before .before .before .before .before .before .before .before .before .before .before .before in
     let e : c .before .before .before .before .before .before .before .before .before .before .before .before .before .home-at .result ≡ Planned (c .before .homed .given .0 .0) = c .before .homed .given .1 in
-    omega (arith, c .before .before .before .before .before .before .before .before .before .before .before .before .before .home-at .ensures .at-most .few _ e, v .0, v .1, arrived .few k m there, arrived .fits k m there, start .pre .0 .most)
+    omega (arith, c .before .before .before .before .before .before .before .before .before .before .before .before .before .home-at .ensures .at-most .few _ e, v .0, v .1, c .before .before .before .before .before .before .before .before .before .before .before .before .before .before .before .before .before .before .before .before .before .before .before .before .before .before .before .before .before .before .before .before .before .before .before .before .before .before .before .go-along .ensures .arrives .few (k g) (done g) (there g), low g)
 
 sub-i-2 : tie.Need-sub-i-2 Inv-loop μ-loop
 sub-i-2 c = omega (arith, c .before .before .before .before .before .before .before .before .before .before .before .before .before .before .before .before .before .before .before .before .before .before .loop-test .taken)
@@ -313,43 +282,28 @@ loop-less c = omega (arith, c .before .before .before .before .before .before .b
 loop-again : tie.Need-loop-again Inv-loop μ-loop
 loop-again c =
     let home-at = c .before .before .before .before .before .before .before .before .before .before .before .before .before .before .home-at in
-    let loop-test = c .before .before .before .before .before .before .before .before .before .before .before .before .before .before .before .before .before .before .before .before .before .before .loop-test in
+    let d = c .before .before .before .before .before .before .before .before .before .before .before .before .before .before .before .before .before .before .before .before .before .before in
+    let taken = c .before .before .before .before .before .before .before .before .before .before .before .before .before .before .before .before .before .before .before .before .before .before .loop-test .taken in
     let l = c .before .before .before .before .before .before .before .before .before .before .before .before .before .before .before .before .before .before .before .before .before .before .before .loop in
-    let gone = c .before .before .before .before .before .before .before .before .before .before .before .before .before .before .before .before .before .before .before .before .before .before .before .before .before .before .before .gone in
-    let go-along = c .before .before .before .before .before .before .before .before .before .before .before .before .before .before .before .before .before .before .before .before .before .before .before .before .before .before .before .before .before .before .before .before .before .before .before .before .before .before .before .before .go-along in
+    let g = c .before .before .before .before .before .before .before .before .before .before .before .before .before .before .before .before .before .before .before .before .before .before .before .before .before .before .before in
     let start = c .before .before .before .before .before .before .before .before .before .before .before .before .before .before .before .before .before .before .before .before .before .before .before .before .before .before .before .before .before .before .before .before .before .before .before .before .before .before .before .before .before .before .before .before .before .before .before .before .before .before .before .before .before .before .before in
     let p = start .pre .0 in
-    let z = start .pre .1 .0 in
-    let a = start .args in
-    let r = a .to .carrier .0 in
-    let room = go-along .last .1 .1 .1 .1 .1 .1 .1 .0 in
-    let k = gone .given .0 .0 in
-    let m = gone .given .0 .1 .0 in
-    let there : go-along .result ≡ There k m = gone .given .1 in
-    let arrived = go-along .ensures .arrives in
-    let kept : length room ≡ span = go-along .kept .1 .1 .1 .1 .1 .1 .1 .0 in
-    let kw : length (go-along .last .1 .1 .1 .0) ≡ length (a .standing .now) = go-along .kept .1 .1 .1 .0 in
-    let fits : k ≤ length room = omega (arith, arrived .fits k m there, p .most, kept) in
+    let kw = same-standing g in
     let v = l .inv in
     let n = home-at .kept in
-    let i = l .i - 1 in
-    let one : l .i - 1 + 1 ≡ l .i = omega (arith, loop-test .taken) in
-    let here : i < length (between k room) = omega (arith, loop-test .taken, v .0, between-length k room fits) in
-    let get : getD room (l .i) 0 ≡ getD (between k room) i 0 = rw one at (between-get k room fits i here) in
     let e : home-at .result ≡ Planned (c .before .before .homed .given .0 .0) = c .before .before .homed .given .1 in
-    let few = home-at .ensures .at-most .few _ e in
-    let f = rw (v .3, get) at (home-at .ensures .stages) in
+    let f = rw (v .3, get d) at (home-at .ensures .stages) in
     let out = c .before .before .before .before .before .before .before .before .before .before .before .before .before .out2 .given in
     let t₀ = rw (← kw) at (p .tabled) in (
-      omega (arith, loop-test .taken, v .0),
-      omega (arith, few, v .1, loop-test .taken, c .add .ensures .crossings),
+      omega (arith, taken, v .0),
+      omega (arith, home-at .ensures .at-most .few _ e, v .1, taken, c .add .ensures .crossings),
       n .1 .1 .1 .0 ∙ v .2,
       n .1 .1 .1 .1 .0 ∙ v .3,
       n .1 .1 .1 .1 .1 .0 ∙ v .4,
       omega (arith, out .1, v .5),
       λ goals h apart many same o.
-          turn-homed h apart many i here (l .placement) (v .2 ∙ same) (rw (← one) at (v .6 goals h apart many same o)) t₀ (omega (arith, p .most, kw)) (rw (← kw) at (z .loopless)) (v .7 t₀ goals many o .played .placed) (rw e at (f t₀ goals many o)),
-      λ t goals many o. homed-more (rw (← one) at (v .7 t goals many o)) here (rest-lent _ (c .before .before .before .before .before .before .before .before .before .before .before .before .before .before .before .before .before .before .before .before .place-in .ensures) out (c .add .ensures)) (rw e at (f t goals many o)),
+          turn-homed h apart many (l .i - 1) (here d) (l .placement) (v .2 ∙ same) (rw (← (one d)) at (v .6 goals h apart many same o)) t₀ (omega (arith, p .most, kw)) (rw (← kw) at (start .pre .1 .0 .loopless)) (v .7 t₀ goals many o .played .placed) (rw e at (f t₀ goals many o)),
+      λ t goals many o. homed-more (rw (← (one d)) at (v .7 t goals many o)) (here d) (rest-lent _ (c .before .before .before .before .before .before .before .before .before .before .before .before .before .before .before .before .before .before .before .before .place-in .ensures) out (c .add .ensures)) (rw e at (f t goals many o)),
       n .1 .1 .1 .1 .1 .1 .0 ∙ v .8,
       home-at .ensures .below,
     )
@@ -371,28 +325,18 @@ same-length-20 c = c .before .loop .inv .5 ∙ c .before .before .before .before
 
 returns-4 : tie.Need-returns-4 Inv-loop μ-loop
 returns-4 c =
-    let l = c .before .loop in
-    let gone = c .before .before .before .before .before .gone in
+    let v = c .before .loop .inv in
+    let g = c .before .before .before .before .before in
     let go-along = c .before .before .before .before .before .before .before .before .before .before .before .before .before .before .before .before .before .before .go-along in
     let start = c .before .before .before .before .before .before .before .before .before .before .before .before .before .before .before .before .before .before .before .before .before .before .before .before .before .before .before .before .before .before .before .before .before in
-    let p = start .pre .0 in
     let z = start .pre .1 .0 in
-    let a = start .args in
-    let r = a .to .carrier .0 in
-    let room = go-along .last .1 .1 .1 .1 .1 .1 .1 .0 in
-    let k = gone .given .0 .0 in
-    let m = gone .given .0 .1 .0 in
-    let there : go-along .result ≡ There k m = gone .given .1 in
-    let arrived = go-along .ensures .arrives in
-    let kw : length (go-along .last .1 .1 .1 .0) ≡ length (a .standing .now) = go-along .kept .1 .1 .1 .0 in
-    let v = l .inv in
-    let nil : l .i ≡ 0 = omega (arith, c .loop-test .left) in
+    let nil : c .before .loop .i ≡ 0 = omega (arith, c .loop-test .left) in
     record {
-      at-most = at-most (omega (arith, v .1, nil, arrived .few k m there, arrived .fits k m there, p .most));
+      at-most = at-most (omega (arith, v .1, nil, go-along .ensures .arrives .few (k g) (done g) (there g), low g));
       stages = λ t b o.
-          let g = (go-along .ensures .goes t b) .there k m there in
-          let many : r + 1 ≤ length (b .goals) = omega (arith, z .carrier-there, b .each .many) in
-          gone-home t p z b g (homed-all (rw nil at ((rw kw at (v .7)) t (b .goals) many o)));
+          let went = (go-along .ensures .goes t b) .there (k g) (done g) (there g) in
+          let many : start .args .to .carrier .0 + 1 ≤ length (b .goals) = omega (arith, z .carrier-there, b .each .many) in
+          gone-home t (start .pre .0) z b went (homed-all (rw nil at ((rw (same-standing g) at (v .7)) t (b .goals) many o)));
       settles = settles (v .9);
     }
 

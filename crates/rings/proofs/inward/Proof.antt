@@ -6,7 +6,7 @@ use native.Mathlib.Omega.{arith}
 use lib.ListN.{length, set, length-set}
 use borrow.Author.Needs.{needs}
 use Rattle.rings.specs.Ways.{Inside}
-use Rattle.rings.proofs.Reading.{Walked, walked-none, walked-more, walked-all, walked-inside}
+use Rattle.rings.proofs.Reading.{Walked, walked-none, walked-more, walked-inside, read-all}
 use Rattle.rings.proofs.inward.Statement.{statement}
 use Rattle.rings.proofs.inward.Tie as tie
 
@@ -71,7 +71,7 @@ same-length : tie.Need-same-length Inv-loop μ-loop
 same-length c = search needs
 
 returns : tie.Need-returns Inv-loop μ-loop
-returns c = record { path = λ t. walked-all t _ _ _ (omega arith) (omega arith) (c .before .loop .inv .3 t) }
+returns c = record { path = λ t. read-all (t .yard) (t .held) (t .goal) _ _ _ _ _ (omega arith) (omega arith) (c .before .loop .inv .3 t) }
 
 pub inward-spec : {M : Type 1} → statement M
 inward-spec =

@@ -6,7 +6,8 @@ use native.Mathlib.Omega.{arith}
 use lib.ListN.{length, set, length-set}
 use borrow.Author.Needs.{needs}
 use Rattle.rings.specs.Ways.{Outside}
-use Rattle.rings.proofs.Narrowing.{Going, going-first, going-inside, going-more, going-all}
+use Rattle.rings.proofs.Reading.{read-all}
+use Rattle.rings.proofs.Narrowing.{Going, going-first, going-inside, going-more}
 use Rattle.rings.proofs.outward.Statement.{statement}
 use Rattle.rings.proofs.outward.Tie as tie
 
@@ -65,7 +66,7 @@ same-length : tie.Need-same-length Inv-loop μ-loop
 same-length c = search needs
 
 returns : tie.Need-returns Inv-loop μ-loop
-returns c = record { path = λ t. going-all t _ _ _ (omega arith) (omega arith) (c .before .loop .inv .3 t) }
+returns c = record { path = λ t. read-all (t .yard) (t .held) (t .goal) _ _ _ _ _ (omega arith) (omega arith) (c .before .loop .inv .3 t .read) }
 
 pub outward-spec : {M : Type 1} → statement M
 outward-spec =
