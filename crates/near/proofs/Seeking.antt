@@ -30,7 +30,7 @@ use Rattle.trial.proofs.Attempting.{attempts-none, attempts-some}
 use Rattle.trial.specs.Trying.{Beside, Near}
 use Rattle.trial.proofs.Copying.{freeShown}
 use Rattle.acting.specs.declared.Tried.the-variants.{Done, Failed}
-use Rattle.near.specs.Seeking.{fitting, TriedAt, near-rings, NoneNear, NearSays}
+use Rattle.near.specs.Seeking.{fitting, TriedAt, NoneNear, NearSays}
 use Rattle.near.specs.declared.Nearby.the-variants.{Found, Farther, Nowhere}
 
 first-found : (Y : Yard) (r s : Carrier) (p : Placement) (l : List Bay)
@@ -192,14 +192,6 @@ module _ {n : ℕ} {table : List ℕ} (t : Tabled n table) (r s : Carrier) (p : 
 pub near-of : {Y : Yard} {r s : Carrier} {v : Bay} {p : Placement} → Beside Y r s p → In (bayOf p r) (nearestFirst Y [] v) → Near Y r s v p
 near-of b i = record { sound = b .sound; reached = i; beside = b .beside }
 
--- the near rings are passed, or no bay is further
-module _ {n : ℕ} {table : List ℕ} (t : Tabled n table) (r s : Carrier) (p : Placement) where
-  pub none-near : (d : ℕ) → min near-rings n ≤ d → Sought (t .yard) r s p d 0 → NoneNear (t .yard) r s p
-  none-near d h g i b k y = elim (decLt i d) [
-    | yes m ↦ g .rings-before i b m y
-    | no m ↦ In-nil b (rw (ring-none (freeShown t) (bayOf p r) i (omega arith)) at y)
-  ]
-
 -- ## What is said
 
 pub near-found : {r s : Carrier} {table p standing log : List ℕ} {m : Tally} → Within nothing swap-most (Done m)
@@ -207,14 +199,19 @@ pub near-found : {r s : Carrier} {table p standing log : List ℕ} {m : Tally} �
 near-found {m = m} few f = record {
   few = λ k e. let same : m ≡ k = cc in rw same at few;
   found = λ k e. let same : m ≡ k = cc in rw same at f;
-  farther = λ e. never (cc);
+  farther = λ j e. never (cc);
   nowhere = λ e. never (cc);
 }
 
-pub near-farther : {r s : Carrier} {table p standing log : List ℕ} → ((t : Tabled (length standing) table) → Beside (t .yard) r s p → NoneNear (t .yard) r s p)
-    → NearSays r s table p standing log Farther
-near-farther f = record { few = λ m e. never (cc); found = λ m e. never (cc); farther = λ e. f; nowhere = λ e. never (cc) }
+pub near-farther : {r s : Carrier} {table p standing log : List ℕ} (k : ℕ)
+    → ((t : Tabled (length standing) table) → Beside (t .yard) r s p → NoneNear (t .yard) r s p k) → NearSays r s table p standing log (Farther k)
+near-farther k f = record {
+  few = λ m e. never (cc);
+  found = λ m e. never (cc);
+  farther = λ j e. let same : k ≡ j = cc in rw same at f;
+  nowhere = λ e. never (cc);
+}
 
 pub near-nowhere : {r s : Carrier} {table p standing log : List ℕ}
     → ((t : Tabled (length standing) table) → Beside (t .yard) r s p → Attempts (swap (t .yard) r s p) log Failed) → NearSays r s table p standing log Nowhere
-near-nowhere f = record { few = λ m e. never (cc); found = λ m e. never (cc); farther = λ e. never (cc); nowhere = λ e. f }
+near-nowhere f = record { few = λ m e. never (cc); found = λ m e. never (cc); farther = λ j e. never (cc); nowhere = λ e. f }

@@ -46,13 +46,9 @@ pub record SeekSays (r s : Carrier) (table p standing log : List ℕ) (z : Tried
 
 -- ## Near and far
 
--- so many rings are near, the carrier's own bay being the first
-abbrev pub near-rings : ℕ
-near-rings = 8
-
--- no bay of those fits
-abbrev pub NoneNear : Yard → Carrier → Carrier → Placement → Type 0
-NoneNear Y r s p = (i b : ℕ) → i < near-rings → In b (getD (rings Y [] (bayOf p r)) i []) → fitting Y r s p b ≡ false
+-- no bay of the first k rings fits, the carrier's own bay being the first
+abbrev pub NoneNear : Yard → Carrier → Carrier → Placement → (k : ℕ) → Type 0
+NoneNear Y r s p k = (i b : ℕ) → i < k → In b (getD (rings Y [] (bayOf p r)) i []) → fitting Y r s p b ≡ false
 
 -- the trial does not succeed
 abbrev pub SurelyFails : Trial → (table p standing : List ℕ) → Type 0
@@ -70,9 +66,9 @@ pub record NearAsks (r s : Carrier) (p : List ℕ) : Type 0 where
   pub second : s < length p
   pub differ : s ≡ r → ⊥
 
--- the trial that is the paper's swap; that none near succeeds; or that there is no swap
+-- the trial that is the paper's swap; that none in so many rings succeeds; or that there is no swap
 pub record NearSays (r s : Carrier) (table p standing log : List ℕ) (z : Nearby) : Type 0 where
   pub few : (m : Tally) → z ≡ Found m → Within nothing swap-most (Done m)
   pub found : (m : Tally) → z ≡ Found m → (t : Tabled (length standing) table) → Beside (t .yard) r s p → Attempts (swap (t .yard) r s p) log (Done m)
-  pub farther : z ≡ Farther → (t : Tabled (length standing) table) → Beside (t .yard) r s p → NoneNear (t .yard) r s p
+  pub farther : (k : ℕ) → z ≡ Farther k → (t : Tabled (length standing) table) → Beside (t .yard) r s p → NoneNear (t .yard) r s p k
   pub nowhere : z ≡ Nowhere → (t : Tabled (length standing) table) → Beside (t .yard) r s p → Attempts (swap (t .yard) r s p) log Failed

@@ -7,18 +7,27 @@ use docket::Carrier;
 use trial::Trial;
 ghost use mathlib.Core.Path.{_≡_};
 ghost use mathlib.Core.Bool.{true};
-ghost use Prim.Native.Nat.{min};
+ghost use Prim.Native.Nat.{_≤_};
+ghost use lib.ListN.{length};
+ghost use Rattle.words.specs.Sets.{words};
 ghost use Rattle.acting.specs.Acting.{Ready};
 ghost use Rattle.trial.specs.Trying.{TrialAsks};
-ghost use Rattle.near.specs.Seeking.{near-rings, SurelyFails, TryJunctionSays, NearAsks, NearSays};
+ghost use Rattle.near.specs.Seeking.{SurelyFails, TryJunctionSays, NearAsks, NearSays};
 
 // So many rings are near, the carrier's own bay being the first. Farther on it pays to go ahead of the trials.
-pub const NEAR: usize = 8;
+const NEAR: usize = 8;
 
-// What the near rings have: a trial that succeeds, with its counts; none, though there may be one farther on; or none, and no bay is farther on.
+// So few bays are hardly any that are empty, and then so many rings are near. Yards of up to so many bays are the smallest.
+const FEW: u64 = 4;
+
+const BESIDE: usize = 2;
+
+const SMALL: usize = 24;
+
+// What the near rings have: a trial that succeeds, with its counts; none in so many rings, though there may be one farther on; or none, and no bay is farther on.
 pub enum Nearby {
     Found(Tally),
-    Farther,
+    Farther(usize),
     Nowhere,
 }
 
@@ -71,12 +80,18 @@ fn try_junction(
     Tried::Failed
 }
 
-// How many rings are looked at: a yard may have fewer.
-fn reach(n: usize) -> usize
-    ensures { λ r. ⌜ r ≡ min near-rings n ⌝ }
+// How many rings are looked at. Where hardly a bay is empty most trials fail, and it pays sooner to go ahead of them, but in the smallest yards.
+fn reach(n: usize, empty: &[u64]) -> usize
+    requires { ⌜ length (now empty) ≡ words ⌝ }
+    ensures { λ r. ⌜ r ≤ n ⌝ }
 {
     if n < NEAR {
         return n;
+    }
+    if SMALL < n {
+        if words::count(empty) < FEW {
+            return BESIDE;
+        }
     }
     NEAR
 }
@@ -100,7 +115,7 @@ pub fn seek_near(
 {
     let carrier = r.0 as usize;
     let u = placement[carrier] as usize;
-    let last = reach(standing.len());
+    let last = reach(standing.len(), empty);
     let mut seen = [0u64; words::WORDS];
     let mut ring = [0u64; words::WORDS];
     words::alone(&mut seen, u);
@@ -108,7 +123,7 @@ pub fn seek_near(
     let mut d = 0;
     'nearest: loop {
         if last <= d {
-            break 'nearest Nearby::Farther;
+            break 'nearest Nearby::Farther(last);
         }
         let mut v = words::next_from(&ring, 0);
         if words::SPAN <= v {

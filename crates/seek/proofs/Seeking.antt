@@ -34,10 +34,10 @@ use Rattle.seek.specs.Far.{FirstFar}
 -- ## Near rings
 
 module _ {n : ℕ} {table : List ℕ} (t : Tabled n table) (r s : Carrier) (p : Placement) (most : n ≤ span) (hu : bayOf p r < n) where
-  pub sought-far : (d : ℕ) (ring : List ℕ) → ((y : ℕ) → y < span → mem ring y ≡ elem y (getD (rings (t .yard) [] (bayOf p r)) d [])) → NoneNear (t .yard) r s p
-      → (v : ℕ) → Sought (t .yard) r s p d 0 → FirstFar (mem ring) d v → Sought (t .yard) r s p d v
-  sought-far d ring same none v g f = elim (decLt d 8) [
-    | yes h ↦ record { rings-before = g .rings-before; below = λ b i k. none d b h i }
+  pub sought-far : (k d : ℕ) (ring : List ℕ) → ((y : ℕ) → y < span → mem ring y ≡ elem y (getD (rings (t .yard) [] (bayOf p r)) d [])) → NoneNear (t .yard) r s p k
+      → (v : ℕ) → Sought (t .yard) r s p d 0 → FirstFar (mem ring) k d v → Sought (t .yard) r s p d v
+  sought-far k d ring same none v g f = elim (decLt d k) [
+    | yes h ↦ record { rings-before = g .rings-before; below = λ b i l. none d b h i }
     | no h ↦ sought-start t r s p most hu d ring same v g (f .lowest (omega arith))
   ]
 

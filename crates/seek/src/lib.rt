@@ -62,30 +62,31 @@ fn try_junction(
     }
 }
 
-// The lowest bay of ring d, unless the ring is near.
-fn first_far(ring: &[u64], d: usize) -> usize
+// The lowest bay of ring d, unless it is one of the first k.
+fn first_far(ring: &[u64], k: usize, d: usize) -> usize
     requires { ⌜ length (now ring) ≡ words ⌝ }
-    ensures { λ r. ⌜ FirstFar (mem (now (ring .entry))) d r ⌝ }
+    ensures { λ r. ⌜ FirstFar (mem (now (ring .entry))) k d r ⌝ }
 {
-    if d < near::NEAR {
+    if d < k {
         return words::SPAN;
     }
     words::next_from(ring, 0)
 }
 
-// The trial at the first junction where it succeeds, ring by ring from the carrier's bay and rising in each ring, the near ones having been tried; the
-// list is left as that trial leaves it.
+// The trial at the first junction where it succeeds, ring by ring from the carrier's bay and rising in each ring, those of the first k rings having
+// been tried; the list is left as that trial leaves it.
 fn seek_far(
     table: &[u64],
     r: Carrier,
     s: Carrier,
+    k: usize,
     placement: &[u16],
     standing: &[u16],
     empty: &[u64],
     out: &mut [u64],
 ) -> Tried
     requires { ⌜ Ready (now table) (now placement) (now standing) (now empty) ⌝ }
-    requires { ⌜ FarAsks (r .0) (s .0) (now table) (now placement) (now standing) ⌝ }
+    requires { ⌜ FarAsks (r .0) (s .0) (now table) (now placement) (now standing) k ⌝ }
     ensures { λ z. ⌜
         SeekSays (r .0) (s .0) (now (table .entry)) (now (placement .entry)) (now (standing .entry)) (now (out .exit)) z
         ⌝ }
@@ -107,7 +108,7 @@ fn seek_far(
     let mut count = 1;
     let mut d = 0;
     'nearest: loop {
-        let mut v = first_far(&ring, d);
+        let mut v = first_far(&ring, k, d);
         while v < words::SPAN {
             let junction = Bay(v as u16);
             if acting::is_junction(table, n, junction) {
@@ -175,7 +176,7 @@ pub fn seek(
     let close = near::seek_near(table, r, s, placement, standing, empty, out);
     match close {
         Nearby::Found(m) => Tried::Done(m),
-        Nearby::Farther => seek_far(table, r, s, placement, standing, empty, out),
+        Nearby::Farther(k) => seek_far(table, r, s, k, placement, standing, empty, out),
         Nearby::Nowhere => Tried::Failed,
     }
 }

@@ -10,13 +10,12 @@ use Rattle.paper.specs.Basics.{_or_}
 use Rattle.paper.specs.Yard.{bayOf}
 use Rattle.words.specs.Sets.{mem, words, span}
 use Rattle.words.proofs.Sets.{zeros, mem-zeros}
-use Rattle.near.specs.Seeking.{near-rings}
 use Rattle.rings.proofs.Searching.{Widening, widening-first, widening-more, widening-rows}
 use Rattle.acting.specs.Acting.{Tabled}
 use Rattle.acting.specs.declared.Tried.the-variants.{Done, Failed}
 use Rattle.trial.specs.Trying.{Beside}
 use Rattle.trial.proofs.Copying.{freeShown}
-use Rattle.near.proofs.Seeking.{Sought, sought-first, sought-found, none-near, sought-start, sought-more, sought-next, reached-from, ring-low, near-of, sought-nowhere, swap-none, swap-some, near-found, near-farther, near-nowhere}
+use Rattle.near.proofs.Seeking.{Sought, sought-first, sought-found, sought-start, sought-more, sought-next, reached-from, ring-low, near-of, sought-nowhere, swap-none, swap-some, near-found, near-farther, near-nowhere}
 use Rattle.near.proofs.seek_near.Statement.{statement}
 use Rattle.near.proofs.seek_near.Tie as tie
 
@@ -28,7 +27,7 @@ abbrev μ-loop : tie.MeasureT-loop
 
 abbrev Inv-nearest : tie.InvT-nearest
 Inv-nearest table r s placement standing empty log₀ carrier u last seen₀ ring₀ d₀ log seen ring d = (length log ≡ length log₀) × (length seen ≡ words) × (length ring ≡ words) × (d ≤ last) × ((t : Tabled (length standing) table) → d < last → Widening (freeShown t) (bayOf placement (r .0)) d seen ring) × ((t : Tabled (length standing) table) → Beside (t .yard) (r .0) (s .0) placement → Sought (t .yard) (r .0) (s .0) placement d 0)
-    × (last ≡ min near-rings (length standing))
+    × (last ≤ length standing)
 
 abbrev μ-nearest : tie.MeasureT-nearest
 μ-nearest table r s placement standing empty log₀ carrier u last seen₀ ring₀ d₀ log seen ring d = last - d
@@ -212,7 +211,7 @@ same-length c = c .before .nearest .inv .0
 returns : tie.Need-returns Inv-loop μ-loop Inv-nearest μ-nearest
 returns c =
     let n = c .before .nearest .inv in
-    near-farther (λ t b. none-near t _ _ _ _ (omega (arith, c .if1 .taken, n .6)) (n .5 t b))
+    near-farther _ (λ t b i x h y. n .5 t b .rings-before i x (omega (arith, h, c .if1 .taken)) y)
 
 same-length-2 : tie.Need-same-length-2 Inv-loop μ-loop Inv-nearest μ-nearest
 same-length-2 c = c .before .before .before .before .nearest .inv .0

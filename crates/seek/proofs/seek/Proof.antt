@@ -12,18 +12,18 @@ seek-near-requires c κs = search needs
 enum-known-close : tie.Need-enum-known-close
 enum-known-close c = c .match .keys1
 
-enum-told : tie.Need-enum-told
-enum-told c = c .match .keys2
+enum-known-close-2 : tie.Need-enum-known-close-2
+enum-known-close-2 c = c .match .keys2
 
 seek-far-requires : tie.Need-seek-far-requires
 seek-far-requires c κs =
-    let start = c .before .before .before .before .before .before .before .before .before .before .before .before in
-    let near = c .before .before .before .before .before .seek-near in
-    let e : near .result ≡ Farther = c .before .enum-told .given .1 in
-    (start .pre .0, record { asks = start .pre .1; missed = near .ensures .farther e })
+    let start = c .before .before .before .before .before .before .before .before .before .before .before .before .before in
+    let near = c .before .before .before .before .before .before .seek-near in
+    let e : near .result ≡ Farther (c .before .before .close2 .given .0 .0) = c .before .before .close2 .given .1 in
+    (start .pre .0, record { asks = start .pre .1; missed = near .ensures .farther _ e })
 
-enum-told-2 : tie.Need-enum-told-2
-enum-told-2 c = c .match .keys3
+enum-told : tie.Need-enum-told
+enum-told c = c .match .keys3
 
 same-length : tie.Need-same-length
 same-length c = search needs
@@ -46,7 +46,7 @@ same-length-3 c = search needs
 returns-3 : tie.Need-returns-3
 returns-3 c =
     let near = c .before .before .before .before .seek-near in
-    let e : near .result ≡ Nowhere = c .enum-told2 .given .1 in
+    let e : near .result ≡ Nowhere = c .enum-told .given .1 in
     record { few = tt; swaps = near .ensures .nowhere e }
 
 pub seek-spec : {M : Type 1} → statement M
@@ -55,9 +55,9 @@ seek-spec =
     (tie.spec
     seek-near-requires
     enum-known-close
-    enum-told
+    enum-known-close-2
     seek-far-requires
-    enum-told-2
+    enum-told
     same-length
     returns
     same-length-2

@@ -22,18 +22,18 @@ use Rattle.seek.proofs.seek_far.Statement.{statement}
 use Rattle.seek.proofs.seek_far.Tie as tie
 
 abbrev Inv-loop : tie.InvT-loop
-Inv-loop table r s placement standing empty out₀ carrier u n seen ring met before path₀ room₀ scouts₀ done count d v₀ out path room scouts v =
+Inv-loop table r s k placement standing empty out₀ carrier u n seen ring met before path₀ room₀ scouts₀ done count d v₀ out path room scouts v =
     (length out ≡ length out₀) × (length path ≡ span) × (v ≤ span) × (v < span → mem ring v ≡ true)
     × ((t : Tabled (length standing) table) → Beside (t .yard) (r .0) (s .0) placement → Sought (t .yard) (r .0) (s .0) placement d v)
     × Scouted (r .0) (s .0) table placement (length standing) scouts room
     × (length room ≡ scouts-room)
 
 abbrev μ-loop : tie.MeasureT-loop
-μ-loop table r s placement standing empty out₀ carrier u n seen ring met before path₀ room₀ scouts₀ done count d v₀ out path room scouts v =
+μ-loop table r s k placement standing empty out₀ carrier u n seen ring met before path₀ room₀ scouts₀ done count d v₀ out path room scouts v =
     span - v
 
 abbrev Inv-nearest : tie.InvT-nearest
-Inv-nearest table r s placement standing empty out₀ carrier u n seen₀ ring₀ met₀ before₀ path₀ room₀ scouts₀ done₀ count₀ d₀ out seen ring met before path room scouts done count d =
+Inv-nearest table r s k placement standing empty out₀ carrier u n seen₀ ring₀ met₀ before₀ path₀ room₀ scouts₀ done₀ count₀ d₀ out seen ring met before path room scouts done count d =
     (length out ≡ length out₀) × (length seen ≡ words) × (length ring ≡ words) × (length met ≡ span) × (length before ≡ span) × (length path ≡ span)
     × (done < count) × (count ≤ length standing) × (d ≤ done)
     × ((t : Tabled (length standing) table) → Rounds (freeShown t) (bayOf placement (r .0)) d seen ring met before done count)
@@ -42,7 +42,7 @@ Inv-nearest table r s placement standing empty out₀ carrier u n seen₀ ring�
     × (length room ≡ scouts-room)
 
 abbrev μ-nearest : tie.MeasureT-nearest
-μ-nearest table r s placement standing empty out₀ carrier u n seen₀ ring₀ met₀ before₀ path₀ room₀ scouts₀ done₀ count₀ d₀ out seen ring met before path room scouts done count d =
+μ-nearest table r s k placement standing empty out₀ carrier u n seen₀ ring₀ met₀ before₀ path₀ room₀ scouts₀ done₀ count₀ d₀ out seen ring met before path room scouts done count d =
     length standing - done
 
 cast-carrier : tie.Need-cast-carrier Inv-loop μ-loop Inv-nearest μ-nearest
@@ -134,10 +134,10 @@ loop-holds c =
     let hu = p .placed .inside (a .r .0) (z .first) in
     let nearest = c .before .before .nearest in
     let l = c .first-far .ensures in
-    (refl, nearest .inv .5, l .upto, l .hit, λ t b. sought-far t _ _ _ (p .most) hu _ _ (nearest .inv .9 t .ringing) (start .pre .1 .missed t b) _ (nearest .inv .11 t b) l, nearest .inv .10, nearest .inv .12)
+    (refl, nearest .inv .5, l .upto, l .hit, λ t b. sought-far t _ _ _ (p .most) hu _ _ _ (nearest .inv .9 t .ringing) (start .pre .1 .missed t b) _ (nearest .inv .11 t b) l, nearest .inv .10, nearest .inv .12)
 
-cast-t44 : tie.Need-cast-t44 Inv-loop μ-loop Inv-nearest μ-nearest
-cast-t44 c = search needs
+cast-t45 : tie.Need-cast-t45 Inv-loop μ-loop Inv-nearest μ-nearest
+cast-t45 c = search needs
 
 is-junction-requires : tie.Need-is-junction-requires Inv-loop μ-loop Inv-nearest μ-nearest
 is-junction-requires c κs =
@@ -386,7 +386,7 @@ seek-far-spec =
     slice-aggregate-first-far
     first-far-requires
     loop-holds
-    cast-t44
+    cast-t45
     is-junction-requires
     slice-aggregate-trace
     slice-aggregate-trace-2
