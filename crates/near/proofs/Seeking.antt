@@ -5,7 +5,7 @@ use mathlib.Core.Path.{_≡_, sym, _∙_, ap, refl}
 use mathlib.Core.Bool.{Bool, true, false}
 use mathlib.Core.List.{List, [], _∷_}
 use mathlib.Core.Option.{none, some}
-use Prim.Native.Nat.{ℕ, suc, min, _≤_, _<_, _+_, _-_, zero}
+use Prim.Native.Nat.{ℕ, suc, _≤_, _<_, _+_, _-_, zero}
 use native.Mathlib.Omega.{arith}
 use lib.ListN.{length, getD}
 use native.Mathlib.Decide.{ℕ-discrete, decLt}
@@ -13,14 +13,14 @@ use Rattle.paper.specs.Basics.{_and_, _>>=_, filter, find, concat, firstOf, ele
 use Rattle.paper.specs.Path.{rings, nearestFirst, ringOf}
 use Rattle.paper.specs.Procedure.{Made, trial, swap}
 use Rattle.paper.specs.Yard.{Bay, Carrier, Yard, Placement, bayOf, junction}
-use Rattle.paper.proofs.Members.{find-passes, find-in, find-some, nothing-in-nil, in-count, none-find, In-nil}
+use Rattle.paper.proofs.Members.{find-passes, find-in, find-some, nothing-in-nil, in-count, none-find}
 use Rattle.paper.proofs.Nearest.{find-here, find-later}
 use Rattle.paper.proofs.Rings.{ring-step, distance-in, in-concat, reached-sym}
 use Rattle.paper.proofs.Shortest.{Rising, find-lowest, rings-rise}
 use Rattle.paper.proofs.Tests.{by-cases, by-option, not-both, and-right, and-both, never}
 use Rattle.docket.specs.Reading.{isSome}
 use Rattle.words.specs.Sets.{mem, span, Lowest}
-use Rattle.rings.proofs.Searching.{in-yard, ring-none}
+use Rattle.rings.proofs.Searching.{in-yard}
 use Rattle.moving.specs.Bounds.{swap-most}
 use Rattle.acting.specs.Acting.{Tabled, nothing, Within}
 use Rattle.acting.specs.declared.Tally.{Tally}
