@@ -1,10 +1,9 @@
 // The lowest bay that is not reached from bay 0: refusal 3.
 use first_bad::Found;
-use first_bad::TABLE;
 use words::SPAN;
 use words::WORDS;
 ghost use mathlib.Core.Path.{_≡_};
-ghost use Prim.Native.Nat.{_≤_, _<_};
+ghost use Prim.Native.Nat.{_*_, _≤_, _<_};
 ghost use lib.ListN.{length};
 ghost use Rattle.paper.specs.Limits.{most-bays};
 ghost use Rattle.paper.specs.Yard.{Yard};
@@ -12,11 +11,11 @@ ghost use Rattle.paper.specs.Docket.{apartBay};
 ghost use Rattle.words.specs.Sets.{words};
 ghost use Rattle.first_bad.specs.Table.{Table};
 ghost use Rattle.first_bad.specs.Finding.{Finds};
-ghost use Rattle.apart.specs.Reaching.{Reaches};
+ghost use Rattle.apart.specs.Reaching.{Closed, Reaches};
 
 // The bays that are reached from bay 0, ring by ring: n rings are enough, and after an empty one there is no other.
-fn reach(n: usize, table: &[u64; TABLE], seen: &mut [u64])
-    requires { ⌜ (0 < n) × (n ≤ most-bays) × (length (now seen) ≡ words) ⌝ }
+fn reach(n: usize, table: &[u64], seen: &mut [u64])
+    requires { ⌜ (0 < n) × (n ≤ most-bays) × Closed n (now table) × (length (now seen) ≡ words) ⌝ }
     ensures { λ _. ⌜ Reaches n (now (table .entry)) (now (seen .exit)) ⌝ }
 {
     let mut ring = [0u64; WORDS];
@@ -35,21 +34,16 @@ fn reach(n: usize, table: &[u64; TABLE], seen: &mut [u64])
     }
 }
 
-// The lowest bay that is not reached from bay 0: going up, the first that is found ends the search.
-pub fn lowest_apart(n: usize, table: &[u64; TABLE]) -> Found
-    requires { ⌜ (0 < n) × (n ≤ most-bays) ⌝ }
+// The lowest bay that is not reached from bay 0: of all that a set can hold, the reached ones are taken away.
+pub fn lowest_apart(n: usize, table: &[u64]) -> Found
+    requires { ⌜ (0 < n) × (n ≤ most-bays) × Closed n (now table) ⌝ }
     ensures { λ r. ⌜ ((Y : Yard) → Table Y n (now (table .entry)) → Finds (apartBay Y) n r) ⌝ }
 {
     let mut seen = [0u64; WORDS];
     reach(n, table, &mut seen);
-    let mut lowest = n;
-    let mut b = 0;
-    while b < lowest {
-        if !words::is_in(&seen, b) {
-            lowest = b;
-        }
-        b += 1;
-    }
+    let mut left = [u64::MAX; WORDS];
+    words::minus(&mut left, &seen);
+    let lowest = words::next_from(&left, 0);
     if lowest < n {
         return Found::At(lowest);
     }
