@@ -7,7 +7,7 @@ use mathlib.Core.Option.{none, some}
 use Prim.Native.Nat.{ℕ, zero, suc, _+_, _≤_, _<_}
 use native.Mathlib.Omega.{arith}
 use lib.Dec.{eqb}
-use borrow.Author.Tests.{eqb-true}
+use borrow.Author.Tests.{eqb-true, not-true, not-false}
 use Rattle.paper.specs.Basics.{_and_, _or_, elem, find, upTo, In}
 use Rattle.paper.specs.Yard.{Bay, Yard, joined}
 use Rattle.paper.specs.Path.{nearestFirst, Free}
@@ -139,25 +139,35 @@ low-more n table ring next seen seen′ ring′ closed low p q b h m =
 
 -- ---- the lowest bay that is not seen
 
-module _ (Y : Yard) (n : ℕ) (table seen all left : List ℕ) (most : n ≤ span) (r : Reaches n table seen) (t : Table Y n table)
-    (whole : (x : Bay) → x < span → mem all x ≡ true) (taken : (x : ℕ) → mem left x ≡ mem all x and not (mem seen x))
-    (lowest : ℕ) (l : Lowest (mem left) 0 span lowest) where
+module _ (Y : Yard) (n : ℕ) (table seen : List ℕ) (most : n ≤ span) (r : Reaches n table seen) (t : Table Y n table) (lowest : ℕ)
+    (out : lowest < n → mem seen lowest ≡ false) (below : (k : Bay) → k < n → k < lowest → mem seen k ≡ true) where
   abbrev unreached : Bay → Bool
   unreached x = not (elem x (nearestFirst Y [] 0))
 
-  rest : (x : Bay) → x < span → mem left x ≡ unreached x
-  unfolding _and_
-  rest x h = taken x ∙ rw (whole x h) (ap not (r .same Y t x h))
+  unseen : (x : Bay) → x < n → unreached x ≡ not (mem seen x)
+  unseen x h = ap not (sym (r .same Y t x (omega arith)))
 
   pub apart-there : lowest < n → apartBay Y ≡ some lowest
   unfolding apartBay
   apart-there h =
       ap (λ m. find unreached (upTo m)) (t .bays)
-      ∙ (find-exactly unreached n lowest) .1
-      (h, sym (rest lowest (omega arith)) ∙ l .hit (omega arith), λ k j. sym (rest k (omega arith)) ∙ l .before k (omega arith) j)
+      ∙ (find-exactly unreached n lowest) .1 (h, unseen lowest h ∙ ap not (out h), λ k j. unseen k (omega arith) ∙ ap not (below k (omega arith) j))
 
   pub apart-nowhere : n ≤ lowest → apartBay Y ≡ none
   unfolding apartBay
   apart-nowhere h =
       ap (λ m. find unreached (upTo m)) (t .bays)
-      ∙ none-find unreached (upTo n) (λ k i. let z = count-high 0 n k i in sym (rest k (omega arith)) ∙ l .before k (omega arith) (omega arith))
+      ∙ none-find unreached (upTo n) (λ k i. let z = count-high 0 n k i in unseen k (omega arith) ∙ ap not (below k (omega arith) (omega arith)))
+
+-- the lowest of those that are left where what is seen was taken from all
+module _ (all seen left : List ℕ) (whole : (x : Bay) → x < span → mem all x ≡ true) (taken : (x : ℕ) → mem left x ≡ mem all x and not (mem seen x))
+    (lowest : ℕ) (l : Lowest (mem left) 0 span lowest) where
+  rest : (x : Bay) → x < span → mem left x ≡ not (mem seen x)
+  unfolding _and_
+  rest x h = taken x ∙ rw (whole x h)
+
+  pub left-out : lowest < span → mem seen lowest ≡ false
+  left-out h = not-true _ (sym (rest lowest h) ∙ l .hit h)
+
+  pub left-in : (k : Bay) → k < lowest → mem seen k ≡ true
+  left-in k h = not-false _ (sym (rest k (omega (arith, l .upto))) ∙ l .before k (omega arith) h)

@@ -3,7 +3,7 @@
 use mathlib.Core.Path.{_≡_}
 use mathlib.Core.Bool.{true}
 use mathlib.Core.List.{List, []}
-use Prim.Native.Nat.{ℕ, _*_, _≤_, _<_}
+use Prim.Native.Nat.{ℕ, _+_, _*_, _≤_, _<_}
 use lib.ListN.{length}
 use Rattle.paper.specs.Basics.{elem}
 use Rattle.paper.specs.Yard.{Bay, Yard}
@@ -15,6 +15,11 @@ use Rattle.first_bad.specs.Table.{Table}
 pub record Closed (n : ℕ) (table : List ℕ) : Type 0 where
   pub rows : n * words ≤ length table
   pub inside : (a b : Bay) → a < n → b < span → memRow table a b ≡ true → b < n
+
+-- the bays of the set have their rows, and these have no bay past their first word
+pub record FirstWords (table set : List ℕ) : Type 0 where
+  pub rows : (a : Bay) → mem set a ≡ true → a * words + words ≤ length table
+  pub first : (a b : Bay) → mem set a ≡ true → b < span → memRow table a b ≡ true → b * words < span
 
 -- the set holds the bays that are reached from bay 0 by the rails of the table, whichever yard it is the table of
 pub record Reaches (n : ℕ) (table set : List ℕ) : Type 0 where
