@@ -1,25 +1,25 @@
 -- What is seen is reached, since each ring is beside the one before; what is reached is seen, since what is seen is closed under rails
 -- but for the last ring, and a bay d rails off is seen after d rings.
 use mathlib.Core.Path.{_≡_, sym, ap, _∙_}
-use mathlib.Core.Bool.{true, false, not}
+use mathlib.Core.Bool.{Bool, true, false, not}
 use mathlib.Core.List.{List, []}
 use mathlib.Core.Option.{none, some}
 use Prim.Native.Nat.{ℕ, zero, suc, _+_, _≤_, _<_}
 use native.Mathlib.Omega.{arith}
 use lib.Dec.{eqb}
-use borrow.Author.Tests.{eqb-true}
-use Rattle.paper.specs.Basics.{_or_, elem, find, upTo, In}
+use borrow.Author.Tests.{eqb-true, not-true, not-false}
+use Rattle.paper.specs.Basics.{_and_, _or_, elem, find, upTo, In}
 use Rattle.paper.specs.Yard.{Bay, Yard, joined}
 use Rattle.paper.specs.Path.{nearestFirst, Free}
 use Rattle.paper.specs.Docket.{apartBay}
 use Rattle.paper.proofs.Tests.{by-cases, not-both, and-left, and-right, and-both, or-left, or-right, or-cases}
-use Rattle.paper.proofs.Members.{in-count, count-high, nothing-in-nil, Passed, passed-there, passed-nowhere}
+use Rattle.paper.proofs.Members.{in-count, count-high, nothing-in-nil, find-exactly, none-find}
 use Rattle.paper.proofs.Rings.{Walk, here, on, walk-free, reached-walk}
 use Rattle.paper.proofs.Reach.{enough}
 use Rattle.words.specs.Sets.{mem, span, Lowest, Settled, Beside, reaches}
 use Rattle.words.proofs.Besides.{equal-tests, anyBelow-some, anyBelow-of}
 use Rattle.first_bad.specs.Table.{Table}
-use Rattle.apart.specs.Reaching.{Reaches}
+use Rattle.apart.specs.Reaching.{Closed, Reaches}
 
 -- after d rings, of which the last is `ring`
 pub record Seeing (Y : Yard) (d : ℕ) (seen ring : List ℕ) : Type 0 where
@@ -121,24 +121,53 @@ module _ (Y : Yard) (n : ℕ) (table : List ℕ) (some-bay : 0 < n) (most : n �
         equal-tests _ _ (s .sound b h)
         (λ i. let w = reached-walk Y [] 0 b i in s .near (w .0) b (w .2) (omega (arith, w .1, t .bays)))
 
+-- ---- the rings stay among the n bays, and so have their rows in the table
+
+-- every bay of the set is one of the n
+abbrev pub Low : ℕ → List ℕ → Type 0
+Low n set = (b : Bay) → b < span → mem set b ≡ true → b < n
+
+pub low-first : (n : ℕ) (fresh ring : List ℕ) → 0 < n → ((x : ℕ) → mem fresh x ≡ false) → ((x : ℕ) → mem ring x ≡ mem fresh x or eqb x 0) → Low n ring
+low-first n fresh ring some-bay z r b h m =
+    or-cases _ _ (sym (r b) ∙ m) (λ e. not-both e (z b)) (λ e. omega (arith, eqb-true b 0 e))
+
+pub low-more : (n : ℕ) (table ring next seen seen′ ring′ : List ℕ) → Closed n table → Low n ring → Beside table ring next span
+    → Settled next seen seen′ ring′ → Low n ring′
+low-more n table ring next seen seen′ ring′ closed low p q b h m =
+    let k = anyBelow-some (reaches table ring b) span (sym (p .same b h) ∙ and-left _ _ (sym (q .ringed b h) ∙ m)) in
+    closed .inside (k .0) b (low (k .0) (k .1) (and-left _ _ (k .2))) h (and-right _ _ (k .2))
+
 -- ---- the lowest bay that is not seen
 
-module _ (Y : Yard) (n : ℕ) (table seen : List ℕ) (most : n ≤ span) (r : Reaches n table seen) (t : Table Y n table) (lowest b : ℕ)
-    (p : Passed (λ x. not (mem seen x)) n lowest b) (end : lowest ≤ b) where
-  unreached : (x : Bay) → x < span → not (mem seen x) ≡ not (elem x (nearestFirst Y [] 0))
-  unreached x h = ap not (r .same Y t x h)
+module _ (Y : Yard) (n : ℕ) (table seen : List ℕ) (most : n ≤ span) (r : Reaches n table seen) (t : Table Y n table) (lowest : ℕ)
+    (out : lowest < n → mem seen lowest ≡ false) (below : (k : Bay) → k < n → k < lowest → mem seen k ≡ true) where
+  abbrev unreached : Bay → Bool
+  unreached x = not (elem x (nearestFirst Y [] 0))
 
-  passed-apart : Passed (λ x. not (elem x (nearestFirst Y [] 0))) n lowest b
-  passed-apart = record {
-    most = p .most;
-    hit = λ h. sym (unreached lowest (omega arith)) ∙ p .hit h;
-    before = λ k h l. sym (unreached k (omega (arith, p .most))) ∙ p .before k h l;
-  }
+  unseen : (x : Bay) → x < n → unreached x ≡ not (mem seen x)
+  unseen x h = ap not (sym (r .same Y t x (omega arith)))
 
   pub apart-there : lowest < n → apartBay Y ≡ some lowest
   unfolding apartBay
-  apart-there h = ap (λ m. find (λ x. not (elem x (nearestFirst Y [] 0))) (upTo m)) (t .bays) ∙ passed-there _ n lowest b passed-apart end h
+  apart-there h =
+      ap (λ m. find unreached (upTo m)) (t .bays)
+      ∙ (find-exactly unreached n lowest) .1 (h, unseen lowest h ∙ ap not (out h), λ k j. unseen k (omega arith) ∙ ap not (below k (omega arith) j))
 
   pub apart-nowhere : n ≤ lowest → apartBay Y ≡ none
   unfolding apartBay
-  apart-nowhere h = ap (λ m. find (λ x. not (elem x (nearestFirst Y [] 0))) (upTo m)) (t .bays) ∙ passed-nowhere _ n lowest b passed-apart end h
+  apart-nowhere h =
+      ap (λ m. find unreached (upTo m)) (t .bays)
+      ∙ none-find unreached (upTo n) (λ k i. let z = count-high 0 n k i in unseen k (omega arith) ∙ ap not (below k (omega arith) (omega arith)))
+
+-- the lowest of those that are left where what is seen was taken from all
+module _ (all seen left : List ℕ) (whole : (x : Bay) → x < span → mem all x ≡ true) (taken : (x : ℕ) → mem left x ≡ mem all x and not (mem seen x))
+    (lowest : ℕ) (l : Lowest (mem left) 0 span lowest) where
+  rest : (x : Bay) → x < span → mem left x ≡ not (mem seen x)
+  unfolding _and_
+  rest x h = taken x ∙ rw (whole x h)
+
+  pub left-out : lowest < span → mem seen lowest ≡ false
+  left-out h = not-true _ (sym (rest lowest h) ∙ l .hit h)
+
+  pub left-in : (k : Bay) → k < lowest → mem seen k ≡ true
+  left-in k h = not-false _ (sym (rest k (omega (arith, l .upto))) ∙ l .before k (omega arith) h)

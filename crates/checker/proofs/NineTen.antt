@@ -12,11 +12,11 @@ use Rattle.paper.proofs.Members.{count-high}
 use Rattle.replay.specs.Playing.{Standing, Occupied, PlayedFrom}
 use Rattle.checker.specs.Reading.{nineTen, NineTen}
 
-pub nine-ten : (table : List ℕ) (starts goals : Placement) (xs : List Crossing) (at at′ : Placement) (occupied : List ℕ) (found : Option ℕ)
-    → at ≡ starts → Occupied starts occupied → PlayedFrom table at occupied xs found at′
-    → (answer : Option Refusal) → answer ≡ nineTen found at′ goals → NineTen table starts goals xs answer
-nine-ten table starts goals xs at at′ occupied found placed held played answer is Y rails few good =
-    let stands : Standing Y table starts occupied =
+pub nine-ten : (rows : ℕ) (table : List ℕ) (starts goals : Placement) (xs : List Crossing) (at at′ : Placement) (occupied : List ℕ) (found : Option ℕ)
+    → at ≡ starts → Occupied starts occupied → PlayedFrom rows table at occupied xs found at′
+    → (answer : Option Refusal) → answer ≡ nineTen found at′ goals → NineTen rows table starts goals xs answer
+nine-ten rows table starts goals xs at at′ occupied found placed held played answer is Y rails few good =
+    let stands : Standing Y rows table starts occupied =
     record {
       rails = rails;
       few = few;

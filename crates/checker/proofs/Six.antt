@@ -29,8 +29,11 @@ module _ (o : Order) (plan : List ℕ) where
     good : Good (yardOf o) (o .starts)
     good = good-of o (o .starts) (clean .starts)
 
-    bays-inside : (p : Placement) → Good (yardOf o) p → (c : Carrier) → c < length p → bayOf p c < span
-    bays-inside p g c k = omega (arith, count-high 0 (o .bays) (bayOf p c) (g .inside c k), clean .sizes .few-bays)
+    in-yard : (p : Placement) → Good (yardOf o) p → (c : Carrier) → c < length p → bayOf p c < o .bays
+    in-yard p g c k = omega (arith, count-high 0 (o .bays) (bayOf p c) (g .inside c k))
+
+    pub few-bays : o .bays ≤ span
+    few-bays = clean .sizes .few-bays
 
     pub as-many : length (o .starts) ≡ length (o .goals)
     as-many = clean .sizes .same-length
@@ -38,13 +41,16 @@ module _ (o : Order) (plan : List ℕ) where
     pub few-carriers : length (o .goals) ≤ span
     few-carriers = omega (arith, clean .sizes .same-length, clean .uncrowded, clean .sizes .few-bays)
 
+    pub starts-in-yard : (c : Carrier) → c < length (o .starts) → bayOf (o .starts) c < o .bays
+    starts-in-yard = in-yard (o .starts) good
+
     pub starts-inside : (c : Carrier) → c < length (o .starts) → bayOf (o .starts) c < span
-    starts-inside = bays-inside (o .starts) good
+    starts-inside c k = omega (arith, starts-in-yard c k, few-bays)
 
     pub goals-inside : (c : Carrier) → c < length (o .goals) → bayOf (o .goals) c < span
-    goals-inside = bays-inside (o .goals) (good-of o (o .goals) (clean .goals))
+    goals-inside c k = omega (arith, in-yard (o .goals) (good-of o (o .goals) (clean .goals)) c k, few-bays)
 
-    pub six-passed : (table : List ℕ) → Table (yardOf o) (o .bays) table → (answer : Option Refusal)
-        → NineTen table (o .starts) (o .goals) (crossings plan) answer → answer ≡ check o plan
+    pub six-passed : (rows : ℕ) (table : List ℕ) → Table (yardOf o) (o .bays) table → o .bays ≤ rows → (answer : Option Refusal)
+        → NineTen rows table (o .starts) (o .goals) (crossings plan) answer → answer ≡ check o plan
     unfolding check
-    six-passed table rows answer rest = rw (← passes) (rest (yardOf o) rows (clean .sizes .few-bays) good)
+    six-passed rows table laid enough answer rest = rw (← passes) (rest (yardOf o) laid enough good)

@@ -30,7 +30,7 @@ pub record Placed (starts goals : Placement) : Type 0 where
 abbrev pub nineTen : Option ℕ → Placement → Placement → Option Refusal
 nineTen found at goals = orElse (found >>= λ i. some (illegal i)) (no-10 goals at)
 
--- the answer is 9 or 10 or neither as the paper has it, for every yard whose table this is and in which the starts are bays
-abbrev pub NineTen : List ℕ → Placement → Placement → List Crossing → Option Refusal → Type 0
-NineTen table starts goals xs answer =
-    (Y : Yard) → Table Y (Y .bays) table → Y .bays ≤ span → Good Y starts → answer ≡ orElse (no-9 Y starts xs) (no-10 goals (after starts xs))
+-- the answer is 9 or 10 or neither as the paper has it, for every yard whose table this is, with rows for its bays, and in which the starts are bays
+abbrev pub NineTen : ℕ → List ℕ → Placement → Placement → List Crossing → Option Refusal → Type 0
+NineTen rows table starts goals xs answer =
+    (Y : Yard) → Table Y (Y .bays) table → Y .bays ≤ rows → Good Y starts → answer ≡ orElse (no-9 Y starts xs) (no-10 goals (after starts xs))

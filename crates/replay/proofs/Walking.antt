@@ -21,21 +21,15 @@ use Rattle.plans.proofs.Rest.{rest-next, rest-none}
 use Rattle.paper.proofs.Fields.{and-false}
 use Rattle.paper.proofs.Marking.{flag}
 use Rattle.words.specs.Sets.{span}
-use Rattle.replay.specs.Playing.{Standing, Occupied, Played, legalTo}
+use Rattle.first_bad.proofs.Places.{marked}
+use Rattle.replay.specs.Playing.{InRows, Standing, Occupied, Played, legalTo}
 
--- A mark set, and a mark taken away.
-module _ (occupied : List ℕ) (x : Bay) (h : x < length occupied) (b : Bay) where
-  pub marked : flag (set occupied x 1) b ≡ flag occupied b or eqb b x
-  marked =
-      by-cases (eqb b x)
-      (λ e. rw (e, eqb-true b x e, getD-set-same occupied x 1 0 h) (sym (or-right (flag occupied x) true refl)))
-      (λ e. rw (e, getD-set-other occupied x b 1 0 (eqb-false b x e)) (sym (or-false (flag occupied b))))
-
-  pub unmarked : flag (set occupied x 0) b ≡ flag occupied b and not (eqb b x)
-  unmarked =
-      by-cases (eqb b x)
-      (λ e. rw (e, eqb-true b x e, getD-set-same occupied x 0 0 h) (sym (and-false (flag occupied x))))
-      (λ e. rw (e, getD-set-other occupied x b 0 0 (eqb-false b x e)) (sym (and-true (flag occupied b))))
+-- A mark taken away.
+pub unmarked : (occupied : List ℕ) (x : Bay) → x < length occupied → (b : Bay) → flag (set occupied x 0) b ≡ flag occupied b and not (eqb b x)
+unmarked occupied x h b =
+    by-cases (eqb b x)
+    (λ e. rw (e, eqb-true b x e, getD-set-same occupied x 0 0 h) (sym (and-false (flag occupied x))))
+    (λ e. rw (e, getD-set-other occupied x b 0 0 (eqb-false b x e)) (sym (and-true (flag occupied b))))
 
 -- No bay is marked at first, one more with each carrier.
 abbrev pub OccupiedTo : Placement → List ℕ → ℕ → Type 0
@@ -91,21 +85,34 @@ module _ (Y : Yard) (at : Placement) (x : Crossing) (l : Legal Y at x) where
       no-more false h k = rw k
 
 -- What holds once the first `i` crossings are played.
-pub record Walked (Y : Yard) (table : List ℕ) (at₀ : Placement) (plan : List ℕ) (at : Placement) (occupied : List ℕ) (i : ℕ) : Type 0 where
-  pub stands : Standing Y table at occupied
+pub record Walked (Y : Yard) (rows : ℕ) (table : List ℕ) (at₀ : Placement) (plan : List ℕ) (at : Placement) (occupied : List ℕ) (i : ℕ) : Type 0 where
+  pub stands : Standing Y rows table at occupied
   pub decides : firstIllegal Y at₀ 0 (crossings plan) ≡ firstIllegal Y at i (drop i (crossings plan))
   pub moved : after at₀ (crossings plan) ≡ after at (drop i (crossings plan))
 
-pub walked-start : (Y : Yard) (table : List ℕ) (at : Placement) (plan occupied : List ℕ) → Standing Y table at occupied → Walked Y table at plan at occupied 0
-walked-start Y table at plan occupied s = record { stands = s; decides = refl; moved = refl }
+pub walked-start : (Y : Yard) (rows : ℕ) (table : List ℕ) (at : Placement) (plan occupied : List ℕ) → Standing Y rows table at occupied
+    → Walked Y rows table at plan at occupied 0
+walked-start Y rows table at plan occupied s = record { stands = s; decides = refl; moved = refl }
 
-module _ (Y : Yard) (table : List ℕ) (at₀ : Placement) (plan : List ℕ) (at : Placement) (occupied : List ℕ) (i : ℕ) (w : Walked Y table at₀ plan at occupied i) where
+-- A carrier that crosses to a bay with a row stands in one again.
+pub rows-kept : (rows : ℕ) (table : List ℕ) (at : Placement) (x : Crossing) → InRows rows table at → x .carrier < length at → x .to < rows
+    → InRows rows table (set at (x .carrier) (x .to))
+rows-kept rows table at x r hc ht = record {
+  few = r .few;
+  long = r .long;
+  inside = λ c k. by-cases (eqb c (x .carrier))
+      (λ e. rw (eqb-true c (x .carrier) e, getD-set-same at (x .carrier) (x .to) 0 hc) ht)
+      (λ e. rw (getD-set-other at (x .carrier) c (x .to) 0 (eqb-false c (x .carrier) e)) (r .inside c (rw length-set at k)));
+}
+
+module _ (Y : Yard) (rows : ℕ) (table : List ℕ) (at₀ : Placement) (plan : List ℕ) (at : Placement) (occupied : List ℕ) (i : ℕ)
+    (w : Walked Y rows table at₀ plan at occupied i) where
   module _ (more : i < length plan) (x : Crossing) (is : x ≡ named (crossings plan) i) where
     next : drop i (crossings plan) ≡ x ∷ drop (suc i) (crossings plan)
     next = rw is (rest-next plan i more)
 
     pub walked-on : legal Y at x ≡ true → x .from < span → x .to < span
-        → Walked Y table at₀ plan (move at x) (set (set occupied (x .from) 0) (x .to) 1) (i + 1)
+        → Walked Y rows table at₀ plan (move at x) (set (set occupied (x .from) 0) (x .to) 1) (i + 1)
     unfolding firstIllegal after
     walked-on t hf ht =
         let l = legal-facts Y at x t in

@@ -4,7 +4,7 @@ use mathlib.Core.Path.{_≡_}
 use mathlib.Core.Bool.{Bool, true}
 use mathlib.Core.List.{List}
 use mathlib.Core.Option.{Option, none, some}
-use Prim.Native.Nat.{ℕ, _≤_, _<_}
+use Prim.Native.Nat.{ℕ, _*_, _≤_, _<_}
 use lib.Dec.{ltb}
 use lib.ListN.{length}
 use Rattle.paper.specs.Basics.{elem, if_then_else_}
@@ -12,7 +12,7 @@ use Rattle.paper.specs.Yard.{Yard, Bay, Carrier, Placement, Crossing, bayOf, af
 use Rattle.paper.specs.Docket.{firstIllegal}
 use Rattle.paper.proofs.Playing.{Apart}
 use Rattle.paper.proofs.Marking.{flag}
-use Rattle.words.specs.Sets.{span}
+use Rattle.words.specs.Sets.{words, span}
 use Rattle.yard.specs.Table.{Table}
 use Rattle.replay.specs.declared.Legality.{Legality}
 use Rattle.replay.specs.declared.Legality.the-variants.{Legal, Illegal}
@@ -24,18 +24,24 @@ pub record Occupied (at : Placement) (occupied : List ℕ) : Type 0 where
   pub long : length occupied ≡ span
   pub marks : (b : Bay) → b < span → flag occupied b ≡ elem b at
 
--- The table is the yard's, the placement has its carriers at bays of the yard, one to a bay, and the marks are the placement's.
-pub record Standing (Y : Yard) (table : List ℕ) (at : Placement) (occupied : List ℕ) : Type 0 where
+-- There are rows for so many bays, which are no more than a row holds, and every carrier stands in one of these.
+pub record InRows (rows : ℕ) (table : List ℕ) (at : Placement) : Type 0 where
+  pub few : rows ≤ span
+  pub long : rows * words ≤ length table
+  pub inside : (c : Carrier) → c < length at → bayOf at c < rows
+
+-- The table is the yard's and has its rows, the placement has its carriers at bays of the yard, one to a bay, and the marks are the placement's.
+pub record Standing (Y : Yard) (rows : ℕ) (table : List ℕ) (at : Placement) (occupied : List ℕ) : Type 0 where
   pub rails : Table Y (Y .bays) table
-  pub few : Y .bays ≤ span
+  pub few : Y .bays ≤ rows
   pub apart : Apart at
   pub inside : (c : Carrier) → c < length at → bayOf at c < Y .bays
   pub held : Occupied at occupied
 
 -- whether a crossing is legal; what passes has its places in the table, the marks and the placement
-pub record Judged (table : List ℕ) (at : Placement) (occupied : List ℕ) (x : Crossing) (r : Bool) : Type 0 where
-  pub fits : r ≡ true → (x .carrier < length at) × (x .from < span) × (x .to < span)
-  pub right : (Y : Yard) → Standing Y table at occupied → r ≡ legal Y at x
+pub record Judged (rows : ℕ) (table : List ℕ) (at : Placement) (occupied : List ℕ) (x : Crossing) (r : Bool) : Type 0 where
+  pub fits : r ≡ true → (x .carrier < length at) × (x .from < rows) × (x .to < rows)
+  pub right : (Y : Yard) → Standing Y rows table at occupied → r ≡ legal Y at x
 
 -- the first illegal crossing, and where the carriers stand if there is none
 pub record Played (Y : Yard) (at : Placement) (xs : List Crossing) (found : Option ℕ) (at′ : Placement) : Type 0 where
@@ -43,8 +49,8 @@ pub record Played (Y : Yard) (at : Placement) (xs : List Crossing) (found : Opti
   pub moved : found ≡ none → at′ ≡ after at xs
 
 -- the same for every yard whose table, placement and marks these are
-abbrev pub PlayedFrom : List ℕ → Placement → List ℕ → List Crossing → Option ℕ → Placement → Type 0
-PlayedFrom table at occupied xs found at′ = (Y : Yard) → Standing Y table at occupied → Played Y at xs found at′
+abbrev pub PlayedFrom : ℕ → List ℕ → Placement → List ℕ → List Crossing → Option ℕ → Placement → Type 0
+PlayedFrom rows table at occupied xs found at′ = (Y : Yard) → Standing Y rows table at occupied → Played Y at xs found at′
 
 -- of so many crossings the first i are legal: the next is the first that is not, if there is one
 unfoldable pub legalTo : ℕ → ℕ → Option ℕ

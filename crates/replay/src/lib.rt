@@ -4,31 +4,21 @@
 ghost use mathlib.Core.Path.{_≡_};
 ghost use mathlib.Core.List.{[]};
 ghost use Prim.Native.Nat.{ℕ, _≤_, _<_};
-ghost use lib.Dec.{leb};
 ghost use lib.ListN.{length, getD};
-ghost use Rattle.paper.specs.Basics.{_or_};
-ghost use Rattle.paper.specs.Yard.{crossings, unpack};
+ghost use Rattle.paper.specs.Yard.{crossings};
 ghost use Rattle.paper.specs.Docket.{notHome};
 ghost use Rattle.docket.specs.Reading.{crossingOf};
 ghost use Rattle.words.specs.Sets.{span};
-ghost use Rattle.replay.specs.Playing.{Occupied, Judged, PlayedFrom, legalTo, legalityOf, awayOf};
+ghost use Rattle.replay.specs.Playing.{Occupied, InRows, Judged, PlayedFrom, legalTo, legalityOf, awayOf};
 use docket::Carrier;
 use docket::Crossing;
 use words::SPAN;
-use yard::Yard;
 
-// Whether one of a crossing's bays is SPAN or more. Both are compared before either is asked about: the compiler makes one test of the two.
-fn is_far(number: u64) -> bool
-    ensures { λ r. ⌜ r ≡ leb span (unpack number .from) or leb span (unpack number .to) ⌝ }
-{
-    let x = docket::unpack(number);
-    (SPAN <= x.from.0 as usize) | (SPAN <= x.to.0 as usize)
-}
-
-// Whether a crossing between bays below SPAN is legal at the placement.
-fn is_legal(table: &[u64; Yard::TABLE], at: &[u16], occupied: &[u8; SPAN], x: Crossing) -> bool
-    requires { ⌜ (crossingOf x .from < span) × (crossingOf x .to < span) ⌝ }
-    ensures { λ r. ⌜ Judged (now (table .entry)) (now (at .entry)) (now (occupied .entry)) (crossingOf x) r ⌝ }
+// Whether a crossing is legal at the placement. No rail leads to a bay that has no row in the table. Where the rows are as few as a word holds
+// bays, the compiler sees that their first words are enough.
+fn is_legal(table: &[u64], rows: usize, at: &[u16], occupied: &[u8; SPAN], x: Crossing) -> bool
+    requires { ⌜ InRows rows (now table) (now at) ⌝ }
+    ensures { λ r. ⌜ Judged rows (now (table .entry)) (now (at .entry)) (now (occupied .entry)) (crossingOf x) r ⌝ }
 {
     let carrier = x.carrier.0 as usize;
     if at.len() <= carrier {
@@ -39,6 +29,9 @@ fn is_legal(table: &[u64; Yard::TABLE], at: &[u16], occupied: &[u8; SPAN], x: Cr
     }
     let from = x.from.0 as usize;
     let to = x.to.0 as usize;
+    if rows <= to {
+        return false;
+    }
     if !words::is_in(table, from * SPAN + to) {
         return false;
     }
@@ -48,23 +41,22 @@ fn is_legal(table: &[u64; Yard::TABLE], at: &[u16], occupied: &[u8; SPAN], x: Cr
 // Plays the plan as far as it is legal, and returns how many crossings that is. The answer is the loop's own count, so that nothing is kept ready at each
 // crossing for the way out.
 fn play_legal(
-    table: &[u64; Yard::TABLE],
+    table: &[u64],
+    rows: usize,
     at: &mut [u16],
     occupied: &mut [u8; SPAN],
     plan: &[u64],
 ) -> usize
+    requires { ⌜ InRows rows (now table) (now at) ⌝ }
     ensures { λ r. ⌜
-        PlayedFrom (now (table .entry)) (now (at .entry)) (now (occupied .entry)) (crossings (now (plan .entry)))
+        PlayedFrom rows (now (table .entry)) (now (at .entry)) (now (occupied .entry)) (crossings (now (plan .entry)))
         (legalTo r (length (now (plan .entry)))) (now (at .exit))
         ⌝ }
 {
     let mut i = 0;
     while i < plan.len() {
         let x = plans::crossing_at(plan, i);
-        if is_far(plan[i]) {
-            return i;
-        }
-        if !is_legal(table, at, occupied, x) {
+        if !is_legal(table, rows, at, occupied, x) {
             return i;
         }
         let carrier = x.carrier.0 as usize;
@@ -84,18 +76,20 @@ pub enum Legality {
     Illegal(u64),
 }
 
-// Plays the plan as far as it is legal.
+// Plays the plan as far as it is legal, by a table with so many rows.
 pub fn play(
-    table: &[u64; Yard::TABLE],
+    table: &[u64],
+    rows: usize,
     at: &mut [u16],
     occupied: &mut [u8; SPAN],
     plan: &[u64],
 ) -> Legality
+    requires { ⌜ InRows rows (now table) (now at) ⌝ }
     ensures { λ r. ⌜
-        PlayedFrom (now (table .entry)) (now (at .entry)) (now (occupied .entry)) (crossings (now (plan .entry))) (legalityOf r) (now (at .exit))
+        PlayedFrom rows (now (table .entry)) (now (at .entry)) (now (occupied .entry)) (crossings (now (plan .entry))) (legalityOf r) (now (at .exit))
         ⌝ }
 {
-    let legal = play_legal(table, at, occupied, plan);
+    let legal = play_legal(table, rows, at, occupied, plan);
     if legal < plan.len() {
         return Legality::Illegal(legal as u64);
     }

@@ -5,7 +5,8 @@ use docket::Refusal;
 use first_bad::Found;
 ghost use mathlib.Core.Path.{_≡_};
 ghost use mathlib.Core.Bool.{false};
-ghost use Prim.Native.Nat.{ℕ};
+ghost use Prim.Native.Nat.{ℕ, _*_, _≤_};
+ghost use lib.ListN.{length};
 ghost use Rattle.paper.specs.Limits.{fewest-bays, most-bays, set-words, most-rails, most-carriers, most-crossings, kept-empty};
 ghost use Rattle.paper.specs.Order.{order};
 ghost use Rattle.paper.specs.Docket.{badSize};
@@ -97,16 +98,16 @@ impl Yard {
     }
 }
 
-// The first of 1 to 6. An open yard's rails are in the table.
-fn first_six(
+// The first of 1 to 6, with a table that is empty and has a row for each bay. An open yard's rails are in it.
+pub fn first_six(
     n: usize,
     rails: &[u16],
     start: &[u16],
     goal: &[u16],
     crossings: usize,
-    table: &mut [u64; Yard::TABLE],
+    table: &mut [u64],
 ) -> Opened
-    requires { ⌜ ((x : ℕ) → mem (now table) x ≡ false) ⌝ }
+    requires { ⌜ (n ≤ most-bays → n * set-words ≤ length (now table)) × ((x : ℕ) → mem (now table) x ≡ false) ⌝ }
     ensures { λ r. ⌜ Tests (order n (now (rails .entry)) (now (start .entry)) (now (goal .entry))) crossings r (now (table .exit)) ⌝ }
 {
     if bad_size(n, rails, start, goal, crossings) {

@@ -1,75 +1,75 @@
--- The set holds what is reached. Going up, the first bay that is not in it ends the loop, so no lower one is left out.
-use mathlib.Core.Path.{sym, ap, _∙_}
-use mathlib.Core.Bool.{not}
-use mathlib.Core.Logic.{⊎-elim}
-use Prim.Native.Nat.{_≤_, _-_}
+-- A small yard is searched in one word. In another, the set holds what is reached; taken from all that a set can hold it leaves the bays that are
+-- apart, and the lowest of these is asked for.
 use native.Mathlib.Omega.{arith}
 use borrow.Author.Needs.{needs}
-use Rattle.words.specs.Sets.{mem}
-use Rattle.paper.proofs.Members.{Passed, passed-none, passed-hit, passed-miss}
-use Rattle.apart.proofs.Reaching.{apart-there, apart-nowhere}
 use Rattle.first_bad.proofs.Firsts.{finds-at, finds-none}
+use Rattle.apart.proofs.Full.{full}
+use Rattle.apart.proofs.Reaching.{apart-there, apart-nowhere, left-out, left-in}
 use Rattle.apart.proofs.lowest_apart.Statement.{statement}
 use Rattle.apart.proofs.lowest_apart.Tie as tie
 
-abbrev Inv-loop : tie.InvT-loop
-Inv-loop n table seen lowest₀ b₀ lowest b = (b ≤ n) × (lowest ≤ n) × Passed (λ x. not (mem seen x)) n lowest b
+narrow-apart-requires : tie.Need-narrow-apart-requires
+narrow-apart-requires c κs = let asks = c .before .before .pre in (asks .0, omega (arith, c .if1 .taken), asks .2)
 
-abbrev μ-loop : tie.MeasureT-loop
-μ-loop n table seen lowest₀ b₀ lowest b = n - b
+returns : tie.Need-returns
+returns c = c .narrow-apart .ensures
 
-slice-aggregate-reach : tie.Need-slice-aggregate-reach Inv-loop μ-loop
+slice-aggregate-reach : tie.Need-slice-aggregate-reach
 slice-aggregate-reach c = search needs
 
-reach-requires : tie.Need-reach-requires Inv-loop μ-loop
-reach-requires c κs = search needs
+reach-requires : tie.Need-reach-requires
+reach-requires c κs = let p = c .before .before .before .pre in (p .0, p .1, p .2, search needs)
 
-loop-holds : tie.Need-loop-holds Inv-loop μ-loop
-loop-holds c = (omega arith, omega arith, passed-none _ _)
+slice-aggregate-minus : tie.Need-slice-aggregate-minus
+slice-aggregate-minus c = search needs
 
-slice-aggregate-is-in : tie.Need-slice-aggregate-is-in Inv-loop μ-loop
-slice-aggregate-is-in c = search needs
+slice-aggregate-minus-2 : tie.Need-slice-aggregate-minus-2
+slice-aggregate-minus-2 c = search needs
 
-is-in-requires : tie.Need-is-in-requires Inv-loop μ-loop
-is-in-requires c κs = search needs
+minus-requires : tie.Need-minus-requires
+minus-requires c κs = search needs
 
-add-b : tie.Need-add-b Inv-loop μ-loop
-add-b c = search needs
+slice-aggregate-next-from : tie.Need-slice-aggregate-next-from
+slice-aggregate-next-from c = search needs
 
-loop-less : tie.Need-loop-less Inv-loop μ-loop
-loop-less c = search needs
+next-from-requires : tie.Need-next-from-requires
+next-from-requires c κs = search needs
 
-loop-again : tie.Need-loop-again Inv-loop μ-loop
-loop-again c =
-    let l = c .before .before .before .before .loop in
-    ⊎-elim
-    (λ w. (omega arith, omega (arith, w .1), rw (w .1) (passed-hit _ _ (l .lowest) (l .b) (l .inv .2) (omega arith) (ap not (sym (c .before .is-in .ensures)) ∙ w .0 .taken))))
-    (λ w. (omega arith, omega (arith, w .1), rw (w .1) (passed-miss _ _ (l .lowest) (l .b) (l .inv .2) (ap not (sym (c .before .is-in .ensures)) ∙ w .0 .left))))
-    (c .if1 .came)
-
-returns : tie.Need-returns Inv-loop μ-loop
-returns c =
-    let b = c .before .before in
-    λ Y t. finds-at _ _ _ (apart-there Y _ _ _ (b .before .before .before .before .pre .1) (b .before .before .reach .ensures) t (b .loop .lowest) (b .loop .b) (b .loop .inv .2) (omega arith) (c .if2 .taken)) (c .if2 .taken)
-
-returns-2 : tie.Need-returns-2 Inv-loop μ-loop
+returns-2 : tie.Need-returns-2
 returns-2 c =
-    let b = c .before .before in
-    λ Y t. finds-none _ _ (apart-nowhere Y _ _ _ (b .before .before .before .before .pre .1) (b .before .before .reach .ensures) t (b .loop .lowest) (b .loop .b) (b .loop .inv .2) (omega arith) (c .if2 .left))
+    let taken = c .before .before .before .before .minus .ensures in
+    let found = c .before .next-from .ensures in
+    let most = c .before .before .before .before .before .before .before .before .before .before .before .before .pre .1 in
+    λ Y t. finds-at _ _ _
+    (apart-there Y _ _ _ most (c .before .before .before .before .before .before .before .before .reach .ensures) t _
+    (λ h. left-out _ _ _ full taken _ found (omega (arith, h, most)))
+    (λ k h l. left-in _ _ _ full taken _ found k l)
+    (c .if2 .taken))
+    (c .if2 .taken)
+
+returns-3 : tie.Need-returns-3
+returns-3 c =
+    let taken = c .before .before .before .before .minus .ensures in
+    let found = c .before .next-from .ensures in
+    let most = c .before .before .before .before .before .before .before .before .before .before .before .before .pre .1 in
+    λ Y t. finds-none _ _
+    (apart-nowhere Y _ _ _ most (c .before .before .before .before .before .before .before .before .reach .ensures) t _
+    (λ h. left-out _ _ _ full taken _ found (omega (arith, h, most)))
+    (λ k h l. left-in _ _ _ full taken _ found k l)
+    (c .if2 .left))
 
 pub lowest-apart-spec : {M : Type 1} → statement M
 lowest-apart-spec =
     tie.close
     (tie.spec
-    Inv-loop
-    μ-loop
+    narrow-apart-requires
+    returns
     slice-aggregate-reach
     reach-requires
-    loop-holds
-    slice-aggregate-is-in
-    is-in-requires
-    add-b
-    loop-less
-    loop-again
-    returns
-    returns-2)
+    slice-aggregate-minus
+    slice-aggregate-minus-2
+    minus-requires
+    slice-aggregate-next-from
+    next-from-requires
+    returns-2
+    returns-3)

@@ -14,13 +14,13 @@ place-requires : tie.Need-place-requires
 place-requires c κs = search needs
 
 occupy-requires : tie.Need-occupy-requires
-occupy-requires c κs = let placed = c .before .before .before .before .before .before .before .before .before .pre .1 in (search (needs, placed .starts-inside, placed .goals-inside), none-occupied)
+occupy-requires c κs = let placed = c .before .before .before .before .before .before .before .before .before .before .pre .1 in (search (needs, placed .starts-inside), none-occupied)
 
 play-requires : tie.Need-play-requires
-play-requires c κs = search needs
+play-requires c κs = rw (c .before .before .before .before .before .before .place .ensures) (c .before .before .before .before .before .before .before .before .before .before .before .before .before .pre .2)
 
 judge-requires : tie.Need-judge-requires
-judge-requires c κs = let placed = c .before .before .before .before .before .before .before .before .before .before .before .before .before .before .before .before .pre .1 in (search (needs, placed .as-many), placed .few)
+judge-requires c κs = let placed = c .before .before .before .before .before .before .before .before .before .before .before .before .before .before .before .before .before .pre .1 in (search (needs, placed .as-many), placed .few)
 
 same-length : tie.Need-same-length
 same-length c = search needs
@@ -29,8 +29,8 @@ returns : tie.Need-returns
 returns c =
     let play = c .before .before .before .before .play in
     let place = c .before .before .before .before .before .before .before .before .before .before .before .place in
-    let s = c .before .before .before .before .before .before .before .before .before .before .before .before .before .before .before .before .before in
-    nine-ten (now (s .args .table)) (now (s .args .start)) (now (s .args .goal)) (crossings (now (s .args .plan))) _ _ _ (legalityOf (play .result))
+    let s = c .before .before .before .before .before .before .before .before .before .before .before .before .before .before .before .before .before .before in
+    nine-ten (s .args .rows) (now (s .args .table)) (now (s .args .start)) (now (s .args .goal)) (crossings (now (s .args .plan))) _ _ _ (legalityOf (play .result))
     (place .ensures) (c .before .before .before .before .before .before .before .occupy .ensures) (play .ensures) (checkedOf (c .judge .result)) (c .judge .ensures)
 
 pub check-crossings-spec : {M : Type 1} → statement M

@@ -17,18 +17,18 @@ enough k h = length-take-le k (replicate most-bays 0) (rw (length-replicate {A =
 
 -- there are no more carriers than bays
 few : (s : tie.Start) → length (now (s .args .start)) ≤ most-bays
-few s = rw (s .pre .as-many) (s .pre .few)
+few s = let placed = s .pre .0 in rw (placed .as-many) (placed .few)
 
 array-borrow-prefix-at : tie.Need-array-borrow-prefix-at
-array-borrow-prefix-at c = few (c .before .before .before)
+array-borrow-prefix-at c = few (c .before .before .before .before)
 
 slice-aggregate-check-crossings : tie.Need-slice-aggregate-check-crossings
-slice-aggregate-check-crossings c = let start = c .before .before .before .before in sym (enough (length (now (start .args .start))) (few start))
+slice-aggregate-check-crossings c = let start = c .before .before .before .before .before in sym (enough (length (now (start .args .start))) (few start))
 
 check-crossings-requires : tie.Need-check-crossings-requires
 check-crossings-requires c κs =
-    let start = c .before .before .before .before in
-    (enough (length (now (start .args .start))) (few start), start .pre)
+    let start = c .before .before .before .before .before in
+    (enough (length (now (start .args .start))) (few start), start .pre .0, start .pre .1)
 
 returns : tie.Need-returns
 returns c = search needs

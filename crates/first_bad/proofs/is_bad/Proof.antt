@@ -28,7 +28,7 @@ is-in-requires c κs = search needs
 
 returns-4 : tie.Need-returns-4
 unfolding _or_
-returns-4 c = rw (lt-leb _ _ (c .before .before .before .before .if1 .left), lt-leb _ _ (c .before .before .before .if2 .left), ne-eqb _ _ (c .before .before .if3 .left)) (c .is-in .ensures)
+returns-4 c = rw (lt-leb _ _ (c .before .before .before .if1 .left), lt-leb _ _ (c .before .before .if2 .left), ne-eqb _ _ (c .before .if3 .left)) (c .is-in .ensures)
 
 pub is-bad-spec : {M : Type 1} → statement M
 is-bad-spec =

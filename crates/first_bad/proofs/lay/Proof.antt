@@ -22,9 +22,12 @@ add-add-2 c = search needs
 add-requires-2 : tie.Need-add-requires-2
 add-requires-2 c κs = search needs
 
+same-length : tie.Need-same-length
+same-length c = search needs
+
 returns : tie.Need-returns
-returns c = λ x. c .add2 .ensures x ∙ rw (c .before .before .add .ensures x)
+returns c = λ x. c .before .before .add2 .ensures x ∙ rw (c .before .before .before .before .before .before .add .ensures x)
 
 pub lay-spec : {M : Type 1} → statement M
 lay-spec =
-    tie.close (tie.spec mul-add add-add add-requires mul-add-2 add-add-2 add-requires-2 returns)
+    tie.close (tie.spec mul-add add-add add-requires mul-add-2 add-add-2 add-requires-2 same-length returns)

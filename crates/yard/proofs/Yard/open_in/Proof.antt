@@ -1,11 +1,12 @@
 -- The answer is that of the tests; a refused yard has its table cleared after them.
+use native.Mathlib.Omega.{arith}
 use borrow.Author.Needs.{needs}
 use Rattle.yard.proofs.Opening.{opens-cleared, opens-admitted}
 use Rattle.yard.proofs.Yard.open_in.Statement.{statement}
 use Rattle.yard.proofs.Yard.open_in.Tie as tie
 
 first-six-requires : tie.Need-first-six-requires
-first-six-requires c κs = search needs
+first-six-requires c κs = (λ few. omega (arith, few), c .before .before .before .before .pre)
 
 enum-known-tested : tie.Need-enum-known-tested
 enum-known-tested c = search needs
