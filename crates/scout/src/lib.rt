@@ -164,10 +164,11 @@ pub fn look(
     }
     show(&bays[..k], &carriers[..n], room);
     let junction = lead.junction;
+    let rails = scout.rails + way.len();
     let come = Scout {
         empty: unused,
         at: junction,
-        rails: scout.rails + way.len(),
+        rails: rails,
     };
     Sight {
         scout: come,

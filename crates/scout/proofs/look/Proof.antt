@@ -67,7 +67,7 @@ add-end : tie.Need-add-end
 add-end c = search needs
 
 slice-aggregate-copy : tie.Need-slice-aggregate-copy
-slice-aggregate-copy c = search needs
+slice-aggregate-copy c = refl
 
 slice-reshare-prefix-copy : tie.Need-slice-reshare-prefix-copy
 slice-reshare-prefix-copy c = let z = c .before .before .before .before .before .pre in omega (arith, z .carriers-fit, z .sized .room-size)
@@ -79,16 +79,16 @@ copy-requires : tie.Need-copy-requires
 copy-requires c κs = search needs
 
 slice-aggregate-copy-3 : tie.Need-slice-aggregate-copy-3
-slice-aggregate-copy-3 c = search needs
+slice-aggregate-copy-3 c = refl
 
 sub-copy : tie.Need-sub-copy
-sub-copy c = search needs
+sub-copy c = omega arith
 
 part-copy-start : tie.Need-part-copy-start
-part-copy-start c = search needs
+part-copy-start c = omega arith
 
 part-copy-end : tie.Need-part-copy-end
-part-copy-end c = search needs
+part-copy-end c = let z = c .before .before .before .before .before .before .before .before .before .before .pre in omega (arith, z .bays-fit, z .sized .room-size)
 
 copy-requires-2 : tie.Need-copy-requires-2
 copy-requires-2 c κs = search needs
@@ -106,7 +106,7 @@ slice-aggregate-advance-2 : tie.Need-slice-aggregate-advance-2
 slice-aggregate-advance-2 c = sym (length-take-le _ _ (omega (arith, c .before .before .before .before .before .before .before .before .before .before .before .before .before .before .before .pre .bays-fit, carriers-size (c .before .before .before))))
 
 slice-aggregate-advance-3 : tie.Need-slice-aggregate-advance-3
-slice-aggregate-advance-3 c = search needs
+slice-aggregate-advance-3 c = sym (c .before .before .before .before .before .before .before .before .before .before .before .before .before .before .before .before .pre .sized .empty-size)
 
 advance-requires : tie.Need-advance-requires
 advance-requires c κs =
@@ -120,7 +120,7 @@ advance-requires c κs =
     )
 
 same-length : tie.Need-same-length
-same-length c = search needs
+same-length c = refl
 
 returns : tie.Need-returns
 returns c =
@@ -160,8 +160,8 @@ show-requires c κs =
       room-size = z .sized .room-size;
     }
 
-add-t40 : tie.Need-add-t40
-add-t40 c = omega (arith, c .before .before .before .before .before .before .before .before .before .before .before .before .before .before .before .before .before .before .before .before .before .before .before .before .before .before .before .before .before .pre .short)
+add-rails : tie.Need-add-rails
+add-rails c = omega (arith, c .before .before .before .before .before .before .before .before .before .before .before .before .before .before .before .before .before .before .before .before .before .before .before .before .before .before .before .before .before .pre .short)
 
 array-borrow-prefix-bays-2 : tie.Need-array-borrow-prefix-bays-2
 array-borrow-prefix-bays-2 c = bays-lend (c .before .before .before .before .before .before .before .before .before .before .before .before)
@@ -176,7 +176,7 @@ slice-aggregate-clears-2 : tie.Need-slice-aggregate-clears-2
 slice-aggregate-clears-2 c = sym (ap length (carriers-stand (c .before .before .before .before .before .before .before .before .before .before .before .before .before .before)) ∙ carriers-long (c .before .before .before .before .before .before .before .before .before .before .before .before .before .before))
 
 slice-aggregate-clears-3 : tie.Need-slice-aggregate-clears-3
-slice-aggregate-clears-3 c = search needs
+slice-aggregate-clears-3 c = sym (c .before .before .before .before .before .before .before .before .before .before .before .before .before .before .before .advance .kept .1 .1 .1 .1 .1 .0 ∙ c .before .before .before .before .before .before .before .before .before .before .before .before .before .before .before .before .before .before .before .before .before .before .before .before .before .before .before .before .before .before .before .before .pre .sized .empty-size)
 
 clears-requires : tie.Need-clears-requires
 clears-requires c κs =
@@ -253,7 +253,7 @@ look-spec =
     array-share-prefix-carriers
     slice-aggregate-show-2
     show-requires
-    add-t40
+    add-rails
     array-borrow-prefix-bays-2
     slice-aggregate-clears
     array-borrow-prefix-carriers-2

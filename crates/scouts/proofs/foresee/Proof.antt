@@ -10,7 +10,7 @@ use borrow.Author.Needs.{needs}
 use borrow.Author.Tests.{ltb-true}
 use Rattle.paper.proofs.Tests.{and-left}
 use Rattle.scout.specs.Scouting.{scout-room}
-use Rattle.scout.proofs.Fronts.{front-stands, front-leaves, rest-part, rest-leaves, rest-stands}
+use Rattle.scout.proofs.Fronts.{all-long, front-stands, front-leaves, rest-part, rest-leaves, rest-stands}
 use Rattle.scouts.specs.Scouts.{secondLeads}
 use Rattle.scouts.proofs.Foreseeing.{came-kept, sending-theirs, sending-ours, stuck-theirs, stuck-ours, fails-theirs, fails-ours, stuck-now}
 use Rattle.scouts.proofs.foresee.Statement.{statement}
@@ -38,13 +38,13 @@ neighbour-leads-requires c κs = search needs
 -- ## The neighbour leads: its scout has the room's second half
 
 sub-send : tie.Need-sub-send
-sub-send c = search (needs, c .before .before .before .before .before .before .before .before .before .before .before .before .before .before .pre .1 .room-size)
+sub-send c = omega (arith, c .before .before .before .before .before .before .before .before .before .before .before .before .before .before .pre .1 .room-size)
 
 part-send-start : tie.Need-part-send-start
-part-send-start c = search (needs, c .before .before .before .before .before .before .before .before .before .before .before .before .before .before .pre .1 .room-size)
+part-send-start c = omega (arith, c .before .before .before .before .before .before .before .before .before .before .before .before .before .before .pre .1 .room-size)
 
 part-send-end : tie.Need-part-send-end
-part-send-end c = search needs
+part-send-end c = omega arith
 
 send-requires : tie.Need-send-requires
 send-requires c κs =
@@ -143,7 +143,10 @@ noted-requires-2 c κs =
     record { size = z .scouted .stuck-size; low = λ k h. omega (arith, z .on-path .bays-inside k h, p .most) }
 
 same-length-2 : tie.Need-same-length-2
-same-length-2 c = search needs
+same-length-2 c =
+    let send = c .before .before .before .before .before .send2 in
+    let start = c .before .before .before .before .before .before .before .before .before .before .before .before .before .before .before .before .before .before .before .before .before in
+    all-long (start .args .room .now) (send .last .1 .1 .1 .1 .1 .1 .1 .0) scout-room (omega (arith, start .pre .1 .room-size)) (send .kept .1 .1 .1 .1 .1 .1 .1 .0)
 
 returns-2 : tie.Need-returns-2
 returns-2 c =
