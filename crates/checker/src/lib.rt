@@ -3,7 +3,7 @@
 ghost use Rattle.std.specs.Prelude.{◌≡◌, false, ℕ, ◌*◌, ◌≤◌, length};
 ghost use Rattle.paper.specs.Yard.{crossings};
 ghost use Rattle.paper.specs.Order.{order};
-ghost use Rattle.paper.specs.Answers.{check as checkOf};
+ghost use Rattle.paper.specs.Answers.{check as check_of};
 ghost use Rattle.words.specs.Sets.{mem, words, span};
 ghost use Rattle.replay.specs.Playing.{InRows, legality_of};
 ghost use Rattle.checker.specs.Reading.{checked_of, Placed, nine_ten, NineTen};
@@ -90,7 +90,7 @@ fn check_in(
         × (rows * words ≤ length table.old)
         × (bays ≤ span → bays ≤ rows)
         × ((x : ℕ) → mem table.old x ≡ false) }
-    ensures { checked_of result ≡ checkOf (order bays rails.now start.now goal.now) plan.now }
+    ensures { checked_of result ≡ check_of (order bays rails.now start.now goal.now) plan.now }
 {
     let opened = yard::first_six(bays as usize, rails, start, goal, plan.len(), table);
     match opened {
@@ -105,7 +105,7 @@ const NARROW: usize = SPAN / WORDS;
 // The check of a yard that has its rows in a small table.
 fn check_narrow(bays: u64, rails: &[u16], start: &[u16], goal: &[u16], plan: &[u64]) -> Checked
     requires { bays * words ≤ span }
-    ensures { checked_of result ≡ checkOf (order bays rails.now start.now goal.now) plan.now }
+    ensures { checked_of result ≡ check_of (order bays rails.now start.now goal.now) plan.now }
 {
     let mut table = [0u64; NARROW * WORDS];
     check_in(bays, rails, start, goal, plan, NARROW, &mut table)
@@ -113,7 +113,7 @@ fn check_narrow(bays: u64, rails: &[u16], start: &[u16], goal: &[u16], plan: &[u
 
 // The check of any yard.
 fn check_wide(bays: u64, rails: &[u16], start: &[u16], goal: &[u16], plan: &[u64]) -> Checked
-    ensures { checked_of result ≡ checkOf (order bays rails.now start.now goal.now) plan.now }
+    ensures { checked_of result ≡ check_of (order bays rails.now start.now goal.now) plan.now }
 {
     let mut table = [0u64; Yard::TABLE];
     check_in(bays, rails, start, goal, plan, SPAN, &mut table)
@@ -121,7 +121,7 @@ fn check_wide(bays: u64, rails: &[u16], start: &[u16], goal: &[u16], plan: &[u64
 
 // The check tests 1 to 6, then 9, 10. A small yard has a small table, which is sooner cleared.
 pub fn check(bays: u64, rails: &[u16], start: &[u16], goal: &[u16], plan: &[u64]) -> Checked
-    ensures { checked_of result ≡ checkOf (order bays rails.now start.now goal.now) plan.now }
+    ensures { checked_of result ≡ check_of (order bays rails.now start.now goal.now) plan.now }
 {
     if bays <= NARROW as u64 {
         return check_narrow(bays, rails, start, goal, plan);

@@ -3,7 +3,7 @@
 ghost use Rattle.std.specs.Prelude.{◌≡◌};
 ghost use Rattle.std.proofs.Math.Option.{get_or};
 ghost use Rattle.paper.specs.Yard.{pack as packed, unpack as unpacked};
-ghost use Rattle.paper.specs.Docket.{row, number as number_of, carried as carriedBy};
+ghost use Rattle.paper.specs.Docket.{row, number as number_of, carried as carried_by};
 ghost use Rattle.docket.specs.Reading.{crossing_of, refusal_of, row_of, is_some};
 
 #[derive(Drop)]
@@ -129,7 +129,7 @@ pub fn number(r: Refusal) -> u64
 
 // The number in its last column, 0 where the refusal carries nothing.
 pub fn carried(r: Refusal) -> u64
-    ensures { result ≡ get_or (carriedBy (refusal_of r)) 0 }
+    ensures { result ≡ get_or (carried_by (refusal_of r)) 0 }
 {
     let row = row_of(r);
     match row {
@@ -140,7 +140,7 @@ pub fn carried(r: Refusal) -> u64
 
 // Whether it carries one.
 pub fn carries(r: Refusal) -> bool
-    ensures { result ≡ is_some (carriedBy (refusal_of r)) }
+    ensures { result ≡ is_some (carried_by (refusal_of r)) }
 {
     let row = row_of(r);
     match row {

@@ -4,7 +4,7 @@
 ghost use Rattle.std.specs.Prelude.{◌≡◌, suc, ◌≤◌, ◌<◌, ◌*◌, ◌-◌, eqb, length, get_or};
 ghost use Rattle.paper.specs.Basics.{◌and◌, if◌then◌else◌};
 ghost use Rattle.paper.specs.Yard.{crossings, named};
-ghost use Rattle.trips.specs.Trips.{shorten as shortenOf};
+ghost use Rattle.trips.specs.Trips.{shorten as shorten_of};
 ghost use Rattle.trips.specs.Names.{left};
 ghost use Rattle.chains.specs.Links.{Linked};
 ghost use Rattle.chains.specs.Asking.{SearchAsks};
@@ -149,7 +149,7 @@ fn look(plan: &[u64], gone: &mut [u8], todo: &mut [u64], links: &mut [u16], name
 pub fn drop_trips(plan: &[u64], gone: &mut [u8], todo: &mut [u64], links: &mut [u16])
     requires { Going plan.now gone.old todo.old 0 × Linked plan.now gone.old links.old }
     ensures { (length gone.new ≡ length plan.now)
-        × (left gone.new (crossings plan.now) ≡ shortenOf (crossings plan.now)) }
+        × (left gone.new (crossings plan.now) ≡ shorten_of (crossings plan.now)) }
 {
     let mut name = name_sets::next_name(todo, 0);
     while name < plan.len() {

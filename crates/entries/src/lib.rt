@@ -2,7 +2,7 @@
 ghost use Rattle.std.specs.Prelude.{◌≡◌, ◌<◌, get_or};
 ghost use Rattle.paper.specs.Limits.{most_bays};
 ghost use Rattle.docket.specs.Reading.{crossing_of};
-ghost use Rattle.bills.specs.Billing.{no_line, posted as postedOf, charged as chargedOf};
+ghost use Rattle.bills.specs.Billing.{no_line, posted as posted_of, charged as charged_of};
 ghost use Rattle.bills.specs.Answering.{same_numbers, same_record};
 
 use bills::{Line, Record};
@@ -59,7 +59,7 @@ pub fn same_record(a: Record, b: Record) -> bool
 // The record after an accepted crossing.
 pub fn posted(running: Record, x: Crossing, slot: u32) -> Record
     requires { (x.carrier.0 < most_bays) × (running.done < 4294967295) }
-    ensures { result ≡ postedOf running (crossing_of x) slot }
+    ensures { result ≡ posted_of running (crossing_of x) slot }
 {
     let carrier = x.carrier.0 as usize;
     let mut at = running.at;
@@ -74,7 +74,7 @@ pub fn posted(running: Record, x: Crossing, slot: u32) -> Record
 // The line after an accepted name.
 pub fn charged(line: Line, name: u32) -> Line
     requires { line.billed < 4294967295 }
-    ensures { result ≡ chargedOf line name }
+    ensures { result ≡ charged_of line name }
 {
     Line {
         carrier: line.carrier,

@@ -3,7 +3,7 @@
 ghost use Rattle.std.specs.Prelude.{◌≡◌, true, false, suc, ◌<◌, ltb, leb};
 ghost use Rattle.paper.specs.Basics.{if◌then◌else◌, ◌and◌, ◌or◌};
 ghost use Rattle.paper.specs.Text.{is_digit, is_point, text};
-ghost use Rattle.paper.specs.Bytes.{match_byte, matched, grow, tally, sized_field, number_field, length_field, keep_at, well_field, see as seeByte, field_past as pastField};
+ghost use Rattle.paper.specs.Bytes.{match_byte, matched, grow, tally, sized_field, number_field, length_field, keep_at, well_field, see as see_byte, field_past as past_field};
 ghost use Rattle.fields.specs.ReadAs.{match_of, seen_of, past_of};
 
 // The version line under way: how many bytes, and whether they agree so far.
@@ -80,7 +80,7 @@ fn tallied(n: u32, b: u8) -> u32
 
 // A byte of a field.
 pub fn seen(m: FieldSeen, b: u8) -> FieldSeen
-    ensures { seen_of result ≡ seeByte (seen_of m) b }
+    ensures { seen_of result ≡ see_byte (seen_of m) b }
 {
     let d = is_digit(b);
     let p = is_point(b);
@@ -179,7 +179,7 @@ fn one_on(i: u8) -> u8
 
 // The field is past.
 pub fn field_past(p: FieldsPast, m: FieldSeen, w: u32, h: u32) -> FieldsPast
-    ensures { past_of result ≡ pastField w h (past_of p) (seen_of m) }
+    ensures { past_of result ≡ past_field w h (past_of p) (seen_of m) }
 {
     FieldsPast {
         index: one_on(p.index),

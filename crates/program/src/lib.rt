@@ -3,7 +3,7 @@ ghost use Rattle.std.specs.Prelude.{◌≡◌, ◌≤◌, length};
 ghost use Rattle.paper.specs.Order.{order as order_of};
 ghost use Rattle.paper.specs.Answers.{plan as planned};
 ghost use Rattle.paper.specs.Print.{printed};
-ghost use Rattle.paper.specs.Program.{program as printedFor, program_answer, program_room};
+ghost use Rattle.paper.specs.Program.{program as printed_for, program_answer, program_room};
 ghost use Rattle.stores.specs.Writing.{Wrote};
 ghost use Rattle.filing.specs.Filing.{file_of, order_in};
 ghost use Rattle.print_room.specs.Printout.{print_room};
@@ -138,7 +138,7 @@ fn print_for(
 // All that is printed for two files, each with whether it could be read; answers how many bytes
 // that takes, which are never more than 180,250.
 pub fn program(map: &[u8], mapped: bool, scenario: &[u8], listed: bool, out: &mut [u8]) -> usize
-    ensures { Wrote out.old 0 (printedFor (file_of mapped map.now) (file_of listed scenario.now)) out.new result
+    ensures { Wrote out.old 0 (printed_for (file_of mapped map.now) (file_of listed scenario.now)) out.new result
         × (result ≤ print_room) }
 {
     print_for(false, map, mapped, scenario, listed, out)

@@ -2,7 +2,7 @@
 ghost use Rattle.std.specs.Prelude.{◌≡◌, ◌++◌, ◌≤◌, eqb, length, drop};
 ghost use Rattle.paper.specs.Basics.{if◌then◌else◌};
 ghost use Rattle.paper.specs.Yard.{crossings, most_crossings};
-ghost use Rattle.trips.specs.Trips.{shorten as shortenOf};
+ghost use Rattle.trips.specs.Trips.{shorten as shorten_of};
 ghost use Rattle.trips.specs.Names.{left};
 ghost use Rattle.remaining.specs.Statements.{WriteAsks, RoomSays};
 
@@ -47,7 +47,7 @@ fn write_left(plan: &[u64], gone: &[u8], out: &mut [u64], count: usize)
 // 8 where the shorter plan is longer than the lent list; else it is written.
 pub fn finish(plan: &[u64], gone: &[u8], out: &mut [u64]) -> Verdict
     requires { (length gone.now ≡ length plan.now)
-        × (left gone.now (crossings plan.now) ≡ shortenOf (crossings plan.now))
+        × (left gone.now (crossings plan.now) ≡ shorten_of (crossings plan.now))
         × (length plan.now ≤ most_crossings) }
     ensures { RoomSays plan.now out.old result out.new }
 {

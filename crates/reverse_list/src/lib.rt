@@ -1,6 +1,6 @@
 // Playing a plan backwards: the crossings in reverse order, from and to exchanged, for lists of any content.
 ghost use Rattle.std.specs.Prelude.{◌≡◌, ◌++◌, ◌≤◌, length, drop};
-ghost use Rattle.paper.specs.Yard.{pack as packed, turned as turnedOf, unpack as unpacked};
+ghost use Rattle.paper.specs.Yard.{pack as packed, turned as turned_of, unpack as unpacked};
 ghost use Rattle.reversing.specs.Reversing.{reversed};
 ghost use Rattle.reversing.specs.Statement.{ReverseSays};
 
@@ -8,7 +8,7 @@ use docket::{Crossing, Refusal, Verdict};
 
 // The number of the crossing with from and to exchanged. The carrier stays, whatever its number.
 fn turned(number: u64) -> u64
-    ensures { result ≡ packed (turnedOf (unpacked number)) }
+    ensures { result ≡ packed (turned_of (unpacked number)) }
 {
     let x = docket::unpack(number);
     let carrier = x.carrier;
