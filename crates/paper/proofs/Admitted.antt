@@ -258,8 +258,8 @@ places-good n c used (b ∷ p) h =
     let other : (i : Carrier) → i < length p → bay_of p i ≡ b → ⊥ =
     λ i k q. Out-head (bay_of p i) b [] (Out-right (bay_of p i) used (b ∷ []) (ih.fresh i k)) q in
     record {
-      inside = λ i. elim i [ zero ↦ λ k. leb-false _ _ o.0 | suc j ↦ λ k. ih.inside j (omega arith) ];
-      fresh = λ i. elim i [ zero ↦ λ k. o.1 | suc j ↦ λ k. Out-left (bay_of p j) used (b ∷ []) (ih.fresh j (omega arith)) ];
+      inside = λ i. elim i as (λ i. i < length (b ∷ p) → bay_of (b ∷ p) i < n) [ zero ↦ λ k. leb-false _ _ o.0 | suc j ↦ λ k. ih.inside j (omega arith) ];
+      fresh = λ i. elim i as (λ i. i < length (b ∷ p) → elem (bay_of (b ∷ p) i) used ≡ false) [ zero ↦ λ k. o.1 | suc j ↦ λ k. Out-left (bay_of p j) used (b ∷ []) (ih.fresh j (omega arith)) ];
       distinct = apart_cons b p ih.distinct other;
       once = (out_of p b other, ih.once);
     })

@@ -183,7 +183,7 @@ module _ (Y : Yard) (q : Bay → Bool) where
         ring = suc t.ring;
         there = omega (arith, t.there);
         found = t.found;
-        earlier = λ j. elim j [ zero ↦ λ b l i. choice-none Y q r k b i | suc m ↦ λ b l i. t.earlier m b (omega arith) i ];
+        earlier = λ j. elim j as (λ k. (b : ℕ) → k < suc t.ring → In b (get_or (r ∷ rs) k []) → q b ≡ false) [ zero ↦ λ b l i. choice-none Y q r k b i | suc m ↦ λ b l i. t.earlier m b (omega arith) i ];
       })
       (λ y k.
       let n : y ≡ e = let z = rw k at h in cc in

@@ -41,7 +41,7 @@ highest-below x (y ∷ es) (s ∷ ss) b f =
 after-length : (earlier : List Crossing) (given : List ℕ) (xs : List Crossing) → length (slots_after earlier given xs) ≡ length xs
 unfolding slots_after
 after-length earlier given [] = refl
-after-length earlier given (x ∷ xs) = ap suc (after-length _ _ xs)
+after-length earlier given (x ∷ xs) = ap suc (after-length (earlier ++ (x ∷ [])) (given ++ (suc (highest x earlier given) ∷ [])) xs)
 
 after-at : (earlier : List Crossing) (given : List ℕ) (xs : List Crossing) (i : ℕ) → i < length xs
     → get_or (slots_after earlier given xs) i 0 ≡ suc (highest (named xs i) (earlier ++ take i xs) (given ++ take i (slots_after earlier given xs)))

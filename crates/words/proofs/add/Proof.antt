@@ -7,22 +7,22 @@ use Rattle.words.proofs.Sets.{mem-with}
 use Rattle.words.proofs.add.Statement.{statement}
 use Rattle.words.proofs.add.Tie as tie
 
-mul-ws : tie.Need-overflow-mul-ws
+mul-ws : tie.Need-offset_bounds-ws-i
 mul-ws c = search rules
 
-slice-read-ws : tie.Need-slice-read-ws
+slice-read-ws : tie.Need-bounds-ws-i
 slice-read-ws c = search rules
 
-shl-ws : tie.Need-overflow-shl-ws
+shl-ws : tie.Need-overflow_shl-ws
 shl-ws c = search rules
 
-mul-ws-2 : tie.Need-overflow-mul-ws-2
+mul-ws-2 : tie.Need-offset_bounds-ws-i-2
 mul-ws-2 c = search rules
 
-slice-write-ws : tie.Need-slice-write-ws
+slice-write-ws : tie.Need-bounds-ws-i-2
 slice-write-ws c = search rules
 
-same_length : tie.Need-same-length
+same_length : tie.Need-shape_of-ws
 same_length c = search rules
 
 returns : tie.Need-returns

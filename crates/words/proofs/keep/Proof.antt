@@ -9,49 +9,49 @@ use Rattle.words.proofs.Loops.{Writing, writing-none, writing_more, writing-all}
 use Rattle.words.proofs.keep.Statement.{statement}
 use Rattle.words.proofs.keep.Tie as tie
 
-abbrev invariant-loop : tie.invariant-loop
+abbrev invariant-loop : tie.invariant-loop-i
 invariant-loop rows₀ d ring i₀ rows i = (i ≤ words) × (length rows ≡ length rows₀) × Writing rows₀ d ring rows i
 
-abbrev decreases-loop : tie.decreases-loop
+abbrev decreases-loop : tie.decreases-loop-i
 decreases-loop rows₀ d ring i₀ rows i = words - i
 
-loop-holds : tie.Need-loop-init invariant-loop decreases-loop
+loop-holds : tie.Need-loop-i-init invariant-loop decreases-loop
 loop-holds c = (omega arith, refl, writing-none _ _ _)
 
-mul-rows : tie.Need-overflow-mul-rows invariant-loop decreases-loop
+mul-rows : tie.Need-offset_bounds-ring-i invariant-loop decreases-loop
 mul-rows c = search rules
 
-shared-slice-read-rows : tie.Need-shared-slice-read-rows invariant-loop decreases-loop
+shared-slice-read-rows : tie.Need-bounds-ring-i invariant-loop decreases-loop
 shared-slice-read-rows c = search rules
 
-mul-rows-2 : tie.Need-overflow-mul-rows-2 invariant-loop decreases-loop
+mul-rows-2 : tie.Need-overflow_mul-rows invariant-loop decreases-loop
 mul-rows-2 c = search rules
 
-add-rows : tie.Need-overflow-add-rows invariant-loop decreases-loop
+add-rows : tie.Need-overflow_add-rows invariant-loop decreases-loop
 add-rows c = search rules
 
-mul-rows-3 : tie.Need-overflow-mul-rows-3 invariant-loop decreases-loop
+mul-rows-3 : tie.Need-offset_bounds-rows-d invariant-loop decreases-loop
 mul-rows-3 c = search rules
 
-slice-write-rows : tie.Need-slice-write-rows invariant-loop decreases-loop
+slice-write-rows : tie.Need-bounds-rows-d invariant-loop decreases-loop
 slice-write-rows c = search rules
 
-add-i : tie.Need-overflow-add-i invariant-loop decreases-loop
+add-i : tie.Need-overflow_add-i invariant-loop decreases-loop
 add-i c = search rules
 
-loop-less : tie.Need-loop-smaller invariant-loop decreases-loop
+loop-less : tie.Need-loop-i-smaller invariant-loop decreases-loop
 loop-less c = search rules
 
-loop-again : tie.Need-loop-preserved invariant-loop decreases-loop
+loop-again : tie.Need-loop-i-preserved invariant-loop decreases-loop
 loop-again c =
-    let l = c.before.before.loop in
+    let l = c.before.before.loop-i in
     (omega arith, simp length-set (omega arith), writing_more _ _ _ _ _ l.invariant.2 (omega arith) (omega arith))
 
-same_length : tie.Need-same-length invariant-loop decreases-loop
+same_length : tie.Need-shape_of-rows invariant-loop decreases-loop
 same_length c = search rules
 
 returns : tie.Need-returns invariant-loop decreases-loop
-returns c = writing-all _ _ _ _ _ c.before.loop.invariant.2 (omega arith)
+returns c = writing-all _ _ _ _ _ c.before.loop-i.invariant.2 (omega arith)
 
 pub keep_spec : {M : Type 1} → statement M
 keep_spec =

@@ -11,72 +11,72 @@ use Rattle.words.proofs.Loops.{lowest-on, lowest-whole, common-word}
 use Rattle.words.proofs.lowest_common.Statement.{statement}
 use Rattle.words.proofs.lowest_common.Tie as tie
 
-abbrev invariant-loop : tie.invariant-loop
+abbrev invariant-loop : tie.invariant-loop-i
 invariant-loop s a t b i₀ i = (i ≤ words) × ((k : ℕ) → 0 ≤ k → k < i * 64 → mem_row s a k and mem_row t b k ≡ false)
 
-abbrev decreases-loop : tie.decreases-loop
+abbrev decreases-loop : tie.decreases-loop-i
 decreases-loop s a t b i₀ i = words - i
 
-loop-holds : tie.Need-loop-init invariant-loop decreases-loop
+loop-holds : tie.Need-loop-i-init invariant-loop decreases-loop
 loop-holds c = (omega arith, λ k h l. absurd (omega arith))
 
-mul-both : tie.Need-overflow-mul-both invariant-loop decreases-loop
+mul-both : tie.Need-overflow_mul-both invariant-loop decreases-loop
 mul-both c = search rules
 
-add-both : tie.Need-overflow-add-both invariant-loop decreases-loop
+add-both : tie.Need-overflow_add-both invariant-loop decreases-loop
 add-both c = search rules
 
-mul-both-2 : tie.Need-overflow-mul-both-2 invariant-loop decreases-loop
+mul-both-2 : tie.Need-offset_bounds-s-a invariant-loop decreases-loop
 mul-both-2 c = search rules
 
-shared-slice-read-both : tie.Need-shared-slice-read-both invariant-loop decreases-loop
+shared-slice-read-both : tie.Need-bounds-s-a invariant-loop decreases-loop
 shared-slice-read-both c = search rules
 
-mul-both-3 : tie.Need-overflow-mul-both-3 invariant-loop decreases-loop
+mul-both-3 : tie.Need-overflow_mul-both-in-loop-i invariant-loop decreases-loop
 mul-both-3 c = search rules
 
-add-both-2 : tie.Need-overflow-add-both-2 invariant-loop decreases-loop
+add-both-2 : tie.Need-overflow_add-both-in-loop-i invariant-loop decreases-loop
 add-both-2 c = search rules
 
-mul-both-4 : tie.Need-overflow-mul-both-4 invariant-loop decreases-loop
+mul-both-4 : tie.Need-offset_bounds-t-b invariant-loop decreases-loop
 mul-both-4 c = search rules
 
-shared-slice-read-both-2 : tie.Need-shared-slice-read-both-2 invariant-loop decreases-loop
+shared-slice-read-both-2 : tie.Need-bounds-t-b invariant-loop decreases-loop
 shared-slice-read-both-2 c = search rules
 
-lowest-of-requires : tie.Need-lowest-of-requires invariant-loop decreases-loop
+lowest-of-requires : tie.Need-lowest_of-requires invariant-loop decreases-loop
 lowest-of-requires c κs = search rules
 
-returns : tie.Need-returns invariant-loop decreases-loop
+returns : tie.Need-returns-then-both-ne0 invariant-loop decreases-loop
 returns c =
     let b = c.before.before.before.before.before in
-    let l = b.loop in
+    let l = b.loop-i in
     let a = b.before.before.before.args in
-    rw c.lowest-of.ensures
+    rw c.lowest_of.ensures
     (lowest-whole (λ x. mem_row a.s.now a.a x and mem_row a.t.now a.b x) l.i _ span (omega arith) (omega arith)
-    (and_lt 64 _ _ (c.before.before.before.shared-slice-known3.given (a.a * words + l.i)).fits (c.before.before.shared-slice-known4.given (a.b * words + l.i)).fits)
+    (and_lt 64 _ _ (c.before.before.before.shared_slice_known-in-loop-i-1.given (a.a * words + l.i)).fits (c.before.before.shared_slice_known-in-loop-i-2-1.given (a.b * words + l.i)).fits)
     (λ k h. common-word a.s.now a.a a.t.now a.b l.i k h) (λ k g q. l.invariant.1 k g (omega arith)))
 
-add-i : tie.Need-overflow-add-i invariant-loop decreases-loop
+add-i : tie.Need-overflow_add-i invariant-loop decreases-loop
 add-i c = search rules
 
-loop-less : tie.Need-loop-smaller invariant-loop decreases-loop
+loop-less : tie.Need-loop-i-smaller invariant-loop decreases-loop
 loop-less c = search rules
 
-loop-again : tie.Need-loop-preserved invariant-loop decreases-loop
+loop-again : tie.Need-loop-i-preserved invariant-loop decreases-loop
 loop-again c =
     let b = c.before.before.before.before in
-    let l = b.loop in
+    let l = b.loop-i in
     let a = b.before.before.before.args in
-    (omega arith, lowest-on (λ x. mem_row a.s.now a.a x and mem_row a.t.now a.b x) 0 l.i _ 0 (omega arith) c.if1.false (λ k h. common-word a.s.now a.a a.t.now a.b l.i k h) (λ k g q. l.invariant.1 k g (omega arith)))
+    (omega arith, lowest-on (λ x. mem_row a.s.now a.a x and mem_row a.t.now a.b x) 0 l.i _ 0 (omega arith) c.if-both-ne0.false (λ k h. common-word a.s.now a.a a.t.now a.b l.i k h) (λ k g q. l.invariant.1 k g (omega arith)))
 
-returns-2 : tie.Need-returns-2 invariant-loop decreases-loop
+returns-2 : tie.Need-returns invariant-loop decreases-loop
 returns-2 c =
-    let l = c.before.loop in
+    let l = c.before.loop-i in
     record { from = omega arith; upto = omega arith; hit = λ h. absurd (omega arith); before = λ k g q. l.invariant.1 k g (omega arith) }
 
-pub lowest-common-spec : {M : Type 1} → statement M
-lowest-common-spec =
+pub lowest_common_spec : {M : Type 1} → statement M
+lowest_common_spec =
     tie.close
     (tie.spec
     invariant-loop

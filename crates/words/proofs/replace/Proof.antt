@@ -10,56 +10,56 @@ use Rattle.words.proofs.Loops.{Done, Left, done_none, done_more, left-all, left-
 use Rattle.words.proofs.replace.Statement.{statement}
 use Rattle.words.proofs.replace.Tie as tie
 
-abbrev invariant-loop : tie.invariant-loop
+abbrev invariant-loop : tie.invariant-loop-i
 invariant-loop ws₀ x y i₀ ws i =
     (i ≤ words) × (length ws ≡ length ws₀)
     × Done ws i (λ k. bit_or (less_word (get_or ws₀ k 0) (bit_of x k)) (bit_of y k))
     × Left ws i (λ k. get_or ws₀ k 0)
 
-abbrev decreases-loop : tie.decreases-loop
+abbrev decreases-loop : tie.decreases-loop-i
 decreases-loop ws₀ x y i₀ ws i = words - i
 
-loop-holds : tie.Need-loop-init invariant-loop decreases-loop
+loop-holds : tie.Need-loop-i-init invariant-loop decreases-loop
 loop-holds c = (omega arith, refl, done_none _ _, left-all _)
 
-mul-ws : tie.Need-overflow-mul-ws invariant-loop decreases-loop
+mul-ws : tie.Need-offset_bounds-ws-i invariant-loop decreases-loop
 mul-ws c = search rules
 
-slice-read-ws : tie.Need-slice-read-ws invariant-loop decreases-loop
+slice-read-ws : tie.Need-bounds-ws-i invariant-loop decreases-loop
 slice-read-ws c = search rules
 
-bit-of-requires : tie.Need-bit-of-requires invariant-loop decreases-loop
+bit-of-requires : tie.Need-bit_of-requires invariant-loop decreases-loop
 bit-of-requires c κs = search rules
 
-bit-of-requires-2 : tie.Need-bit-of-requires-2 invariant-loop decreases-loop
+bit-of-requires-2 : tie.Need-bit_of-requires-in-loop-i invariant-loop decreases-loop
 bit-of-requires-2 c κs = search rules
 
-mul-ws-2 : tie.Need-overflow-mul-ws-2 invariant-loop decreases-loop
+mul-ws-2 : tie.Need-offset_bounds-ws-i-in-loop-i invariant-loop decreases-loop
 mul-ws-2 c = search rules
 
-slice-write-ws : tie.Need-slice-write-ws invariant-loop decreases-loop
+slice-write-ws : tie.Need-bounds-ws-i-in-loop-i invariant-loop decreases-loop
 slice-write-ws c = search rules
 
-add-i : tie.Need-overflow-add-i invariant-loop decreases-loop
+add-i : tie.Need-overflow_add-i invariant-loop decreases-loop
 add-i c = search rules
 
-loop-less : tie.Need-loop-smaller invariant-loop decreases-loop
+loop-less : tie.Need-loop-i-smaller invariant-loop decreases-loop
 loop-less c = search rules
 
-loop-again : tie.Need-loop-preserved invariant-loop decreases-loop
+loop-again : tie.Need-loop-i-preserved invariant-loop decreases-loop
 loop-again c =
-    let l = c.before.before.before.before.loop in (
+    let l = c.before.before.before.before.loop-i in (
       omega arith,
       simp length-set (omega arith),
-      done_more _ _ _ _ l.invariant.2 (omega arith) (rw (l.invariant.3.at l.i (omega arith), c.bit-of2.ensures, c.before.bit-of.ensures)),
+      done_more _ _ _ _ l.invariant.2 (omega arith) (rw (l.invariant.3.at l.i (omega arith), c.bit_of-in-loop-i.ensures, c.before.bit_of.ensures)),
       left-more _ _ _ _ l.invariant.3,
     )
 
-same_length : tie.Need-same-length invariant-loop decreases-loop
+same_length : tie.Need-shape_of-ws invariant-loop decreases-loop
 same_length c = search rules
 
 returns : tie.Need-returns invariant-loop decreases-loop
-returns c = let l = c.before.loop in replaced-all _ l.i (omega arith) (omega arith) _ (omega arith) _ _ (omega arith) (omega arith) l.invariant.2
+returns c = let l = c.before.loop-i in replaced-all _ l.i (omega arith) (omega arith) _ (omega arith) _ _ (omega arith) (omega arith) l.invariant.2
 
 pub replace_spec : {M : Type 1} → statement M
 replace_spec =
