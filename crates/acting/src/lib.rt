@@ -11,7 +11,7 @@ use vacate::Vacated;
 
 // What is counted: crossings, and the vacates that filled a bay of three rails or more. Whoever takes a tally out of an answer makes it anew from its two
 // numbers: they are then read one by one, as they were written. Copied whole, both are read at once, which waits until both are stored.
-#[derive(Drop)]
+#[derive(Clone, Copy)]
 pub struct Tally {
     pub crossings: usize,
     pub parked: usize,
@@ -24,7 +24,7 @@ pub const NOTHING: Tally = Tally {
 };
 
 // What was made, or that it could not be done.
-#[derive(Drop)]
+#[derive(Clone, Copy)]
 pub enum Tried {
     Done(Tally),
     Failed,

@@ -62,7 +62,7 @@ fn lead(plan: &[u64], last: &[u32; Yard::BAYS], at: &mut [u16; Yard::BAYS])
 }
 
 // What the pass below gives beside its arrays: the highest slot in which anything is done, or 0, and the slot of the name that is asked for.
-#[derive(Drop)]
+#[derive(Clone, Copy)]
 pub struct Slots {
     pub highest: u32,
     pub asked: u32,

@@ -13,7 +13,7 @@ use held_lines::HeldLines;
 use yard::Yard;
 
 // Record and lines worked out afresh, and the slot of the name that is asked for.
-#[derive(Drop)]
+#[derive(Clone, Copy)]
 pub struct Fresh {
     pub running: Record,
     pub held: HeldLines,
@@ -44,7 +44,7 @@ pub fn work_out(start: &[u16], plan: &[u64], marks: &[u8], name: usize) -> Fresh
 }
 
 // Whether all agree, and the slot of the name that is asked for.
-#[derive(Drop)]
+#[derive(Clone, Copy)]
 pub struct Agreed {
     pub all: bool,
     pub slot: u32,

@@ -11,7 +11,7 @@ use rings::Path;
 
 // A carrier whose turn it is: those below it are finished. With its goal, and whether the yard is a carousel, where its path leads past the finished
 // carriers.
-#[derive(Drop)]
+#[derive(Clone, Copy)]
 pub struct ToGoal {
     pub carrier: Carrier,
     pub goal: Bay,
@@ -19,7 +19,7 @@ pub struct ToGoal {
 }
 
 // The number of bays on the path that the carrier has gone, and the tally of what was made; or it could not go there.
-#[derive(Drop)]
+#[derive(Clone, Copy)]
 pub enum Gone {
     There(usize, Tally),
     Nowhere,

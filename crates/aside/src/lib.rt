@@ -6,7 +6,7 @@ use acting::Tried;
 use docket::Bay;
 
 // What an attempt goes by besides x: the junction, the neighbour that is held with it, and the neighbour that is emptied after x.
-#[derive(Drop)]
+#[derive(Clone, Copy)]
 pub struct Aside {
     pub junction: Bay,
     pub held: Bay,

@@ -10,14 +10,14 @@ use bring::Couple;
 use docket::Bay;
 
 // A leader with its follower, and the junction to which it leads.
-#[derive(Drop)]
+#[derive(Clone, Copy)]
 pub struct Lead {
     pub couple: Couple,
     pub junction: Bay,
 }
 
 // Where clearing goes on: the leader is at the junction and the follower at the bay behind it; of the other neighbours one is kept.
-#[derive(Drop)]
+#[derive(Clone, Copy)]
 pub struct OneKept {
     pub lead: Lead,
     pub behind: Bay,

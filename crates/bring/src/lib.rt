@@ -7,7 +7,7 @@ use acting::{Tally, Tried};
 use docket::{Bay, Carrier};
 
 // Two carriers that go one behind the other: the follower enters the bay that the leader leaves.
-#[derive(Drop)]
+#[derive(Clone, Copy)]
 pub struct Couple {
     pub leader: Carrier,
     pub follower: Carrier,

@@ -6,14 +6,14 @@ ghost use Rattle.cases.specs.Numerals.{is_digit, from_digit, Reads};
 use std::num::wrapping_add_u64;
 
 // A number that was read, and the place after its last digit.
-#[derive(Drop)]
+#[derive(Clone, Copy)]
 pub struct Numeral {
     pub value: u64,
     pub next: usize,
 }
 
 // How many numbers of a list were stored, and the place after the list.
-#[derive(Drop)]
+#[derive(Clone, Copy)]
 pub struct Listed {
     pub count: usize,
     pub next: usize,

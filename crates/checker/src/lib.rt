@@ -14,7 +14,7 @@ use words::{SPAN, WORDS};
 use yard::{Opened, Yard};
 
 // What the check answers.
-#[derive(Drop)]
+#[derive(Clone, Copy)]
 pub enum Checked {
     Passed,
     Refused(Refusal),

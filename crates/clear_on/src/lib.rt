@@ -11,7 +11,7 @@ use docket::Bay;
 use keeping::{Kept, Two};
 
 // The two bays that are kept, with what was made for them, or that there are not two.
-#[derive(Drop)]
+#[derive(Clone, Copy)]
 pub enum Pair {
     Both(Bay, Bay, Tally),
     Missing,

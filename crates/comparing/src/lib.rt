@@ -12,7 +12,7 @@ use docket::{Carrier, Refusal, Verdict};
 use yard::Yard;
 
 // What counting a list answers: each carrier has its count, or the first carrier number that has none.
-#[derive(Drop)]
+#[derive(Clone, Copy)]
 enum Counted {
     All,
     Above(Carrier),

@@ -6,16 +6,16 @@ ghost use Rattle.paper.specs.Yard.{pack as packed, unpack as unpacked};
 ghost use Rattle.paper.specs.Docket.{row, number as number_of, carried as carried_by};
 ghost use Rattle.docket.specs.Reading.{crossing_of, refusal_of, row_of, is_some};
 
-#[derive(Drop)]
+#[derive(Clone, Copy)]
 pub struct Bay(pub u16);
 
-#[derive(Drop)]
+#[derive(Clone, Copy)]
 pub struct Carrier(pub u32);
 
 // A bay's number has 16 bits: the base in which a crossing's two bays stand.
 const BASE: u64 = 65536;
 
-#[derive(Drop)]
+#[derive(Clone, Copy)]
 pub struct Crossing {
     pub carrier: Carrier,
     pub from: Bay,
@@ -44,7 +44,7 @@ pub fn unpack(w: u64) -> Crossing
 }
 
 // The table's refusals in its order, each with what it carries.
-#[derive(Drop)]
+#[derive(Clone, Copy)]
 pub enum Refusal {
     Size,
     Rail(u64),
@@ -72,14 +72,14 @@ pub enum Refusal {
 }
 
 // What a function answers that hands back a number: that number (a length, a count), or why there is none.
-#[derive(Drop)]
+#[derive(Clone, Copy)]
 pub enum Verdict {
     Granted(u64),
     Denied(Refusal),
 }
 
 // A row of the table: its number alone, or its number and what the refusal carries.
-#[derive(Drop)]
+#[derive(Clone, Copy)]
 enum Row {
     Plain(u64),
     Carrying(u64, u64),

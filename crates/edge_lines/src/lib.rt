@@ -2,7 +2,7 @@
 ghost use Rattle.edge_lines.specs.Lines.{OneMore, Opened, Broken, Marked, Takes, Closes};
 
 // What is due: the `p` line; or, with its bays and rails and how many ends were read since, a rail.
-#[derive(Drop)]
+#[derive(Clone, Copy)]
 pub enum Due {
     Head,
     Rails(u32, u32, u64),
@@ -10,7 +10,7 @@ pub enum Due {
 
 // The line under way: no byte yet; a comment; broken; how many bytes of the word; the digits and the number so far of the first
 // number; the first number, and the same of the second.
-#[derive(Drop)]
+#[derive(Clone, Copy)]
 pub enum Part {
     Fresh,
     Comment,
@@ -22,7 +22,7 @@ pub enum Part {
 
 // The file under way: the line's number, whether it broke the layout, whether it has begun, whether a CR is held back, what is due,
 // the last rail, and what is known of the line.
-#[derive(Drop)]
+#[derive(Clone, Copy)]
 pub struct Reading {
     pub line: u64,
     pub failed: bool,

@@ -12,7 +12,7 @@ ghost use Rattle.edges.specs.Held.{Steps, Finishes, answer_of, answer_by, stored
 use edge_lines::{Due, Part, Reading};
 
 // Bays and rail ends of the file, or its first bad line.
-#[derive(Drop)]
+#[derive(Clone, Copy)]
 pub enum SurveyRead {
     Yard(u32, u64),
     Bad(u64),

@@ -7,14 +7,14 @@ ghost use Rattle.paper.specs.Bytes.{match_byte, matched, grow, tally, sized_fiel
 ghost use Rattle.fields.specs.ReadAs.{match_of, seen_of, past_of};
 
 // The version line under way: how many bytes, and whether they agree so far.
-#[derive(Drop)]
+#[derive(Clone, Copy)]
 pub struct TextSeen {
     pub place: u8,
     pub agrees: bool,
 }
 
 // A field under way: how many bytes, its number, and what kinds of bytes were seen.
-#[derive(Drop)]
+#[derive(Clone, Copy)]
 pub struct FieldSeen {
     pub place: u8,
     pub number: u32,
@@ -25,7 +25,7 @@ pub struct FieldSeen {
 }
 
 // The fields of the line that are past: how many, whether all are well, and the coordinates.
-#[derive(Drop)]
+#[derive(Clone, Copy)]
 pub struct FieldsPast {
     pub index: u8,
     pub well: bool,

@@ -6,7 +6,7 @@ use gridmap::{Grid, MapRead};
 use scenario::ScenarioRead;
 
 // How many bays, ends of rails and carriers an order has.
-#[derive(Drop)]
+#[derive(Clone, Copy)]
 pub struct Order {
     pub bays: u64,
     pub ends: usize,
@@ -14,7 +14,7 @@ pub struct Order {
 }
 
 // An order, or why there is none.
-#[derive(Drop)]
+#[derive(Clone, Copy)]
 pub enum Ordered {
     Order(Order),
     Refused(Refusal),

@@ -12,7 +12,7 @@ use words::{SPAN, WORDS};
 pub const TABLE: usize = SPAN * WORDS;
 
 // The place of the one that was looked for, if there is one.
-#[derive(Drop)]
+#[derive(Clone, Copy)]
 pub enum Found {
     At(usize),
     Nothing,

@@ -9,7 +9,7 @@ ghost use Rattle.gridmap.specs.Cells.{letters, mark_of, count_with, numbering, n
 use sides::Sides;
 
 // The sides of a map and the count of its bays.
-#[derive(Drop)]
+#[derive(Clone, Copy)]
 pub struct Grid {
     pub height: u8,
     pub width: u8,
@@ -17,14 +17,14 @@ pub struct Grid {
 }
 
 // A map, or its first bad line.
-#[derive(Drop)]
+#[derive(Clone, Copy)]
 pub enum MapRead {
     Grid(Grid),
     Bad(u64),
 }
 
 // The bay of a cell; walls and what lies outside the map have none.
-#[derive(Drop)]
+#[derive(Clone, Copy)]
 pub enum Cell {
     Bay(u16),
     Wall,

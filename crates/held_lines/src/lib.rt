@@ -7,7 +7,7 @@ use bills::Line;
 use yard::Yard;
 
 // Lines by value: how many there are, and the first of them, as many as a yard may have carriers.
-#[derive(Drop)]
+#[derive(Clone, Copy)]
 pub struct HeldLines {
     pub count: usize,
     pub lines: [Line; Yard::BAYS],

@@ -7,14 +7,14 @@ use docket::{Bay, Carrier};
 use step::NextStep;
 
 // The tally of what was made, or the carrier that could not step.
-#[derive(Drop)]
+#[derive(Clone, Copy)]
 pub enum Staged {
     Planned(Tally),
     Stuck(Carrier),
 }
 
 // The way home has come to this bay. The carriers below `finished` are finished.
-#[derive(Drop)]
+#[derive(Clone, Copy)]
 pub struct HomeBay {
     pub finished: usize,
     pub bay: Bay,

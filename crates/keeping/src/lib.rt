@@ -6,14 +6,14 @@ use acting::{Tally, Tried};
 use docket::Bay;
 
 // One more bay that is kept, with what was made for it.
-#[derive(Drop)]
+#[derive(Clone, Copy)]
 pub enum Kept {
     One(Bay, Tally),
     Nothing,
 }
 
 // The two bays that are kept, or the only one, with what was made for them; or none is.
-#[derive(Drop)]
+#[derive(Clone, Copy)]
 pub enum Two {
     Both(Bay, Bay, Tally),
     Single(Bay, Tally),
@@ -21,7 +21,7 @@ pub enum Two {
 }
 
 // The bay that is kept first, and from which bay on a second one is looked for.
-#[derive(Drop)]
+#[derive(Clone, Copy)]
 pub struct First {
     pub kept: Bay,
     pub from: usize,

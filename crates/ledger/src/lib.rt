@@ -14,14 +14,14 @@ use marks::Reported;
 use settling::Settlement;
 
 // A record and its lines, as they are handed in.
-#[derive(Drop)]
+#[derive(Clone, Copy)]
 pub struct Accounts {
     pub running: Record,
     pub held: HeldLines,
 }
 
 // What the agreement test answers.
-#[derive(Drop)]
+#[derive(Clone, Copy)]
 pub enum Agreement {
     Agrees,
     Differs,
@@ -53,7 +53,7 @@ pub fn compare(
 }
 
 // What opening answers, and the record and the lines to be kept: where it is refused, the record as it was and no line.
-#[derive(Drop)]
+#[derive(Clone, Copy)]
 pub struct Opening {
     pub answer: Checked,
     pub running: Record,

@@ -9,7 +9,7 @@ ghost use Rattle.line_entries.specs.Steps.{figure, digit_on, capped, Cut, to_ent
 use docket::{Bay, Carrier, Crossing};
 
 // What a line says.
-#[derive(Drop)]
+#[derive(Clone, Copy)]
 pub enum Entry {
     Number(u64),
     Comment,
@@ -17,7 +17,7 @@ pub enum Entry {
 }
 
 // Digits that spell a number within its limit, or no such number.
-#[derive(Drop)]
+#[derive(Clone, Copy)]
 enum Figure {
     Spells(u32),
     Nothing,

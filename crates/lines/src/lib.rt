@@ -4,7 +4,7 @@ ghost use Rattle.paper.specs.Text.{same};
 ghost use Rattle.lines.specs.Lines.{EndOf, LineAt, begins};
 
 // A line's text ends at `end`, and the next line begins at `next`; or there is no line any more.
-#[derive(Drop)]
+#[derive(Clone, Copy)]
 pub enum FoundLine {
     Text { end: usize, next: usize },
     End,

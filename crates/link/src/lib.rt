@@ -13,7 +13,7 @@ pub const PIECE: usize = 256;
 // What is known of the line under way. A number that says yes or no says no where it is 0. The spare byte is 0: with it the struct has no gaps,
 // so that a caller may compare two states byte by byte.
 #[repr(C)]
-#[derive(Drop)]
+#[derive(Clone, Copy)]
 pub struct UnderWay {
     pub sx: u32,
     pub sy: u32,
@@ -40,7 +40,7 @@ pub struct UnderWay {
 // The carriers read so far, the map's cells and sides, and the line under way. It is open where the phase is 1, and has ended where it
 // is anything else.
 #[repr(C)]
-#[derive(Drop)]
+#[derive(Clone, Copy)]
 pub struct Link {
     pub start: [u16; paper::CARRIERS],
     pub goal: [u16; paper::CARRIERS],
@@ -52,14 +52,14 @@ pub struct Link {
 }
 
 // What a call answers: more is due, or a verdict.
-#[derive(Drop)]
+#[derive(Clone, Copy)]
 pub enum Said {
     More,
     Told(Verdict),
 }
 
 // What a call answers and leaves.
-#[derive(Drop)]
+#[derive(Clone, Copy)]
 pub struct Turn {
     pub said: Said,
     pub link: Link,

@@ -8,18 +8,18 @@ use libc::STDOUT_FILENO;
 use marks::Reported;
 
 // An answer in the vectors' numbers: the refusal's and what it carries, 99 for "already", 0 for what is no refusal.
-#[derive(Drop)]
+#[derive(Clone, Copy)]
 struct Code(u64, u64);
 
 // Whether a case agreed, and the place after it.
-#[derive(Drop)]
+#[derive(Clone, Copy)]
 struct Outcome {
     agrees: bool,
     next: usize,
 }
 
 // How long the four lists of a case are, and the place after them.
-#[derive(Drop)]
+#[derive(Clone, Copy)]
 struct Lists {
     rails: usize,
     start: usize,
@@ -305,7 +305,7 @@ fn reports_case(text: &[u8], at: usize) -> Outcome {
 }
 
 // How many cases agree, and how many there are.
-#[derive(Drop)]
+#[derive(Clone, Copy)]
 struct Tally {
     agree: u64,
     cases: u64,

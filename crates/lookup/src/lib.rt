@@ -5,7 +5,7 @@ ghost use Rattle.lookup.specs.Told.{LeadAsks, LeadSays, LookupAsks, LookupSays};
 use docket::Bay;
 
 // What the levels tell: the bay to which a way leads and the number of its bays; or nothing, and then it has to be searched for.
-#[derive(Drop)]
+#[derive(Clone, Copy)]
 pub enum Known {
     To(Bay, usize),
     Unknown,

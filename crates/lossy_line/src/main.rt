@@ -22,7 +22,7 @@ fn roll(x: u64) -> u64 {
 }
 
 // What has come over the line: the dice, the lowest name whose answer has not come back, and what happened.
-#[derive(Drop)]
+#[derive(Clone, Copy)]
 struct Line {
     dice: u64,
     lowest: usize,
@@ -33,7 +33,7 @@ struct Line {
 }
 
 // Record and account lines, and how often they were not those worked out afresh.
-#[derive(Drop)]
+#[derive(Clone, Copy)]
 struct Books {
     running: Record,
     held: HeldLines,
@@ -41,7 +41,7 @@ struct Books {
 }
 
 // The line and the books after a report.
-#[derive(Drop)]
+#[derive(Clone, Copy)]
 struct Day {
     line: Line,
     books: Books,

@@ -32,7 +32,7 @@ fn depends(x: Crossing, y: Crossing) -> bool
 }
 
 // The earlier crossings that a crossing depends on: the lowest name among the undone ones, or none is undone.
-#[derive(Drop)]
+#[derive(Clone, Copy)]
 enum Earlier {
     Undone(u64),
     AllDone,
@@ -70,7 +70,7 @@ fn undone_before(plan: &[u64], marks: &[u8], x: Crossing, name: usize) -> Earlie
 }
 
 // What a report answers.
-#[derive(Drop)]
+#[derive(Clone, Copy)]
 pub enum Reported {
     Accepted,
     Already,

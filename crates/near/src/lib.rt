@@ -21,7 +21,7 @@ const BESIDE: usize = 2;
 const SMALL: usize = 24;
 
 // What the near rings have: a trial that succeeds, with its counts; none in so many rings, though there may be one farther on; or none, and no bay is farther on.
-#[derive(Drop)]
+#[derive(Clone, Copy)]
 pub enum Nearby {
     Found(Tally),
     Farther(usize),

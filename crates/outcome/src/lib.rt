@@ -10,14 +10,14 @@ use yard::Yard;
 
 // What planning answers: the plan's length, and beside it how many of its vacates, undoing left aside, filled a bay of three rails or more; or why there is no
 // plan.
-#[derive(Drop)]
+#[derive(Clone, Copy)]
 pub enum Counted {
     Accepted(u64, u64),
     Refused(Refusal),
 }
 
 // What comes of a plan in the room that it was kept in.
-#[derive(Drop)]
+#[derive(Clone, Copy)]
 pub enum Handed {
     Done(Counted),
     // neither 7 nor 8 refuses it, and it is longer than that room: its length and its count

@@ -10,7 +10,7 @@ use outcome::{Counted, Handed};
 use yard::{Opened, Yard};
 
 // What the planner answers: the plan's length, or why there is none.
-#[derive(Drop)]
+#[derive(Clone, Copy)]
 pub enum Planned {
     Accepted(u64),
     Refused(Refusal),

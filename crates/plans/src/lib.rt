@@ -15,7 +15,7 @@ pub fn crossing_at(plan: &[u64], name: usize) -> Crossing
 }
 
 // What a name finds.
-#[derive(Drop)]
+#[derive(Clone, Copy)]
 pub enum Named {
     Crossing(Crossing),
     Unknown,

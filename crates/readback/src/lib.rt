@@ -9,7 +9,7 @@ use line_entries::Entry;
 use lines::FoundLine;
 
 // How many numbers a file has, or its first bad line.
-#[derive(Drop)]
+#[derive(Clone, Copy)]
 enum Found {
     Numbers(usize),
     Bad(u64),

@@ -66,7 +66,7 @@ fn play_legal(
 }
 
 // Whether all crossings of a plan are legal in their turn, or the name of the first that is not.
-#[derive(Drop)]
+#[derive(Clone, Copy)]
 pub enum Legality {
     Legal,
     Illegal(u64),
@@ -104,7 +104,7 @@ pub fn occupy(at: &[u16], occupied: &mut [u8; SPAN])
 }
 
 // Who is not home.
-#[derive(Drop)]
+#[derive(Clone, Copy)]
 pub enum Away {
     Nobody,
     Lowest(Carrier),

@@ -17,14 +17,14 @@ const NEAR: usize = 32 * words::WORDS;
 const ALL: usize = words::SPAN * words::WORDS;
 
 // So many first bays of the lent room are the path, if there is one.
-#[derive(Drop)]
+#[derive(Clone, Copy)]
 pub enum Path {
     First(usize),
     NoPath,
 }
 
 // The bay to which the way leads, and the number of its bays, if there is one.
-#[derive(Drop)]
+#[derive(Clone, Copy)]
 pub enum Way {
     To(Bay, usize),
     NoWay,
@@ -32,7 +32,7 @@ pub enum Way {
 
 // What a search in few rows finds: the bay to which a path leads and the number of its bays; that there is none; or that the rows
 // don't reach so far.
-#[derive(Drop)]
+#[derive(Clone, Copy)]
 enum Near {
     Found(Bay, usize),
     Nowhere,

@@ -10,7 +10,7 @@ use gridmap::{Cell, Grid};
 
 // The scenario under way: whether it broke its layout, whether the version is due, whether the line has begun, whether a CR is held
 // back, how many carriers were read, the last one's start and goal, and what is known of the line.
-#[derive(Drop)]
+#[derive(Clone, Copy)]
 pub struct Reading {
     pub failed: bool,
     pub version: bool,
@@ -25,14 +25,14 @@ pub struct Reading {
 }
 
 // The start and goal of a carrier's line.
-#[derive(Drop)]
+#[derive(Clone, Copy)]
 pub enum Found {
     Carrier(u16, u16),
     Nothing,
 }
 
 // The carriers of a scenario, or its first bad line.
-#[derive(Drop)]
+#[derive(Clone, Copy)]
 pub enum ScenarioRead {
     Carriers(u16),
     Bad(u64),

@@ -16,7 +16,7 @@ use docket::Bay;
 pub const ROOM: usize = 2 * words::SPAN;
 
 // The empty bays when the leader has come to the bay `at`, so many rails from where the swap is asked for. Where the carriers stand is in the scout's room.
-#[derive(Drop)]
+#[derive(Clone, Copy)]
 pub struct Scout {
     pub empty: [u64; words::WORDS],
     pub at: Bay,
@@ -24,7 +24,7 @@ pub struct Scout {
 }
 
 // What a scout saw: how many bays of its way it entered, whether two bays can be kept at its end, and where it stands then.
-#[derive(Drop)]
+#[derive(Clone, Copy)]
 pub struct Sight {
     pub scout: Scout,
     pub entered: usize,

@@ -13,7 +13,7 @@ use trial::Trial;
 pub const ROOM: usize = 2 * scout::ROOM;
 
 // One scout for each of the two that may lead, and the bays that one of them could not enter. `begun` tells whether a trial was made.
-#[derive(Drop)]
+#[derive(Clone, Copy)]
 pub struct Scouts {
     pub ours: Scout,
     pub theirs: Scout,
@@ -22,14 +22,14 @@ pub struct Scouts {
 }
 
 // What the scouts make of a trial, and where they are then.
-#[derive(Drop)]
+#[derive(Clone, Copy)]
 pub struct Outlook {
     pub scouts: Scouts,
     pub hopeless: bool,
 }
 
 // Who is to lead to which junction, and so many rails from the path's start the leader stands at first.
-#[derive(Drop)]
+#[derive(Clone, Copy)]
 pub struct Errand {
     pub lead: Lead,
     pub rails: usize,

@@ -16,14 +16,14 @@ use words::{SPAN, WORDS};
 use yard::{Opened, Yard};
 
 // Whether a case agreed, and the place after it.
-#[derive(Drop)]
+#[derive(Clone, Copy)]
 struct Outcome {
     agrees: bool,
     next: usize,
 }
 
 // What vacating answered: 0 empty, 1 filled, 2 failed; and how many crossings.
-#[derive(Drop)]
+#[derive(Clone, Copy)]
 struct Code(u64, usize);
 
 fn same16(a: &[u16], b: &[u16]) -> bool {

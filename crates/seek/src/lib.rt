@@ -14,14 +14,14 @@ use scouts::Scouts;
 use trial::Trial;
 
 // The trial at a junction, and where the scouts are before it.
-#[derive(Drop)]
+#[derive(Clone, Copy)]
 pub struct Outset {
     pub trial: Trial,
     pub scouts: Scouts,
 }
 
 // What came of a junction, and where the scouts are then.
-#[derive(Drop)]
+#[derive(Clone, Copy)]
 pub struct Turn {
     pub tried: Tried,
     pub scouts: Scouts,

@@ -103,7 +103,7 @@ pub extern "C" fn sejjekoru_shorten(
 }
 
 // What opening answers and leaves.
-#[derive(Drop)]
+#[derive(Clone, Copy)]
 struct ToldOpening {
     number: u64,
     record: Record,
@@ -210,7 +210,7 @@ pub extern "C" fn sejjekoru_agrees(
 }
 
 // What a report leaves and answers: the record, and one line with its place, which is past the last where none changes.
-#[derive(Drop)]
+#[derive(Clone, Copy)]
 struct ToldReport {
     number: u64,
     record: Record,

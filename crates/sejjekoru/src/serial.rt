@@ -10,7 +10,7 @@ use link::{Link, Said};
 const MORE: u64 = 101;
 
 // What a call tells and leaves.
-#[derive(Drop)]
+#[derive(Clone, Copy)]
 struct Spoken {
     number: u64,
     link: Link,

@@ -11,7 +11,7 @@ use held_lines::HeldLines;
 use marks::Reported;
 
 // What a report answers and leaves: the record, and one line with its place. Where none changes the place is past the last line, and the line is empty.
-#[derive(Drop)]
+#[derive(Clone, Copy)]
 pub struct Settlement {
     pub answer: Reported,
     pub running: Record,

@@ -9,7 +9,7 @@ ghost use Rattle.sides.specs.Layout.{line_taken, end_taken, taken_of, sides_of, 
 use lines::FoundLine;
 
 // The line that is due, with the sides read before it, and how many rows were read.
-#[derive(Drop)]
+#[derive(Clone, Copy)]
 pub enum Due {
     Octile,
     Height,
@@ -19,14 +19,14 @@ pub enum Due {
 }
 
 // What a line makes of it.
-#[derive(Drop)]
+#[derive(Clone, Copy)]
 pub enum Taken {
     Due(Due),
     Bad,
 }
 
 // Height and width, or the first bad line.
-#[derive(Drop)]
+#[derive(Clone, Copy)]
 pub enum Sides {
     Sides(u8, u8),
     Bad(u64),

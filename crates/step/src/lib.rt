@@ -7,7 +7,7 @@ use acting::{Tally, Tried};
 use docket::{Bay, Carrier};
 
 // One step: the carrier r that steps and the next bay w on its way. The carriers below `finished` are finished.
-#[derive(Drop)]
+#[derive(Clone, Copy)]
 pub struct NextStep {
     pub finished: usize,
     pub carrier: Carrier,

@@ -11,14 +11,14 @@ use yard::{Opened, Yard};
 pub const ENDS: usize = 2 * Yard::RAILS;
 
 // What 1 to 3 say.
-#[derive(Drop)]
+#[derive(Clone, Copy)]
 pub enum Tested {
     Passed,
     Refused(Refusal),
 }
 
 // What reading answers: the number of rail ends and the bays, or a refusal and 0.
-#[derive(Drop)]
+#[derive(Clone, Copy)]
 pub struct Survey {
     pub bays: u64,
     pub verdict: Verdict,

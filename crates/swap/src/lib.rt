@@ -9,14 +9,14 @@ use acting::{Tally, Tried};
 use docket::{Bay, Carrier};
 
 // Two empty bays beside a junction, or that there are fewer.
-#[derive(Drop)]
+#[derive(Clone, Copy)]
 pub enum Spare {
     Both(Bay, Bay),
     Fewer,
 }
 
 // The bays of an exchange: the junction, the bay behind it where the follower stands, and the two that are kept, the lower one first.
-#[derive(Drop)]
+#[derive(Clone, Copy)]
 struct Exchange {
     junction: Bay,
     behind: Bay,

@@ -13,7 +13,7 @@ use docket::{Bay, Carrier};
 use rings::Path;
 
 // The swap of a carrier with its neighbour, tried at a junction.
-#[derive(Drop)]
+#[derive(Clone, Copy)]
 pub struct Trial {
     pub carrier: Carrier,
     pub neighbour: Carrier,

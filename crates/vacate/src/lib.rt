@@ -11,7 +11,7 @@ use lookup::Known;
 use rings::Way;
 
 // The bay was empty; the bay that was filled, with the count of crossings made; or nothing could be done.
-#[derive(Drop)]
+#[derive(Clone, Copy)]
 pub enum Vacated {
     Empty,
     Filled(Bay, usize),

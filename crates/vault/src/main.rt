@@ -12,7 +12,7 @@ use libc::{STDERR_FILENO, STDOUT_FILENO};
 // How many of a file's first bytes are in the buffer, and whether it could be read. No contract says which bytes these are: what a call of the
 // operating system puts into a buffer is not known to the proof. So the promises begin with the bytes read, in `print`, and end with the bytes
 // handed to the operating system.
-#[derive(Drop)]
+#[derive(Clone, Copy)]
 struct Loaded {
     bytes: usize,
     readable: bool,

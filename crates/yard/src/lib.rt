@@ -11,14 +11,14 @@ use docket::{Bay, Carrier, Refusal};
 use first_bad::Found;
 
 // A yard by its numbers: of bays, and of rail ends, two for each rail. Its rails are in the table.
-#[derive(Drop)]
+#[derive(Clone, Copy)]
 pub struct Yard {
     pub bays: usize,
     pub ends: usize,
 }
 
 // An open yard, or why there is none.
-#[derive(Drop)]
+#[derive(Clone, Copy)]
 pub enum Opened {
     Open(Yard),
     Refused(Refusal),

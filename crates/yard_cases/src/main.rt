@@ -6,11 +6,11 @@ use libc::STDOUT_FILENO;
 use yard::{Opened, Yard};
 
 // The answer in the vectors' numbers.
-#[derive(Drop)]
+#[derive(Clone, Copy)]
 struct Code(u64, u64);
 
 // Whether a case agreed, what was answered, and the place after it.
-#[derive(Drop)]
+#[derive(Clone, Copy)]
 struct Outcome {
     agrees: bool,
     answer: Code,
