@@ -31,7 +31,7 @@ def functions(names):
         if not m:
             continue
         path = m[1].replace(".", "/")
-        goals, steps, places = out.setdefault(path, ({}, {}, {}))
+        goals, steps, places, arms = out.setdefault(path, ({}, {}, {}, {}))
         stem = of.get("stem") or ""
         for old, new in of["needs"]:
             goals.setdefault(alike(stem + old), stem + new)
@@ -46,11 +46,15 @@ def functions(names):
             old, new = place[2][0], place[2][1]
             if old:
                 steps.setdefault(alike(old), new)
+        for arm in of["arms"]:
+            if arm:
+                for field, old, way in arm[2]:
+                    arms.setdefault(alike(old), {}).setdefault(tuple(way), (arm[0], field))
     return out
 
 
 def turned(text, path, table):
-    goals, steps, places = table
+    goals, steps, places, arms = table
 
     def of_tie(m):
         name = m[2]
@@ -78,12 +82,38 @@ def turned(text, path, table):
             return m[1] + new
         return m[0]
 
+    # What a match has told of a value is in the arm's own fields now.
+    def of_arm(m):
+        if alike(m[2]) not in arms:
+            return m[0]
+        way = m[3].split(".")[1:] if m[3] else []
+        for n in range(len(way), -1, -1):
+            it = arms[alike(m[2])].get(tuple(way[:n]))
+            if it and n:
+                return m[1] + "." + ".".join([*it, *way[n:]])
+        return m[0]
+
+    text = re.sub(rf"((?:\.before)*)\.({WORD})((?:\.(?:given|ensures|\d+))+)", of_arm, text)
     text = re.sub(rf"(\.)({WORD})", of_step, text)
+    # Each step's record has the fields of those before it.
+    text = re.sub(rf"(?:\.before)+(\.(?!before)(?:{WORD}))", r"\1", text)
+    text = "\n\n".join(flat(it) for it in text.split("\n\n"))
     name = os.path.basename(path)
     spec = name.lstrip("+") + "_spec"
     if not name.startswith("+"):
         text = re.sub(WORD, lambda m: spec if alike(m[0]) == alike(spec) else m[0], text)
     return text
+
+
+def flat(part):
+    """A place further out that is only read by its fields: the goal's own place has them too."""
+    while m := re.search(r"(?m)^( *)let (\w+) = c(?:\.before)+ in[ \n]\s*|let (\w+) = c(?:\.before)+ in ", part):
+        name = m[2] or m[3]
+        rest = part[: m.start()] + (m[1] or "") + part[m.end() :] if m[2] else part[: m.start()] + part[m.end() :]
+        if re.search(rf"λ (?:\w+ )*c\b|(?<![\w.'-]){name}(?![\w.'-])|let {name} =", rest):
+            break
+        part = re.sub(rf"(?<![\w.'-]){name}(?=\.)", "c", rest)
+    return part
 
 
 def main(argv):

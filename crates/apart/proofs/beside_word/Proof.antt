@@ -13,58 +13,55 @@ use Rattle.apart.proofs.Word.{row-joins, none_beside, all-beside}
 use Rattle.apart.proofs.beside_word.Statement.{statement}
 use Rattle.apart.proofs.beside_word.Tie as tie
 
-abbrev invariant-loop : tie.invariant-loop
+abbrev invariant-loop : tie.invariant-loop-left
 invariant-loop table ring next₀ left₀ next left = Rest table (ring ∷ []) 0 left × Beside table (ring ∷ []) (next ∷ []) (0 * 64 + count_trailing_zeros 64 left)
 
-abbrev decreases-loop : tie.decreases-loop
+abbrev decreases-loop : tie.decreases-loop-left
 decreases-loop table ring next₀ left₀ next left = 64 - count_trailing_zeros 64 left
 
-loop-holds : tie.Need-loop-init invariant-loop decreases-loop
+loop-holds : tie.Need-loop-left-init invariant-loop decreases-loop
 loop-holds c =
-    let start = c.before in
-    (rest-whole _ _ 0 _ refl start.ranges.ring.fits, whole-first _ _ 0 _ _ refl (none_beside start.args.table.now start.args.ring))
+    (rest-whole _ _ 0 _ refl c.ranges.ring.fits, whole-first _ _ 0 _ _ refl (none_beside c.args.table.now c.args.ring))
 
 -- the bay at hand is in the word
-member : (c : tie.In-loop invariant-loop decreases-loop) → mem (c.before.before.before.args.ring ∷ []) (0 * 64 + count_trailing_zeros 64 c.before.loop.left) ≡ true
-member c = let l = c.before.loop in rest-member _ _ 0 l.left l.invariant.0 (omega (arith, c.loop-test.true))
+member : (c : tie.In-loop-left invariant-loop decreases-loop) → mem (c.args.ring ∷ []) (0 * 64 + count_trailing_zeros 64 c.loop-left.left) ≡ true
+member c = let l = c.loop-left in rest-member _ _ 0 l.left l.invariant.0 (omega (arith, c.loop-left-test.true))
 
-wide-requires : tie.Need-wide-requires invariant-loop decreases-loop
+wide-requires : tie.Need-wide-a-requires invariant-loop decreases-loop
 wide-requires c κs = search rules
 
-mul_next : tie.Need-overflow-mul-next invariant-loop decreases-loop
-mul_next c = omega (arith, c.wide.ensures, trailing_le 64 c.before.before.loop.left)
+mul_next : tie.Need-overflow_mul-next invariant-loop decreases-loop
+mul_next c = omega (arith, c.wide-a.ensures, trailing_le 64 c.loop-left.left)
 
-mul-next-2 : tie.Need-overflow-mul-next-2 invariant-loop decreases-loop
-mul-next-2 c = omega (arith, c.wide.ensures, trailing_le 64 c.before.before.loop.left)
+mul-next-2 : tie.Need-offset_bounds-table-a invariant-loop decreases-loop
+mul-next-2 c = omega (arith, c.wide-a.ensures, trailing_le 64 c.loop-left.left)
 
-shared-slice-read-next : tie.Need-shared-slice-read-next invariant-loop decreases-loop
-shared-slice-read-next c = omega (arith, c.before.wide.ensures, c.before.before.before.before.before.requires.rows _ (member c.before.before))
+shared-slice-read-next : tie.Need-bounds-table-a invariant-loop decreases-loop
+shared-slice-read-next c = omega (arith, c.wide-a.ensures, c.requires.rows _ (member c.before.before))
 
-sub-left : tie.Need-overflow-sub-left invariant-loop decreases-loop
-sub-left c = omega (arith, c.before.before.loop-test.true)
+sub-left : tie.Need-overflow_sub-left invariant-loop decreases-loop
+sub-left c = omega (arith, c.loop-left-test.true)
 
-loop-less : tie.Need-loop-smaller invariant-loop decreases-loop
-loop-less c = let l = c.before.before.before.loop in omega (arith, later-lowest l.left (omega (arith, c.before.before.loop-test.true)) l.invariant.0.fits, trailing_le 64 (later l.left))
+loop-less : tie.Need-loop-left-smaller invariant-loop decreases-loop
+loop-less c = let l = c.loop-left in omega (arith, later-lowest l.left (omega (arith, c.loop-left-test.true)) l.invariant.0.fits, trailing_le 64 (later l.left))
 
-loop-again : tie.Need-loop-preserved invariant-loop decreases-loop
+loop-again : tie.Need-loop-left-preserved invariant-loop decreases-loop
 loop-again c =
-    let l = c.before.before.before.loop in
-    let start = c.before.before.before.before.before in
-    let some : 0 < l.left = omega (arith, c.before.before.loop-test.true) in
-    let e : c.before.wide.result ≡ 0 * 64 + count_trailing_zeros 64 l.left = omega (arith, c.before.wide.ensures) in (
+    let l = c.loop-left in
+    let some : 0 < l.left = omega (arith, c.loop-left-test.true) in
+    let e : c.wide-a.result ≡ 0 * 64 + count_trailing_zeros 64 l.left = omega (arith, c.wide-a.ensures) in (
       rest-later _ _ 0 l.left l.invariant.0 some,
-      rw e (join-later _ _ 0 l.left l.invariant.0 some _ _ l.invariant.1 (row-joins start.args.table.now (start.args.ring ∷ []) start.requires l.next _ (member c.before.before))),
+      rw e (join-later _ _ 0 l.left l.invariant.0 some _ _ l.invariant.1 (row-joins c.args.table.now (c.args.ring ∷ []) c.requires l.next _ (member c.before.before))),
     )
 
 returns : tie.Need-returns invariant-loop decreases-loop
 returns c =
-    let l = c.before.loop in
-    let start = c.before.before.before in
-    let e : l.left ≡ 0 = c.loop-test.false in
-    all-beside start.args.table.now start.args.ring l.next (rest-none _ _ _ 0 (rw e at l.invariant.1))
+    let l = c.loop-left in
+    let e : l.left ≡ 0 = c.loop-left-test.false in
+    all-beside c.args.table.now c.args.ring l.next (rest-none _ _ _ 0 (rw e at l.invariant.1))
 
-pub beside-word-spec : {M : Type 1} → statement M
-beside-word-spec =
+pub beside_word_spec : {M : Type 1} → statement M
+beside_word_spec =
     tie.close
     (tie.spec
     invariant-loop

@@ -7,34 +7,34 @@ use Rattle.apart.proofs.Word.{first_out, all_in}
 use Rattle.apart.proofs.narrow_apart.Statement.{statement}
 use Rattle.apart.proofs.narrow_apart.Tie as tie
 
-reach-word-requires : tie.Need-reach-word-requires
-reach-word-requires c κs = c.before.requires
+reach-word-requires : tie.Need-reach_word-seen-requires
+reach-word-requires c κs = c.requires
 
-wide-requires : tie.Need-wide-requires
+wide-requires : tie.Need-wide-first-requires
 wide-requires c κs = search rules
 
-returns : tie.Need-returns
+returns : tie.Need-returns-then-first-n
 returns c =
-    let reach = c.before.before.reach-word in
-    let asks = c.before.before.before.before.requires in
-    let lowest = c.before.wide in
+    let reach = c.reach_word-seen in
+    let asks = c.requires in
+    let lowest = c.wide-first in
     λ Y t. finds-at _ _ _
     (rw lowest.ensures (apart-there Y _ _ _ (omega (arith, asks.1)) reach.ensures.0 t _
     (λ h. first_out reach.result reach.ensures.1 (omega (arith, h, asks.1)))
     (λ k h l. all_in reach.result reach.ensures.1 k (omega (arith, h, asks.1)) l)
-    (rw lowest.ensures at c.if1.true)))
-    c.if1.true
+    (rw lowest.ensures at c.if-first-n.true)))
+    c.if-first-n.true
 
-returns-2 : tie.Need-returns-2
+returns-2 : tie.Need-returns
 returns-2 c =
-    let reach = c.before.before.reach-word in
-    let asks = c.before.before.before.before.requires in
-    let lowest = c.before.wide in
+    let reach = c.reach_word-seen in
+    let asks = c.requires in
+    let lowest = c.wide-first in
     λ Y t. finds-none _ _
     (apart-nowhere Y _ _ _ (omega (arith, asks.1)) reach.ensures.0 t _
     (λ h. first_out reach.result reach.ensures.1 (omega (arith, h, asks.1)))
     (λ k h l. all_in reach.result reach.ensures.1 k (omega (arith, h, asks.1)) l)
-    (rw lowest.ensures at c.if1.false))
+    (rw lowest.ensures at c.if-first-n.false))
 
-pub narrow-apart-spec : {M : Type 1} → statement M
-narrow-apart-spec = tie.close (tie.spec reach-word-requires wide-requires returns returns-2)
+pub narrow_apart_spec : {M : Type 1} → statement M
+narrow_apart_spec = tie.close (tie.spec reach-word-requires wide-requires returns returns-2)

@@ -12,11 +12,11 @@ use Rattle.apart.proofs.Reaching.{Seeing, seeing-first, seeing-more, seen-dry, s
 use Rattle.apart.proofs.reach.Statement.{statement}
 use Rattle.apart.proofs.reach.Tie as tie
 
-abbrev invariant-loop : tie.invariant-loop
+abbrev invariant-loop : tie.invariant-loop-d
 invariant-loop n table seen₀ ring₀ d₀ seen ring d =
     (d ≤ n) × (length seen ≡ length seen₀) × (length ring ≡ words) × ((Y : Yard) → Table Y n table → Seeing Y d seen ring) × Low n ring
 
-abbrev decreases-loop : tie.decreases-loop
+abbrev decreases-loop : tie.decreases-loop-d
 decreases-loop n table seen₀ ring₀ d₀ seen ring d = n - d
 
 clear-requires : tie.Need-clear-requires invariant-loop decreases-loop
@@ -25,87 +25,83 @@ clear-requires c κs = search rules
 add-requires : tie.Need-add-requires invariant-loop decreases-loop
 add-requires c κs = search rules
 
-slice-aggregate-add : tie.Need-slice-aggregate-add invariant-loop decreases-loop
+slice-aggregate-add : tie.Need-slice_bounds-add-end invariant-loop decreases-loop
 slice-aggregate-add c = search rules
 
 add-requires-2 : tie.Need-add-requires-2 invariant-loop decreases-loop
 add-requires-2 c κs = search rules
 
-loop-holds : tie.Need-loop-init invariant-loop decreases-loop
+loop-holds : tie.Need-loop-d-init invariant-loop decreases-loop
 loop-holds c =
-    let start = c.before.before.before.before.before.before.before.before.before.before.before.before.before in
-    let add2 = c.before.add2 in (
+    let add2 = c.add-2 in (
       omega arith,
       refl,
       omega arith,
-      λ Y t. seeing-first Y _ _ start.requires.0 start.requires.1 t _ _ _ _ c.before.before.before.before.before.before.before.before.before.clear.ensures c.before.before.before.before.before.add.ensures (mem-zeros words) add2.ensures,
-      low_first _ _ _ start.requires.0 (mem-zeros words) add2.ensures,
+      λ Y t. seeing-first Y _ _ c.requires.0 c.requires.1 t _ _ _ _ c.clear.ensures c.add.ensures (mem-zeros words) add2.ensures,
+      low_first _ _ _ c.requires.0 (mem-zeros words) add2.ensures,
     )
 
-slice-aggregate-next-from : tie.Need-slice-aggregate-next-from invariant-loop decreases-loop
+slice-aggregate-next-from : tie.Need-slice_bounds-next_from-end invariant-loop decreases-loop
 slice-aggregate-next-from c = search rules
 
-next-from-requires : tie.Need-next-from-requires invariant-loop decreases-loop
+next-from-requires : tie.Need-next_from-requires invariant-loop decreases-loop
 next-from-requires c κs = search rules
 
-same_length : tie.Need-same-length invariant-loop decreases-loop
+same_length : tie.Need-shape_of-seen-then-next_from-eq-SPAN invariant-loop decreases-loop
 same_length c = search rules
 
-returns : tie.Need-returns invariant-loop decreases-loop
+returns : tie.Need-returns-then-next_from-eq-SPAN invariant-loop decreases-loop
 returns c =
-    let loop = c.before.before.before.before.loop in
-    let start = c.before.before.before.before.before.before.before.before.before.before.before.before.before.before.before.before.before.before in
-    record { same = λ Y t. seen-dry Y _ _ start.requires.0 start.requires.1 t loop.d _ _ (loop.invariant.3 Y t) _ c.before.next-from.ensures c.if1.true }
+    let loop = c.loop-d in
+    record { same = λ Y t. seen-dry Y _ _ c.requires.0 c.requires.1 t loop.d _ _ (loop.invariant.3 Y t) _ c.next_from.ensures c.if-next_from-eq-SPAN.true }
 
-slice-aggregate-beside : tie.Need-slice-aggregate-beside invariant-loop decreases-loop
+slice-aggregate-beside : tie.Need-slice_bounds-beside-end invariant-loop decreases-loop
 slice-aggregate-beside c = search rules
 
-slice-aggregate-beside-2 : tie.Need-slice-aggregate-beside-2 invariant-loop decreases-loop
+slice-aggregate-beside-2 : tie.Need-slice_bounds-beside-end-in-loop-d invariant-loop decreases-loop
 slice-aggregate-beside-2 c = search rules
 
 beside-requires : tie.Need-beside-requires invariant-loop decreases-loop
 beside-requires c κs =
-    let rows = c.before.before.before.before.before.before.before.before.before.before.before.before.before.before.before.before.before.before.before.before.requires.2.rows in
-    (search rules, search rules, λ a h m. omega (arith, c.before.before.before.before.before.before.loop.invariant.4 a h m, rows))
+    let rows = c.requires.2.rows in
+    (search rules, search rules, λ a h m. omega (arith, c.loop-d.invariant.4 a h m, rows))
 
-slice-aggregate-settle : tie.Need-slice-aggregate-settle invariant-loop decreases-loop
+slice-aggregate-settle : tie.Need-slice_bounds-settle-end invariant-loop decreases-loop
 slice-aggregate-settle c = search rules
 
-slice-aggregate-settle-2 : tie.Need-slice-aggregate-settle-2 invariant-loop decreases-loop
+slice-aggregate-settle-2 : tie.Need-slice_bounds-settle-end-in-loop-d invariant-loop decreases-loop
 slice-aggregate-settle-2 c = search rules
 
 settle-requires : tie.Need-settle-requires invariant-loop decreases-loop
 settle-requires c κs = search rules
 
-add-d : tie.Need-overflow-add-d invariant-loop decreases-loop
+add-d : tie.Need-overflow_add-d invariant-loop decreases-loop
 add-d c = search rules
 
-loop-less : tie.Need-loop-smaller invariant-loop decreases-loop
+loop-less : tie.Need-loop-d-smaller invariant-loop decreases-loop
 loop-less c = search rules
 
-loop-again : tie.Need-loop-preserved invariant-loop decreases-loop
+loop-again : tie.Need-loop-d-preserved invariant-loop decreases-loop
 loop-again c =
-    let beside = c.before.before.before.before.before.before.before.before.beside in
-    let settle = c.before.before.before.settle in
-    let start = c.before.before.before.before.before.before.before.before.before.before.before.before.before.before.before.before.before.before.before.before.before.before.before.before.before.before.before.before.before in
-    let l = c.before.before.before.before.before.before.before.before.before.before.before.before.before.before.before.loop in (
+    let beside = c.beside in
+    let settle = c.settle in
+    let l = c.loop-d in (
       omega arith,
       omega arith,
       omega arith,
-      λ Y t. seeing-more Y _ _ start.requires.0 start.requires.1 t l.d _ _ _ _ _ (l.invariant.3 Y t) beside.ensures settle.ensures,
-      low-more _ _ _ _ _ _ _ start.requires.2 l.invariant.4 beside.ensures settle.ensures,
+      λ Y t. seeing-more Y _ _ c.requires.0 c.requires.1 t l.d _ _ _ _ _ (l.invariant.3 Y t) beside.ensures settle.ensures,
+      low-more _ _ _ _ _ _ _ c.requires.2 l.invariant.4 beside.ensures settle.ensures,
     )
 
-same-length-2 : tie.Need-same-length-2 invariant-loop decreases-loop
+same-length-2 : tie.Need-shape_of-seen invariant-loop decreases-loop
 same-length-2 c = search rules
 
-returns-2 : tie.Need-returns-2 invariant-loop decreases-loop
+returns-2 : tie.Need-returns invariant-loop decreases-loop
 returns-2 c =
-    let start = c.before.before.before.before.before.before.before.before.before.before.before.before.before.before.before in
-    record { same = λ Y t. seen_all Y _ _ start.requires.0 start.requires.1 t c.before.loop.d _ _ (c.before.loop.invariant.3 Y t) (omega arith) }
+    record { same = λ Y t. seen_all Y _ _ c.requires.0 c.requires.1 t c.loop-d.d _ _ (c.loop-d.invariant.3 Y t) (omega arith) }
 
-pub reach-spec : {M : Type 1} → statement M
-reach-spec =
+pub reach_spec : {M : Type 1} → statement M
+reach_spec =
     tie.close
     (tie.spec
     invariant-loop

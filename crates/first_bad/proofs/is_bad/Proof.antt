@@ -5,31 +5,31 @@ use Rattle.paper.specs.Basics.{◌or◌}
 use Rattle.first_bad.proofs.is_bad.Statement.{statement}
 use Rattle.first_bad.proofs.is_bad.Tie as tie
 
-returns : tie.Need-returns
+returns : tie.Need-returns-then-n-a
 unfolding ◌or◌
-returns c = rw (le-leb _ _ c.if1.true)
+returns c = rw (le-leb _ _ c.if-n-a.true)
 
-returns-2 : tie.Need-returns-2
+returns-2 : tie.Need-returns-then-n-b
 unfolding ◌or◌
-returns-2 c = rw (lt-leb _ _ c.before.if1.false, le-leb _ _ c.if2.true)
+returns-2 c = rw (lt-leb _ _ c.if-n-a.false, le-leb _ _ c.if-n-b.true)
 
-returns-3 : tie.Need-returns-3
+returns-3 : tie.Need-returns-then-a-b
 unfolding ◌or◌
-returns-3 c = rw (lt-leb _ _ c.before.before.if1.false, lt-leb _ _ c.before.if2.false, eq-eqb _ _ c.if3.true)
+returns-3 c = rw (lt-leb _ _ c.if-n-a.false, lt-leb _ _ c.if-n-b.false, eq-eqb _ _ c.if-a-b.true)
 
-mul-is-in : tie.Need-overflow-mul-is-in
+mul-is-in : tie.Need-overflow_mul-a
 mul-is-in c = search rules
 
-add-is-in : tie.Need-overflow-add-is-in
+add-is-in : tie.Need-overflow_add-a
 add-is-in c = search rules
 
-is-in-requires : tie.Need-is-in-requires
+is-in-requires : tie.Need-is_in-requires
 is-in-requires c κs = search rules
 
-returns-4 : tie.Need-returns-4
+returns-4 : tie.Need-returns
 unfolding ◌or◌
-returns-4 c = rw (lt-leb _ _ c.before.before.before.if1.false, lt-leb _ _ c.before.before.if2.false, ne_eqb _ _ c.before.if3.false) c.is-in.ensures
+returns-4 c = rw (lt-leb _ _ c.if-n-a.false, lt-leb _ _ c.if-n-b.false, ne_eqb _ _ c.if-a-b.false) c.is_in.ensures
 
-pub is-bad-spec : {M : Type 1} → statement M
-is-bad-spec =
+pub is_bad_spec : {M : Type 1} → statement M
+is_bad_spec =
     tie.close (tie.spec returns returns-2 returns-3 mul-is-in add-is-in is-in-requires returns-4)

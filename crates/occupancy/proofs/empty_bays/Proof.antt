@@ -8,33 +8,31 @@ use Rattle.occupancy.proofs.Standing.{occupied-few, occupied-ones}
 use Rattle.occupancy.proofs.empty_bays.Statement.{statement}
 use Rattle.occupancy.proofs.empty_bays.Tie as tie
 
-returns : tie.Need-returns
+returns : tie.Need-returns-then-n-gt-BAYS
 returns c = record { within = λ h. absurd (omega arith); beyond = λ h. refl }
 
-slice-aggregate-occupied : tie.Need-slice-aggregate-occupied
+slice-aggregate-occupied : tie.Need-slice_bounds-occupied-end
 slice-aggregate-occupied c = search rules
 
 occupied-requires : tie.Need-occupied-requires
 occupied-requires c κs = search rules
 
-slice-aggregate-count : tie.Need-slice-aggregate-count
+slice-aggregate-count : tie.Need-slice_bounds-count-end
 slice-aggregate-count c = search rules
 
 count-requires : tie.Need-count-requires
 count-requires c κs = search rules
 
-sub-result : tie.Need-overflow-sub-result
+sub-result : tie.Need-overflow_sub-result
 sub-result c =
-    let start = c.before.before.before.before.before.before.before in
-    let o = c.before.before.before.occupied.ensures in omega (arith, c.count.ensures, occupied-ones start.args.n start.args.place.now _ (omega arith) (omega arith) o, occupied-few start.args.n start.args.place.now _ (omega arith) (omega arith) o)
+    let o = c.occupied.ensures in omega (arith, c.count.ensures, occupied-ones c.args.n c.args.place.now _ (omega arith) (omega arith) o, occupied-few c.args.n c.args.place.now _ (omega arith) (omega arith) o)
 
-returns-2 : tie.Need-returns-2
+returns-2 : tie.Need-returns
 returns-2 c =
-    let start = c.before.before.before.before.before.before.before in
-    let o = c.before.before.before.occupied.ensures in record { within = λ h. ap (λ k. start.args.n - k) (c.count.ensures ∙ occupied-ones start.args.n start.args.place.now _ (omega arith) (omega arith) o); beyond = λ h. absurd (omega arith) }
+    let o = c.occupied.ensures in record { within = λ h. ap (λ k. c.args.n - k) (c.count.ensures ∙ occupied-ones c.args.n c.args.place.now _ (omega arith) (omega arith) o); beyond = λ h. absurd (omega arith) }
 
-pub empty-bays-spec : {M : Type 1} → statement M
-empty-bays-spec =
+pub empty_bays_spec : {M : Type 1} → statement M
+empty_bays_spec =
     tie.close
     (tie.spec
     returns

@@ -5,17 +5,17 @@ use Rattle.occupancy.proofs.Standing.{left_out, joins}
 use Rattle.occupancy.proofs.occupy.Statement.{statement}
 use Rattle.occupancy.proofs.occupy.Tie as tie
 
-returns : tie.Need-returns
-returns c = λ x. left_out _ _ x _ c.if1.true
+returns : tie.Need-returns-then-n-b
+returns c = λ x. left_out _ _ x _ c.if-n-b.true
 
 add-requires : tie.Need-add-requires
 add-requires c κs = search rules
 
-same_length : tie.Need-same-length
+same_length : tie.Need-shape_of-set
 same_length c = search rules
 
-returns-2 : tie.Need-returns-2
-returns-2 c = λ x. c.before.before.add.ensures x ∙ joins _ _ x _ c.before.before.before.before.if1.false
+returns-2 : tie.Need-returns
+returns-2 c = λ x. c.add.ensures x ∙ joins _ _ x _ c.if-n-b.false
 
-pub occupy-spec : {M : Type 1} → statement M
-occupy-spec = tie.close (tie.spec returns add-requires same_length returns-2)
+pub occupy_spec : {M : Type 1} → statement M
+occupy_spec = tie.close (tie.spec returns add-requires same_length returns-2)

@@ -6,10 +6,10 @@ use Rattle.paper.proofs.Packing.{named-is}
 use Rattle.plans.proofs.crossing_at.Statement.{statement}
 use Rattle.plans.proofs.crossing_at.Tie as tie
 
-mul-unpack : tie.Need-overflow-mul-unpack
+mul-unpack : tie.Need-offset_bounds-plan-name
 mul-unpack c = search rules
 
-shared-slice-read-unpack : tie.Need-shared-slice-read-unpack
+shared-slice-read-unpack : tie.Need-bounds-plan-name
 shared-slice-read-unpack c = search rules
 
 unpack-requires : tie.Need-unpack-requires
@@ -20,5 +20,5 @@ returns c =
     let s = c.before.before.before in
     c.unpack.ensures ∙ sym (named-is s.args.plan.now s.args.name)
 
-pub crossing-at-spec : {M : Type 1} → statement M
-crossing-at-spec = tie.close (tie.spec mul-unpack shared-slice-read-unpack unpack-requires returns)
+pub crossing_at_spec : {M : Type 1} → statement M
+crossing_at_spec = tie.close (tie.spec mul-unpack shared-slice-read-unpack unpack-requires returns)
