@@ -1,9 +1,10 @@
 #!/usr/bin/env python3
 """Writes the names that the check makes for a function's steps, places and goals as today's kit makes them, in the proof files of a crate.
 
-usage: tools/turn_answers.py NAMES CRATE
+usage: tools/turn_answers.py NAMES CRATE [GENERATED]
 
 NAMES is the names.json that `rt check --generated FOLDER --old-names` writes for the crate in the folder CRATE. It lists each name as older kits made it beside today's.
+GENERATED is a folder that `rt check --generated GENERATED` has written: its records tell how far out a place lies today.
 """
 
 import glob
@@ -31,11 +32,14 @@ def functions(names):
         if not m:
             continue
         path = m[1].replace(".", "/")
-        goals, steps, places, arms = out.setdefault(path, ({}, {}, {}, {}))
+        goals, steps, places, arms, tree = out.setdefault(path, ({}, {}, {}, {}, {}))
         stem = of.get("stem") or ""
         for old, new in of["needs"]:
             goals.setdefault(alike(stem + old), stem + new)
             goals.setdefault(alike(old), stem + new)
+        for (old, _), (_, at) in zip(of["needs"], of["asked_at"]):
+            tree["?" + alike(old)] = stem + at
+            tree["?" + alike(stem + old)] = stem + at
         for (old, new), _ in of["loops"]:
             for word in ("", stem):
                 goals.setdefault("=" + alike(word + old), stem + new)
@@ -53,8 +57,59 @@ def functions(names):
     return out
 
 
-def turned(text, path, table):
-    goals, steps, places, arms = table
+def nested(folder, path):
+    """For each place of the function, the place that its record calls `before`, as today's kit makes them."""
+    out = {}
+    for file in glob.glob(os.path.join(folder, "*-proofs", glob.escape(path), "Lts*.antt")):
+        with open(file, encoding="utf-8") as f:
+            for m in re.finditer(r"(?m)^ *pub record (\S+)(?: .*)? : Type \S+ where\n +pub before :\s+(\S+)", f.read()):
+                out[m[1]] = m[2]
+    return out
+
+
+def moved(part, table, outer, helpers):
+    """A place that is handed on whole to a lemma of the file lies elsewhere today, where what was two steps is one."""
+    goals, steps, places, arms, tree = table
+    where = {}
+    m = re.search(rf"(?m)^(?:abbrev |unfoldable |pub )*(\S+) : tie\.Need-({WORD})", part)
+    if m:
+        rest = alike(m[2])
+        where["c"] = tree.get("?" + rest) or tree.get("?" + alike(m[2].replace("overflow-", "", 1)))
+    else:
+        m = re.search(rf"(?m)^(?:abbrev |unfoldable |pub )*(\S+) :", part)
+        if m and m[1] in helpers:
+            where[helpers[m[1]][1]] = helpers[m[1]][0]
+    if not any(where.values()):
+        return part
+    for m in re.finditer(r"let (\w+) = (\w+)(?:\.before)+ in", part):
+        for use in re.finditer(rf"(?<![\w.'-])({WORD}) {m[1]}(?![\w.'-])", part):
+            if use[1] in helpers:
+                where[m[1]] = helpers[use[1]][0]
+
+    def far(name, wanted):
+        now, n = where.get(name), 0
+        while now and now != wanted:
+            now, n = outer.get(now), n + 1
+        return name + ".before" * n if now else None
+
+    def of_let(m):
+        it = m[1] in where and far(m[2], where[m[1]])
+        return f"let {m[1]} = {it} in" if it else m[0]
+
+    def of_call(m):
+        it = m[1] in helpers and far(m[2], helpers[m[1]][0])
+        return f"{m[1]} {it}" if it else m[0]
+
+    part = re.sub(r"let (\w+) = (\w+)(?:\.before)+ in", of_let, part)
+    return re.sub(rf"(?<![\w.'-])({WORD}) (\w+)((?:\.before)+)(?!\.?[\w'-])", of_call, part)
+
+
+def turned(text, path, table, outer):
+    goals, steps, places, arms, tree = table
+    if outer:
+        helpers = {name: (places.get(alike(place)), c) for name, c, place in re.findall(rf"(?m)^(?:abbrev |unfoldable |pub )*(\S+) : \((\w+) : tie\.({WORD})\)", text)}
+        helpers |= {name: (places.get(alike(place)), "c") for name, place in re.findall(rf"(?m)^(?:abbrev |unfoldable |pub )*(\S+) : tie\.((?!Need-){WORD}) →", text)}
+        text = "\n\n".join(moved(it, table, outer, helpers) for it in text.split("\n\n"))
 
     def of_tie(m):
         name = m[2]
@@ -117,16 +172,18 @@ def flat(part):
 
 
 def main(argv):
-    names, crate = argv
+    names, crate = argv[:2]
+    generated = argv[2] if len(argv) > 2 else None
     for path, table in functions(names).items():
         if not path.startswith("proofs/"):
             folder = os.path.join(crate, "proofs", path)
         else:
             folder = os.path.join(crate, path)
+        outer = nested(generated, path.removeprefix("proofs/")) if generated else {}
         for file in glob.glob(os.path.join(glob.escape(folder), "*.antt")):
             with open(file, encoding="utf-8") as f:
                 text = f.read()
-            new = turned(text, path, table)
+            new = turned(text, path, table, outer)
             if new != text:
                 with open(file, "w", encoding="utf-8") as f:
                     f.write(new)

@@ -44,13 +44,13 @@ impl Yard {
 
     // They are the paper's: this function does nothing, its statement is the theorem.
     pub fn limits()
-        ensures* fewest { do ⌜ (← (⟦Yard::FEWEST⟧).entry) ≡ fewest_bays ⌝ }
-        ensures* bays { do ⌜ (← (⟦Yard::BAYS⟧).entry) ≡ most_bays ⌝ }
-        ensures* words { do ⌜ (← (⟦Yard::WORDS⟧).entry) ≡ set_words ⌝ }
-        ensures* rails { do ⌜ (← (⟦Yard::RAILS⟧).entry) ≡ most_rails ⌝ }
-        ensures* carriers { do ⌜ (← (⟦Yard::CARRIERS⟧).entry) ≡ most_carriers ⌝ }
-        ensures* crossings { do ⌜ (← (⟦Yard::CROSSINGS⟧).entry) ≡ most_crossings ⌝ }
-        ensures* kept_empty { do ⌜ (← (⟦Yard::KEPT_EMPTY⟧).entry) ≡ kept_empty ⌝ }
+        ensures fewest { Yard.FEWEST ≡ fewest_bays }
+        ensures bays { Yard.BAYS ≡ most_bays }
+        ensures words { Yard.WORDS ≡ set_words }
+        ensures rails { Yard.RAILS ≡ most_rails }
+        ensures carriers { Yard.CARRIERS ≡ most_carriers }
+        ensures crossings { Yard.CROSSINGS ≡ most_crossings }
+        ensures kept_empty { Yard.KEPT_EMPTY ≡ kept_empty }
     {}
 
     // Tests 1 to 6 in their order. An open yard's table holds its rails; a refused one's is empty.

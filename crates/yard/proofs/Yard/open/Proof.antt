@@ -6,7 +6,7 @@ use Rattle.yard.proofs.Yard.open.Tie as tie
 clear-requires : tie.Need-clear-requires
 clear-requires c κs = search rules
 
-open-in-requires : tie.Need-open-in-requires
+open-in-requires : tie.Need-open_in-requires
 open-in-requires c κs = search rules
 
 returns : tie.Need-returns
