@@ -14,7 +14,7 @@ import re
 import sys
 
 WORD = r"[^\s(){}.;,@\"«»\[\]\\]+"
-KINDS = ("invariant", "decreases", "Need")
+FIELDS = ("args", "requires", "ensures", "invariant", "new", "auto", "result", "now", "old", "given")
 
 # Steps that are named by no function of the source.
 MADE = re.compile(r"(loop|if|slice-known|slice_known|shared-slice-known|shared_slice_known|array-known|array_known|match|loop-test|if-test)\d*$")
@@ -50,6 +50,10 @@ def functions(names):
             old, new = place[2][0], place[2][1]
             if old:
                 steps.setdefault(alike(old), new)
+            if old and place[3] in of["params"]:
+                arms.setdefault("=" + alike(old), of["params"][place[3]])
+                arms.setdefault("=" + alike(new), of["params"][place[3]])
+        tree["="] = [stem + new for _, new in of["needs"]]
         for arm in of["arms"]:
             if arm:
                 for field, old, way in arm[2]:
@@ -111,9 +115,31 @@ def turned(text, path, table, outer):
         helpers |= {name: (places.get(alike(place)), "c") for name, place in re.findall(rf"(?m)^(?:abbrev |unfoldable |pub )*(\S+) : tie\.((?!Need-){WORD}) →", text)}
         text = "\n\n".join(moved(it, table, outer, helpers) for it in text.split("\n\n"))
 
+    # The goals stand in the proof's last term in the order of the code.
+    labels = {}
+    last = re.search(r"(?:tie|[\w+-]+-lts)\.spec\s(.*)$", text, re.S)
+    if last:
+        names = re.findall(rf"(?<![\w.'-])({WORD})", re.sub(r"(?m)^\)$|\b(?:t|λ)\b", " ", last[1]))
+        known = set(re.findall(rf"(?m)^(?:pub )?({WORD}) : [^\n]*(?:tie|-lts)\.Need-", text))
+        names = [it for it in names if it in known]
+        if len(names) == len(tree["="]):
+            labels = dict(zip(names, tree["="]))
+    at = {"label": None}
+
+    def of_need(m):
+        new = labels.get(m[1])
+        return f"{m[1]} : {m[2]}Need-{new}" if new else m[0]
+
+    text = re.sub(rf"(?m)(?<=^)({WORD}) : ((?:\(t : ℕ\) → )?(?:tie|{WORD}-lts)\.)Need-{WORD}", of_need, text)
+    done = set(labels.values())
+
     def of_tie(m):
         name = m[2]
         kind, _, rest = name.partition("-")
+        if labels and kind == "Need":
+            return m[0]
+        if kind == "Need" and alike(rest) not in goals and any(alike(rest) == alike(it) for it in tree["="]):
+            return m[1] + "Need-" + next(it for it in tree["="] if alike(rest) == alike(it))
         if kind == "Need" and alike(rest) not in goals and rest.startswith("overflow-"):
             rest = rest[len("overflow-") :]
         if kind == "Need" and alike(rest) in goals:
@@ -124,8 +150,10 @@ def turned(text, path, table, outer):
             return m[1] + places[alike(name)]
         return m[0]
 
-    text = re.sub(rf"(?<![\w.])(tie\.)({WORD})", of_tie, text)
+    text = re.sub(rf"(?<![\w.])((?:tie|{WORD}-lts)\.)({WORD})", of_tie, text)
     text = re.sub(rf"(?<=\.Tie\.)({{[^}}]*}})", lambda m: re.sub(WORD, lambda w: of_tie(re.match(r"()(.*)", w[0])), m[1]), text)
+
+    made = {new for new in steps.values() if new.startswith("loop")} | {"loop", "loop2", "loop3"}
 
     def of_step(m):
         new = steps.get(alike(m[2]))
@@ -133,7 +161,8 @@ def turned(text, path, table, outer):
             return m[0]
         before = re.search(r"([^\s.()]+)$", text[: m.start()])
         head = before[1] if before else ""
-        if alike(new) == alike(m[2]) or MADE.match(m[2]) or head in ("before", "c", "l", "w", "t", "d", "here", "start") or head.startswith("("):
+        plain = re.fullmatch(rf"{re.escape(m[2])}(-\d+)?-1", new)
+        if alike(new) == alike(m[2]) or MADE.match(m[2]) or head in ("before", "c") or (head not in FIELDS and head not in made and not plain):
             return m[1] + new
         return m[0]
 
@@ -148,16 +177,20 @@ def turned(text, path, table, outer):
                 return m[1] + "." + ".".join([*it, *way[n:]])
         return m[0]
 
+    # What a call has left of what it was lent goes by the parameter's name.
+    def of_lent(m):
+        params = arms.get("=" + alike(m[1]))
+        n = m[3].count("1")
+        return f".{m[1]}.{m[2]}.{params[n]}" if params and n < len(params) else m[0]
+
+    text = re.sub(rf"\.({WORD})\.(auto|new)\.((?:1\.)*0)(?![\w])", of_lent, text)
     text = re.sub(rf"((?:\.before)*)\.({WORD})((?:\.(?:given|ensures|\d+))+)", of_arm, text)
     text = re.sub(rf"(\.)({WORD})", of_step, text)
     # Each step's record has the fields of those before it.
     text = re.sub(rf"(?:\.before)+(\.(?!before)(?:{WORD}))", r"\1", text)
     text = "\n\n".join(flat(it) for it in text.split("\n\n"))
-    name = os.path.basename(path)
-    spec = name.lstrip("+") + "_spec"
-    if not name.startswith("+"):
-        text = re.sub(WORD, lambda m: spec if alike(m[0]) == alike(spec) else m[0], text)
-    return text
+    spec = os.path.basename(path) + "_spec"
+    return re.sub(WORD, lambda m: spec if alike(m[0]) == alike(spec) else m[0], text)
 
 
 def flat(part):

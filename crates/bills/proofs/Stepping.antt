@@ -9,7 +9,7 @@ use lib.Dec.{eqb}
 use lib.ListN.{length, get_or, set, length-set, length-map}
 use lib.Seq.{get_or-set_same, get_or-set_other, set-append_left, set_comm, ext_get_or}
 use borrow.Author.Tests.{eqb-true, eqb-false, eq-eqb, ne_eqb}
-use Rattle.paper.specs.Basics.{◌and◌, up_to, count_from}
+use Rattle.paper.specs.Basics.{if◌then◌else◌, ◌and◌, up_to, count_from}
 use Rattle.paper.specs.Yard.{Bay, Carrier, Placement, Yard, Crossing, move, named, after, legal_plan}
 use Rattle.paper.specs.Dependence.{done, is_done, done_of, count_of, slots}
 use Rattle.paper.proofs.Tests.{by_cases}
@@ -134,7 +134,7 @@ unfolding last_done ◌and◌
 last-is last j [] ms i h len d c = absurd (omega arith)
 last-is last j (x ∷ xs) [] i h len d c = absurd (omega arith)
 last-is last j (x ∷ xs) (m ∷ ms) zero h len d c = rw (eq-eqb x.carrier x.carrier refl) (last-stays x j (suc j) xs ms (c.0 d) ∙ omega arith)
-last-is last j (x ∷ xs) (m ∷ ms) (suc i) h len d c = last-is _ (suc j) xs ms i (omega arith) (omega arith) d c.1 ∙ omega arith
+last-is last j (x ∷ xs) (m ∷ ms) (suc i) h len d c = last-is (if done m and eqb x.carrier (named xs i).carrier then j else last) (suc j) xs ms i (omega arith) (omega arith) d c.1 ∙ omega arith
 
 -- and no other carrier's last name has changed
 pub last-other : (c : Carrier) (last j : ℕ) (xs : List Crossing) (ms : List ℕ) (i : ℕ) → i < length xs → length ms ≡ length xs → is_done ms i ≡ false
@@ -143,7 +143,7 @@ unfolding last_done ◌and◌
 last-other c last j [] ms i h len d n = absurd (omega arith)
 last-other c last j (x ∷ xs) [] i h len d n = absurd (omega arith)
 last-other c last j (x ∷ xs) (m ∷ ms) zero h len d n = rw (d, ne_eqb x.carrier c n)
-last-other c last j (x ∷ xs) (m ∷ ms) (suc i) h len d n = last-other c _ (suc j) xs ms i (omega arith) (omega arith) d n
+last-other c last j (x ∷ xs) (m ∷ ms) (suc i) h len d n = last-other c (if done m and eqb x.carrier c then j else last) (suc j) xs ms i (omega arith) (omega arith) d n
 
 pub count_at : (f : ℕ → Line) (a k j : ℕ) (d : Line) → j < k → get_or (map f (count_from a k)) j d ≡ f (a + j)
 unfolding count_from

@@ -21,7 +21,7 @@ met_after met (x ∷ xs) (suc i) = met_after ((x, train_slot met x) ∷ met) xs 
 after-length : (met : List Timed) (xs : List Crossing) → length (train_slots_after met xs) ≡ length xs
 unfolding train_slots_after
 after-length met [] = refl
-after-length met (x ∷ xs) = ap suc (after-length _ xs)
+after-length met (x ∷ xs) = ap suc (after-length ((x, train_slot met x) ∷ met) xs)
 
 after-at : (met : List Timed) (xs : List Crossing) (i : ℕ) → i < length xs
     → get_or (train_slots_after met xs) i 0 ≡ train_slot (met_after met xs i) (named xs i)

@@ -18,7 +18,7 @@ module _ {A : Type 0} where
 
   pub left-twice : {zs ys xs : List A} → LeftOf zs ys → LeftOf ys xs → LeftOf zs xs
   left-twice h nothing = h
-  left-twice (keeping h) (keeping k) = keeping (left-twice h k)
+  left-twice (keeping {ys = ys} h) (keeping k) = keeping (left-twice {zs = ys} h k)
   left-twice (taking h) (keeping k) = taking (left-twice h k)
   left-twice h (taking k) = taking (left-twice h k)
 

@@ -4,13 +4,13 @@ use Rattle.paper.specs.Basics.{◌and◌}
 use Rattle.fields.proofs.both.Statement.{statement}
 use Rattle.fields.proofs.both.Tie as tie
 
-returns : tie.Need-returns
+returns : tie.Need-returns-then-a
 unfolding ◌and◌
-returns c = rw c.if1.true
+returns c = rw c.if-a.true
 
-returns-2 : tie.Need-returns-2
+returns-2 : tie.Need-returns-else-a
 unfolding ◌and◌
-returns-2 c = rw c.if1.false
+returns-2 c = rw c.if-a.false
 
-pub both-spec : {M : Type 1} → statement M
-both-spec = tie.close (tie.spec returns returns-2)
+pub both_spec : {M : Type 1} → statement M
+both_spec = tie.close (tie.spec returns returns-2)

@@ -5,10 +5,10 @@ use Rattle.paper.specs.Bytes.{field_past}
 use Rattle.fields.proofs.field_past.Statement.{statement}
 use Rattle.fields.proofs.field_past.Tie as tie
 
-one-on-requires : tie.Need-one-on-requires
+one-on-requires : tie.Need-one_on-requires
 one-on-requires c κs = search rules
 
-well-field-requires : tie.Need-well-field-requires
+well-field-requires : tie.Need-well_field-requires
 well-field-requires c κs = search rules
 
 both-requires : tie.Need-both-requires
@@ -30,8 +30,8 @@ returns : tie.Need-returns
 unfolding field_past
 returns c = cc
 
-pub field-past-spec : {M : Type 1} → statement M
-field-past-spec =
+pub field_past_spec : {M : Type 1} → statement M
+field_past_spec =
     tie.close
     (tie.spec
     one-on-requires

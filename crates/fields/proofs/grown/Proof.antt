@@ -7,16 +7,16 @@ use Rattle.paper.specs.Bytes.{grow}
 use Rattle.fields.proofs.grown.Statement.{statement}
 use Rattle.fields.proofs.grown.Tie as tie
 
-add-result : tie.Need-overflow-add-result
+add-result : tie.Need-overflow_add-result
 add-result c = search rules
 
-returns : tie.Need-returns
+returns : tie.Need-returns-then-p-lt129
 unfolding grow
-returns c = rw (lt-ltb _ _ c.if1.true) (add-one _)
+returns c = rw (lt-ltb _ _ c.if-p-lt129.true) (add-one _)
 
-returns-2 : tie.Need-returns-2
+returns-2 : tie.Need-returns-else-p-lt129
 unfolding grow
-returns-2 c = rw (le-ltb _ _ c.if1.false)
+returns-2 c = rw (le-ltb _ _ c.if-p-lt129.false)
 
-pub grown-spec : {M : Type 1} → statement M
-grown-spec = tie.close (tie.spec add-result returns returns-2)
+pub grown_spec : {M : Type 1} → statement M
+grown_spec = tie.close (tie.spec add-result returns returns-2)

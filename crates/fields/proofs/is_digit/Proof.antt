@@ -12,5 +12,5 @@ returns : tie.Need-returns
 unfolding is_digit
 returns c = c.both.ensures
 
-pub is-digit-spec : {M : Type 1} → statement M
-is-digit-spec = tie.close (tie.spec both-requires returns)
+pub is_digit_spec : {M : Type 1} → statement M
+is_digit_spec = tie.close (tie.spec both-requires returns)

@@ -9,5 +9,5 @@ returns : tie.Need-returns
 unfolding is_point
 returns c = refl
 
-pub is-point-spec : {M : Type 1} → statement M
-is-point-spec = tie.close (tie.spec returns)
+pub is_point_spec : {M : Type 1} → statement M
+is_point_spec = tie.close (tie.spec returns)

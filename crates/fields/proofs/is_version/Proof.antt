@@ -18,5 +18,5 @@ returns : tie.Need-returns
 unfolding matched
 returns c = cc
 
-pub is-version-spec : {M : Type 1} → statement M
-is-version-spec = tie.close (tie.spec both-requires both-requires-2 either-requires returns)
+pub is_version_spec : {M : Type 1} → statement M
+is_version_spec = tie.close (tie.spec both-requires both-requires-2 either-requires returns)

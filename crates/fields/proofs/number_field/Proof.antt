@@ -5,7 +5,7 @@ use Rattle.paper.specs.Bytes.{number_field}
 use Rattle.fields.proofs.number_field.Statement.{statement}
 use Rattle.fields.proofs.number_field.Tie as tie
 
-sized-field-requires : tie.Need-sized-field-requires
+sized-field-requires : tie.Need-sized_field-requires
 sized-field-requires c κs = search rules
 
 both-requires : tie.Need-both-requires
@@ -15,5 +15,5 @@ returns : tie.Need-returns
 unfolding number_field
 returns c = cc
 
-pub number-field-spec : {M : Type 1} → statement M
-number-field-spec = tie.close (tie.spec sized-field-requires both-requires returns)
+pub number_field_spec : {M : Type 1} → statement M
+number_field_spec = tie.close (tie.spec sized-field-requires both-requires returns)

@@ -6,14 +6,14 @@ use borrow.Author.Tests.{lt-ltb, le-ltb}
 use Rattle.fields.proofs.one_on.Statement.{statement}
 use Rattle.fields.proofs.one_on.Tie as tie
 
-add-result : tie.Need-overflow-add-result
+add-result : tie.Need-overflow_add-result
 add-result c = search rules
 
-returns : tie.Need-returns
-returns c = rw (lt-ltb _ _ c.if1.true) (add-one _)
+returns : tie.Need-returns-then-i-lt9
+returns c = rw (lt-ltb _ _ c.if-i-lt9.true) (add-one _)
 
-returns-2 : tie.Need-returns-2
-returns-2 c = rw (le-ltb _ _ c.if1.false)
+returns-2 : tie.Need-returns-else-i-lt9
+returns-2 c = rw (le-ltb _ _ c.if-i-lt9.false)
 
-pub one-on-spec : {M : Type 1} → statement M
-one-on-spec = tie.close (tie.spec add-result returns returns-2)
+pub one_on_spec : {M : Type 1} → statement M
+one_on_spec = tie.close (tie.spec add-result returns returns-2)

@@ -5,10 +5,10 @@ use Rattle.paper.specs.Bytes.{see}
 use Rattle.fields.proofs.seen.Statement.{statement}
 use Rattle.fields.proofs.seen.Tie as tie
 
-is-digit-requires : tie.Need-is-digit-requires
+is-digit-requires : tie.Need-is_digit-d-requires
 is-digit-requires c κs = search rules
 
-is-point-requires : tie.Need-is-point-requires
+is-point-requires : tie.Need-is_point-p-requires
 is-point-requires c κs = search rules
 
 grown-requires : tie.Need-grown-requires
@@ -39,8 +39,8 @@ returns : tie.Need-returns
 unfolding see
 returns c = cc
 
-pub seen-spec : {M : Type 1} → statement M
-seen-spec =
+pub seen_spec : {M : Type 1} → statement M
+seen_spec =
     tie.close
     (tie.spec
     is-digit-requires

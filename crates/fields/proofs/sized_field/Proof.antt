@@ -12,5 +12,5 @@ returns : tie.Need-returns
 unfolding sized_field
 returns c = c.both.ensures
 
-pub sized-field-spec : {M : Type 1} → statement M
-sized-field-spec = tie.close (tie.spec both-requires returns)
+pub sized_field_spec : {M : Type 1} → statement M
+sized_field_spec = tie.close (tie.spec both-requires returns)

@@ -5,32 +5,32 @@ use Rattle.fields.proofs.Cases.{text-on, text-past}
 use Rattle.fields.proofs.text_seen.Statement.{statement}
 use Rattle.fields.proofs.text_seen.Tie as tie
 
-cast-at : tie.Need-overflow-cast-at
+cast-at : tie.Need-overflow_cast-at
 cast-at c = search rules
 
 add-t8 : tie.Need-overflow-add-t8
 add-t8 c = search rules
 
-element-copy-out-both : tie.Need-element-copy-out-both
+element-copy-out-both : tie.Need-bounds-word-at
 element-copy-out-both c = search rules
 
 both-requires : tie.Need-both-requires
 both-requires c κs = search rules
 
-returns : tie.Need-returns
-returns c = text-on _ _ _ c.before.before.if1.true _ c.both.ensures
+returns : tie.Need-returns-then-at-lt11
+returns c = text-on _ _ _ c.if-at-lt11.true _ c.both.ensures
 
-past-word-requires : tie.Need-past-word-requires
+past-word-requires : tie.Need-past_word-requires
 past-word-requires c κs = search rules
 
 both-requires-2 : tie.Need-both-requires-2
 both-requires-2 c κs = search rules
 
-returns-2 : tie.Need-returns-2
-returns-2 c = text-past _ _ _ c.before.before.if1.false _ _ c.before.past_word.ensures c.both2.ensures
+returns-2 : tie.Need-returns
+returns-2 c = text-past _ _ _ c.if-at-lt11.false _ _ c.past_word.ensures c.both-2.ensures
 
-pub text-seen-spec : {M : Type 1} → statement M
-text-seen-spec =
+pub text_seen_spec : {M : Type 1} → statement M
+text_seen_spec =
     tie.close
     (tie.spec
     cast-at

@@ -9,42 +9,40 @@ use borrow.Author.Rules.{rules}
 use Rattle.levels.proofs.raise_level.Statement.{statement}
 use Rattle.levels.proofs.raise_level.Tie as tie
 
-abbrev invariant-loop : tie.invariant-loop
+abbrev invariant-loop : tie.invariant-loop-x
 invariant-loop n table₀ j x₀ table x = (x ≤ n) × (length table ≡ length table₀) × LevelRaised n j x table₀ table
 
-abbrev decreases-loop : tie.decreases-loop
+abbrev decreases-loop : tie.decreases-loop-x
 decreases-loop n table₀ j x₀ table x = n - x
 
-loop-holds : tie.Need-loop-init invariant-loop decreases-loop
+loop-holds : tie.Need-loop-x-init invariant-loop decreases-loop
 loop-holds c = (omega arith, refl, level-begun _ _ _)
 
-raise-row-requires : tie.Need-raise-row-requires invariant-loop decreases-loop
+raise-row-requires : tie.Need-raise_row-requires invariant-loop decreases-loop
 raise-row-requires c κs =
-    let z = c.before.before.before.before in
-    let s = c.before.before.loop.invariant.2 in
-    let rails = rails-kept _ z.args.j _ z.requires.rails _ (λ x y l i. s.lower x y (omega arith) i) in
-    record { inside = c.before.loop-test.true; room = omega arith; rails = λ b h m. rails _ b (omega arith) h m }
+    let s = c.loop-x.invariant.2 in
+    let rails = rails-kept _ c.args.j _ c.requires.rails _ (λ x y l i. s.lower x y (omega arith) i) in
+    record { inside = c.loop-x-test.true; room = omega arith; rails = λ b h m. rails _ b (omega arith) h m }
 
-add-x : tie.Need-overflow-add-x invariant-loop decreases-loop
+add-x : tie.Need-overflow_add-x invariant-loop decreases-loop
 add-x c = search rules
 
-loop-less : tie.Need-loop-smaller invariant-loop decreases-loop
+loop-less : tie.Need-loop-x-smaller invariant-loop decreases-loop
 loop-less c = search rules
 
-loop-again : tie.Need-loop-preserved invariant-loop decreases-loop
+loop-again : tie.Need-loop-x-preserved invariant-loop decreases-loop
 loop-again c =
-    let z = c.before.before.before.before.before.before.before in
-    let more = level-more _ _ _ z.requires.rails _ _ _ (omega arith) c.before.before.before.before.before.loop.invariant.2 c.before.before.raise-row.ensures in
+    let more = level-more _ _ _ c.requires.rails _ _ _ (omega arith) c.loop-x.invariant.2 c.raise_row.ensures in
     (omega arith, omega arith, more)
 
-same_length : tie.Need-same-length invariant-loop decreases-loop
+same_length : tie.Need-shape_of-table invariant-loop decreases-loop
 same_length c = search rules
 
 returns : tie.Need-returns invariant-loop decreases-loop
-returns c = let e : c.before.loop.x ≡ c.before.before.before.args.n = omega arith in rw e at c.before.loop.invariant.2
+returns c = let e : c.loop-x.x ≡ c.args.n = omega arith in rw e at c.loop-x.invariant.2
 
-pub raise-level-spec : {M : Type 1} → statement M
-raise-level-spec =
+pub raise_level_spec : {M : Type 1} → statement M
+raise_level_spec =
     tie.close
     (tie.spec
     invariant-loop

@@ -9,78 +9,76 @@ use borrow.Author.Rules.{rules}
 use Rattle.levels.proofs.raise_row.Statement.{statement}
 use Rattle.levels.proofs.raise_row.Tie as tie
 
-mul-from : tie.Need-overflow-mul-from
+mul-from : tie.Need-overflow_mul-from
 mul-from c = search rules
 
-mul-from-2 : tie.Need-overflow-mul-from-2
+mul-from-2 : tie.Need-overflow_mul-from-2
 mul-from-2 c = search rules
 
-mul-own : tie.Need-overflow-mul-own
+mul-own : tie.Need-overflow_mul-own
 mul-own c = search rules
 
-add-own : tie.Need-overflow-add-own
+add-own : tie.Need-overflow_add-own
 add-own c = search rules
 
-slice-aggregate-join-row : tie.Need-slice-aggregate-join-row
+slice-aggregate-join-row : tie.Need-slice_bounds-join_row-end
 slice-aggregate-join-row c = search rules
 
-join-row-requires : tie.Need-join-row-requires
+join-row-requires : tie.Need-join_row-requires
 join-row-requires c κs = search rules
 
-mul-beside : tie.Need-overflow-mul-beside
+mul-beside : tie.Need-offset_bounds-table-from
 mul-beside c = search rules
 
-sub-beside : tie.Need-overflow-sub-beside
+sub-beside : tie.Need-slice_bounds-beside-count
 sub-beside c = search rules
 
-part-beside-start : tie.Need-slice-bounds-beside-start
+part-beside-start : tie.Need-slice_bounds-beside-start
 part-beside-start c = search rules
 
-part-beside-end : tie.Need-slice-bounds-beside-end
+part-beside-end : tie.Need-slice_bounds-beside-end
 part-beside-end c = search rules
 
-slice-aggregate-beside : tie.Need-slice-aggregate-beside
+slice-aggregate-beside : tie.Need-slice_bounds-beside-end-2
 slice-aggregate-beside c = search rules
 
-slice-aggregate-beside-2 : tie.Need-slice-aggregate-beside-2
+slice-aggregate-beside-2 : tie.Need-slice_bounds-beside-end-3
 slice-aggregate-beside-2 c = search rules
 
 beside-requires : tie.Need-beside-requires
 beside-requires c κs =
-    let z = c.before.before.before.before.before.before.before.before.before in
-    let near = near-inside _ 0 _ _ _ c.before.before.before.before.before.join-row.ensures z.requires.rails in
+    let near = near-inside _ 0 _ _ _ c.join_row.ensures c.requires.rails in
     (omega arith, refl, λ a h m. let l = near a h m in simp (length-take, length-drop) (omega arith))
 
-slice-aggregate-join-row-2 : tie.Need-slice-aggregate-join-row-2
+slice-aggregate-join-row-2 : tie.Need-slice_bounds-join_row-end-2
 slice-aggregate-join-row-2 c = search rules
 
-join-row-requires-2 : tie.Need-join-row-requires-2
+join-row-requires-2 : tie.Need-join_row-requires-2
 join-row-requires-2 c κs = search rules
 
-add-keep : tie.Need-overflow-add-keep
+add-keep : tie.Need-overflow_add-own-2
 add-keep c = search rules
 
-slice-aggregate-keep : tie.Need-slice-aggregate-keep
+slice-aggregate-keep : tie.Need-slice_bounds-keep-end
 slice-aggregate-keep c = search rules
 
 keep-requires : tie.Need-keep-requires
 keep-requires c κs = search rules
 
-same_length : tie.Need-same-length
+same_length : tie.Need-shape_of-table
 same_length c = search rules
 
 returns : tie.Need-returns
 returns c =
-    let beside = c.before.before.before.before.before.before.before.before.before.before.beside in
-    let join-row = c.before.before.before.before.before.before.before.before.before.before.before.before.before.before.before.before.join-row in
-    let z = c.before.before.before.before.before.before.before.before.before.before.before.before.before.before.before.before.before.before.before.before in
-    let part = length z.args.table.now - z.args.j * z.args.n * words in
+    let beside = c.beside in
+    let join-row = c.join_row in
+    let part = length c.args.table.now - c.args.j * c.args.n * words in
     let row = join-row.ensures in
     let found = beside.ensures in
-    row-raised _ _ _ _ _ row z.requires.rails part _ _ _ (omega arith) found c.before.before.before.before.before.before.join-row2.ensures c.before.before.keep.ensures
+    row-raised _ _ _ _ _ row c.requires.rails part _ _ _ (omega arith) found c.join_row-2.ensures c.keep.ensures
 
-pub raise-row-spec : {M : Type 1} → statement M
-raise-row-spec =
+pub raise_row_spec : {M : Type 1} → statement M
+raise_row_spec =
     tie.close
     (tie.spec
     mul-from

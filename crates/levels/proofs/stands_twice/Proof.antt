@@ -9,53 +9,53 @@ use borrow.Author.Rules.{rules}
 use Rattle.levels.proofs.stands_twice.Statement.{statement}
 use Rattle.levels.proofs.stands_twice.Tie as tie
 
-abbrev invariant-loop : tie.invariant-loop
+abbrev invariant-loop : tie.invariant-loop-i
 invariant-loop table at size i₀ i = (i ≤ size) × ((k : ℕ) → k < i → get_or table (at + size + k) 0 ≡ get_or table (at + k) 0)
 
-abbrev decreases-loop : tie.decreases-loop
+abbrev decreases-loop : tie.decreases-loop-i
 decreases-loop table at size i₀ i = size - i
 
-loop-holds : tie.Need-loop-init invariant-loop decreases-loop
+loop-holds : tie.Need-loop-i-init invariant-loop decreases-loop
 loop-holds c = (omega arith, λ k h. absurd (omega arith))
 
-add-if1 : tie.Need-overflow-add-if1 invariant-loop decreases-loop
+add-if1 : tie.Need-overflow_add-at invariant-loop decreases-loop
 add-if1 c = search rules
 
-add-if1-2 : tie.Need-overflow-add-if1-2 invariant-loop decreases-loop
+add-if1-2 : tie.Need-overflow_add-at-in-loop-i invariant-loop decreases-loop
 add-if1-2 c = search rules
 
-mul-if1 : tie.Need-overflow-mul-if1 invariant-loop decreases-loop
+mul-if1 : tie.Need-offset_bounds-table-at invariant-loop decreases-loop
 mul-if1 c = search rules
 
-shared-slice-read-if1 : tie.Need-shared-slice-read-if1 invariant-loop decreases-loop
+shared-slice-read-if1 : tie.Need-bounds-table-at invariant-loop decreases-loop
 shared-slice-read-if1 c = search rules
 
-add-if1-3 : tie.Need-overflow-add-if1-3 invariant-loop decreases-loop
+add-if1-3 : tie.Need-overflow_add-at-in-loop-i-2 invariant-loop decreases-loop
 add-if1-3 c = search rules
 
-mul-if1-2 : tie.Need-overflow-mul-if1-2 invariant-loop decreases-loop
+mul-if1-2 : tie.Need-offset_bounds-table-at-in-loop-i invariant-loop decreases-loop
 mul-if1-2 c = search rules
 
-shared-slice-read-if1-2 : tie.Need-shared-slice-read-if1-2 invariant-loop decreases-loop
+shared-slice-read-if1-2 : tie.Need-bounds-table-at-in-loop-i invariant-loop decreases-loop
 shared-slice-read-if1-2 c = search rules
 
-returns : tie.Need-returns invariant-loop decreases-loop
+returns : tie.Need-returns-then-table-at invariant-loop decreases-loop
 returns c = λ e. not-both refl (sym e)
 
-add-i : tie.Need-overflow-add-i invariant-loop decreases-loop
+add-i : tie.Need-overflow_add-i invariant-loop decreases-loop
 add-i c = search rules
 
-loop-less : tie.Need-loop-smaller invariant-loop decreases-loop
+loop-less : tie.Need-loop-i-smaller invariant-loop decreases-loop
 loop-less c = search rules
 
-loop-again : tie.Need-loop-preserved invariant-loop decreases-loop
-loop-again c = (omega arith, below_more _ _ c.before.before.before.before.loop.invariant.1 c.if1.false)
+loop-again : tie.Need-loop-i-preserved invariant-loop decreases-loop
+loop-again c = (omega arith, below_more _ _ c.loop-i.invariant.1 c.if-table-at.false)
 
-returns-2 : tie.Need-returns-2 invariant-loop decreases-loop
-returns-2 c = λ e i h. c.before.loop.invariant.1 i (omega arith)
+returns-2 : tie.Need-returns invariant-loop decreases-loop
+returns-2 c = λ e i h. c.loop-i.invariant.1 i (omega arith)
 
-pub stands-twice-spec : {M : Type 1} → statement M
-stands-twice-spec =
+pub stands_twice_spec : {M : Type 1} → statement M
+stands_twice_spec =
     tie.close
     (tie.spec
     invariant-loop

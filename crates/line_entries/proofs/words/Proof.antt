@@ -35,10 +35,10 @@ carrier-requires : tie.Need-carrier-requires
 carrier-requires c κs = search rules
 
 returns : tie.Need-returns
-returns c = c.carrier.ensures ∙ words-yes _ _ c.before.before.before.before.before.before.before.cut.ensures c.before.before.before.before.before.before.if1.true (sym c.before.before.before.is_IsWord.ensures ∙ c.before.before.if2.true)
+returns c = c.carrier.ensures ∙ words-yes _ _ c.before.before.before.before.before.before.before.cut.ensures c.before.before.before.before.before.before.if1.true (sym c.before.before.before.is_word.ensures ∙ c.before.before.if2.true)
 
 returns-2 : tie.Need-returns-2
-returns-2 c = words-no _ _ c.before.before.before.before.before.cut.ensures c.before.before.before.before.if1.true (sym c.before.is_IsWord.ensures ∙ c.if2.false)
+returns-2 c = words-no _ _ c.before.before.before.before.before.cut.ensures c.before.before.before.before.if1.true (sym c.before.is_word.ensures ∙ c.if2.false)
 
 returns-3 : tie.Need-returns-3
 returns-3 c = words-short _ _ c.before.cut.ensures c.if1.false

@@ -6,14 +6,14 @@ use Rattle.lines.proofs.Words.{same_length, same-other}
 use Rattle.lines.proofs.is_word.Statement.{statement}
 use Rattle.lines.proofs.is_word.Tie as tie
 
-begins-with-requires : tie.Need-begins-with-requires
+begins-with-requires : tie.Need-begins_with-requires
 begins-with-requires c κs = search rules
 
-returns : tie.Need-returns
-returns c = c.begins-with.ensures ∙ same_length _ _ c.before.if1.true
+returns : tie.Need-returns-then-text-word
+returns c = c.begins_with.ensures ∙ same_length _ _ c.if-text-word.true
 
-returns-2 : tie.Need-returns-2
-returns-2 c = same-other _ _ c.if1.false
+returns-2 : tie.Need-returns
+returns-2 c = same-other _ _ c.if-text-word.false
 
-pub is-word-spec : {M : Type 1} → statement M
-is-word-spec = tie.close (tie.spec begins-with-requires returns returns-2)
+pub is_word_spec : {M : Type 1} → statement M
+is_word_spec = tie.close (tie.spec begins-with-requires returns returns-2)

@@ -19,7 +19,7 @@ is-word-requires c κs = search rules
 returns : tie.Need-returns
 returns c =
     let start = c.before.before.before.before.before.before in
-    octile-yes start.args.due start.args.text.now c.before.before.before.enum_told.given.1 c.before.is_IsWord.result c.before.is_IsWord.ensures c.if1.true
+    octile-yes start.args.due start.args.text.now c.before.before.before.enum_told.given.1 c.before.is_word.result c.before.is_word.ensures c.if1.true
 
 enum-told-2 : tie.Need-enum-told-2
 enum-told-2 c = search rules
@@ -74,7 +74,7 @@ row-requires c κs = search rules
 returns-5 : tie.Need-returns-5
 returns-5 c =
     let start = c.before.before.before.before.before.before in
-    octile-no start.args.due start.args.text.now c.before.before.before.enum_told.given.1 c.before.is_IsWord.result c.before.is_IsWord.ensures c.if1.false
+    octile-no start.args.due start.args.text.now c.before.before.before.enum_told.given.1 c.before.is_word.result c.before.is_word.ensures c.if1.false
 
 returns-6 : tie.Need-returns-6
 returns-6 c =
