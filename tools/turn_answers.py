@@ -71,6 +71,70 @@ def nested(folder, path):
     return out
 
 
+def joins(folder, path):
+    """For each step at which branches meet: the two ways, each with the fields of its record."""
+    records, ways, steps, comes = {}, {}, {}, {}
+    for file in glob.glob(os.path.join(folder, "*-proofs", glob.escape(path), "Lts*.antt")):
+        with open(file, encoding="utf-8") as f:
+            text = f.read()
+        for m in re.finditer(r"(?m)^( *)pub record (\S+)(?: .*)? : Type \S+ where\n((?:\1  .*\n)+)", text):
+            fields = re.findall(rf"(?m)^{m[1]}  pub (?!open )(\S+) :", m[3])
+            records[m[2]] = fields
+            for branch in re.findall(rf"(?m)^{m[1]}  pub branch : (\S+)", m[3]):
+                comes[m[2]] = branch
+            for name, kind in re.findall(rf"(?m)^{m[1]}  pub (\S+) : (Step-Joined\S*)", m[3]):
+                steps[name] = kind
+        for m in re.finditer(r"(?m)^( *)pub data (Came-\S+) : Type 0 where\n((?:\1  .*\n)+)", text):
+            ways[m[2]] = re.findall(rf"(?m)^{m[1]}  (\S+) : (\S+) →", m[3])
+    return {step: [(way, records.get(record, [])) for way, record in ways[comes[kind]]] for step, kind in steps.items() if kind in comes}
+
+
+def closing(text, at):
+    deep = 0
+    for i in range(at, len(text)):
+        deep += (text[i] == "(") - (text[i] == ")")
+        if not deep:
+            return i
+    return len(text) - 1
+
+
+def by_ways(text, steps, joined, module):
+    """A case split over how branches came together goes by the names of the branches."""
+    used, at = [], 0
+    while (at := text.find("⊎_elim", at)) >= 0:
+        end = at + len("⊎_elim")
+        arms = []
+        for _ in range(2):
+            m = re.compile(r"\s+\(λ (\w+)\. ?").match(text, end)
+            if not m:
+                break
+            stop = closing(text, text.index("(", m.start()))
+            arms.append((m[1], text[m.end() : stop]))
+            end = stop + 1
+        m = re.compile(rf"\s+(\w+)((?:\.before)*)\.({WORD})\.branch\b").match(text, end)
+        ways = m and len(arms) == 2 and joined.get(steps.get(alike(m[3]), m[3]))
+        if not ways or len(ways) != 2:
+            at = end
+            continue
+        out = []
+        for (name, body), (way, fields) in zip(arms, ways):
+            pick = lambda n: f"{name}.{fields[int(n[1])]}" if int(n[1]) < len(fields) else n[0]
+            body = re.sub(rf"(?<![\w.'-]){name}\.(\d+)", pick, body)
+            body = body.replace(".taken", ".true").replace(".left", ".false")
+            out.append(f"{way} {name} ↦ {body}")
+            used.append(way)
+        new = f"elim {m[1]}{m[2]}.{m[3]}.branch [ {out[0]} | {out[1]} ]"
+        text = text[:at] + new + text[m.end() :]
+        at += len("elim")
+    if used:
+        names = ", ".join(dict.fromkeys(used))
+        line = f"use {module}.Tie as tie\n"
+        text = text.replace(line, line + f"use {module}.Lts.{{{names}}}\n", 1)
+        if "⊎_elim" not in re.sub(r"(?m)^use .*$", "", text):
+            text = re.sub(r"(?m)^use \S+\{⊎_elim\}\n", "", text).replace("⊎_elim, ", "").replace(", ⊎_elim}", "}")
+    return text
+
+
 def moved(part, table, outer, helpers):
     """A place that is handed on whole to a lemma of the file lies elsewhere today, where what was two steps is one."""
     goals, steps, places, arms, tree = table
@@ -108,8 +172,11 @@ def moved(part, table, outer, helpers):
     return re.sub(rf"(?<![\w.'-])({WORD}) (\w+)((?:\.before)+)(?!\.?[\w'-])", of_call, part)
 
 
-def turned(text, path, table, outer):
+def turned(text, path, table, outer, joined):
     goals, steps, places, arms, tree = table
+    module = re.search(r"(?m)^use (Rattle\.\S+)\.Tie as tie$", text)
+    if joined and module:
+        text = by_ways(text, steps, joined, module[1])
     if outer:
         helpers = {name: (places.get(alike(place)), c) for name, c, place in re.findall(rf"(?m)^(?:abbrev |unfoldable |pub )*(\S+) : \((\w+) : tie\.({WORD})\)", text)}
         helpers |= {name: (places.get(alike(place)), "c") for name, place in re.findall(rf"(?m)^(?:abbrev |unfoldable |pub )*(\S+) : tie\.((?!Need-){WORD}) →", text)}
@@ -156,6 +223,8 @@ def turned(text, path, table, outer):
     made = {new for new in steps.values() if new.startswith("loop")} | {"loop", "loop2", "loop3"}
 
     def of_step(m):
+        if text.rfind("use ", 0, m.start()) == text.rfind("\n", 0, m.start()) + 1:
+            return m[0]
         new = steps.get(alike(m[2]))
         if new is None or new == m[2]:
             return m[0]
@@ -168,6 +237,8 @@ def turned(text, path, table, outer):
 
     # What a match has told of a value is in the arm's own fields now.
     def of_arm(m):
+        if text.rfind("use ", 0, m.start()) == text.rfind("\n", 0, m.start()) + 1:
+            return m[0]
         if alike(m[2]) not in arms:
             return m[0]
         way = m[3].split(".")[1:] if m[3] else []
@@ -184,11 +255,23 @@ def turned(text, path, table, outer):
         return f".{m[1]}.{m[2]}.{params[n]}" if params and n < len(params) else m[0]
 
     text = re.sub(rf"\.({WORD})\.(auto|new)\.((?:1\.)*0)(?![\w])", of_lent, text)
+
+    def of_named(part):
+        for m in re.finditer(rf"let ({WORD}) = \w+(?:\.before)*\.({WORD}) in", part):
+            params = arms.get("=" + alike(m[2]))
+            if params:
+                pick = lambda n, name=m[1], params=params: f"{name}.{n[1]}.{params[n[2].count('1')]}" if n[2].count("1") < len(params) else n[0]
+                part = re.sub(rf"(?<![\w.'-]){re.escape(m[1])}\.(auto|new)\.((?:1\.)*0)(?![\w])", pick, part)
+        return part
+
+    text = "\n\n".join(of_named(it) for it in text.split("\n\n"))
     text = re.sub(rf"((?:\.before)*)\.({WORD})((?:\.(?:given|ensures|\d+))+)", of_arm, text)
     text = re.sub(rf"(\.)({WORD})", of_step, text)
     # Each step's record has the fields of those before it.
     text = re.sub(rf"(?:\.before)+(\.(?!before)(?:{WORD}))", r"\1", text)
     text = "\n\n".join(flat(it) for it in text.split("\n\n"))
+    # A test of `!b` tells of b.
+    text = re.sub(rf"\bnot-(?:true|false) (?:_|\([^()]*\)|{WORD}(?:\.{WORD})*) (c\.if-not-{WORD}\.(?:true|false))", r"\1", text)
     spec = os.path.basename(path) + "_spec"
     return re.sub(WORD, lambda m: spec if alike(m[0]) == alike(spec) else m[0], text)
 
@@ -213,10 +296,11 @@ def main(argv):
         else:
             folder = os.path.join(crate, path)
         outer = nested(generated, path.removeprefix("proofs/")) if generated else {}
+        joined = joins(generated, path.removeprefix("proofs/")) if generated else {}
         for file in glob.glob(os.path.join(glob.escape(folder), "*.antt")):
             with open(file, encoding="utf-8") as f:
                 text = f.read()
-            new = turned(text, path, table, outer)
+            new = turned(text, path, table, outer, joined)
             if new != text:
                 with open(file, "w", encoding="utf-8") as f:
                     f.write(new)

@@ -11,69 +11,65 @@ use native.Mathlib.Omega.{arith}
 use Rattle.chains.proofs.behind.Statement.{statement}
 use Rattle.chains.proofs.behind.Tie as tie
 
-mul_at : tie.Need-overflow-mul-at
+mul_at : tie.Need-overflow_mul-at
 mul_at c = search rules
 
-add_at : tie.Need-overflow-add-at
+add_at : tie.Need-overflow_add-at
 add_at c = search rules
 
-mul_wide : tie.Need-overflow-mul-wide
+mul_wide : tie.Need-offset_bounds-links-at
 mul_wide c = search rules
 
-slice-read-wide : tie.Need-slice-read-wide
+slice-read-wide : tie.Need-bounds-links-at
 slice-read-wide c = search rules
 
-wide-requires : tie.Need-wide-requires
+wide-requires : tie.Need-wide-first-requires
 wide-requires c κs = search rules
 
 -- where the link leads
-abbrev link : tie.After-wide → ℕ
+abbrev link : tie.After-wide-first → ℕ
 link c =
-    let start = c.before.before.before.before.before in
-    get_or start.args.links.now (start.args.name * links_each + 3) 0
+    get_or c.args.links.now (c.args.name * links_each + 3) 0
 
-lead : (c : tie.After-wide) → LeadsDown c.before.before.before.before.before.args.plan.now c.before.before.before.before.before.args.gone.now 3 c.before.before.before.before.before.args.name (link c)
-lead c = let s = c.before.before.before.before.before in s.requires.linked.behind 3 s.args.name (omega arith) (omega arith) s.requires.inside
+lead : (c : tie.After-wide-first) → LeadsDown c.args.plan.now c.args.gone.now 3 c.args.name (link c)
+lead c = c.requires.linked.behind 3 c.args.name (omega arith) (omega arith) c.requires.inside
 
-is-link : (c : tie.After-wide) → c.wide.result ≡ link c
-is-link c = c.wide.ensures
+is-link : (c : tie.After-wide-first) → c.wide-first.result ≡ link c
+is-link c = c.wide-first.ensures
 
-skip-back-requires : tie.Need-skip-back-requires
+skip-back-requires : tie.Need-skip_back-r-requires
 skip-back-requires c κs =
-    let s = c.before.before.before.before.before.before in
-    record { upto = omega (arith, is-link c.before, (lead c.before).down, s.requires.inside); long_gone = s.requires.long_gone; linked = s.requires.linked }
+    record { upto = omega (arith, is-link c, (lead c).down, c.requires.inside); long_gone = c.requires.long_gone; linked = c.requires.linked }
 
-met : (c : tie.After-skip-back) → (c.skip-back.result ≤ c.before.before.before.before.before.before.before.args.name) × MetBelow c.before.before.before.before.before.before.before.args.plan.now c.before.before.before.before.before.before.before.args.gone.now (named (crossings c.before.before.before.before.before.before.before.args.plan.now) c.before.before.before.before.before.before.before.args.name).to c.before.before.before.before.before.before.before.args.name c.skip-back.result
+met : (c : tie.After-skip_back-r) → (c.skip_back-r.result ≤ c.args.name) × MetBelow c.args.plan.now c.args.gone.now (named (crossings c.args.plan.now) c.args.name).to c.args.name c.skip_back-r.result
 met c =
-    let s = c.before.before.before.before.before.before.before in
-    let k = c.before.before in
-    (omega (arith, is-link k, (lead k).down, c.skip-back.ensures.upto), down-on s.args.plan.now s.args.gone.now s.args.name (link k) k.wide.result c.skip-back.result (is-link k) (lead k) c.skip-back.ensures.met)
+    let k = c.before in
+    (omega (arith, is-link k, (lead k).down, c.skip_back-r.ensures.upto), down-on c.args.plan.now c.args.gone.now c.args.name (link k) k.wide-first.result c.skip_back-r.result (is-link k) (lead k) c.skip_back-r.ensures.met)
 
 narrow-requires : tie.Need-narrow-requires
-narrow-requires c κs = let s = c.before.before.before.before.before.before.before in omega (arith, (met c).0, s.requires.inside, s.requires.linked.short)
+narrow-requires c κs = omega (arith, (met c).0, c.requires.inside, c.requires.linked.short)
 
-mul-links : tie.Need-overflow-mul-links
+mul-links : tie.Need-offset_bounds-links-at-2
 mul-links c = search rules
 
-slice-write-links : tie.Need-slice-write-links
+slice-write-links : tie.Need-bounds-links-at-2
 slice-write-links c = search rules
 
-same_length : tie.Need-same-length
+same_length : tie.Need-shape_of-links
 same_length c = search rules
 
 returns : tie.Need-returns
 returns c =
-    let s = c.before.before.before.before.before.before.before.before in
     let k = c.before in
     let m = met k in
     record {
       upto = m.0;
       met = m.1;
-      linked = linked-behind s.args.plan.now s.args.gone.now s.args.links.now s.requires.linked s.args.name 3 c.narrow.result s.requires.inside (omega arith) (omega arith) (down-found s.args.plan.now s.args.gone.now s.args.name k.skip-back.result c.narrow.result c.narrow.ensures m.0 m.1);
+      linked = linked-behind c.args.plan.now c.args.gone.now c.args.links.now c.requires.linked c.args.name 3 c.narrow.result c.requires.inside (omega arith) (omega arith) (down-found c.args.plan.now c.args.gone.now c.args.name k.skip_back-r.result c.narrow.result c.narrow.ensures m.0 m.1);
     }
 
-pub behind-spec : {M : Type 1} → statement M
-behind-spec =
+pub behind_spec : {M : Type 1} → statement M
+behind_spec =
     tie.close
     (tie.spec
     mul_at

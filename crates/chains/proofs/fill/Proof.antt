@@ -4,13 +4,13 @@ use borrow.Author.Rules.{rules}
 use Rattle.chains.proofs.fill.Statement.{statement}
 use Rattle.chains.proofs.fill.Tie as tie
 
-fill-ahead-requires : tie.Need-fill-ahead-requires
+fill-ahead-requires : tie.Need-fill_ahead-requires
 fill-ahead-requires c κs = search rules
 
-fill-behind-requires : tie.Need-fill-behind-requires
+fill-behind-requires : tie.Need-fill_behind-requires
 fill-behind-requires c κs = search rules
 
-same_length : tie.Need-same-length
+same_length : tie.Need-shape_of-links
 same_length c = search rules
 
 returns : tie.Need-returns

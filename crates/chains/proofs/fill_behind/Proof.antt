@@ -15,149 +15,147 @@ use native.Mathlib.Omega.{arith}
 use Rattle.chains.proofs.fill_behind.Statement.{statement}
 use Rattle.chains.proofs.fill_behind.Tie as tie
 
-abbrev invariant-loop : tie.invariant-loop
+abbrev invariant-loop : tie.invariant-loop-m
 invariant-loop plan links₀ leaving₀ m₀ links leaving m = (length links ≡ length links₀) × FillingDown plan links leaving m
 
-abbrev decreases-loop : tie.decreases-loop
+abbrev decreases-loop : tie.decreases-loop-m
 decreases-loop plan links₀ leaving₀ m₀ links leaving m = length plan - m
 
-loop-holds : tie.Need-loop-init invariant-loop decreases-loop
-loop-holds c = let s = c.before.before in (refl, down-start s.args.plan.now s.args.links.now s.requires.0.long s.requires.1)
+loop-holds : tie.Need-loop-m-init invariant-loop decreases-loop
+loop-holds c = (refl, down-start c.args.plan.now c.args.links.now c.requires.0.long c.requires.1)
 
-crossing-at-requires : tie.Need-crossing-at-requires invariant-loop decreases-loop
+crossing-at-requires : tie.Need-crossing_at-x-requires invariant-loop decreases-loop
 crossing-at-requires c κs = search rules
 
 -- the crossing at hand fits the table
-small : (c : tie.After-crossing-at invariant-loop decreases-loop) → ((crossing_of c.crossing-at.result).carrier < most_bays) × ((crossing_of c.crossing-at.result).from < most_bays) × ((crossing_of c.crossing-at.result).to < most_bays)
+small : (c : tie.After-crossing_at-x invariant-loop decreases-loop) → ((crossing_of c.crossing_at-x.result).carrier < most_bays) × ((crossing_of c.crossing_at-x.result).from < most_bays) × ((crossing_of c.crossing_at-x.result).to < most_bays)
 small c =
-    let s = c.before.before.before.before.before in
-    fits-named most_bays most_bays s.args.plan.now s.requires.0.fits c.before.before.loop.m c.before.loop-test.true (crossing_of c.crossing-at.result) c.crossing-at.ensures
+    fits-named most_bays most_bays c.args.plan.now c.requires.0.fits c.loop-m.m c.loop-m-test.true (crossing_of c.crossing_at-x.result) c.crossing_at-x.ensures
 
 -- what is known once its two bays are read
-module _ (k : tie.After-bay-key2 invariant-loop decreases-loop) where
-  abbrev at-hand : tie.After-crossing-at invariant-loop decreases-loop
+module _ (k : tie.After-bay_key-to invariant-loop decreases-loop) where
+  abbrev at-hand : tie.After-crossing_at-x invariant-loop decreases-loop
   at-hand = k.before.before
 
   abbrev plan : List ℕ
-  plan = at-hand.before.before.before.before.before.args.plan.now
+  plan = at-hand.args.plan.now
 
   abbrev links : List ℕ
-  links = at-hand.before.before.loop.links
+  links = at-hand.loop-m.links
 
   abbrev leaving : List ℕ
-  leaving = at-hand.before.before.loop.leaving
+  leaving = at-hand.loop-m.leaving
 
   abbrev m : ℕ
-  m = at-hand.before.before.loop.m
+  m = at-hand.loop-m.m
 
   abbrev left : ℕ
-  left = k.before.bay-key.result
+  left = k.bay_key-from.result
 
   abbrev entered : ℕ
-  entered = k.bay-key2.result
+  entered = k.bay_key-to.result
 
   inside : m < length plan
-  inside = at-hand.before.loop-test.taken
+  inside = at-hand.loop-m-test.taken
 
   filling : FillingDown plan links leaving m
-  filling = at-hand.before.before.loop.inv.1
+  filling = at-hand.loop-m.inv.1
 
   left-small : left < most_bays
-  left-small = omega (arith, small at-hand, k.before.bay-key.ensures)
+  left-small = omega (arith, small at-hand, k.bay_key-from.ensures)
 
   entered-small : entered < most_bays
-  entered-small = omega (arith, small at-hand, k.bay-key2.ensures)
+  entered-small = omega (arith, small at-hand, k.bay_key-to.ensures)
 
   left_is : left ≡ (named (crossings plan) m).from
-  left_is = k.before.bay-key.ensures ∙ ap (λ y. y.from) at-hand.crossing-at.ensures
+  left_is = k.bay_key-from.ensures ∙ ap (λ y. y.from) at-hand.crossing_at-x.ensures
 
   entered-is : entered ≡ (named (crossings plan) m).to
-  entered-is = k.bay-key2.ensures ∙ ap (λ y. y.to) at-hand.crossing-at.ensures
+  entered-is = k.bay_key-to.ensures ∙ ap (λ y. y.to) at-hand.crossing_at-x.ensures
 
   low : (key : ℕ) → key < most_bays → get_or leaving key 0 < most_crossings
   low key h =
       let l = leaves-low plan links leaving m inside filling left entered left_is entered-is left-small entered-small key h in
-      omega (arith, l, inside, at-hand.before.before.before.before.before.pre.0.short)
+      omega (arith, l, inside, at-hand.pre.0.short)
 
   long : length links ≡ length plan * links_each
   long = filling.long
 
-bay-key-requires : tie.Need-bay-key-requires invariant-loop decreases-loop
+bay-key-requires : tie.Need-bay_key-from-requires invariant-loop decreases-loop
 bay-key-requires c κs = search rules
 
-bay-key-requires-2 : tie.Need-bay-key-requires-2 invariant-loop decreases-loop
+bay-key-requires-2 : tie.Need-bay_key-to-requires invariant-loop decreases-loop
 bay-key-requires-2 c κs = search rules
 
-mul-narrow : tie.Need-overflow-mul-narrow invariant-loop decreases-loop
+mul-narrow : tie.Need-offset_bounds-leaving-to invariant-loop decreases-loop
 mul-narrow c = search rules
 
-array-read-narrow : tie.Need-array-read-narrow invariant-loop decreases-loop
+array-read-narrow : tie.Need-bounds-leaving-to invariant-loop decreases-loop
 array-read-narrow c = omega (arith, entered-small c, (filling c).bays)
 
 narrow-requires : tie.Need-narrow-requires invariant-loop decreases-loop
 narrow-requires c κs = low c (entered c) (entered-small c)
 
-mul-links : tie.Need-overflow-mul-links invariant-loop decreases-loop
+mul-links : tie.Need-overflow_mul-links invariant-loop decreases-loop
 mul-links c = let many = long c.before in let in-plan = inside c.before in search rules
 
-add-links : tie.Need-overflow-add-links invariant-loop decreases-loop
+add-links : tie.Need-overflow_add-links invariant-loop decreases-loop
 add-links c = let many = long c.before in let in-plan = inside c.before in search rules
 
-mul-links-2 : tie.Need-overflow-mul-links-2 invariant-loop decreases-loop
+mul-links-2 : tie.Need-offset_bounds-links-m invariant-loop decreases-loop
 mul-links-2 c = let many = long c.before in let in-plan = inside c.before in search rules
 
-slice-write-links : tie.Need-slice-write-links invariant-loop decreases-loop
+slice-write-links : tie.Need-bounds-links-m invariant-loop decreases-loop
 slice-write-links c = omega (arith, long c.before, inside c.before)
 
-mul-narrow-2 : tie.Need-overflow-mul-narrow-2 invariant-loop decreases-loop
+mul-narrow-2 : tie.Need-offset_bounds-leaving-from invariant-loop decreases-loop
 mul-narrow-2 c = search rules
 
-array-read-narrow-2 : tie.Need-array-read-narrow-2 invariant-loop decreases-loop
+array-read-narrow-2 : tie.Need-bounds-leaving-from invariant-loop decreases-loop
 array-read-narrow-2 c = let k = c.before in omega (arith, left-small k, (filling k).bays)
 
-narrow-requires-2 : tie.Need-narrow-requires-2 invariant-loop decreases-loop
+narrow-requires-2 : tie.Need-narrow-requires-in-loop-m invariant-loop decreases-loop
 narrow-requires-2 c κs = let k = c.before in low k (left k) (left-small k)
 
-mul-links-3 : tie.Need-overflow-mul-links-3 invariant-loop decreases-loop
+mul-links-3 : tie.Need-overflow_mul-links-in-loop-m invariant-loop decreases-loop
 mul-links-3 c = let many = long c.before.before in let in-plan = inside c.before.before in search rules
 
-add-links-2 : tie.Need-overflow-add-links-2 invariant-loop decreases-loop
+add-links-2 : tie.Need-overflow_add-links-in-loop-m invariant-loop decreases-loop
 add-links-2 c = let many = long c.before.before in let in-plan = inside c.before.before in search rules
 
-mul-links-4 : tie.Need-overflow-mul-links-4 invariant-loop decreases-loop
+mul-links-4 : tie.Need-offset_bounds-links-m-in-loop-m invariant-loop decreases-loop
 mul-links-4 c = let many = long c.before.before in let in-plan = inside c.before.before in search rules
 
-slice-write-links-2 : tie.Need-slice-write-links-2 invariant-loop decreases-loop
-slice-write-links-2 c = let k = c.before.before in omega (arith, long k, inside k, length-set (links k) (m k * links_each + 3) c.before.narrow.result)
+slice-write-links-2 : tie.Need-bounds-links-m-in-loop-m invariant-loop decreases-loop
+slice-write-links-2 c = let k = c.before.before in omega (arith, long k, inside k, length-set (links k) (m k * links_each + 3) c.narrow.result)
 
-add-m : tie.Need-overflow-add-m invariant-loop decreases-loop
+add-m : tie.Need-overflow_add-m invariant-loop decreases-loop
 add-m c = search rules
 
-mul-leaving : tie.Need-overflow-mul-leaving invariant-loop decreases-loop
+mul-leaving : tie.Need-offset_bounds-leaving-from-in-loop-m invariant-loop decreases-loop
 mul-leaving c = search rules
 
-array-write-leaving : tie.Need-array-write-leaving invariant-loop decreases-loop
+array-write-leaving : tie.Need-bounds-leaving-from-in-loop-m invariant-loop decreases-loop
 array-write-leaving c = let k = c.before.before in omega (arith, left-small k, (filling k).bays)
 
-loop-less : tie.Need-loop-smaller invariant-loop decreases-loop
+loop-less : tie.Need-loop-m-smaller invariant-loop decreases-loop
 loop-less c = omega (arith, inside c.before.before)
 
-loop-again : tie.Need-loop-preserved invariant-loop decreases-loop
+loop-again : tie.Need-loop-m-preserved invariant-loop decreases-loop
 loop-again c =
     let k = c.before.before in
-    let next = down-next (plan k) (links k) (leaving k) (m k) (inside k) (filling k) (left k) (entered k) (left_is k) (entered-is k) (left-small k) (entered-small k) c.before.narrow.result c.narrow2.result c.before.narrow.ensures c.narrow2.ensures in
-    (next.long ∙ sym (at-hand k).before.before.before.before.before.requires.0.long, next)
+    let next = down-next (plan k) (links k) (leaving k) (m k) (inside k) (filling k) (left k) (entered k) (left_is k) (entered-is k) (left-small k) (entered-small k) c.narrow.result c.narrow-in-loop-m.result c.narrow.ensures c.narrow-in-loop-m.ensures in
+    (next.long ∙ sym (at-hand k).requires.0.long, next)
 
-same_length : tie.Need-same-length invariant-loop decreases-loop
-same_length c = c.before.loop.invariant.0
+same_length : tie.Need-shape_of-links invariant-loop decreases-loop
+same_length c = c.loop-m.invariant.0
 
 returns : tie.Need-returns invariant-loop decreases-loop
 returns c =
-    let start = c.before.before.before.before in
-    let t = c.before.loop in let i = t.invariant.1 in all-linked start.args.plan.now t.links t.m start.requires.0.short i.long c.loop-test.false i.up i.down
+    let t = c.loop-m in let i = t.invariant.1 in all-linked c.args.plan.now t.links t.m c.requires.0.short i.long c.loop-m-test.false i.up i.down
 
-pub fill-behind-spec : {M : Type 1} → statement M
-fill-behind-spec =
+pub fill_behind_spec : {M : Type 1} → statement M
+fill_behind_spec =
     tie.close
     (tie.spec
     invariant-loop

@@ -8,55 +8,54 @@ use native.Mathlib.Omega.{arith}
 use Rattle.chains.proofs.skip_back.Statement.{statement}
 use Rattle.chains.proofs.skip_back.Tie as tie
 
-abbrev invariant-loop : tie.invariant-loop
+abbrev invariant-loop : tie.invariant-loop-m
 invariant-loop plan gone links start m₀ m = SkipBackSays plan gone start m
 
-abbrev decreases-loop : tie.decreases-loop
+abbrev decreases-loop : tie.decreases-loop-m
 decreases-loop plan gone links start m₀ m = m
 
-loop-holds : tie.Need-loop-init invariant-loop decreases-loop
+loop-holds : tie.Need-loop-m-init invariant-loop decreases-loop
 loop-holds c =
-    let s = c.before.before.before in
-    record { upto = omega arith; met = λ key h. below-start s.args.plan.now s.args.gone.now key s.args.start h }
+    record { upto = omega arith; met = λ key h. below-start c.args.plan.now c.args.gone.now key c.args.start h }
 
-sub-u : tie.Need-overflow-sub-u invariant-loop decreases-loop
+sub-u : tie.Need-overflow_sub-u invariant-loop decreases-loop
 sub-u c = search rules
 
-shared-slice-read-if1 : tie.Need-shared-slice-read-if1 invariant-loop decreases-loop
+shared-slice-read-if1 : tie.Need-bounds-gone-u invariant-loop decreases-loop
 shared-slice-read-if1 c =
-    let p = c.before.before.before.before.before.before.requires in
-    omega (arith, (below-there p c.before.before.loop.invariant c.before.loop-test.true).0, p.long_gone)
+    let p = c.requires in
+    omega (arith, (below-there p c.loop-m.invariant c.loop-m-test.true).0, p.long_gone)
 
-returns : tie.Need-returns invariant-loop decreases-loop
-returns c = c.before.before.before.loop.invariant
+returns : tie.Need-returns-then-gone-u-ne1 invariant-loop decreases-loop
+returns c = c.loop-m.invariant
 
-mul_wide : tie.Need-overflow-mul-wide invariant-loop decreases-loop
-mul_wide c = let there = (below-there c.before.before.before.before.before.before.before.requires c.before.before.before.loop.invariant c.before.before.loop-test.true).1 in search rules
+mul_wide : tie.Need-overflow_mul-u invariant-loop decreases-loop
+mul_wide c = let there = (below-there c.requires c.loop-m.invariant c.loop-m-test.true).1 in search rules
 
-add_wide : tie.Need-overflow-add-wide invariant-loop decreases-loop
-add_wide c = let there = (below-there c.before.before.before.before.before.before.before.requires c.before.before.before.loop.invariant c.before.before.loop-test.true).1 in search rules
+add_wide : tie.Need-overflow_add-u invariant-loop decreases-loop
+add_wide c = let there = (below-there c.requires c.loop-m.invariant c.loop-m-test.true).1 in search rules
 
-mul-wide-2 : tie.Need-overflow-mul-wide-2 invariant-loop decreases-loop
-mul-wide-2 c = let there = (below-there c.before.before.before.before.before.before.before.requires c.before.before.before.loop.invariant c.before.before.loop-test.true).1 in search rules
+mul-wide-2 : tie.Need-offset_bounds-links-u invariant-loop decreases-loop
+mul-wide-2 c = let there = (below-there c.requires c.loop-m.invariant c.loop-m-test.true).1 in search rules
 
-shared-slice-read-wide : tie.Need-shared-slice-read-wide invariant-loop decreases-loop
-shared-slice-read-wide c = let there = (below-there c.before.before.before.before.before.before.before.before.requires c.before.before.before.before.loop.invariant c.before.before.before.loop-test.true).1 in search rules
+shared-slice-read-wide : tie.Need-bounds-links-u invariant-loop decreases-loop
+shared-slice-read-wide c = let there = (below-there c.requires c.loop-m.invariant c.loop-m-test.true).1 in search rules
 
-wide-requires : tie.Need-wide-requires invariant-loop decreases-loop
+wide-requires : tie.Need-wide-m-requires invariant-loop decreases-loop
 wide-requires c κs = search rules
 
-loop-less : tie.Need-loop-smaller invariant-loop decreases-loop
-loop-less c = leads-down c.before.before.before.before.before.before.before.before.before.requires c.before.before.before.before.before.loop.invariant c.before.before.before.before.loop-test.true c.wide.ensures
+loop-less : tie.Need-loop-m-smaller invariant-loop decreases-loop
+loop-less c = leads-down c.requires c.loop-m.invariant c.loop-m-test.true c.wide-m.ensures
 
-loop-again : tie.Need-loop-preserved invariant-loop decreases-loop
+loop-again : tie.Need-loop-m-preserved invariant-loop decreases-loop
 loop-again c =
-    skip-less c.before.before.before.before.before.before.before.before.before.requires c.before.before.before.before.before.loop.invariant c.before.before.before.before.loop-test.true c.wide.ensures c.before.before.if1.false
+    skip-less c.requires c.loop-m.invariant c.loop-m-test.true c.wide-m.ensures c.if-gone-u-ne1.false
 
-returns-2 : tie.Need-returns-2 invariant-loop decreases-loop
-returns-2 c = c.before.loop.invariant
+returns-2 : tie.Need-returns invariant-loop decreases-loop
+returns-2 c = c.loop-m.invariant
 
-pub skip-back-spec : {M : Type 1} → statement M
-skip-back-spec =
+pub skip_back_spec : {M : Type 1} → statement M
+skip_back_spec =
     tie.close
     (tie.spec
     invariant-loop

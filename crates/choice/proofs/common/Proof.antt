@@ -10,28 +10,27 @@ use Rattle.choice.proofs.common.Tie as tie
 meets-requires : tie.Need-meets-requires
 meets-requires c κs = search rules
 
-returns : tie.Need-returns
-returns c = none_passes _ _ (sym c.before.meets.ensures ∙ not-true _ c.if1.true)
+returns : tie.Need-returns-then-not-meets
+returns c = none_passes _ _ (sym c.meets.ensures ∙ c.if-not-meets.true)
 
-slice-aggregate-meet-rows : tie.Need-slice-aggregate-meet-rows
+slice-aggregate-meet-rows : tie.Need-slice_bounds-meet_rows-end
 slice-aggregate-meet-rows c = search rules
 
-meet-rows-requires : tie.Need-meet-rows-requires
+meet-rows-requires : tie.Need-meet_rows-requires
 meet-rows-requires c κs = search rules
 
-slice-aggregate-of-set : tie.Need-slice-aggregate-of-set
+slice-aggregate-of-set : tie.Need-slice_bounds-of_set-end
 slice-aggregate-of-set c = search rules
 
-of-set-requires : tie.Need-of-set-requires
+of-set-requires : tie.Need-of_set-requires
 of-set-requires c κs =
-    let start = c.before.before.before.before.before.before.before.before.before in
-    (search rules, rowed-same start.args.table.now _ _ c.before.before.meet-rows.ensures start.requires.2)
+    (search rules, rowed-same c.args.table.now _ _ c.meet_rows.ensures c.requires.2)
 
-returns-2 : tie.Need-returns-2
-returns-2 c = taken-same c.before.before.before.meet-rows.ensures c.of-set.ensures
+returns-2 : tie.Need-returns
+returns-2 c = taken-same c.meet_rows.ensures c.of_set.ensures
 
-pub common-spec : {M : Type 1} → statement M
-common-spec =
+pub common_spec : {M : Type 1} → statement M
+common_spec =
     tie.close
     (tie.spec
     meets-requires

@@ -9,22 +9,22 @@ use borrow.Author.Rules.{rules}
 use Rattle.choice.proofs.count_rails.Statement.{statement}
 use Rattle.choice.proofs.count_rails.Tie as tie
 
-mul-from : tie.Need-overflow-mul-from
+mul-from : tie.Need-overflow_mul-from
 mul-from c = search rules
 
-add-count : tie.Need-overflow-add-count
+add-count : tie.Need-overflow_add-from
 add-count c = search rules
 
-mul-count : tie.Need-overflow-mul-count
+mul-count : tie.Need-offset_bounds-table-from
 mul-count c = search rules
 
-sub-count : tie.Need-overflow-sub-count
+sub-count : tie.Need-slice_bounds-count-count
 sub-count c = search rules
 
-part-count-start : tie.Need-slice-bounds-count-start
+part-count-start : tie.Need-slice_bounds-count-start
 part-count-start c = search rules
 
-part-count-end : tie.Need-slice-bounds-count-end
+part-count-end : tie.Need-slice_bounds-count-end
 part-count-end c = search rules
 
 count-requires : tie.Need-count-requires
@@ -32,13 +32,12 @@ count-requires c κs = search rules
 
 returns : tie.Need-returns
 returns c =
-    let start = c.before.before.before in
-    let a : ℕ = start.args.a in
+    let a : ℕ = c.args.a in
     let size : a * words + words - a * words ≡ words = omega arith in
-    c.count.ensures ∙ row-rails _ a (a * words + words - a * words) size start.requires
+    c.count.ensures ∙ row-rails _ a (a * words + words - a * words) size c.requires
 
-pub count-rails-spec : {M : Type 1} → statement M
-count-rails-spec =
+pub count_rails_spec : {M : Type 1} → statement M
+count_rails_spec =
     tie.close
     (tie.spec
     mul-from

@@ -6,29 +6,28 @@ use borrow.Author.Rules.{rules}
 use Rattle.choice.proofs.free.Statement.{statement}
 use Rattle.choice.proofs.free.Tie as tie
 
-slice-aggregate-keep : tie.Need-slice-aggregate-keep
+slice-aggregate-keep : tie.Need-slice_bounds-keep-end
 slice-aggregate-keep c = search rules
 
 keep-requires : tie.Need-keep-requires
 keep-requires c κs = search rules
 
-slice-aggregate-minus : tie.Need-slice-aggregate-minus
+slice-aggregate-minus : tie.Need-slice_bounds-minus-end
 slice-aggregate-minus c = search rules
 
 minus-requires : tie.Need-minus-requires
 minus-requires c κs = search rules
 
-slice-aggregate-common : tie.Need-slice-aggregate-common
+slice-aggregate-common : tie.Need-slice_bounds-common-end
 slice-aggregate-common c = search rules
 
 common-requires : tie.Need-common-requires
 common-requires c κs =
-    let start = c.before.before.before.before.before.before.before.before.before.before in
-    let p = start.requires in
+    let p = c.requires in
     (p.row, search rules, λ b h i. p.rowed b h (and_left _ _ i))
 
 returns : tie.Need-returns
-returns c = taken-unheld _ _ _ _ c.before.before.before.before.before.before.keep.ensures c.before.before.before.minus.ensures c.common.ensures
+returns c = taken-unheld _ _ _ _ c.keep.ensures c.minus.ensures c.common.ensures
 
 pub free_spec : {M : Type 1} → statement M
 free_spec =

@@ -12,62 +12,62 @@ use borrow.Author.Rules.{rules}
 use Rattle.choice.proofs.meet_rows.Statement.{statement}
 use Rattle.choice.proofs.meet_rows.Tie as tie
 
-abbrev invariant-loop : tie.invariant-loop
+abbrev invariant-loop : tie.invariant-loop-i
 invariant-loop s a t b both₀ i₀ both i = (i ≤ words) × (length both ≡ length both₀) × Done both i (λ k. bit_and (get_or s (a * words + k) 0) (get_or t (b * words + k) 0))
 
-abbrev decreases-loop : tie.decreases-loop
+abbrev decreases-loop : tie.decreases-loop-i
 decreases-loop s a t b both₀ i₀ both i = words - i
 
-loop-holds : tie.Need-loop-init invariant-loop decreases-loop
+loop-holds : tie.Need-loop-i-init invariant-loop decreases-loop
 loop-holds c = (omega arith, refl, done_none _ _)
 
-mul-both : tie.Need-overflow-mul-both invariant-loop decreases-loop
+mul-both : tie.Need-overflow_mul-both invariant-loop decreases-loop
 mul-both c = search rules
 
-add-both : tie.Need-overflow-add-both invariant-loop decreases-loop
+add-both : tie.Need-overflow_add-both invariant-loop decreases-loop
 add-both c = search rules
 
-mul-both-2 : tie.Need-overflow-mul-both-2 invariant-loop decreases-loop
+mul-both-2 : tie.Need-offset_bounds-s-a invariant-loop decreases-loop
 mul-both-2 c = search rules
 
-shared-slice-read-both : tie.Need-shared-slice-read-both invariant-loop decreases-loop
+shared-slice-read-both : tie.Need-bounds-s-a invariant-loop decreases-loop
 shared-slice-read-both c = search rules
 
-mul-both-3 : tie.Need-overflow-mul-both-3 invariant-loop decreases-loop
+mul-both-3 : tie.Need-overflow_mul-both-in-loop-i invariant-loop decreases-loop
 mul-both-3 c = search rules
 
-add-both-2 : tie.Need-overflow-add-both-2 invariant-loop decreases-loop
+add-both-2 : tie.Need-overflow_add-both-in-loop-i invariant-loop decreases-loop
 add-both-2 c = search rules
 
-mul-both-4 : tie.Need-overflow-mul-both-4 invariant-loop decreases-loop
+mul-both-4 : tie.Need-offset_bounds-t-b invariant-loop decreases-loop
 mul-both-4 c = search rules
 
-shared-slice-read-both-2 : tie.Need-shared-slice-read-both-2 invariant-loop decreases-loop
+shared-slice-read-both-2 : tie.Need-bounds-t-b invariant-loop decreases-loop
 shared-slice-read-both-2 c = search rules
 
-mul-both-5 : tie.Need-overflow-mul-both-5 invariant-loop decreases-loop
+mul-both-5 : tie.Need-offset_bounds-both-i invariant-loop decreases-loop
 mul-both-5 c = search rules
 
-slice-write-both : tie.Need-slice-write-both invariant-loop decreases-loop
+slice-write-both : tie.Need-bounds-both-i invariant-loop decreases-loop
 slice-write-both c = search rules
 
-add-i : tie.Need-overflow-add-i invariant-loop decreases-loop
+add-i : tie.Need-overflow_add-i invariant-loop decreases-loop
 add-i c = search rules
 
-loop-less : tie.Need-loop-smaller invariant-loop decreases-loop
+loop-less : tie.Need-loop-i-smaller invariant-loop decreases-loop
 loop-less c = search rules
 
-loop-again : tie.Need-loop-preserved invariant-loop decreases-loop
-loop-again c = let l = c.before.before.before.loop in (omega arith, simp length-set (omega arith), done_more _ _ _ _ l.invariant.2 (omega arith) refl)
+loop-again : tie.Need-loop-i-preserved invariant-loop decreases-loop
+loop-again c = let l = c.loop-i in (omega arith, simp length-set (omega arith), done_more _ _ _ _ l.invariant.2 (omega arith) refl)
 
-same_length : tie.Need-same-length invariant-loop decreases-loop
+same_length : tie.Need-shape_of-both invariant-loop decreases-loop
 same_length c = search rules
 
 returns : tie.Need-returns invariant-loop decreases-loop
-returns c = rows-met _ _ _ _ _ c.before.loop.i (omega arith) c.before.loop.invariant.2
+returns c = rows-met _ _ _ _ _ c.loop-i.i (omega arith) c.loop-i.invariant.2
 
-pub meet-rows-spec : {M : Type 1} → statement M
-meet-rows-spec =
+pub meet_rows_spec : {M : Type 1} → statement M
+meet_rows_spec =
     tie.close
     (tie.spec
     invariant-loop

@@ -5,37 +5,37 @@ use borrow.Author.Rules.{rules}
 use Rattle.choice.proofs.of_set.Statement.{statement}
 use Rattle.choice.proofs.of_set.Tie as tie
 
-next-from-requires : tie.Need-next-from-requires
+next-from-requires : tie.Need-next_from-first-requires
 next-from-requires c κs = search rules
 
-returns : tie.Need-returns
-returns c = none-taken _ _ _ c.before.next-from.ensures c.if1.true
+returns : tie.Need-returns-then-first-ge-SPAN
+returns c = none-taken _ _ _ c.next_from-first.ensures c.if-first-ge-SPAN.true
 
-add-next-from : tie.Need-overflow-add-next-from
+add-next-from : tie.Need-overflow_add-first
 add-next-from c = search rules
 
-next-from-requires-2 : tie.Need-next-from-requires-2
+next-from-requires-2 : tie.Need-next_from-second-requires
 next-from-requires-2 c κs = search rules
 
-returns-2 : tie.Need-returns-2
-returns-2 c = best-taken _ _ _ _ (best-first _ _ _ _ c.before.before.if1.false c.before.before.before.next-from.ensures c.before.next-from2.ensures) c.if2.true
+returns-2 : tie.Need-returns-then-second-ge-SPAN
+returns-2 c = best-taken _ _ _ _ (best-first _ _ _ _ c.if-first-ge-SPAN.false c.next_from-first.ensures c.next_from-second.ensures) c.if-second-ge-SPAN.true
 
-of-several-requires : tie.Need-of-several-requires
+of-several-requires : tie.Need-of_several-requires
 of-several-requires c κs =
-    let p = c.before.before.before.before.before.before.requires in
+    let p = c.requires in
     record {
       set_size = p.0;
       rowed = p.1;
-      there = c.before.before.if1.false;
-      lowest = c.before.before.before.next-from.ensures;
-      next = c.before.next-from2.ensures;
+      there = c.if-first-ge-SPAN.false;
+      lowest = c.next_from-first.ensures;
+      next = c.next_from-second.ensures;
     }
 
-returns-3 : tie.Need-returns-3
-returns-3 c = c.of-several.ensures
+returns-3 : tie.Need-returns
+returns-3 c = c.of_several.ensures
 
-pub of-set-spec : {M : Type 1} → statement M
-of-set-spec =
+pub of_set_spec : {M : Type 1} → statement M
+of_set_spec =
     tie.close
     (tie.spec
     next-from-requires

@@ -8,7 +8,7 @@ use Rattle.fields.proofs.text_seen.Tie as tie
 cast-at : tie.Need-overflow_cast-at
 cast-at c = search rules
 
-add-t8 : tie.Need-overflow-add-t8
+add-t8 : tie.Need-overflow_add-result
 add-t8 c = search rules
 
 element-copy-out-both : tie.Need-bounds-word-at

@@ -9,35 +9,34 @@ use Rattle.mark_order.proofs.Done.{DoneFrom, done_none, done_on}
 use Rattle.mark_order.proofs.all_done.Statement.{statement}
 use Rattle.mark_order.proofs.all_done.Tie as tie
 
-abbrev invariant-loop : tie.invariant-loop
+abbrev invariant-loop : tie.invariant-loop-i
 invariant-loop marks from to all₀ i₀ all i = all ≡ true → DoneFrom marks from i
 
-abbrev decreases-loop : tie.decreases-loop
+abbrev decreases-loop : tie.decreases-loop-i
 decreases-loop marks from to all₀ i₀ all i = to - i
 
-loop-holds : tie.Need-loop-init invariant-loop decreases-loop
+loop-holds : tie.Need-loop-i-init invariant-loop decreases-loop
 loop-holds c = λ _. done_none c.args.marks.now c.args.from
 
-shared-slice-read-all : tie.Need-shared-slice-read-all invariant-loop decreases-loop
+shared-slice-read-all : tie.Need-bounds-marks-i invariant-loop decreases-loop
 shared-slice-read-all c = search rules
 
-add-i : tie.Need-overflow-add-i invariant-loop decreases-loop
+add-i : tie.Need-overflow_add-i invariant-loop decreases-loop
 add-i c = search rules
 
-loop-less : tie.Need-loop-smaller invariant-loop decreases-loop
+loop-less : tie.Need-loop-i-smaller invariant-loop decreases-loop
 loop-less c = search rules
 
-loop-again : tie.Need-loop-preserved invariant-loop decreases-loop
+loop-again : tie.Need-loop-i-preserved invariant-loop decreases-loop
 loop-again c =
-    let t = c.before.before.loop in
-    let s = c.before.before.before in
-    done_on s.args.marks.now s.args.from t.i t.all t.invariant
+    let t = c.loop-i in
+    done_on c.args.marks.now c.args.from t.i t.all t.invariant
 
 returns : tie.Need-returns invariant-loop decreases-loop
-returns c = let t = c.before.loop in λ e i l h. t.invariant e i l (let left = c.loop-test.false in omega arith)
+returns c = let t = c.loop-i in λ e i l h. t.invariant e i l (let left = c.loop-i-test.false in omega arith)
 
-pub all-done-spec : {M : Type 1} → statement M
-all-done-spec =
+pub all_done_spec : {M : Type 1} → statement M
+all_done_spec =
     tie.close
     (tie.spec
     invariant-loop

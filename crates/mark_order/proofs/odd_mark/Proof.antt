@@ -8,34 +8,34 @@ use Rattle.mark_order.proofs.Odd.{OddFrom, odd-start, odd-on, odd-end}
 use Rattle.mark_order.proofs.odd_mark.Statement.{statement}
 use Rattle.mark_order.proofs.odd_mark.Tie as tie
 
-abbrev invariant-loop : tie.invariant-loop
+abbrev invariant-loop : tie.invariant-loop-i
 invariant-loop marks odd₀ i₀ odd i = (i ≤ length marks) × OddFrom marks odd i
 
-abbrev decreases-loop : tie.decreases-loop
+abbrev decreases-loop : tie.decreases-loop-i
 decreases-loop marks odd₀ i₀ odd i = length marks - i
 
-loop-holds : tie.Need-loop-init invariant-loop decreases-loop
+loop-holds : tie.Need-loop-i-init invariant-loop decreases-loop
 loop-holds c = (omega arith, odd-start c.args.marks.now)
 
-shared-slice-read-odd : tie.Need-shared-slice-read-odd invariant-loop decreases-loop
+shared-slice-read-odd : tie.Need-bounds-marks-i invariant-loop decreases-loop
 shared-slice-read-odd c = search rules
 
-add-i : tie.Need-overflow-add-i invariant-loop decreases-loop
+add-i : tie.Need-overflow_add-i invariant-loop decreases-loop
 add-i c = search rules
 
-loop-less : tie.Need-loop-smaller invariant-loop decreases-loop
+loop-less : tie.Need-loop-i-smaller invariant-loop decreases-loop
 loop-less c = search rules
 
-loop-again : tie.Need-loop-preserved invariant-loop decreases-loop
+loop-again : tie.Need-loop-i-preserved invariant-loop decreases-loop
 loop-again c =
-    let t = c.before.before.loop in
-    (search rules, odd-on c.before.before.before.args.marks.now t.odd t.i t.invariant.1 c.before.loop-test.true)
+    let t = c.loop-i in
+    (search rules, odd-on c.args.marks.now t.odd t.i t.invariant.1 c.loop-i-test.true)
 
 returns : tie.Need-returns invariant-loop decreases-loop
-returns c = let t = c.before.loop in odd-end c.before.before.args.marks.now t.odd t.i t.invariant.1 c.loop-test.false
+returns c = let t = c.loop-i in odd-end c.args.marks.now t.odd t.i t.invariant.1 c.loop-i-test.false
 
-pub odd-mark-spec : {M : Type 1} → statement M
-odd-mark-spec =
+pub odd_mark_spec : {M : Type 1} → statement M
+odd_mark_spec =
     tie.close
     (tie.spec
     invariant-loop

@@ -8,27 +8,27 @@ use Rattle.paper.proofs.Tests.{or_left, or_right}
 use Rattle.mark_order.proofs.touched.Statement.{statement}
 use Rattle.mark_order.proofs.touched.Tie as tie
 
-element-copy-out-if1 : tie.Need-element-copy-out-if1
+element-copy-out-if1 : tie.Need-bounds-carriers-carrier
 element-copy-out-if1 c = search rules
 
-returns : tie.Need-returns
-returns c = sym (or_left _ _ (or_left _ _ (eq-eqb _ _ c.if1.true)))
+returns : tie.Need-returns-then-carriers-carrier-eq1
+returns c = sym (or_left _ _ (or_left _ _ (eq-eqb _ _ c.if-carriers-carrier-eq1.true)))
 
-element-copy-out-if2 : tie.Need-element-copy-out-if2
+element-copy-out-if2 : tie.Need-bounds-bays-from
 element-copy-out-if2 c = search rules
 
-returns-2 : tie.Need-returns-2
-returns-2 c = sym (or_left _ _ (or_right _ _ (eq-eqb _ _ c.if2.true)))
+returns-2 : tie.Need-returns-then-bays-from-eq1
+returns-2 c = sym (or_left _ _ (or_right _ _ (eq-eqb _ _ c.if-bays-from-eq1.true)))
 
-element-copy-out-result : tie.Need-element-copy-out-result
+element-copy-out-result : tie.Need-bounds-bays-to
 element-copy-out-result c = search rules
 
-returns-3 : tie.Need-returns-3
+returns-3 : tie.Need-returns
 unfolding ◌or◌
-returns-3 c = rw (ne_eqb _ _ c.before.before.before.if1.false, ne_eqb _ _ c.before.if2.false)
+returns-3 c = rw (ne_eqb _ _ c.if-carriers-carrier-eq1.false, ne_eqb _ _ c.if-bays-from-eq1.false)
 
-pub touched-spec : {M : Type 1} → statement M
-touched-spec =
+pub touched_spec : {M : Type 1} → statement M
+touched_spec =
     tie.close
     (tie.spec
     element-copy-out-if1

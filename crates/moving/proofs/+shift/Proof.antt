@@ -27,7 +27,7 @@ shift-at t = and 5 shift_kinds.ps (is 5 shift_kinds.ps μ-shift t) shift.Pre
 abbrev shift-below : ℕ → In 5 shift_kinds.ps
 shift-below t = and 5 shift_kinds.ps (falls 5 shift_kinds.ps ◌<◌ μ-shift t) shift.Pre
 
-shift-shift-stretch-requires : (t : ℕ) → shift-lts.Need-shift-stretch-requires (
+shift-shift-stretch-requires : (t : ℕ) → shift-lts.Need-shift_stretch-requires (
   shift-stretch-reads.Asked,
   shift-stretch-reads.Learnt,
   shift-below t,
@@ -35,39 +35,39 @@ shift-shift-stretch-requires : (t : ℕ) → shift-lts.Need-shift-stretch-requir
 ) (shift-at t) shift.Post
 shift-shift-stretch-requires t c κs = search rules
 
-shift-same-length : (t : ℕ) → shift-lts.Need-same-length (
+shift-same-length : (t : ℕ) → shift-lts.Need-shape_of-placement-then-path-le-STRETCH (
   shift-stretch-reads.Asked,
   shift-stretch-reads.Learnt,
   shift-below t,
   shift.Post,
 ) (shift-at t) shift.Post
-shift-same-length t c = c.before.before.before.before.before.before.before.before.shift-stretch.auto.1.0
+shift-same-length t c = c.shift_stretch.auto.placement
 
-shift-same-length-2 : (t : ℕ) → shift-lts.Need-same-length-2 (
+shift-same-length-2 : (t : ℕ) → shift-lts.Need-shape_of-standing-then-path-le-STRETCH (
   shift-stretch-reads.Asked,
   shift-stretch-reads.Learnt,
   shift-below t,
   shift.Post,
 ) (shift-at t) shift.Post
-shift-same-length-2 t c = c.before.before.before.before.before.before.before.before.shift-stretch.auto.1.1.0
+shift-same-length-2 t c = c.shift_stretch.auto.standing
 
-shift-same-length-3 : (t : ℕ) → shift-lts.Need-same-length-3 (
+shift-same-length-3 : (t : ℕ) → shift-lts.Need-shape_of-empty-then-path-le-STRETCH (
   shift-stretch-reads.Asked,
   shift-stretch-reads.Learnt,
   shift-below t,
   shift.Post,
 ) (shift-at t) shift.Post
-shift-same-length-3 t c = c.before.before.before.before.before.before.before.before.shift-stretch.auto.1.1.1.0
+shift-same-length-3 t c = c.shift_stretch.auto.empty
 
-shift-same-length-4 : (t : ℕ) → shift-lts.Need-same-length-4 (
+shift-same-length-4 : (t : ℕ) → shift-lts.Need-shape_of-out-then-path-le-STRETCH (
   shift-stretch-reads.Asked,
   shift-stretch-reads.Learnt,
   shift-below t,
   shift.Post,
 ) (shift-at t) shift.Post
-shift-same-length-4 t c = c.before.before.before.before.before.before.before.before.shift-stretch.auto.1.1.1.1.0
+shift-same-length-4 t c = c.shift_stretch.auto.out
 
-shift-returns : (t : ℕ) → shift-lts.Need-returns (
+shift-returns : (t : ℕ) → shift-lts.Need-returns-then-path-le-STRETCH (
   shift-stretch-reads.Asked,
   shift-stretch-reads.Learnt,
   shift-below t,
@@ -75,7 +75,7 @@ shift-returns : (t : ℕ) → shift-lts.Need-returns (
 ) (shift-at t) shift.Post
 shift-returns t c = search rules
 
-shift-sub-shift : (t : ℕ) → shift-lts.Need-overflow-sub-shift (
+shift-sub-shift : (t : ℕ) → shift-lts.Need-overflow_sub-shift (
   shift-stretch-reads.Asked,
   shift-stretch-reads.Learnt,
   shift-below t,
@@ -83,7 +83,7 @@ shift-sub-shift : (t : ℕ) → shift-lts.Need-overflow-sub-shift (
 ) (shift-at t) shift.Post
 shift-sub-shift t c = search rules
 
-shift-mul-shift : (t : ℕ) → shift-lts.Need-overflow-mul-shift (
+shift-mul-shift : (t : ℕ) → shift-lts.Need-offset_bounds-path (
   shift-stretch-reads.Asked,
   shift-stretch-reads.Learnt,
   shift-below t,
@@ -91,7 +91,7 @@ shift-mul-shift : (t : ℕ) → shift-lts.Need-overflow-mul-shift (
 ) (shift-at t) shift.Post
 shift-mul-shift t c = search rules
 
-shift-sub-shift-2 : (t : ℕ) → shift-lts.Need-overflow-sub-shift-2 (
+shift-sub-shift-2 : (t : ℕ) → shift-lts.Need-slice_bounds-shift-count (
   shift-stretch-reads.Asked,
   shift-stretch-reads.Learnt,
   shift-below t,
@@ -99,7 +99,7 @@ shift-sub-shift-2 : (t : ℕ) → shift-lts.Need-overflow-sub-shift-2 (
 ) (shift-at t) shift.Post
 shift-sub-shift-2 t c = search rules
 
-shift-part-shift-start : (t : ℕ) → shift-lts.Need-slice-bounds-shift-start (
+shift-part-shift-start : (t : ℕ) → shift-lts.Need-slice_bounds-shift-start (
   shift-stretch-reads.Asked,
   shift-stretch-reads.Learnt,
   shift-below t,
@@ -107,7 +107,7 @@ shift-part-shift-start : (t : ℕ) → shift-lts.Need-slice-bounds-shift-start (
 ) (shift-at t) shift.Post
 shift-part-shift-start t c = search rules
 
-shift-part-shift-end : (t : ℕ) → shift-lts.Need-slice-bounds-shift-end (
+shift-part-shift-end : (t : ℕ) → shift-lts.Need-slice_bounds-shift-end (
   shift-stretch-reads.Asked,
   shift-stretch-reads.Learnt,
   shift-below t,
@@ -115,17 +115,16 @@ shift-part-shift-end : (t : ℕ) → shift-lts.Need-slice-bounds-shift-end (
 ) (shift-at t) shift.Post
 shift-part-shift-end t c = search rules
 
-shift-shift-requires : (t : ℕ) → shift-lts.Need-shift-requires (
+shift-shift-requires : (t : ℕ) → shift-lts.Need-shift-m-requires (
   shift-stretch-reads.Asked,
   shift-stretch-reads.Learnt,
   shift-below t,
   shift.Post,
 ) (shift-at t) shift.Post
 shift-shift-requires t c κs =
-    let a = c.before.before.before.before.before.before.before.before.before.before.before in
-    let p = a.requires.1 in
-    let more = c.before.before.before.before.before.if1.false in (
-      rw rest-length (omega (arith, more, a.requires.0)),
+    let p = c.requires.1 in
+    let more = c.if-path-le-STRETCH.false in (
+      rw rest-length (omega (arith, more, c.requires.0)),
       record {
         most = p.most;
         empty_size = p.empty_size;
@@ -135,31 +134,30 @@ shift-shift-requires t c κs =
       },
     )
 
-shift-slice-aggregate-shift-stretch : (t : ℕ) → shift-lts.Need-slice-aggregate-shift-stretch (
+shift-slice-aggregate-shift-stretch : (t : ℕ) → shift-lts.Need-slice_bounds-shift_stretch-end (
   shift-stretch-reads.Asked,
   shift-stretch-reads.Learnt,
   shift-below t,
   shift.Post,
 ) (shift-at t) shift.Post
 shift-slice-aggregate-shift-stretch t c =
-    sym (length-take-le _ c.before.before.before.before.before.before.before.before.before.before.before.before.before.before.before.before.before.before.before.before.before.args.path.now (omega (arith, c.before.before.before.before.before.before.before.before.before.before.before.before.before.before.before.if1.false)))
+    sym (length-take-le _ c.args.path.now (omega (arith, c.if-path-le-STRETCH.false)))
 
-shift-shift-stretch-requires-2 : (t : ℕ) → shift-lts.Need-shift-stretch-requires-2 (
+shift-shift-stretch-requires-2 : (t : ℕ) → shift-lts.Need-shift_stretch-requires-2 (
   shift-stretch-reads.Asked,
   shift-stretch-reads.Learnt,
   shift-below t,
   shift.Post,
 ) (shift-at t) shift.Post
 shift-shift-stretch-requires-2 t c κs =
-    let a = c.before.before.before.before.before.before.before.before.before.before.before.before.before.before.before.before.before.before.before.before.before.before.before.before.before in
-    let p = a.requires.1 in
-    let more = c.before.before.before.before.before.before.before.before.before.before.before.before.before.before.before.before.before.before.before.if1.false in
-    let m = c.before.before.before.before.before.before.before.before.before.before.before.before.before.shift in
-    let e : length m.new.1.1.0 ≡ length a.args.standing.now = m.auto.1.1.0 in
-    let f : length m.new.1.1.1.0 ≡ length a.args.empty.now = m.auto.1.1.1.0 in
-    let stretch : List ℕ = take 16 a.args.path.now in
-    let can : CanShift (length m.new.1.1.0) m.new.1.0 stretch = rw e (can-stretch _ p.can_shift _ (omega (arith, more)) m.ensures) in
-    let long : length stretch ≡ 16 = length-take-le 16 a.args.path.now (omega (arith, more)) in
+    let p = c.requires.1 in
+    let more = c.if-path-le-STRETCH.false in
+    let m = c.shift-m in
+    let e : length m.new.standing ≡ length c.args.standing.now = m.auto.standing in
+    let f : length m.new.empty ≡ length c.args.empty.now = m.auto.empty in
+    let stretch : List ℕ = take 16 c.args.path.now in
+    let can : CanShift (length m.new.standing) m.new.placement stretch = rw e (can-stretch _ p.can_shift _ (omega (arith, more)) m.ensures) in
+    let long : length stretch ≡ 16 = length-take-le 16 c.args.path.now (omega (arith, more)) in
     let fits = stretch-fits _ p.can_shift _ (omega (arith, more)) m.ensures in
     record {
       most = omega (arith, p.most, e);
@@ -169,54 +167,53 @@ shift-shift-stretch-requires-2 t c κs =
       can_shift = can;
     }
 
-shift-same-length-5 : (t : ℕ) → shift-lts.Need-same-length-5 (
+shift-same-length-5 : (t : ℕ) → shift-lts.Need-shape_of-placement (
   shift-stretch-reads.Asked,
   shift-stretch-reads.Learnt,
   shift-below t,
   shift.Post,
 ) (shift-at t) shift.Post
-shift-same-length-5 t c = c.before.before.before.before.before.before.before.before.shift-stretch2.auto.1.0 ∙ c.before.before.before.before.before.before.before.before.before.before.before.before.before.before.before.before.before.before.before.before.before.before.shift.auto.1.0
+shift-same-length-5 t c = c.shift_stretch-2.auto.placement ∙ c.shift-m.auto.placement
 
-shift-same-length-6 : (t : ℕ) → shift-lts.Need-same-length-6 (
+shift-same-length-6 : (t : ℕ) → shift-lts.Need-shape_of-standing (
   shift-stretch-reads.Asked,
   shift-stretch-reads.Learnt,
   shift-below t,
   shift.Post,
 ) (shift-at t) shift.Post
-shift-same-length-6 t c = c.before.before.before.before.before.before.before.before.shift-stretch2.auto.1.1.0 ∙ c.before.before.before.before.before.before.before.before.before.before.before.before.before.before.before.before.before.before.before.before.before.before.shift.auto.1.1.0
+shift-same-length-6 t c = c.shift_stretch-2.auto.standing ∙ c.shift-m.auto.standing
 
-shift-same-length-7 : (t : ℕ) → shift-lts.Need-same-length-7 (
+shift-same-length-7 : (t : ℕ) → shift-lts.Need-shape_of-empty (
   shift-stretch-reads.Asked,
   shift-stretch-reads.Learnt,
   shift-below t,
   shift.Post,
 ) (shift-at t) shift.Post
-shift-same-length-7 t c = c.before.before.before.before.before.before.before.before.shift-stretch2.auto.1.1.1.0 ∙ c.before.before.before.before.before.before.before.before.before.before.before.before.before.before.before.before.before.before.before.before.before.before.shift.auto.1.1.1.0
+shift-same-length-7 t c = c.shift_stretch-2.auto.empty ∙ c.shift-m.auto.empty
 
-shift-same-length-8 : (t : ℕ) → shift-lts.Need-same-length-8 (
+shift-same-length-8 : (t : ℕ) → shift-lts.Need-shape_of-out (
   shift-stretch-reads.Asked,
   shift-stretch-reads.Learnt,
   shift-below t,
   shift.Post,
 ) (shift-at t) shift.Post
-shift-same-length-8 t c = c.before.before.before.before.before.before.before.before.shift-stretch2.auto.1.1.1.1.0 ∙ c.before.before.before.before.before.before.before.before.before.before.before.before.before.before.before.before.before.before.before.before.before.before.shift.auto.1.1.1.1.0
+shift-same-length-8 t c = c.shift_stretch-2.auto.out ∙ c.shift-m.auto.out
 
-shift-returns-2 : (t : ℕ) → shift-lts.Need-returns-2 (
+shift-returns-2 : (t : ℕ) → shift-lts.Need-returns (
   shift-stretch-reads.Asked,
   shift-stretch-reads.Learnt,
   shift-below t,
   shift.Post,
 ) (shift-at t) shift.Post
 shift-returns-2 t c =
-    let a = c.before.before.before.before.before.before.before.before.before.before.before.before.before.before.before.before.before.before.before.before.before.before.before.before.before.before.before.before.before.before.before.before.before.before in
-    let p = a.requires.1 in
-    let more = c.before.before.before.before.before.before.before.before.before.before.before.before.before.before.before.before.before.before.before.before.before.before.before.before.before.before.before.before.if1.false in
-    let m = c.before.before.before.before.before.before.before.before.before.before.before.before.before.before.before.before.before.before.before.before.before.before.shift in
-    let e : length m.new.1.1.0 ≡ length a.args.standing.now = m.auto.1.1.0 in
-    shift-both a.args.path.now p.can_shift _ (omega (arith, more)) m.ensures (rw e at c.before.before.before.before.before.before.before.before.shift-stretch2.ensures)
+    let p = c.requires.1 in
+    let more = c.if-path-le-STRETCH.false in
+    let m = c.shift-m in
+    let e : length m.new.standing ≡ length c.args.standing.now = m.auto.standing in
+    shift-both c.args.path.now p.can_shift _ (omega (arith, more)) m.ensures (rw e at c.shift_stretch-2.ensures)
 
-pub +shift-spec : {M : Type 1} → statement M
-+shift-spec = close μ-shift λ t. shift-lts.spec (
+pub +shift_spec : {M : Type 1} → statement M
++shift_spec = close μ-shift λ t. shift-lts.spec (
   shift-stretch-reads.Asked,
   shift-stretch-reads.Learnt,
   shift-below t,

@@ -7,35 +7,35 @@ use borrow.Author.Rules.{rules}
 use Rattle.moving.proofs.move_on.Statement.{statement}
 use Rattle.moving.proofs.move_on.Tie as tie
 
-cast-c : tie.Need-overflow-cast-c
+cast-c : tie.Need-overflow_cast-c
 cast-c c = search rules
 
-mul-c : tie.Need-overflow-mul-c
+mul-c : tie.Need-offset_bounds-standing-a
 mul-c c = search rules
 
-slice-read-c : tie.Need-slice-read-c
+slice-read-c : tie.Need-bounds-standing-a
 slice-read-c c = search rules
 
-cast-placement : tie.Need-overflow-cast-placement
+cast-placement : tie.Need-overflow_cast-placement
 cast-placement c = search rules
 
-mul-placement : tie.Need-overflow-mul-placement
+mul-placement : tie.Need-offset_bounds-placement-c
 mul-placement c = search rules
 
-slice-write-placement : tie.Need-slice-write-placement
+slice-write-placement : tie.Need-bounds-placement-c
 slice-write-placement c = search rules
 
-cast-standing : tie.Need-overflow-cast-standing
+cast-standing : tie.Need-overflow_cast-standing
 cast-standing c = search rules
 
-mul-standing : tie.Need-overflow-mul-standing
+mul-standing : tie.Need-offset_bounds-standing-b
 mul-standing c = search rules
 
-slice-write-standing : tie.Need-slice-write-standing
+slice-write-standing : tie.Need-bounds-standing-b
 slice-write-standing c = search rules
 
-cast-t15 : tie.Need-overflow-cast-t15
-cast-t15 c = omega (arith, c.before.slice-known4.given c.before.before.before.before.before.before.args.a.0)
+cast-t15 : tie.Need-overflow_cast-crossing
+cast-t15 c = omega (arith, c.slice_known-4-1.given c.args.a.0)
 
 pack-requires : tie.Need-pack-requires
 pack-requires c κs = search rules
@@ -43,27 +43,26 @@ pack-requires c κs = search rules
 store-requires : tie.Need-store-requires
 store-requires c κs = search rules
 
-same_length : tie.Need-same-length
+same_length : tie.Need-shape_of-placement
 same_length c = search rules
 
-same-length-2 : tie.Need-same-length-2
+same-length-2 : tie.Need-shape_of-standing
 same-length-2 c = search rules
 
-same-length-3 : tie.Need-same-length-3
-same-length-3 c = c.before.before.store.auto.0
+same-length-3 : tie.Need-shape_of-out
+same-length-3 c = c.store.auto.out
 
 returns : tie.Need-returns
 returns c =
-    let start = c.before.before.before.before.before.before.before.before.before.before.before in
-    let a = start.args in record {
+    let a = c.args in record {
       moved = refl;
       shown = refl;
-      stored = c.before.before.store.ensures.0 ∙ ap (set a.out.now a.at) c.before.before.before.pack.ensures;
-      counted = c.before.before.store.ensures.1;
+      stored = c.store.ensures.0 ∙ ap (set a.out.now a.at) c.pack.ensures;
+      counted = c.store.ensures.1;
     }
 
-pub move-on-spec : {M : Type 1} → statement M
-move-on-spec =
+pub move_on_spec : {M : Type 1} → statement M
+move_on_spec =
     tie.close
     (tie.spec
     cast-c

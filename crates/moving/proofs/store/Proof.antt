@@ -6,26 +6,26 @@ use borrow.Author.Rules.{rules}
 use Rattle.moving.proofs.store.Statement.{statement}
 use Rattle.moving.proofs.store.Tie as tie
 
-mul-out : tie.Need-overflow-mul-out
+mul-out : tie.Need-offset_bounds-out-at
 mul-out c = search rules
 
-slice-write-out : tie.Need-slice-write-out
+slice-write-out : tie.Need-bounds-out-at
 slice-write-out c = search rules
 
-add-result : tie.Need-overflow-add-result
+add-result : tie.Need-overflow_add-result
 add-result c = search rules
 
-same_length : tie.Need-same-length
+same_length : tie.Need-shape_of-out-then-at-out
 same_length c = search rules
 
-returns : tie.Need-returns
+returns : tie.Need-returns-then-at-out
 returns c = search rules
 
-add-result-2 : tie.Need-overflow-add-result-2
+add-result-2 : tie.Need-overflow_add-result-2
 add-result-2 c = search rules
 
-returns-2 : tie.Need-returns-2
-returns-2 c = (sym (set_out _ _ _ c.if1.false), refl)
+returns-2 : tie.Need-returns
+returns-2 c = (sym (set_out _ _ _ c.if-at-out.false), refl)
 
 pub store_spec : {M : Type 1} → statement M
 store_spec =

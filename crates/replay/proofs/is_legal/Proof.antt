@@ -10,61 +10,59 @@ use Rattle.replay.proofs.Judging.{nobody-there, stands-elsewhere, to-outside, fr
 use Rattle.replay.proofs.is_legal.Statement.{statement}
 use Rattle.replay.proofs.is_legal.Tie as tie
 
-cast-carrier : tie.Need-overflow-cast-carrier
+cast-carrier : tie.Need-overflow_cast-carrier
 cast-carrier c = search rules
 
-returns : tie.Need-returns
-returns c = let s = c.before.before.before.before in nobody-there s.args.rows s.args.table.now s.args.at.now s.args.occupied.now (crossing_of s.args.x) c.if1.true
+returns : tie.Need-returns-then-at-carrier
+returns c = nobody-there c.args.rows c.args.table.now c.args.at.now c.args.occupied.now (crossing_of c.args.x) c.if-at-carrier.true
 
-mul-if2 : tie.Need-overflow-mul-if2
+mul-if2 : tie.Need-offset_bounds-at-carrier
 mul-if2 c = search rules
 
-shared-slice-read-if2 : tie.Need-shared-slice-read-if2
+shared-slice-read-if2 : tie.Need-bounds-at-carrier
 shared-slice-read-if2 c = search rules
 
-returns-2 : tie.Need-returns-2
-returns-2 c = let s = c.before.before.before.before.before.before.before in stands-elsewhere s.args.rows s.args.table.now s.args.at.now s.args.occupied.now (crossing_of s.args.x) c.if2.true
+returns-2 : tie.Need-returns-then-at-carrier-2
+returns-2 c = stands-elsewhere c.args.rows c.args.table.now c.args.at.now c.args.occupied.now (crossing_of c.args.x) c.if-at-carrier-2.true
 
-cast-from : tie.Need-overflow-cast-from
+cast-from : tie.Need-overflow_cast-from
 cast-from c = search rules
 
-cast-to : tie.Need-overflow-cast-to
+cast-to : tie.Need-overflow_cast-to
 cast-to c = search rules
 
-returns-3 : tie.Need-returns-3
-returns-3 c = let s = c.before.before.before.before.before.before.before.before.before.before in to-outside s.args.rows s.args.table.now s.args.at.now s.args.occupied.now (crossing_of s.args.x) c.if3.true
+returns-3 : tie.Need-returns-then-rows-to
+returns-3 c = to-outside c.args.rows c.args.table.now c.args.at.now c.args.occupied.now (crossing_of c.args.x) c.if-rows-to.true
 
 -- the bay that it leaves has its row
-leaves : (c : tie.Else3) → let s = c.before.before.before.before.before.before.before.before.before.before in (crossing_of s.args.x).from < s.args.rows
+leaves : (c : tie.Else-rows-to) → let s = c.before.before.before.before.before.before.before.before.before.before in (crossing_of s.args.x).from < s.args.rows
 leaves c =
     let s = c.before.before.before.before.before.before.before.before.before.before in
-    from_inside s.args.rows s.args.table.now s.args.at.now s.args.occupied.now (crossing_of s.args.x) s.requires c.before.before.before.before.before.before.if1.false c.before.before.before.if2.false
+    from_inside s.args.rows s.args.table.now s.args.at.now s.args.occupied.now (crossing_of s.args.x) s.requires c.if-at-carrier.false c.if-at-carrier-2.false
 
-mul-is-in : tie.Need-overflow-mul-is-in
-mul-is-in c = omega (arith, leaves c, c.before.before.before.before.before.before.before.before.before.before.requires.few)
+mul-is-in : tie.Need-overflow_mul-from
+mul-is-in c = omega (arith, leaves c, c.requires.few)
 
-add-is-in : tie.Need-overflow-add-is-in
-add-is-in c = omega (arith, leaves c, c.if3.false, c.before.before.before.before.before.before.before.before.before.before.requires.few)
+add-is-in : tie.Need-overflow_add-from
+add-is-in c = omega (arith, leaves c, c.if-rows-to.false, c.requires.few)
 
-is-in-requires : tie.Need-is-in-requires
-is-in-requires c κs = let s = c.before.before.before.before.before.before.before.before.before.before in omega (arith, leaves c, c.if3.false, s.requires.few, s.requires.long)
+is-in-requires : tie.Need-is_in-requires
+is-in-requires c κs = omega (arith, leaves c, c.if-rows-to.false, c.requires.few, c.requires.long)
 
-returns-4 : tie.Need-returns-4
+returns-4 : tie.Need-returns-then-not-is_in
 returns-4 c =
-    let s = c.before.before.before.before.before.before.before.before.before.before.before.before in
-    no-rail s.args.rows s.args.table.now s.args.at.now s.args.occupied.now (crossing_of s.args.x) s.requires c.before.before.before.before.before.before.before.before.if1.false c.before.before.before.before.before.if2.false c.before.before.if3.false (sym c.before.is-in.ensures ∙ not-true _ c.if4.true)
+    no-rail c.args.rows c.args.table.now c.args.at.now c.args.occupied.now (crossing_of c.args.x) c.requires c.if-at-carrier.false c.if-at-carrier-2.false c.if-rows-to.false (sym c.is_in.ensures ∙ not-true _ c.if-not-is_in.true)
 
-element-copy-out-result : tie.Need-element-copy-out-result
-element-copy-out-result c = omega (arith, leaves c.before.before, c.before.before.if3.false, c.before.before.before.before.before.before.before.before.before.before.before.before.requires.few)
+element-copy-out-result : tie.Need-bounds-occupied-to
+element-copy-out-result c = omega (arith, leaves c.before.before.before, c.if-rows-to.false, c.requires.few)
 
-returns-5 : tie.Need-returns-5
+returns-5 : tie.Need-returns
 returns-5 c =
-    let s = c.before.before.before.before.before.before.before.before.before.before.before.before.before in
-    by-the-mark s.args.rows s.args.table.now s.args.at.now s.args.occupied.now (crossing_of s.args.x) s.requires c.before.before.before.before.before.before.before.before.before.if1.false c.before.before.before.before.before.before.if2.false c.before.before.before.if3.false (sym c.before.before.is-in.ensures ∙ not-false _ c.before.if4.false)
+    by-the-mark c.args.rows c.args.table.now c.args.at.now c.args.occupied.now (crossing_of c.args.x) c.requires c.if-at-carrier.false c.if-at-carrier-2.false c.if-rows-to.false (sym c.is_in.ensures ∙ not-false _ c.if-not-is_in.false)
     _ refl
 
-pub is-legal-spec : {M : Type 1} → statement M
-is-legal-spec =
+pub is_legal_spec : {M : Type 1} → statement M
+is_legal_spec =
     tie.close
     (tie.spec
     cast-carrier

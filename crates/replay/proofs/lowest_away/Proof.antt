@@ -18,52 +18,52 @@ use Rattle.replay.proofs.lowest_away.Tie as tie
 abbrev is_away : List ℕ → List ℕ → ℕ → Bool
 is_away at goal c = not (eqb (get_or at c 0) (get_or goal c 0))
 
-abbrev invariant-loop : tie.invariant-loop
+abbrev invariant-loop : tie.invariant-loop-c
 invariant-loop at goal c₀ c = (c ≤ length goal) × FoundFrom (is_away at goal) (length goal) (not_home goal at) c
 
-abbrev decreases-loop : tie.decreases-loop
+abbrev decreases-loop : tie.decreases-loop-c
 decreases-loop at goal c₀ c = length goal - c
 
-loop-holds : tie.Need-loop-init invariant-loop decreases-loop
+loop-holds : tie.Need-loop-c-init invariant-loop decreases-loop
 unfolding not_home
 loop-holds c = let s = c in (omega arith, found-start (is_away s.args.at.now s.args.goal.now) (length s.args.goal.now))
 
-mul-if1 : tie.Need-overflow-mul-if1 invariant-loop decreases-loop
+mul-if1 : tie.Need-offset_bounds-at-c invariant-loop decreases-loop
 mul-if1 c = search rules
 
-shared-slice-read-if1 : tie.Need-shared-slice-read-if1 invariant-loop decreases-loop
+shared-slice-read-if1 : tie.Need-bounds-at-c invariant-loop decreases-loop
 shared-slice-read-if1 c = search rules
 
-mul-if1-2 : tie.Need-overflow-mul-if1-2 invariant-loop decreases-loop
+mul-if1-2 : tie.Need-offset_bounds-goal-c invariant-loop decreases-loop
 mul-if1-2 c = search rules
 
-shared-slice-read-if1-2 : tie.Need-shared-slice-read-if1-2 invariant-loop decreases-loop
+shared-slice-read-if1-2 : tie.Need-bounds-goal-c invariant-loop decreases-loop
 shared-slice-read-if1-2 c = search rules
 
-cast-t11 : tie.Need-overflow-cast-t11 invariant-loop decreases-loop
+cast-t11 : tie.Need-overflow_cast-result invariant-loop decreases-loop
 cast-t11 c = search rules
 
-returns : tie.Need-returns invariant-loop decreases-loop
+returns : tie.Need-returns-then-at-c invariant-loop decreases-loop
 returns c =
-    let loop = c.before.before.before.before.loop in
-    let s = c.before.before.before.before.before in found-hit (is_away s.args.at.now s.args.goal.now) (length s.args.goal.now) (not_home s.args.goal.now s.args.at.now) loop.c loop.invariant.1 c.before.before.before.loop-test.true (ap not (ne_eqb _ _ c.if1.true))
+    let loop = c.loop-c in
+    found-hit (is_away c.args.at.now c.args.goal.now) (length c.args.goal.now) (not_home c.args.goal.now c.args.at.now) loop.c loop.invariant.1 c.loop-c-test.true (ap not (ne_eqb _ _ c.if-at-c.true))
 
-add-c : tie.Need-overflow-add-c invariant-loop decreases-loop
+add-c : tie.Need-overflow_add-c invariant-loop decreases-loop
 add-c c = search rules
 
-loop-less : tie.Need-loop-smaller invariant-loop decreases-loop
+loop-less : tie.Need-loop-c-smaller invariant-loop decreases-loop
 loop-less c = search rules
 
-loop-again : tie.Need-loop-preserved invariant-loop decreases-loop
+loop-again : tie.Need-loop-c-preserved invariant-loop decreases-loop
 loop-again c =
-    let loop = c.before.before.before.before.loop in
-    let s = c.before.before.before.before.before in (search rules, found-miss (is_away s.args.at.now s.args.goal.now) (length s.args.goal.now) (not_home s.args.goal.now s.args.at.now) loop.c loop.invariant.1 c.before.before.before.loop-test.true (ap not (eq-eqb _ _ c.if1.false)))
+    let loop = c.loop-c in
+    (search rules, found-miss (is_away c.args.at.now c.args.goal.now) (length c.args.goal.now) (not_home c.args.goal.now c.args.at.now) loop.c loop.invariant.1 c.loop-c-test.true (ap not (eq-eqb _ _ c.if-at-c.false)))
 
-returns-2 : tie.Need-returns-2 invariant-loop decreases-loop
-returns-2 c = let s = c.before.before in found-end (is_away s.args.at.now s.args.goal.now) (length s.args.goal.now) (not_home s.args.goal.now s.args.at.now) c.before.loop.c c.before.loop.invariant.1 c.loop-test.false
+returns-2 : tie.Need-returns invariant-loop decreases-loop
+returns-2 c = found-end (is_away c.args.at.now c.args.goal.now) (length c.args.goal.now) (not_home c.args.goal.now c.args.at.now) c.loop-c.c c.loop-c.invariant.1 c.loop-c-test.false
 
-pub lowest-away-spec : {M : Type 1} → statement M
-lowest-away-spec =
+pub lowest_away_spec : {M : Type 1} → statement M
+lowest_away_spec =
     tie.close
     (tie.spec
     invariant-loop

@@ -5,17 +5,17 @@ use Rattle.sides.proofs.Numbers.{digit-in, digit-high, digit_low}
 use Rattle.sides.proofs.digit.Statement.{statement}
 use Rattle.sides.proofs.digit.Tie as tie
 
-cast-result : tie.Need-overflow-cast-result
+cast-result : tie.Need-overflow_cast-result
 cast-result c = search rules
 
-returns : tie.Need-returns
-returns c = (digit-in c.before.before.args.b (search rules) (search rules), search rules)
+returns : tie.Need-returns-then-b-le57
+returns c = (digit-in c.args.b (search rules) (search rules), search rules)
 
-returns-2 : tie.Need-returns-2
-returns-2 c = (digit-high c.before.before.args.b (search rules) (search rules), search rules)
+returns-2 : tie.Need-returns-then-b-ge48
+returns-2 c = (digit-high c.args.b (search rules) (search rules), search rules)
 
-returns-3 : tie.Need-returns-3
-returns-3 c = (digit_low c.before.args.b (search rules), search rules)
+returns-3 : tie.Need-returns
+returns-3 c = (digit_low c.args.b (search rules), search rules)
 
-pub digit-spec : {M : Type 1} → statement M
-digit-spec = tie.close (tie.spec cast-result returns returns-2 returns-3)
+pub digit_spec : {M : Type 1} → statement M
+digit_spec = tie.close (tie.spec cast-result returns returns-2 returns-3)

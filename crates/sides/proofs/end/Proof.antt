@@ -6,49 +6,47 @@ use Rattle.sides.proofs.Taking.{end-early, end-full, end-missing}
 use Rattle.sides.proofs.end.Statement.{statement}
 use Rattle.sides.proofs.end.Tie as tie
 
-enum_told : tie.Need-enum-told
+enum_told : tie.Need-enum_told-1
 enum_told c = search rules
 
-enum-told-2 : tie.Need-enum-told-2
+enum-told-2 : tie.Need-enum_told-in-Height
 enum-told-2 c = search rules
 
-enum-told-3 : tie.Need-enum-told-3
+enum-told-3 : tie.Need-enum_told-in-Width
 enum-told-3 c = search rules
 
-enum-told-4 : tie.Need-enum-told-4
+enum-told-4 : tie.Need-enum_told-in-Map
 enum-told-4 c = search rules
 
-enum-known-due : tie.Need-enum-known-due
+enum-known-due : tie.Need-enum_known-due
 enum-known-due c = search rules
 
-returns : tie.Need-returns
+returns : tie.Need-returns-then-rows-h
 returns c =
-    let start = c.before.before.before.before in
-    end-full start.args.n start.args.due c.before.before.due.given.0.0 c.before.before.due.given.0.1.0 c.before.before.due.given.0.1.1.0 c.before.before.due.given.1 c.if1.true
+    end-full c.args.n c.args.due c.in-Row.h c.in-Row.w c.in-Row.rows c.in-Row.is c.if-rows-h.true
 
-returns-2 : tie.Need-returns-2
+returns-2 : tie.Need-returns-in-Octile
 unfolding due_end
-returns-2 c = end-early c.before.before.args.n c.before.before.args.due (rw c.enum_told.given.1)
+returns-2 c = end-early c.args.n c.args.due (rw c.in-Octile.is)
 
-returns-3 : tie.Need-returns-3
+returns-3 : tie.Need-returns-in-Height
 unfolding due_end
-returns-3 c = end-early c.before.before.args.n c.before.before.args.due (rw c.enum-told2.given.1)
+returns-3 c = end-early c.args.n c.args.due (rw c.in-Height.is)
 
-returns-4 : tie.Need-returns-4
+returns-4 : tie.Need-returns-in-Width
 unfolding due_end
-returns-4 c = end-early c.before.before.args.n c.before.before.args.due (rw c.enum-told3.given.1)
+returns-4 c = end-early c.args.n c.args.due (rw c.in-Width.is)
 
-returns-5 : tie.Need-returns-5
+returns-5 : tie.Need-returns-in-Map
 unfolding due_end
-returns-5 c = end-early c.before.before.args.n c.before.before.args.due (rw c.enum-told4.given.1)
+returns-5 c = end-early c.args.n c.args.due (rw c.in-Map.is)
 
-returns-6 : tie.Need-returns-6
+returns-6 : tie.Need-returns-else-rows-h
 returns-6 c =
-    let start = c.before.before.before.before in
-    end-missing start.args.n start.args.due c.before.before.due.given.0.0 c.before.before.due.given.0.1.0 c.before.before.due.given.0.1.1.0 c.before.before.due.given.1 c.if1.false
+    end-missing c.args.n c.args.due c.in-Row.h c.in-Row.w c.in-Row.rows c.in-Row.is c.if-rows-h.false
 
-pub end-spec : {M : Type 1} → statement M
-end-spec =
+pub end_spec : {M : Type 1} → statement M
+end_spec =
     tie.close
     (tie.spec
     enum_told

@@ -12,5 +12,5 @@ returns : tie.Need-returns
 unfolding bay_letter
 returns c = c.either.ensures
 
-pub is-bay-spec : {M : Type 1} → statement M
-is-bay-spec = tie.close (tie.spec either-requires returns)
+pub is_bay_spec : {M : Type 1} → statement M
+is_bay_spec = tie.close (tie.spec either-requires returns)

@@ -5,7 +5,7 @@ use Rattle.paper.specs.Map.{wall_letter}
 use Rattle.sides.proofs.is_letter.Statement.{statement}
 use Rattle.sides.proofs.is_letter.Tie as tie
 
-is-bay-requires : tie.Need-is-bay-requires
+is-bay-requires : tie.Need-is_bay-requires
 is-bay-requires c κs = search rules
 
 either-requires : tie.Need-either-requires
@@ -24,8 +24,8 @@ returns : tie.Need-returns
 unfolding wall_letter
 returns c = cc
 
-pub is-letter-spec : {M : Type 1} → statement M
-is-letter-spec =
+pub is_letter_spec : {M : Type 1} → statement M
+is_letter_spec =
     tie.close
     (tie.spec
     is-bay-requires

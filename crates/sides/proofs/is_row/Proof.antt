@@ -6,16 +6,15 @@ use Rattle.sides.proofs.Rows.{row-wide, row_other}
 use Rattle.sides.proofs.is_row.Statement.{statement}
 use Rattle.sides.proofs.is_row.Tie as tie
 
-all-letters-requires : tie.Need-all-letters-requires
+all-letters-requires : tie.Need-all_letters-requires
 all-letters-requires c κs = search rules
 
-returns : tie.Need-returns
+returns : tie.Need-returns-then-text-width
 returns c =
-    let start = c.before.before.before in
-    c.all-letters.ensures ∙ row-wide start.args.width start.args.text.now (search rules)
+    c.all_letters.ensures ∙ row-wide c.args.width c.args.text.now (search rules)
 
-returns-2 : tie.Need-returns-2
-returns-2 c = row_other c.before.before.args.width c.before.before.args.text.now c.if1.false
+returns-2 : tie.Need-returns
+returns-2 c = row_other c.args.width c.args.text.now c.if-text-width.false
 
-pub is-row-spec : {M : Type 1} → statement M
-is-row-spec = tie.close (tie.spec all-letters-requires returns returns-2)
+pub is_row_spec : {M : Type 1} → statement M
+is_row_spec = tie.close (tie.spec all-letters-requires returns returns-2)
