@@ -7,6 +7,7 @@ NAMES is the names.json that `rt check --generated FOLDER --old-names` writes fo
 GENERATED is a folder that `rt check --generated GENERATED` has written: its records tell how far out a place lies today.
 """
 
+import difflib
 import glob
 import json
 import os
@@ -53,6 +54,8 @@ def functions(names):
             if old and place[3] in of["params"]:
                 arms.setdefault("=" + alike(old), of["params"][place[3]])
                 arms.setdefault("=" + alike(new), of["params"][place[3]])
+        tree.setdefault("args", []).extend(of.get("args", []))
+        tree["old"] = [old for old, _ in of["needs"]]
         tree["="] = [stem + new for _, new in of["needs"]]
         for arm in of["arms"]:
             if arm:
@@ -86,6 +89,8 @@ def joins(folder, path):
                 steps[name] = kind
         for m in re.finditer(r"(?m)^( *)pub data (Came-\S+) : Type 0 where\n((?:\1  .*\n)+)", text):
             ways[m[2]] = re.findall(rf"(?m)^{m[1]}  (\S+) : (\S+) →", m[3])
+    # Steps that older kits had not.
+    records = {it: [f for f in fields if not f.startswith("way_told")] for it, fields in records.items()}
     return {step: [(way, records.get(record, [])) for way, record in ways[comes[kind]]] for step, kind in steps.items() if kind in comes}
 
 
@@ -169,7 +174,52 @@ def moved(part, table, outer, helpers):
         return f"{m[1]} {it}" if it else m[0]
 
     part = re.sub(r"let (\w+) = (\w+)(?:\.before)+ in", of_let, part)
-    return re.sub(rf"(?<![\w.'-])({WORD}) (\w+)((?:\.before)+)(?!\.?[\w'-])", of_call, part)
+    return re.sub(rf"(?<![\w.'-])({WORD}) (\w+)((?:\.before)*)(?!\.?[\w'-])", of_call, part)
+
+
+def bare(name):
+    name = re.sub(r"^overflow-", "", name)
+    return re.sub(r"\d+$", "", alike(re.sub(r"-\d+$", "", name)))
+
+
+def aligned(text, new, old):
+    """Goals that are no longer asked go from the proof, and those that are asked anew are left to the search."""
+    last = re.search(r"tie\.spec\s", text)
+    if not last or "-lts.spec" in text:
+        return text
+    declared = dict(re.findall(rf"(?m)^(?:pub )?({WORD}) : tie\.Need-({WORD})", text))
+    tail = text[last.end() :]
+    labels = [it for it in re.findall(rf"(?<![\w.'-]){WORD}", tail) if it in declared]
+    if len(labels) == len(new):
+        return text
+    a, b = [bare(declared[it]) for it in labels], [bare(it) for it in old]
+    kept, asked = {}, []
+    for tag, i, j, k, n in difflib.SequenceMatcher(None, a, b, autojunk=False).get_opcodes():
+        if tag == "equal" or (tag == "replace" and j - i == n - k):
+            kept.update({labels[i + d]: k + d for d in range(j - i)})
+    place = {k: it for it, k in kept.items()}
+    decls = []
+    invariants = re.findall(r"(?m)^abbrev ((?:invariant|decreases)-\S+) :", text)
+    for k, it in enumerate(new):
+        if k not in place:
+            place[k] = f"asked-{k}"
+            asked.append(f"asked-{k}")
+            call = " κs" if it.endswith("requires") or re.search(r"-requires-\d+$", it) else ""
+            decls.append(f"asked-{k} : tie.Need-{it}{''.join(' ' + i for i in invariants)}\nasked-{k} c{call} = search rules\n\n")
+    for label in labels:
+        if label not in kept:
+            text = re.sub(rf"(?ms)^{re.escape(label)} : .*?\n\n", "", text, count=1)
+        else:
+            text = re.sub(rf"(?m)^{re.escape(label)} : tie\.Need-{WORD}", lambda m: f"{label} : tie.Need-{new[kept[label]]}", text)
+    last = re.search(r"tie\.spec\s", text)
+    head, tail = text[: last.end()].rstrip(), text[last.end() :]
+    first = [it for it in re.findall(rf"(?<![\w.'-]){WORD}", tail) if it in invariants]
+    stop = tail.index(")")
+    text = head + "".join(f"\n    {it}" for it in [*first, *(place[k] for k in range(len(new)))]) + tail[stop:]
+    at = re.search(r"(?m)^pub \S+[-_]spec :", text).start()
+    if "borrow.Author.Rules.{rules" not in text and decls:
+        decls[0] = decls[0]
+    return text[:at] + "".join(decls) + text[at:]
 
 
 def turned(text, path, table, outer, joined):
@@ -178,10 +228,26 @@ def turned(text, path, table, outer, joined):
     if joined and module:
         text = by_ways(text, steps, joined, module[1])
     if outer:
-        helpers = {name: (places.get(alike(place)), c) for name, c, place in re.findall(rf"(?m)^(?:abbrev |unfoldable |pub )*(\S+) : \((\w+) : tie\.({WORD})\)", text)}
-        helpers |= {name: (places.get(alike(place)), "c") for name, place in re.findall(rf"(?m)^(?:abbrev |unfoldable |pub )*(\S+) : tie\.((?!Need-){WORD}) →", text)}
+        helpers = {name: (places.get(alike(place)), c) for name, c, place in re.findall(rf"(?m)^(?:abbrev |unfoldable |pub )*(\S+) : \((\w+) : tie\.({WORD})[^()]*\)", text)}
+        helpers |= {name: (places.get(alike(place)), "c") for name, place in re.findall(rf"(?m)^(?:abbrev |unfoldable |pub )*(\S+) : tie\.((?!Need-){WORD})(?: [\w-]+)* →", text)}
         text = "\n\n".join(moved(it, table, outer, helpers) for it in text.split("\n\n"))
 
+    # What the check finds by itself today.
+    if re.search(r"= c(?:\.before)*\.match\.keys\d+$", text, re.M):
+        text = re.sub(r"= c(?:\.before)*\.match\.keys\d+$", "= search rules", text, flags=re.M)
+        if "borrow.Author.Rules.{rules" not in text:
+            text = re.sub(r"(?m)^use ", "use borrow.Author.Rules.{rules}\nuse ", text, count=1)
+
+    def of_told(part):
+        for m in list(re.finditer(rf"\n? *let ({WORD}) = (\w+(?:\.before)*\.({WORD})) in", part)):
+            uses = re.findall(rf"(?<![\w.'-]){re.escape(m[1])}(?![\w'-])\.?", part.replace(m[0], "", 1))
+            if alike(m[3]) in arms and uses and all(it.endswith(".") for it in uses):
+                part = part.replace(m[0], "\n   " if m[0].startswith("\n") else "", 1)
+                part = re.sub(rf"(?<![\w.'-]){re.escape(m[1])}(?=\.)", lambda _: m[2], part)
+        return part
+
+    text = "\n\n".join(of_told(it) for it in text.split("\n\n"))
+    text = aligned(text, tree["="], tree["old"])
     # The goals stand in the proof's last term in the order of the code.
     labels = {}
     last = re.search(r"(?:tie|[\w+-]+-lts)\.spec\s(.*)$", text, re.S)
@@ -257,6 +323,11 @@ def turned(text, path, table, outer, joined):
     text = re.sub(rf"\.({WORD})\.(auto|new)\.((?:1\.)*0)(?![\w])", of_lent, text)
 
     def of_named(part):
+        for m in re.finditer(rf"let ({WORD}) = \w+(?:\.before)*\.({WORD})\.(?:auto|new) in", part):
+            params = arms.get("=" + alike(m[2]))
+            if params:
+                pick = lambda n, name=m[1], params=params: f"{name}.{params[n[1].count('1')]}" if n[1].count("1") < len(params) else n[0]
+                part = re.sub(rf"(?<![\w.'-]){re.escape(m[1])}\.((?:1\.)*0)(?![\w])", pick, part)
         for m in re.finditer(rf"let ({WORD}) = \w+(?:\.before)*\.({WORD}) in", part):
             params = arms.get("=" + alike(m[2]))
             if params:
@@ -266,6 +337,10 @@ def turned(text, path, table, outer, joined):
 
     text = "\n\n".join(of_named(it) for it in text.split("\n\n"))
     text = re.sub(rf"((?:\.before)*)\.({WORD})((?:\.(?:given|ensures|\d+))+)", of_arm, text)
+    for old, new in tree.get("args", []):
+        old = re.escape(old.replace(" ", "")).replace("\\-", "[-_]")
+        text = re.sub(old + r"(?![\w'-])", new.replace(" ", ""), text)
+    text = text.replace(".well-formed", ".well_formed")
     text = re.sub(rf"(\.)({WORD})", of_step, text)
     # Each step's record has the fields of those before it.
     text = re.sub(rf"(?:\.before)+(\.(?!before)(?:{WORD}))", r"\1", text)

@@ -7,15 +7,15 @@ use lib.Dec.{eqb}
 use Rattle.afresh.proofs.asked_with.Statement.{statement}
 use Rattle.afresh.proofs.asked_with.Tie as tie
 
-returns : tie.Need-returns
+returns : tie.Need-returns-then-name-i
 returns c =
-    let here : eqb c.before.args.name c.before.args.i ≡ true = eq-eqb _ _ c.if1.true in
+    let here : eqb c.args.name c.args.i ≡ true = eq-eqb _ _ c.if-name-i.true in
     rw here
 
-returns-2 : tie.Need-returns-2
+returns-2 : tie.Need-returns-else-name-i
 returns-2 c =
-    let elsewhere : eqb c.before.args.name c.before.args.i ≡ false = ne_eqb _ _ c.if1.false in
+    let elsewhere : eqb c.args.name c.args.i ≡ false = ne_eqb _ _ c.if-name-i.false in
     rw elsewhere
 
-pub asked-with-spec : {M : Type 1} → statement M
-asked-with-spec = tie.close (tie.spec returns returns-2)
+pub asked_with_spec : {M : Type 1} → statement M
+asked_with_spec = tie.close (tie.spec returns returns-2)

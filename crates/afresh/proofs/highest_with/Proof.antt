@@ -11,15 +11,15 @@ use Rattle.afresh.proofs.highest_with.Tie as tie
 higher-requires : tie.Need-higher-requires
 higher-requires c κs = search rules
 
-returns : tie.Need-returns
+returns : tie.Need-returns-then-mark-eq1
 returns c =
-    let counts : done c.before.before.args.mark ≡ true = eq-eqb _ _ c.before.if1.true in
+    let counts : done c.args.mark ≡ true = eq-eqb _ _ c.if-mark-eq1.true in
     rw counts c.higher.ensures
 
-returns-2 : tie.Need-returns-2
+returns-2 : tie.Need-returns-else-mark-eq1
 returns-2 c =
-    let counts-not : done c.before.args.mark ≡ false = ne_eqb _ _ c.if1.false in
+    let counts-not : done c.args.mark ≡ false = ne_eqb _ _ c.if-mark-eq1.false in
     rw counts-not
 
-pub highest-with-spec : {M : Type 1} → statement M
-highest-with-spec = tie.close (tie.spec higher-requires returns returns-2)
+pub highest_with_spec : {M : Type 1} → statement M
+highest_with_spec = tie.close (tie.spec higher-requires returns returns-2)

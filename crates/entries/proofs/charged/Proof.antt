@@ -7,11 +7,11 @@ use native.Mathlib.Numerals.{add-one}
 use Rattle.entries.proofs.charged.Statement.{statement}
 use Rattle.entries.proofs.charged.Tie as tie
 
-add-t3 : tie.Need-overflow-add-t3
+add-t3 : tie.Need-overflow_add-result
 add-t3 c = search rules
 
 returns : tie.Need-returns
-returns c = ap (λ (k : ℕ). record { carrier = c.before.args.line.carrier; billed = k; last = c.before.args.name }) (add-one c.before.args.line.billed)
+returns c = ap (λ (k : ℕ). record { carrier = c.args.line.carrier; billed = k; last = c.args.name }) (add-one c.args.line.billed)
 
-pub charged-spec : {M : Type 1} → statement M
-charged-spec = tie.close (tie.spec add-t3 returns)
+pub charged_spec : {M : Type 1} → statement M
+charged_spec = tie.close (tie.spec add-t3 returns)

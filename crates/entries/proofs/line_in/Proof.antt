@@ -8,23 +8,22 @@ use Rattle.bills.specs.Billing.{no_line}
 use Rattle.entries.proofs.line_in.Statement.{statement}
 use Rattle.entries.proofs.line_in.Tie as tie
 
-mul-result : tie.Need-overflow-mul-result
+mul-result : tie.Need-offset_bounds-lines-i
 mul-result c = search rules
 
-array-copy-out-result : tie.Need-array-copy-out-result
+array-copy-out-result : tie.Need-bounds-lines-i
 array-copy-out-result c = search rules
 
-no-line-requires : tie.Need-no-line-requires
+no-line-requires : tie.Need-no_line-requires
 no-line-requires c κs = search rules
 
-returns : tie.Need-returns
+returns : tie.Need-returns-then-i-lt-BAYS
 returns c = search rules
 
-returns-2 : tie.Need-returns-2
+returns-2 : tie.Need-returns-else-i-lt-BAYS
 returns-2 c =
-    let s = c.before.before in
-    c.no_line.ensures ∙ sym (get_or-eq_default s.args.t1 no_line (omega (arith, s.well-formed.0.1.0.1, c.before.if1.false)))
+    c.no_line.ensures ∙ sym (get_or-eq_default c.args.lines no_line (omega (arith, c.well_formed.0.1.0.1, c.if-i-lt-BAYS.false)))
 
-pub line-in-spec : {M : Type 1} → statement M
-line-in-spec =
+pub line_in_spec : {M : Type 1} → statement M
+line_in_spec =
     tie.close (tie.spec mul-result array-copy-out-result no-line-requires returns returns-2)

@@ -8,44 +8,44 @@ use Rattle.entries.proofs.Comparing.{Matching, numbers-differ, numbers_on, numbe
 use Rattle.entries.proofs.same_places.Statement.{statement}
 use Rattle.entries.proofs.same_places.Tie as tie
 
-abbrev invariant-loop : tie.invariant-loop
+abbrev invariant-loop : tie.invariant-loop-c
 invariant-loop a b c₀ c = Matching a b c
 
-abbrev decreases-loop : tie.decreases-loop
+abbrev decreases-loop : tie.decreases-loop-c
 decreases-loop a b c₀ c = most_bays - c
 
-loop-holds : tie.Need-loop-init invariant-loop decreases-loop
+loop-holds : tie.Need-loop-c-init invariant-loop decreases-loop
 loop-holds c = search rules
 
-mul-if1 : tie.Need-overflow-mul-if1 invariant-loop decreases-loop
+mul-if1 : tie.Need-offset_bounds-a-c invariant-loop decreases-loop
 mul-if1 c = search rules
 
-array-read-if1 : tie.Need-array-read-if1 invariant-loop decreases-loop
+array-read-if1 : tie.Need-bounds-a-c invariant-loop decreases-loop
 array-read-if1 c = search rules
 
-mul-if1-2 : tie.Need-overflow-mul-if1-2 invariant-loop decreases-loop
+mul-if1-2 : tie.Need-offset_bounds-b-c invariant-loop decreases-loop
 mul-if1-2 c = search rules
 
-array-read-if1-2 : tie.Need-array-read-if1-2 invariant-loop decreases-loop
+array-read-if1-2 : tie.Need-bounds-b-c invariant-loop decreases-loop
 array-read-if1-2 c = search rules
 
-returns : tie.Need-returns invariant-loop decreases-loop
-returns c = let s = c.before.before.before in numbers-differ s.args.t1 s.args.t2 (s.well-formed.0.1.0.1 ∙ sym s.well-formed.1.0.1.0.1) c.before.before.loop.c c.before.before.loop.invariant (rw s.well-formed.0.1.0.1 c.before.loop-test.true) c.if1.true
+returns : tie.Need-returns-then-a-c invariant-loop decreases-loop
+returns c = numbers-differ c.args.a c.args.b (c.well_formed.0.1.0.1 ∙ sym c.well_formed.1.0.1.0.1) c.loop-c.c c.loop-c.invariant (rw c.well_formed.0.1.0.1 c.loop-c-test.true) c.if-a-c.true
 
-add-c : tie.Need-overflow-add-c invariant-loop decreases-loop
+add-c : tie.Need-overflow_add-c invariant-loop decreases-loop
 add-c c = search rules
 
-loop-less : tie.Need-loop-smaller invariant-loop decreases-loop
+loop-less : tie.Need-loop-c-smaller invariant-loop decreases-loop
 loop-less c = search rules
 
-loop-again : tie.Need-loop-preserved invariant-loop decreases-loop
-loop-again c = let s = c.before.before.before in numbers_on s.args.t1 s.args.t2 (s.well-formed.0.1.0.1 ∙ sym s.well-formed.1.0.1.0.1) c.before.before.loop.c c.before.before.loop.invariant (rw s.well-formed.0.1.0.1 c.before.loop-test.true) c.if1.false
+loop-again : tie.Need-loop-c-preserved invariant-loop decreases-loop
+loop-again c = numbers_on c.args.a c.args.b (c.well_formed.0.1.0.1 ∙ sym c.well_formed.1.0.1.0.1) c.loop-c.c c.loop-c.invariant (rw c.well_formed.0.1.0.1 c.loop-c-test.true) c.if-a-c.false
 
-returns-2 : tie.Need-returns-2 invariant-loop decreases-loop
-returns-2 c = let s = c.before.before in numbers-end s.args.t1 s.args.t2 (s.well-formed.0.1.0.1 ∙ sym s.well-formed.1.0.1.0.1) c.before.loop.c c.before.loop.invariant (rw s.well-formed.0.1.0.1 c.loop-test.false)
+returns-2 : tie.Need-returns invariant-loop decreases-loop
+returns-2 c = numbers-end c.args.a c.args.b (c.well_formed.0.1.0.1 ∙ sym c.well_formed.1.0.1.0.1) c.loop-c.c c.loop-c.invariant (rw c.well_formed.0.1.0.1 c.loop-c-test.false)
 
-pub same-places-spec : {M : Type 1} → statement M
-same-places-spec =
+pub same_places_spec : {M : Type 1} → statement M
+same_places_spec =
     tie.close
     (tie.spec
     invariant-loop

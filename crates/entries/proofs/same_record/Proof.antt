@@ -9,29 +9,26 @@ use Rattle.bills.specs.Answering.{same_numbers}
 use Rattle.entries.proofs.same_record.Statement.{statement}
 use Rattle.entries.proofs.same_record.Tie as tie
 
-same-places-requires : tie.Need-same-places-requires
+same-places-requires : tie.Need-same_places-requires
 same-places-requires c κs = search rules
 
-returns : tie.Need-returns
+returns : tie.Need-returns-then-not-same_places
 unfolding ◌and◌
 returns c =
-    let s = c.before.before.before.before in
-    let e : same_numbers s.args.a.at s.args.b.at ≡ false = sym c.before.same-places.ensures ∙ not-true _ c.if1.true in
+    let e : same_numbers c.args.a.at c.args.b.at ≡ false = sym c.same_places.ensures ∙ c.if-not-same_places.true in
     sym (rw e)
 
-returns-2 : tie.Need-returns-2
+returns-2 : tie.Need-returns-then-a-b
 unfolding ◌and◌
 returns-2 c =
-    let s = c.before.before.before.before.before.before.before in
-    let e : same_numbers s.args.a.at s.args.b.at ≡ true = sym c.before.before.before.before.same-places.ensures ∙ not-false _ c.before.before.before.if1.false in
-    sym (rw (e, ne_eqb _ _ c.if2.true))
+    let e : same_numbers c.args.a.at c.args.b.at ≡ true = sym c.same_places.ensures ∙ c.if-not-same_places.false in
+    sym (rw (e, ne_eqb _ _ c.if-a-b.true))
 
-returns-3 : tie.Need-returns-3
+returns-3 : tie.Need-returns
 unfolding ◌and◌
 returns-3 c =
-    let s = c.before.before.before.before.before.before.before.before.before in
-    let e : same_numbers s.args.a.at s.args.b.at ≡ true = sym c.before.before.before.before.before.before.same-places.ensures ∙ not-false _ c.before.before.before.before.before.if1.false in
-    sym (rw (e, eq-eqb _ _ c.before.before.if2.false))
+    let e : same_numbers c.args.a.at c.args.b.at ≡ true = sym c.same_places.ensures ∙ c.if-not-same_places.false in
+    sym (rw (e, eq-eqb _ _ c.if-a-b.false))
 
-pub same-record-spec : {M : Type 1} → statement M
-same-record-spec = tie.close (tie.spec same-places-requires returns returns-2 returns-3)
+pub same_record_spec : {M : Type 1} → statement M
+same_record_spec = tie.close (tie.spec same-places-requires returns returns-2 returns-3)

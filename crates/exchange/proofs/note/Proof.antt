@@ -12,16 +12,15 @@ pack-requires c κs = search rules
 store-requires : tie.Need-store-requires
 store-requires c κs = search rules
 
-same_length : tie.Need-same-length
+same_length : tie.Need-shape_of-out
 same_length c = search rules
 
 returns : tie.Need-returns
 returns c =
-    let start = c.before.before.before.before.before.before in
-    record { stored = c.before.before.store.ensures.0 ∙ ap (set start.args.out.now start.args.at) c.before.before.before.pack.ensures; counted = c.before.before.store.ensures.1 }
+    record { stored = c.store.ensures.0 ∙ ap (set c.args.out.now c.args.at) c.pack.ensures; counted = c.store.ensures.1 }
 
-pub note-spec : {M : Type 1} → statement M
-note-spec =
+pub note_spec : {M : Type 1} → statement M
+note_spec =
     tie.close
     (tie.spec
     pack-requires

@@ -8,11 +8,11 @@ use Rattle.bills.specs.declared.Line.{Line}
 use Rattle.held_lines.proofs.no_lines.Statement.{statement}
 use Rattle.held_lines.proofs.no_lines.Tie as tie
 
-no-line-requires : tie.Need-no-line-requires
+no-line-requires : tie.Need-no_line-line-requires
 no-line-requires c κs = search rules
 
 returns : tie.Need-returns
-returns c = ap (λ (l : Line). replicate most_bays l) c.no_line.ensures
+returns c = ap (λ (l : Line). replicate most_bays l) c.no_line-line.ensures
 
-pub no-lines-spec : {M : Type 1} → statement M
-no-lines-spec = tie.close (tie.spec no-line-requires returns)
+pub no_lines_spec : {M : Type 1} → statement M
+no_lines_spec = tie.close (tie.spec no-line-requires returns)

@@ -25,25 +25,23 @@ kept marks name Accepted h = absurd (h refl)
 kept marks name Already h = refl
 kept marks name (Refused r) h = refl
 
-enum_told : tie.Need-enum-told
+enum_told : tie.Need-enum_told-1
 enum_told c = search rules
 
-slice-write-marks : tie.Need-slice-write-marks
-slice-write-marks c = c.before.before.requires (ap report_of c.enum_told.given.1)
+slice-write-marks : tie.Need-bounds-marks-at
+slice-write-marks c = c.requires (ap report_of c.in-Accepted.is)
 
-same_length : tie.Need-same-length
+same_length : tie.Need-shape_of-marks
 same_length c = search rules
 
-returns : tie.Need-returns
+returns : tie.Need-returns-in-Accepted
 unfolding marks_after
 returns c =
-    let s = c.before.before in
-    ap (λ r. marks_after s.args.marks.now s.args.name (report_of r)) (sym c.enum_told.given.1)
+    ap (λ r. marks_after c.args.marks.now c.args.name (report_of r)) (sym c.in-Accepted.is)
 
-returns-2 : tie.Need-returns-2
+returns-2 : tie.Need-returns-in_default
 returns-2 c =
-    let s = c.before in
-    kept s.args.marks.now s.args.name s.args.answer (λ e. not_first _ c.match.keys2 (ap (Declared.tag_of Reported.the_type) e))
+    kept c.args.marks.now c.args.name c.args.answer (λ e. not_first _ c.in-Accepted.keys2 (ap (Declared.tag_of Reported.the_type) e))
 
-pub mark-accepted-spec : {M : Type 1} → statement M
-mark-accepted-spec = tie.close (tie.spec enum_told slice-write-marks same_length returns returns-2)
+pub mark_accepted_spec : {M : Type 1} → statement M
+mark_accepted_spec = tie.close (tie.spec enum_told slice-write-marks same_length returns returns-2)

@@ -9,24 +9,21 @@ use Rattle.marks.proofs.Telling.{told-mismarked, told-on}
 use Rattle.marks.proofs.tell.Statement.{statement}
 use Rattle.marks.proofs.tell.Tie as tie
 
-bad-marks-requires : tie.Need-bad-marks-requires
+bad-marks-requires : tie.Need-bad_marks-requires
 bad-marks-requires c κs = search rules
 
-returns : tie.Need-returns
+returns : tie.Need-returns-then-bad_marks
 returns c =
-    let s = c.before.before.before.before in
-    told-mismarked (crossings s.args.plan.now) s.args.marks.now s.args.name (sym c.before.bad-marks.ensures ∙ c.if1.true)
+    told-mismarked (crossings c.args.plan.now) c.args.marks.now c.args.name (sym c.bad_marks.ensures ∙ c.if-bad_marks.true)
 
-tell-in-order-requires : tie.Need-tell-in-order-requires
+tell-in-order-requires : tie.Need-tell_in_order-requires
 tell-in-order-requires c κs =
-    let s = c.before.before.before.before in
-    marks-long (crossings s.args.plan.now) s.args.marks.now (sym c.before.bad-marks.ensures ∙ c.if1.false) ∙ length-map s.args.plan.now unpack
+    marks-long (crossings c.args.plan.now) c.args.marks.now (sym c.bad_marks.ensures ∙ c.if-bad_marks.false) ∙ length-map c.args.plan.now unpack
 
-returns-2 : tie.Need-returns-2
+returns-2 : tie.Need-returns
 returns-2 c =
-    let s = c.before.before.before.before.before in
-    c.tell-in-order.ensures
-    ∙ sym (told-on (crossings s.args.plan.now) s.args.marks.now s.args.name (sym c.before.before.bad-marks.ensures ∙ c.before.if1.false))
+    c.tell_in_order.ensures
+    ∙ sym (told-on (crossings c.args.plan.now) c.args.marks.now c.args.name (sym c.bad_marks.ensures ∙ c.if-bad_marks.false))
 
-pub tell-spec : {M : Type 1} → statement M
-tell-spec = tie.close (tie.spec bad-marks-requires returns tell-in-order-requires returns-2)
+pub tell_spec : {M : Type 1} → statement M
+tell_spec = tie.close (tie.spec bad-marks-requires returns tell-in-order-requires returns-2)

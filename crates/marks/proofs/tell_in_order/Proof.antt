@@ -18,11 +18,10 @@ use Rattle.marks.proofs.tell_in_order.Statement.{statement}
 use Rattle.marks.proofs.tell_in_order.Tie as tie
 
 -- the name is in the plan, and the crossing found is its own
-there : (c : tie.After-x) → (c.before.before.before.before.before.args.name < length (crossings c.before.before.before.before.before.args.plan.now))
-    × (crossing_of c.x.given.0.0 ≡ named (crossings c.before.before.before.before.before.args.plan.now) c.before.before.before.before.before.args.name)
+there : (c : tie.In-Crossing-2) → (c.args.name < length (crossings c.args.plan.now))
+    × (crossing_of c.in-Crossing.x ≡ named (crossings c.args.plan.now) c.args.name)
 there c =
-    let s = c.before.before.before.before.before in
-    found_some (crossings s.args.plan.now) s.args.name (crossing_of c.x.given.0.0) (ap named_of (sym c.x.given.1) ∙ c.before.before.find.ensures)
+    found_some (crossings c.args.plan.now) c.args.name (crossing_of c.in-Crossing.x) (ap named_of (sym c.in-Crossing.is) ∙ c.find.ensures)
 
 -- what is found for the crossing is what is found for its name
 same-search : (xs : List Crossing) (marks : List ℕ) (name : ℕ) (x : Crossing) → x ≡ named xs name → find (waits_for xs marks x) (up_to name) ≡ undone_before xs marks name
@@ -32,52 +31,47 @@ same-search xs marks name x is = ap (λ y. find (waits_for xs marks y) (up_to na
 find-requires : tie.Need-find-requires
 find-requires c κs = search rules
 
-enum-known-x : tie.Need-enum-known-x
+enum-known-x : tie.Need-enum_known-x
 enum-known-x c = search rules
 
-enum_told : tie.Need-enum-told
+enum_told : tie.Need-enum_told-1
 enum_told c = search rules
 
-returns : tie.Need-returns
+returns : tie.Need-returns-in_default
 returns c =
-    let s = c.before.before.before.before.before in
-    told-unknown (crossings s.args.plan.now) s.args.marks.now s.args.name (found_none (crossings s.args.plan.now) s.args.name (ap named_of (sym c.enum_told.given.1) ∙ c.before.before.find.ensures))
+    told-unknown (crossings c.args.plan.now) c.args.marks.now c.args.name (found_none (crossings c.args.plan.now) c.args.name (ap named_of (sym c.in_default.is) ∙ c.find.ensures))
 
-shared-slice-read-if1 : tie.Need-shared-slice-read-if1
-shared-slice-read-if1 c = omega (arith, (there c.before.before).0, length-map c.before.before.before.before.before.before.before.args.plan.now unpack)
+shared-slice-read-if1 : tie.Need-bounds-marks-at
+shared-slice-read-if1 c = omega (arith, (there c.before.before).0, length-map c.args.plan.now unpack)
 
-returns-2 : tie.Need-returns-2
+returns-2 : tie.Need-returns-then-marks-at-eq1
 returns-2 c =
-    let s = c.before.before.before.before.before.before.before.before in
-    told-already (crossings s.args.plan.now) s.args.marks.now s.args.name (there c.before.before.before).0 c.if1.true
+    told-already (crossings c.args.plan.now) c.args.marks.now c.args.name (there c.before.before.before).0 c.if-marks-at-eq1.true
 
-undone-before-requires : tie.Need-undone-before-requires
+undone-before-requires : tie.Need-undone_before-earlier-requires
 undone-before-requires c κs =
-    let start = c.before.before.before.before.before.before.before.before in
-    (omega (arith, (there c.before.before.before).0, length-map start.args.plan.now unpack), start.requires)
+    (omega (arith, (there c.before.before.before).0, length-map c.args.plan.now unpack), c.requires)
 
-enum-known-earlier : tie.Need-enum-known-earlier
+enum-known-earlier : tie.Need-enum_known-earlier
 enum-known-earlier c = search rules
 
-enum-told-2 : tie.Need-enum-told-2
+enum-told-2 : tie.Need-enum_told-in-AllDone
 enum-told-2 c = search rules
 
-returns-3 : tie.Need-returns-3
+returns-3 : tie.Need-returns-in-Undone
 returns-3 c =
-    let s = c.before.before.before.before.before.before.before.before.before.before.before.before in
     let t = there c.before.before.before.before.before.before.before in
-    told-early (crossings s.args.plan.now) s.args.marks.now s.args.name t.0 c.before.before.before.before.if1.false _
-    (ap earlier_of (sym c.before.earlier.given.1) ∙ c.before.before.before.undone-before.ensures ∙ same-search (crossings s.args.plan.now) s.args.marks.now s.args.name _ t.1)
+    told-early (crossings c.args.plan.now) c.args.marks.now c.args.name t.0 c.if-marks-at-eq1.false _
+    (ap earlier_of (sym c.in-Undone.is) ∙ c.undone_before-earlier.ensures ∙ same-search (crossings c.args.plan.now) c.args.marks.now c.args.name _ t.1)
 
-returns-4 : tie.Need-returns-4
+returns-4 : tie.Need-returns-in-AllDone
 returns-4 c =
-    let s = c.before.before.before.before.before.before.before.before.before.before.before in
     let t = there c.before.before.before.before.before.before in
-    told-accept (crossings s.args.plan.now) s.args.marks.now s.args.name t.0 c.before.before.before.if1.false
-    (ap earlier_of (sym c.enum-told2.given.1) ∙ c.before.before.undone-before.ensures ∙ same-search (crossings s.args.plan.now) s.args.marks.now s.args.name _ t.1)
+    told-accept (crossings c.args.plan.now) c.args.marks.now c.args.name t.0 c.if-marks-at-eq1.false
+    (ap earlier_of (sym c.in-AllDone.is) ∙ c.undone_before-earlier.ensures ∙ same-search (crossings c.args.plan.now) c.args.marks.now c.args.name _ t.1)
 
-pub tell-in-order-spec : {M : Type 1} → statement M
-tell-in-order-spec =
+pub tell_in_order_spec : {M : Type 1} → statement M
+tell_in_order_spec =
     tie.close
     (tie.spec
     find-requires

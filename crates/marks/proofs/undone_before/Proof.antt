@@ -1,7 +1,6 @@
 -- `marks::undone_before` meets its contract. The search begins where all before are done; going up, the first crossing that is found ends the loop, so no lower one is left out.
 -- Assumes nothing.
 use mathlib.Core.Path.{sym, ◌∙◌}
-use mathlib.Core.Logic.{⊎_elim}
 use Prim.Native.Nat.{◌≤◌, ◌-◌}
 use native.Mathlib.Omega.{arith}
 use borrow.Author.Rules.{rules}
@@ -11,46 +10,43 @@ use Rattle.docket.specs.Reading.{crossing_of}
 use Rattle.marks.proofs.Telling.{waits_for, waits-none}
 use Rattle.marks.proofs.undone_before.Statement.{statement}
 use Rattle.marks.proofs.undone_before.Tie as tie
+use Rattle.marks.proofs.undone_before.Lts.{then-waits_for, else-waits_for}
 
-abbrev invariant-loop : tie.invariant-loop
+abbrev invariant-loop : tie.invariant-loop-e
 invariant-loop plan marks x name lowest₀ e₀ lowest e = (lowest ≤ name) × Passed (waits_for (crossings plan) marks (crossing_of x)) name lowest e
 
-abbrev decreases-loop : tie.decreases-loop
+abbrev decreases-loop : tie.decreases-loop-e
 decreases-loop plan marks x name lowest₀ e₀ lowest e = name - e
 
-done-to-requires : tie.Need-done-to-requires invariant-loop decreases-loop
+done-to-requires : tie.Need-done_to-e-requires invariant-loop decreases-loop
 done-to-requires c κs = search rules
 
-loop-holds : tie.Need-loop-init invariant-loop decreases-loop
+loop-holds : tie.Need-loop-e-init invariant-loop decreases-loop
 loop-holds c =
-    let s = c.before.before.before in
-    (omega arith, waits-none (crossings s.args.plan.now) s.args.marks.now (crossing_of s.args.x) s.args.name c.done-to.result c.done-to.ensures.1)
+    (omega arith, waits-none (crossings c.args.plan.now) c.args.marks.now (crossing_of c.args.x) c.args.name c.done_to-e.result c.done_to-e.ensures.1)
 
-waits-for-requires : tie.Need-waits-for-requires invariant-loop decreases-loop
+waits-for-requires : tie.Need-waits_for-requires invariant-loop decreases-loop
 waits-for-requires c κs = search rules
 
-add-e : tie.Need-overflow-add-e invariant-loop decreases-loop
+add-e : tie.Need-overflow_add-e invariant-loop decreases-loop
 add-e c = search rules
 
-loop-less : tie.Need-loop-smaller invariant-loop decreases-loop
+loop-less : tie.Need-loop-e-smaller invariant-loop decreases-loop
 loop-less c = search rules
 
-loop-again : tie.Need-loop-preserved invariant-loop decreases-loop
+loop-again : tie.Need-loop-e-preserved invariant-loop decreases-loop
 loop-again c =
-    let l = c.before.before.before.loop in
-    ⊎_elim
-    (λ w. (omega (arith, w.1), rw w.1 (passed-hit _ _ l.lowest l.e l.invariant.1 (omega arith) (sym c.before.waits-for.ensures ∙ w.0.taken))))
-    (λ w. (omega (arith, w.1), rw w.1 (passed-miss _ _ l.lowest l.e l.invariant.1 (sym c.before.waits-for.ensures ∙ w.0.left))))
-    c.if1.branch
+    let l = c.loop-e in
+    elim c.if-waits_for.branch [ then-waits_for w ↦ (omega (arith, w.lowest-is), rw w.lowest-is (passed-hit _ _ l.lowest l.e l.invariant.1 (omega arith) (sym c.waits_for.ensures ∙ w.if-waits_for.true))) | else-waits_for w ↦ (omega (arith, w.lowest-is), rw w.lowest-is (passed-miss _ _ l.lowest l.e l.invariant.1 (sym c.waits_for.ensures ∙ w.if-waits_for.false))) ]
 
-returns : tie.Need-returns invariant-loop decreases-loop
-returns c = let l = c.before.before.loop in sym (passed-there _ _ l.lowest l.e l.invariant.1 (omega arith) c.if2.true)
+returns : tie.Need-returns-then-lowest-name invariant-loop decreases-loop
+returns c = let l = c.loop-e in sym (passed-there _ _ l.lowest l.e l.invariant.1 (omega arith) c.if-lowest-name.true)
 
-returns-2 : tie.Need-returns-2 invariant-loop decreases-loop
-returns-2 c = let l = c.before.before.loop in sym (passed-nowhere _ _ l.lowest l.e l.invariant.1 (omega arith) c.if2.false)
+returns-2 : tie.Need-returns invariant-loop decreases-loop
+returns-2 c = let l = c.loop-e in sym (passed-nowhere _ _ l.lowest l.e l.invariant.1 (omega arith) c.if-lowest-name.false)
 
-pub undone-before-spec : {M : Type 1} → statement M
-undone-before-spec =
+pub undone_before_spec : {M : Type 1} → statement M
+undone_before_spec =
     tie.close
     (tie.spec
     invariant-loop

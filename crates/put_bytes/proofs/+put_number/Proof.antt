@@ -25,7 +25,7 @@ abbrev put-number-below : ℕ → In 1 put-number-kinds.ps
 put-number-below t =
     and 1 put-number-kinds.ps (falls 1 put-number-kinds.ps ◌<◌ μ-put-number t) put-number.Pre
 
-put-number-cast-byte : (t : ℕ) → put-number-lts.Need-overflow-cast-byte (
+put-number-cast-byte : (t : ℕ) → put-number-lts.Need-overflow_cast-n (
   byte-Reads.Asked,
   byte-Reads.Learnt,
   put-number-below t,
@@ -33,7 +33,7 @@ put-number-cast-byte : (t : ℕ) → put-number-lts.Need-overflow-cast-byte (
 ) (put-number-at t) put-number.Post
 put-number-cast-byte t c = search rules
 
-put-number-add-byte : (t : ℕ) → put-number-lts.Need-overflow-add-byte (
+put-number-add-byte : (t : ℕ) → put-number-lts.Need-overflow_add-n (
   byte-Reads.Asked,
   byte-Reads.Learnt,
   put-number-below t,
@@ -49,7 +49,7 @@ put-number-byte-requires : (t : ℕ) → put-number-lts.Need-byte-requires (
 ) (put-number-at t) put-number.Post
 put-number-byte-requires t c κs = search rules
 
-put-number-add-result : (t : ℕ) → put-number-lts.Need-overflow-add-result (
+put-number-add-result : (t : ℕ) → put-number-lts.Need-overflow_add-result (
   byte-Reads.Asked,
   byte-Reads.Learnt,
   put-number-below t,
@@ -57,7 +57,7 @@ put-number-add-result : (t : ℕ) → put-number-lts.Need-overflow-add-result (
 ) (put-number-at t) put-number.Post
 put-number-add-result t c = search rules
 
-put-number-same-length : (t : ℕ) → put-number-lts.Need-same-length (
+put-number-same-length : (t : ℕ) → put-number-lts.Need-shape_of-out-then-n-lt10 (
   byte-Reads.Asked,
   byte-Reads.Learnt,
   put-number-below t,
@@ -65,16 +65,16 @@ put-number-same-length : (t : ℕ) → put-number-lts.Need-same-length (
 ) (put-number-at t) put-number.Post
 put-number-same-length t c = search rules
 
-put-number-returns : (t : ℕ) → put-number-lts.Need-returns (
+put-number-returns : (t : ℕ) → put-number-lts.Need-returns-then-n-lt10 (
   byte-Reads.Asked,
   byte-Reads.Learnt,
   put-number-below t,
   put-number.Post,
 ) (put-number-at t) put-number.Post
 put-number-returns t c =
-    rw (decimal-one c.before.before.before.before.before.before.args.n c.before.before.before.before.if1.true) (record { left = c.before.before.byte.ensures; counted = search rules })
+    rw (decimal-one c.args.n c.if-n-lt10.true) (record { left = c.byte.ensures; counted = search rules })
 
-put-number-put-number-requires : (t : ℕ) → put-number-lts.Need-put-number-requires (
+put-number-put-number-requires : (t : ℕ) → put-number-lts.Need-put_number-end-requires (
   byte-Reads.Asked,
   byte-Reads.Learnt,
   put-number-below t,
@@ -82,7 +82,7 @@ put-number-put-number-requires : (t : ℕ) → put-number-lts.Need-put-number-re
 ) (put-number-at t) put-number.Post
 put-number-put-number-requires t c κs = search rules
 
-put-number-cast-byte-2 : (t : ℕ) → put-number-lts.Need-overflow-cast-byte-2 (
+put-number-cast-byte-2 : (t : ℕ) → put-number-lts.Need-overflow_cast-n-2 (
   byte-Reads.Asked,
   byte-Reads.Learnt,
   put-number-below t,
@@ -90,7 +90,7 @@ put-number-cast-byte-2 : (t : ℕ) → put-number-lts.Need-overflow-cast-byte-2 
 ) (put-number-at t) put-number.Post
 put-number-cast-byte-2 t c = search rules
 
-put-number-add-byte-2 : (t : ℕ) → put-number-lts.Need-overflow-add-byte-2 (
+put-number-add-byte-2 : (t : ℕ) → put-number-lts.Need-overflow_add-n-2 (
   byte-Reads.Asked,
   byte-Reads.Learnt,
   put-number-below t,
@@ -106,16 +106,16 @@ put-number-byte-requires-2 : (t : ℕ) → put-number-lts.Need-byte-requires-2 (
 ) (put-number-at t) put-number.Post
 put-number-byte-requires-2 t c κs = search rules
 
-put-number-add-result-2 : (t : ℕ) → put-number-lts.Need-overflow-add-result-2 (
+put-number-add-result-2 : (t : ℕ) → put-number-lts.Need-overflow_add-result-2 (
   byte-Reads.Asked,
   byte-Reads.Learnt,
   put-number-below t,
   put-number.Post,
 ) (put-number-at t) put-number.Post
 put-number-add-result-2 t c =
-    omega (arith, c.before.before.before.before.before.before.put-number.ensures.counted, decimal-short (c.before.before.before.before.before.before.before.before.before.before.args.n / 10) (search rules), c.before.before.before.before.before.before.before.before.before.before.requires.1)
+    omega (arith, c.put_number-end.ensures.counted, decimal-short (c.args.n / 10) (search rules), c.requires.1)
 
-put-number-same-length-2 : (t : ℕ) → put-number-lts.Need-same-length-2 (
+put-number-same-length-2 : (t : ℕ) → put-number-lts.Need-shape_of-out (
   byte-Reads.Asked,
   byte-Reads.Learnt,
   put-number-below t,
@@ -123,18 +123,18 @@ put-number-same-length-2 : (t : ℕ) → put-number-lts.Need-same-length-2 (
 ) (put-number-at t) put-number.Post
 put-number-same-length-2 t c = search rules
 
-put-number-returns-2 : (t : ℕ) → put-number-lts.Need-returns-2 (
+put-number-returns-2 : (t : ℕ) → put-number-lts.Need-returns (
   byte-Reads.Asked,
   byte-Reads.Learnt,
   put-number-below t,
   put-number.Post,
 ) (put-number-at t) put-number.Post
 put-number-returns-2 t c =
-    rw (decimal-more c.before.before.before.before.before.before.before.before.before.before.args.n c.before.before.before.before.before.before.before.before.if1.false)
-    (wrote_one (48 + c.before.before.before.before.before.before.before.before.before.before.args.n % 10) c.before.before.before.before.before.before.put-number.ensures c.before.before.byte2.ensures (search rules))
+    rw (decimal-more c.args.n c.if-n-lt10.false)
+    (wrote_one (48 + c.args.n % 10) c.put_number-end.ensures c.byte-2.ensures (search rules))
 
-pub +put-number-spec : {M : Type 1} → statement M
-+put-number-spec = close μ-put-number λ t. put-number-lts.spec (
+pub +put_number_spec : {M : Type 1} → statement M
++put_number_spec = close μ-put-number λ t. put-number-lts.spec (
   byte-Reads.Asked,
   byte-Reads.Learnt,
   put-number-below t,

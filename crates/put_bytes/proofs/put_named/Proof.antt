@@ -6,18 +6,18 @@ use Rattle.put_bytes.specs.Named.{named}
 use Rattle.put_bytes.proofs.put_named.Statement.{statement}
 use Rattle.put_bytes.proofs.put_named.Tie as tie
 
-put-text-requires : tie.Need-put-text-requires
+put-text-requires : tie.Need-put_text-end-requires
 put-text-requires c κs = search rules
 
-put-number-requires : tie.Need-put-number-requires
+put-number-requires : tie.Need-put_number-requires
 put-number-requires c κs = search rules
 
-same_length : tie.Need-same-length
+same_length : tie.Need-shape_of-out
 same_length c = search rules
 
 returns : tie.Need-returns
 unfolding named
-returns c = wrote_then c.before.before.before.before.before.before.put-text.ensures c.before.before.put-number.ensures
+returns c = wrote_then c.put_text-end.ensures c.put_number.ensures
 
-pub put-named-spec : {M : Type 1} → statement M
-put-named-spec = tie.close (tie.spec put-text-requires put-number-requires same_length returns)
+pub put_named_spec : {M : Type 1} → statement M
+put_named_spec = tie.close (tie.spec put-text-requires put-number-requires same_length returns)

@@ -51,14 +51,14 @@ is-in-requires c κs = omega (arith, leaves c, c.if-rows-to.false, c.requires.fe
 
 returns-4 : tie.Need-returns-then-not-is_in
 returns-4 c =
-    no-rail c.args.rows c.args.table.now c.args.at.now c.args.occupied.now (crossing_of c.args.x) c.requires c.if-at-carrier.false c.if-at-carrier-2.false c.if-rows-to.false (sym c.is_in.ensures ∙ not-true _ c.if-not-is_in.true)
+    no-rail c.args.rows c.args.table.now c.args.at.now c.args.occupied.now (crossing_of c.args.x) c.requires c.if-at-carrier.false c.if-at-carrier-2.false c.if-rows-to.false (sym c.is_in.ensures ∙ c.if-not-is_in.true)
 
 element-copy-out-result : tie.Need-bounds-occupied-to
 element-copy-out-result c = omega (arith, leaves c.before.before.before, c.if-rows-to.false, c.requires.few)
 
 returns-5 : tie.Need-returns
 returns-5 c =
-    by-the-mark c.args.rows c.args.table.now c.args.at.now c.args.occupied.now (crossing_of c.args.x) c.requires c.if-at-carrier.false c.if-at-carrier-2.false c.if-rows-to.false (sym c.is_in.ensures ∙ not-false _ c.if-not-is_in.false)
+    by-the-mark c.args.rows c.args.table.now c.args.at.now c.args.occupied.now (crossing_of c.args.x) c.requires c.if-at-carrier.false c.if-at-carrier-2.false c.if-rows-to.false (sym c.is_in.ensures ∙ c.if-not-is_in.false)
     _ refl
 
 pub is_legal_spec : {M : Type 1} → statement M

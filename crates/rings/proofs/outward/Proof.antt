@@ -11,65 +11,63 @@ use Rattle.rings.proofs.Narrowing.{Going, going-first, going-inside, going_more}
 use Rattle.rings.proofs.outward.Statement.{statement}
 use Rattle.rings.proofs.outward.Tie as tie
 
-abbrev invariant-loop : tie.invariant-loop
+abbrev invariant-loop : tie.invariant-loop-i
 invariant-loop table n rows d path₀ u₀ i₀ path u i = (i ≤ d) × (length path ≡ length path₀) × (u < n) × ((t : Outside n table rows d u₀) → Going t i u path)
 
-abbrev decreases-loop : tie.decreases-loop
+abbrev decreases-loop : tie.decreases-loop-i
 decreases-loop table n rows d path₀ u₀ i₀ path u i = d - i
 
-cast-u : tie.Need-overflow-cast-u invariant-loop decreases-loop
+cast-u : tie.Need-overflow_cast-u invariant-loop decreases-loop
 cast-u c = search rules
 
-loop-holds : tie.Need-loop-init invariant-loop decreases-loop
+loop-holds : tie.Need-loop-i-init invariant-loop decreases-loop
 loop-holds c =
-    let start = c.before.before.before.before in
-    let t = start.requires.outside in
-    (omega arith, refl, going-inside t 0 _ _ (going-first t start.args.path.now), λ t. going-first t _)
+    let t = c.requires.outside in
+    (omega arith, refl, going-inside t 0 _ _ (going-first t c.args.path.now), λ t. going-first t _)
 
-cast-path : tie.Need-overflow-cast-path invariant-loop decreases-loop
+cast-path : tie.Need-overflow_cast-path invariant-loop decreases-loop
 cast-path c = search rules
 
-mul-path : tie.Need-overflow-mul-path invariant-loop decreases-loop
+mul-path : tie.Need-offset_bounds-path-i invariant-loop decreases-loop
 mul-path c = search rules
 
-slice-write-path : tie.Need-slice-write-path invariant-loop decreases-loop
+slice-write-path : tie.Need-bounds-path-i invariant-loop decreases-loop
 slice-write-path c = search rules
 
-add-i : tie.Need-overflow-add-i invariant-loop decreases-loop
+add-i : tie.Need-overflow_add-i invariant-loop decreases-loop
 add-i c = search rules
 
-lowest-common-requires : tie.Need-lowest-common-requires invariant-loop decreases-loop
+lowest-common-requires : tie.Need-lowest_common-u-requires invariant-loop decreases-loop
 lowest-common-requires c κs = search rules
 
-loop-less : tie.Need-loop-smaller invariant-loop decreases-loop
-loop-less c = omega (arith, c.before.loop-test.true)
+loop-less : tie.Need-loop-i-smaller invariant-loop decreases-loop
+loop-less c = omega (arith, c.loop-i-test.true)
 
-loop-again : tie.Need-loop-preserved invariant-loop decreases-loop
+loop-again : tie.Need-loop-i-preserved invariant-loop decreases-loop
 loop-again c =
-    let start = c.before.before.before.before.before.before.before in
-    let a = start.args in
-    let p = start.requires in
-    let l = c.before.before.loop in
-    let on : (t : Outside a.n a.table.now a.rows.now a.d a.x.0) → Going t (l.i + 1) c.lowest-common.result (set l.path l.i l.u) = λ t. going_more t l.i l.u c.lowest-common.result l.path p.lent.most c.before.loop-test.true (omega arith) (l.invariant.3 t) c.lowest-common.ensures in
+    let a = c.args in
+    let p = c.requires in
+    let l = c.loop-i in
+    let on : (t : Outside a.n a.table.now a.rows.now a.d a.x.0) → Going t (l.i + 1) c.lowest_common-u.result (set l.path l.i l.u) = λ t. going_more t l.i l.u c.lowest_common-u.result l.path p.lent.most c.loop-i-test.true (omega arith) (l.invariant.3 t) c.lowest_common-u.ensures in
     (omega arith, simp length-set (omega arith), going-inside p.outside _ _ _ (on p.outside), on)
 
-cast-path-2 : tie.Need-overflow-cast-path-2 invariant-loop decreases-loop
+cast-path-2 : tie.Need-overflow_cast-path-2 invariant-loop decreases-loop
 cast-path-2 c = search rules
 
-mul-path-2 : tie.Need-overflow-mul-path-2 invariant-loop decreases-loop
+mul-path-2 : tie.Need-offset_bounds-path-i-2 invariant-loop decreases-loop
 mul-path-2 c = search rules
 
-slice-write-path-2 : tie.Need-slice-write-path-2 invariant-loop decreases-loop
+slice-write-path-2 : tie.Need-bounds-path-i-2 invariant-loop decreases-loop
 slice-write-path-2 c = search rules
 
-same_length : tie.Need-same-length invariant-loop decreases-loop
+same_length : tie.Need-shape_of-path invariant-loop decreases-loop
 same_length c = search rules
 
 returns : tie.Need-returns invariant-loop decreases-loop
-returns c = record { path = λ t. read_all t.yard t.held t.goal _ _ _ _ _ (omega arith) (omega arith) (c.before.loop.invariant.3 t).read }
+returns c = record { path = λ t. read_all t.yard t.held t.goal _ _ _ _ _ (omega arith) (omega arith) (c.loop-i.invariant.3 t).read }
 
-pub outward-spec : {M : Type 1} → statement M
-outward-spec =
+pub outward_spec : {M : Type 1} → statement M
+outward_spec =
     tie.close
     (tie.spec
     invariant-loop

@@ -6,24 +6,24 @@ use borrow.Author.Rules.{rules}
 use Rattle.rings.proofs.path_of.Statement.{statement}
 use Rattle.rings.proofs.path_of.Tie as tie
 
-enum-known-near : tie.Need-enum-known-near
-enum-known-near c = c.match.keys1
+enum-known-near : tie.Need-enum_known-near
+enum-known-near c = search rules
 
-enum_told : tie.Need-enum-told
-enum_told c = c.match.keys2
+enum_told : tie.Need-enum_told-1
+enum_told c = search rules
 
-enum-told-2 : tie.Need-enum-told-2
-enum-told-2 c = c.match.keys3
+enum-told-2 : tie.Need-enum_told-in-Farther
+enum-told-2 c = search rules
 
-returns : tie.Need-returns
-returns c = sym (ap path_by c.before.near.given.1)
+returns : tie.Need-returns-in-Found
+returns c = sym (ap path_by c.in-Found.is)
 
-returns-2 : tie.Need-returns-2
+returns-2 : tie.Need-returns-in-Nowhere
 returns-2 c = search rules
 
-returns-3 : tie.Need-returns-3
+returns-3 : tie.Need-returns-in-Farther
 returns-3 c = search rules
 
-pub path-of-spec : {M : Type 1} → statement M
-path-of-spec =
+pub path_of_spec : {M : Type 1} → statement M
+path_of_spec =
     tie.close (tie.spec enum-known-near enum_told enum-told-2 returns returns-2 returns-3)

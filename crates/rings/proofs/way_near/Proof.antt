@@ -8,50 +8,46 @@ use Rattle.rings.proofs.Narrowing.{end_inside, ended, outside, way-found}
 use Rattle.rings.proofs.way_near.Statement.{statement}
 use Rattle.rings.proofs.way_near.Tie as tie
 
-search-requires : tie.Need-search-requires
+search-requires : tie.Need-search-d-requires
 search-requires c κs =
-    let p = c.before.before.before.before.before.before.requires in
+    let p = c.requires in
     record { lent = p.asks.lent; inside = p.asks.inside; wanted_size = p.asks.wanted_size; first_row = p.first_row }
 
-in-ring-requires : tie.Need-in-ring-requires
+in-ring-requires : tie.Need-in_ring-b-requires
 in-ring-requires c κs =
-    let start = c.before.before.before.before.before.before.before.before.before.before in
-    let asks = start.requires.asks in
+    let asks = c.requires.asks in
     let lent = asks.lent in
-    let f = c.before.before.before.search.ensures.searched lent.shown in
+    let f = c.search-d.ensures.searched lent.shown in
     (omega (arith, f.roomy), asks.wanted_size, row-rowed lent.shown lent.most _ asks.inside _ _ _ f lent.table_size)
 
 ended-requires : tie.Need-ended-requires
 ended-requires c κs =
-    let start = c.before.before.before.before.before.before.before.before.before.before.before.before.before in
-    let lent = start.requires.asks.lent in
-    (lent.most, (c.before.before.before.before.before.before.search.ensures.searched lent.shown).far)
+    let lent = c.requires.asks.lent in
+    (lent.most, (c.search-d.ensures.searched lent.shown).far)
 
-same_length : tie.Need-same-length
-same_length c = c.before.before.before.before.before.before.before.search.auto.1.1.1.1.1.0
+same_length : tie.Need-shape_of-rows-then-b-ge-SPAN
+same_length c = c.search-d.auto.rows
 
-returns : tie.Need-returns
+returns : tie.Need-returns-then-b-ge-SPAN
 returns c =
-    let start = c.before.before.before.before.before.before.before.before.before.before.before.before.before.before in
-    let asks = start.requires.asks in
-    let search-place = c.before.before.before.before.before.before.before.search in
+    let asks = c.requires.asks in
+    let search-place = c.search-d in
     record {
       near = λ s q w.
-          way-ended s c.ended.ensures search-place.auto.1.1.1.1.1.0
-          (λ o. way-none s _ q _ (nearest-nowhere s asks.lent.most _ asks.inside _ _ _ (search-place.ensures.searched s) q w _ c.before.before.before.in-ring.ensures c.before.before.if1.true o));
+          way-ended s c.ended.ensures search-place.auto.rows
+          (λ o. way-none s _ q _ (nearest-nowhere s asks.lent.most _ asks.inside _ _ _ (search-place.ensures.searched s) q w _ c.in_ring-b.ensures c.if-b-ge-SPAN.true o));
     }
 
-cast-t18 : tie.Need-overflow-cast-t18
+cast-t18 : tie.Need-overflow_cast-e
 cast-t18 c = search rules
 
 narrow-requires : tie.Need-narrow-requires
 narrow-requires c κs =
-    let start = c.before.before.before.before.before.before.before.before.before.before.before.before.before in
-    let asks = start.requires.asks in
+    let asks = c.requires.asks in
     let lent = asks.lent in
-    let f = c.before.before.before.before.before.before.search.ensures.searched lent.shown in
-    let l = c.before.before.in-ring.ensures in
-    let h = c.before.if1.false in
+    let f = c.search-d.ensures.searched lent.shown in
+    let l = c.in_ring-b.ensures in
+    let h = c.if-b-ge-SPAN.false in
     record {
       lent = record { most = lent.most; far = f.far; table_size = lent.table_size; rows_size = f.roomy };
       end_inside = end_inside lent.shown lent.most _ asks.inside asks.unheld _ _ _ _ f l h;
@@ -60,41 +56,38 @@ narrow-requires c κs =
 
 outward-requires : tie.Need-outward-requires
 outward-requires c κs =
-    let search-place = c.before.before.before.before.before.before.before.before.before.before.before.search in
-    let start = c.before.before.before.before.before.before.before.before.before.before.before.before.before.before.before.before.before.before in
-    let asks = start.requires.asks in
+    let search-place = c.search-d in
+    let asks = c.requires.asks in
     let lent = asks.lent in
     let f = search-place.ensures.searched lent.shown in
-    let l = c.before.before.before.before.before.before.before.in-ring.ensures in
-    let h = c.before.before.before.before.before.before.if1.false in
-    let narrow = c.before.before.before.before.narrow in
+    let l = c.in_ring-b.ensures in
+    let h = c.if-b-ge-SPAN.false in
+    let narrow = c.narrow in
     record {
       lent = record { most = lent.most; far = f.far; table_size = lent.table_size; rows_size = omega (arith, f.roomy) };
       room = asks.room;
       outside = outside lent.shown lent.most _ asks.inside asks.unheld _ _ _ _ f l h _ (narrow.ensures.narrowed (ended lent.shown lent.most _ asks.inside asks.unheld _ _ _ _ f l h));
     }
 
-add-t26 : tie.Need-overflow-add-t26
+add-t26 : tie.Need-overflow_add-result
 add-t26 c =
-    let search-place = c.before.before.before.before.before.before.before.before.before.before.before.before.before.before.search in
-    let start = c.before.before.before.before.before.before.before.before.before.before.before.before.before.before.before.before.before.before.before.before.before in
-    let lent = start.requires.asks.lent in
+    let search-place = c.search-d in
+    let lent = c.requires.asks.lent in
     omega (arith, (search-place.ensures.searched lent.shown).far, lent.most)
 
-same-length-2 : tie.Need-same-length-2
-same-length-2 c = c.before.before.before.before.before.before.before.narrow.auto.1.1.0 ∙ c.before.before.before.before.before.before.before.before.before.before.before.before.before.before.search.auto.1.1.1.1.1.0
+same-length-2 : tie.Need-shape_of-rows
+same-length-2 c = c.narrow.auto.rows ∙ c.search-d.auto.rows
 
-same-length-3 : tie.Need-same-length-3
-same-length-3 c = c.before.before.outward.auto.1.1.1.1.1.0
+same-length-3 : tie.Need-shape_of-path
+same-length-3 c = c.outward.auto.path
 
-returns-2 : tie.Need-returns-2
+returns-2 : tie.Need-returns
 returns-2 c =
-    let if1 = c.before.before.before.before.before.before.before.before.before.if1 in
-    let in-ring = c.before.before.before.before.before.before.before.before.before.before.in-ring in
-    let search-place = c.before.before.before.before.before.before.before.before.before.before.before.before.before.before.search in
-    let start = c.before.before.before.before.before.before.before.before.before.before.before.before.before.before.before.before.before.before.before.before.before in
-    let narrow = c.before.before.before.before.before.before.before.narrow in
-    let asks = start.requires.asks in
+    let if1 = c.if-b-ge-SPAN in
+    let in-ring = c.in_ring-b in
+    let search-place = c.search-d in
+    let narrow = c.narrow in
+    let asks = c.requires.asks in
     let most = asks.lent.most in
     let l = in-ring.ensures in
     let h = if1.false in
@@ -102,11 +95,11 @@ returns-2 c =
       near = λ s q w.
           let f = search-place.ensures.searched s in
           let z = narrow.ensures.narrowed (ended s most _ asks.inside asks.unheld _ _ _ _ f l h) in
-          way-near s (way-found s most _ asks.inside asks.unheld _ _ _ _ f l h _ _ z q _ w (c.before.before.outward.ensures.path (outside s most _ asks.inside asks.unheld _ _ _ _ f l h _ z)) refl refl);
+          way-near s (way-found s most _ asks.inside asks.unheld _ _ _ _ f l h _ _ z q _ w (c.outward.ensures.path (outside s most _ asks.inside asks.unheld _ _ _ _ f l h _ z)) refl refl);
     }
 
-pub way-near-spec : {M : Type 1} → statement M
-way-near-spec =
+pub way_near_spec : {M : Type 1} → statement M
+way_near_spec =
     tie.close
     (tie.spec
     search-requires

@@ -7,69 +7,67 @@ use borrow.Author.Rules.{rules}
 use Rattle.rings.proofs.way_to_nearest.Statement.{statement}
 use Rattle.rings.proofs.way_to_nearest.Tie as tie
 
-slice-aggregate-way-near : tie.Need-slice-aggregate-way-near
+slice-aggregate-way-near : tie.Need-slice_bounds-way_near-end
 slice-aggregate-way-near c = search rules
 
-way-near-requires : tie.Need-way-near-requires
-way-near-requires c κs = record { asks = c.before.before.before.before.before.before.requires; first_row = search rules }
+way-near-requires : tie.Need-way_near-near-requires
+way-near-requires c κs = record { asks = c.requires; first_row = search rules }
 
-enum-known-near : tie.Need-enum-known-near
-enum-known-near c = c.match.keys1
+enum-known-near : tie.Need-enum_known-near
+enum-known-near c = search rules
 
-enum_told : tie.Need-enum-told
-enum_told c = c.match.keys2
+enum_told : tie.Need-enum_told-1
+enum_told c = search rules
 
-enum-told-2 : tie.Need-enum-told-2
-enum-told-2 c = c.match.keys3
+enum-told-2 : tie.Need-enum_told-in-Farther
+enum-told-2 c = search rules
 
-slice-aggregate-way-near-2 : tie.Need-slice-aggregate-way-near-2
+slice-aggregate-way-near-2 : tie.Need-slice_bounds-way_near-end-in-Farther
 slice-aggregate-way-near-2 c = search rules
 
-way-near-requires-2 : tie.Need-way-near-requires-2
+way-near-requires-2 : tie.Need-way_near-requires
 way-near-requires-2 c κs =
-    let start = c.before.before.before.before.before.before.before.before.before.before.before.before.before.before in
-    let p = start.requires in
+    let p = c.requires in
     record {
       asks = record {
         lent = p.lent;
         inside = p.inside;
         unheld = p.unheld;
         wanted_size = p.wanted_size;
-        room = omega (arith, p.room, c.before.before.before.before.before.before.before.way-near.auto.1.1.1.1.1.1.0);
+        room = omega (arith, p.room, c.way_near-near.auto.path);
       };
       first_row = search rules;
     }
 
-way-of-requires : tie.Need-way-of-requires
+way-of-requires : tie.Need-way_of-requires
 way-of-requires c κs = search rules
 
-same_length : tie.Need-same-length
-same_length c = c.before.before.before.before.before.before.way-near.auto.1.1.1.1.1.1.0
+same_length : tie.Need-shape_of-path-in-Found
+same_length c = c.way_near-near.auto.path
 
-returns : tie.Need-returns
-returns c = record { found = λ s q w. (c.before.before.before.before.before.before.way-near.ensures.near s q w).found _ _ c.before.near.given.1 }
+returns : tie.Need-returns-in-Found
+returns c = record { found = λ s q w. (c.way_near-near.ensures.near s q w).found _ _ c.in-Found.is }
 
-same-length-2 : tie.Need-same-length-2
-same-length-2 c = c.before.before.before.before.before.way-near.auto.1.1.1.1.1.1.0
+same-length-2 : tie.Need-shape_of-path-in-Nowhere
+same-length-2 c = c.way_near-near.auto.path
 
-returns-2 : tie.Need-returns-2
-returns-2 c = record { found = λ s q w. (c.before.before.before.before.before.way-near.ensures.near s q w).nowhere c.enum_told.given.1 }
+returns-2 : tie.Need-returns-in-Nowhere
+returns-2 c = record { found = λ s q w. (c.way_near-near.ensures.near s q w).nowhere c.in-Nowhere.is }
 
-same-length-3 : tie.Need-same-length-3
-same-length-3 c = c.before.before.before.before.way-near2.auto.1.1.1.1.1.1.0 ∙ c.before.before.before.before.before.before.before.before.before.before.before.before.way-near.auto.1.1.1.1.1.1.0
+same-length-3 : tie.Need-shape_of-path-in-Farther
+same-length-3 c = c.way_near.auto.path ∙ c.way_near-near.auto.path
 
-returns-3 : tie.Need-returns-3
+returns-3 : tie.Need-returns-in-Farther
 returns-3 c =
-    let start = c.before.before.before.before.before.before.before.before.before.before.before.before.before.before.before.before.before.before.before in
-    let most = start.requires.lent.most in
+    let most = c.requires.lent.most in
     record {
       found = λ s q w.
-          let n = c.before.before.before.before.way-near2.ensures.near s q w in
+          let n = c.way_near.ensures.near s q w in
           rw c.way_of.ensures (way-reached s _ n (λ k. let h = n.few k in absurd (omega (arith, h, most))));
     }
 
-pub way-to-nearest-spec : {M : Type 1} → statement M
-way-to-nearest-spec =
+pub way_to_nearest_spec : {M : Type 1} → statement M
+way_to_nearest_spec =
     tie.close
     (tie.spec
     slice-aggregate-way-near

@@ -8,58 +8,55 @@ use Rattle.same_lines.proofs.Comparing.{Alike, lines_start, lines-miscounted, li
 use Rattle.same_lines.proofs.same_lines.Statement.{statement}
 use Rattle.same_lines.proofs.same_lines.Tie as tie
 
-abbrev invariant-loop : tie.invariant-loop
+abbrev invariant-loop : tie.invariant-loop-c
 invariant-loop lent fresh a b c₀ c = Alike lent a fresh b c
 
-abbrev decreases-loop : tie.decreases-loop
+abbrev decreases-loop : tie.decreases-loop-c
 decreases-loop lent fresh a b c₀ c = fresh - c
 
-returns : tie.Need-returns invariant-loop decreases-loop
-returns c = let s = c.before in lines-miscounted s.args.lent s.args.t2 s.args.fresh s.args.t4 s.well-formed.1.0.1.0.1 s.well-formed.1.1.1.0.1.0.1 s.requires c.if1.true
+returns : tie.Need-returns-then-lent-fresh invariant-loop decreases-loop
+returns c = lines-miscounted c.args.lent c.args.a c.args.fresh c.args.b c.well_formed.1.0.1.0.1 c.well_formed.1.1.1.0.1.0.1 c.requires c.if-lent-fresh.true
 
-loop-holds : tie.Need-loop-init invariant-loop decreases-loop
-loop-holds c = let s = c.before in lines_start s.args.lent s.args.t2 s.args.fresh s.args.t4 s.well-formed.1.0.1.0.1 s.well-formed.1.1.1.0.1.0.1 s.requires c.if1.false
+loop-holds : tie.Need-loop-c-init invariant-loop decreases-loop
+loop-holds c = lines_start c.args.lent c.args.a c.args.fresh c.args.b c.well_formed.1.0.1.0.1 c.well_formed.1.1.1.0.1.0.1 c.requires c.if-lent-fresh.false
 
-mul-same-line : tie.Need-overflow-mul-same-line invariant-loop decreases-loop
+mul-same-line : tie.Need-offset_bounds-a-c invariant-loop decreases-loop
 mul-same-line c = search rules
 
-array-copy-out-same-line : tie.Need-array-copy-out-same-line invariant-loop decreases-loop
+array-copy-out-same-line : tie.Need-bounds-a-c invariant-loop decreases-loop
 array-copy-out-same-line c = search rules
 
-mul-same-line-2 : tie.Need-overflow-mul-same-line-2 invariant-loop decreases-loop
+mul-same-line-2 : tie.Need-offset_bounds-b-c invariant-loop decreases-loop
 mul-same-line-2 c = search rules
 
-array-copy-out-same-line-2 : tie.Need-array-copy-out-same-line-2 invariant-loop decreases-loop
+array-copy-out-same-line-2 : tie.Need-bounds-b-c invariant-loop decreases-loop
 array-copy-out-same-line-2 c = search rules
 
-same-line-requires : tie.Need-same-line-requires invariant-loop decreases-loop
+same-line-requires : tie.Need-same_line-requires invariant-loop decreases-loop
 same-line-requires c κs = search rules
 
-returns-2 : tie.Need-returns-2 invariant-loop decreases-loop
+returns-2 : tie.Need-returns-then-not-same_line invariant-loop decreases-loop
 returns-2 c =
-    let s = c.before.before.before.before.before.before.before in
-    let l = c.before.before.before.before.before.loop in
-    lines-differ s.args.lent s.args.t2 s.args.fresh s.args.t4 s.well-formed.1.0.1.0.1 s.well-formed.1.1.1.0.1.0.1 s.requires l.c l.invariant c.before.before.before.before.loop-test.true (sym c.before.same_line.ensures ∙ not-true _ c.if2.true)
+    let l = c.loop-c in
+    lines-differ c.args.lent c.args.a c.args.fresh c.args.b c.well_formed.1.0.1.0.1 c.well_formed.1.1.1.0.1.0.1 c.requires l.c l.invariant c.loop-c-test.true (sym c.same_line.ensures ∙ c.if-not-same_line.true)
 
-add-c : tie.Need-overflow-add-c invariant-loop decreases-loop
+add-c : tie.Need-overflow_add-c invariant-loop decreases-loop
 add-c c = search rules
 
-loop-less : tie.Need-loop-smaller invariant-loop decreases-loop
+loop-less : tie.Need-loop-c-smaller invariant-loop decreases-loop
 loop-less c = search rules
 
-loop-again : tie.Need-loop-preserved invariant-loop decreases-loop
+loop-again : tie.Need-loop-c-preserved invariant-loop decreases-loop
 loop-again c =
-    let s = c.before.before.before.before.before.before.before in
-    let l = c.before.before.before.before.before.loop in
-    lines-on s.args.lent s.args.t2 s.args.fresh s.args.t4 s.well-formed.1.0.1.0.1 s.well-formed.1.1.1.0.1.0.1 s.requires l.c l.invariant c.before.before.before.before.loop-test.true (sym c.before.same_line.ensures ∙ not-false _ c.if2.false)
+    let l = c.loop-c in
+    lines-on c.args.lent c.args.a c.args.fresh c.args.b c.well_formed.1.0.1.0.1 c.well_formed.1.1.1.0.1.0.1 c.requires l.c l.invariant c.loop-c-test.true (sym c.same_line.ensures ∙ c.if-not-same_line.false)
 
-returns-3 : tie.Need-returns-3 invariant-loop decreases-loop
+returns-3 : tie.Need-returns invariant-loop decreases-loop
 returns-3 c =
-    let s = c.before.before.before in
-    lines_end s.args.lent s.args.t2 s.args.fresh s.args.t4 s.well-formed.1.0.1.0.1 s.well-formed.1.1.1.0.1.0.1 s.requires c.before.loop.c c.before.loop.invariant c.loop-test.false
+    lines_end c.args.lent c.args.a c.args.fresh c.args.b c.well_formed.1.0.1.0.1 c.well_formed.1.1.1.0.1.0.1 c.requires c.loop-c.c c.loop-c.invariant c.loop-c-test.false
 
-pub same-lines-spec : {M : Type 1} → statement M
-same-lines-spec =
+pub same_lines_spec : {M : Type 1} → statement M
+same_lines_spec =
     tie.close
     (tie.spec
     invariant-loop

@@ -10,9 +10,6 @@ use Rattle.sides.proofs.take.Tie as tie
 enum_told : tie.Need-enum_told-1
 enum_told c = search rules
 
-slice-aggregate-is-word : tie.Need-slice-aggregate-is-word
-slice-aggregate-is-word c = search rules
-
 is-word-requires : tie.Need-is_word-requires
 is-word-requires c κs = search rules
 
@@ -22,9 +19,6 @@ returns c =
 
 enum-told-2 : tie.Need-enum_told-in-Height
 enum-told-2 c = search rules
-
-slice-aggregate-side-after : tie.Need-slice-aggregate-side-after
-slice-aggregate-side-after c = search rules
 
 side-after-requires : tie.Need-side_after-h-requires
 side-after-requires c κs = search rules
@@ -36,30 +30,24 @@ returns-2 c =
 enum-known-due : tie.Need-enum_known-due
 enum-known-due c = search rules
 
-slice-aggregate-side-after-2 : tie.Need-slice-aggregate-side-after-2
-slice-aggregate-side-after-2 c = search rules
-
 side-after-requires-2 : tie.Need-side_after-w-requires
 side-after-requires-2 c κs = search rules
 
 returns-3 : tie.Need-returns-then-w-eq0
 returns-3 c =
-    let due = c.due-1 in
-    width-no c.args.due c.args.text.now due.given.0.0 due.given.1 c.side_after-w.result c.side_after-w.ensures c.if-w-eq0.true
+   
+    width-no c.args.due c.args.text.now c.in-Width.h c.in-Width.is c.side_after-w.result c.side_after-w.ensures c.if-w-eq0.true
 
 enum-known-due-2 : tie.Need-enum_known-due-in-Map-1
 enum-known-due-2 c = search rules
-
-slice-aggregate-is-word-2 : tie.Need-slice-aggregate-is-word-2
-slice-aggregate-is-word-2 c = search rules
 
 is-word-requires-2 : tie.Need-is_word-requires-in-Map
 is-word-requires-2 c κs = search rules
 
 returns-4 : tie.Need-returns-then-is_word-2
 returns-4 c =
-    let due2 = c.due-in-Map-1 in
-    map-yes c.args.due c.args.text.now due2.given.0.0 due2.given.0.1.0 due2.given.1 c.is_word-in-Map.result c.is_word-in-Map.ensures c.if-is_word-2.true
+   
+    map-yes c.args.due c.args.text.now c.in-Map.h c.in-Map.w c.in-Map.is c.is_word-in-Map.result c.is_word-in-Map.ensures c.if-is_word-2.true
 
 enum-known-due-3 : tie.Need-enum_known-due-in-Row-1
 enum-known-due-3 c = search rules
@@ -77,13 +65,13 @@ returns-6 c =
 
 returns-7 : tie.Need-returns-else-w-eq0
 returns-7 c =
-    let due = c.due-1 in
-    width-yes c.args.due c.args.text.now due.given.0.0 due.given.1 c.side_after-w.result c.side_after-w.ensures c.if-w-eq0.false
+   
+    width-yes c.args.due c.args.text.now c.in-Width.h c.in-Width.is c.side_after-w.result c.side_after-w.ensures c.if-w-eq0.false
 
 returns-8 : tie.Need-returns-else-is_word-2
 returns-8 c =
-    let due2 = c.due-in-Map-1 in
-    map-no c.args.due c.args.text.now due2.given.0.0 due2.given.0.1.0 due2.given.1 c.is_word-in-Map.result c.is_word-in-Map.ensures c.if-is_word-2.false
+   
+    map-no c.args.due c.args.text.now c.in-Map.h c.in-Map.w c.in-Map.is c.is_word-in-Map.result c.is_word-in-Map.ensures c.if-is_word-2.false
 
 returns-9 : tie.Need-returns-in-Row
 returns-9 c = c.row.ensures ∙ ap (λ d. line_taken d c.args.text.now) (sym c.in-Row.is)
@@ -93,19 +81,15 @@ take_spec =
     tie.close
     (tie.spec
     enum_told
-    slice-aggregate-is-word
     is-word-requires
     returns
     enum-told-2
-    slice-aggregate-side-after
     side-after-requires
     returns-2
     enum-known-due
-    slice-aggregate-side-after-2
     side-after-requires-2
     returns-3
     enum-known-due-2
-    slice-aggregate-is-word-2
     is-word-requires-2
     returns-4
     enum-known-due-3

@@ -8,17 +8,17 @@ use Rattle.undo.proofs.stored_at.Tie as tie
 use Rattle.undo.proofs.stored_at.Reads as reads
 use Rattle.undo.proofs.stored_at.Lts as lts
 
-mul-result : tie.Need-overflow-mul-result
+mul-result : tie.Need-offset_bounds-out-i
 mul-result c = search rules
 
-shared-slice-read-result : tie.Need-shared-slice-read-result
+shared-slice-read-result : tie.Need-bounds-out-i
 shared-slice-read-result c = search rules
 
-returns : tie.Need-returns
+returns : tie.Need-returns-then-i-out
 returns c = search rules
 
-returns-2 : tie.Need-returns-2
-returns-2 c = sym (get_or-eq_default c.before.args.out.now 0 {n = c.before.args.i} c.if1.false)
+returns-2 : tie.Need-returns
+returns-2 c = sym (get_or-eq_default c.args.out.now 0 {n = c.args.i} c.if-i-out.false)
 
-pub stored-at-spec : {M : Type 1} → statement M
-stored-at-spec = tie.close (tie.spec mul-result shared-slice-read-result returns returns-2)
+pub stored_at_spec : {M : Type 1} → statement M
+stored_at_spec = tie.close (tie.spec mul-result shared-slice-read-result returns returns-2)

@@ -7,17 +7,17 @@ use Rattle.undo.proofs.traded.Tie as tie
 use Rattle.undo.proofs.traded.Reads as reads
 use Rattle.undo.proofs.traded.Lts as lts
 
-returns : tie.Need-returns
+returns : tie.Need-returns-then-c-l
 unfolding trade
-returns c = rw (eq-eqb _ _ c.if1.true)
+returns c = rw (eq-eqb _ _ c.if-c-l.true)
 
-returns-2 : tie.Need-returns-2
+returns-2 : tie.Need-returns-then-c-m
 unfolding trade
-returns-2 c = rw (ne_eqb _ _ c.before.before.before.if1.false, eq-eqb _ _ c.if2.true)
+returns-2 c = rw (ne_eqb _ _ c.if-c-l.false, eq-eqb _ _ c.if-c-m.true)
 
-returns-3 : tie.Need-returns-3
+returns-3 : tie.Need-returns
 unfolding trade
-returns-3 c = rw (ne_eqb _ _ c.before.before.before.if1.false, ne_eqb _ _ c.if2.false)
+returns-3 c = rw (ne_eqb _ _ c.if-c-l.false, ne_eqb _ _ c.if-c-m.false)
 
-pub traded-spec : {M : Type 1} → statement M
-traded-spec = tie.close (tie.spec returns returns-2 returns-3)
+pub traded_spec : {M : Type 1} → statement M
+traded_spec = tie.close (tie.spec returns returns-2 returns-3)

@@ -12,7 +12,7 @@ use Rattle.undo.proofs.traded.Reads as traded-reads
 use Rattle.docket.proofs.pack.Reads as pack-reads
 use Rattle.docket.proofs.unpack.Reads as unpack-reads
 
-unpack-requires : tie.Need-unpack-requires
+unpack-requires : tie.Need-unpack-x-requires
 unpack-requires c κs = search rules
 
 traded-requires : tie.Need-traded-requires
@@ -23,8 +23,7 @@ pack-requires c κs = search rules
 
 returns : tie.Need-returns
 returns c =
-    let start = c.before.before.before.before.before.before in
-    c.pack.ensures ∙ rw c.before.traded.ensures (ap (λ (y : Crossing). pack (turned_back start.args.l.0 start.args.m.0 y)) c.before.before.before.before.before.unpack.ensures)
+    c.pack.ensures ∙ rw c.traded.ensures (ap (λ (y : Crossing). pack (turned_back c.args.l.0 c.args.m.0 y)) c.unpack-x.ensures)
 
 pub turn_spec : {M : Type 1} → statement M
 turn_spec = tie.close (tie.spec unpack-requires traded-requires pack-requires returns)

@@ -15,28 +15,28 @@ use Rattle.undo.proofs.put.Reads as put_reads
 use Rattle.undo.proofs.stored_at.Reads as stored-at-reads
 use Rattle.undo.proofs.turn.Reads as turn-reads
 
-abbrev invariant-loop : tie.invariant-loop
+abbrev invariant-loop : tie.invariant-loop-j
 invariant-loop out₀ from many at l m j₀ out j = (j ≤ many) × (length out ≡ length out₀) × ((xs : Crossings) → Small xs → Holds out₀ from xs → length xs ≡ many → Undoing out₀ at l.0 m.0 xs j out)
 
-abbrev decreases-loop : tie.decreases-loop
+abbrev decreases-loop : tie.decreases-loop-j
 decreases-loop out₀ from many at l m j₀ out j = many - j
 
-loop-holds : tie.Need-loop-init invariant-loop decreases-loop
+loop-holds : tie.Need-loop-j-init invariant-loop decreases-loop
 loop-holds c = search rules
 
-sub-stored-at : tie.Need-overflow-sub-stored-at invariant-loop decreases-loop
+sub-stored-at : tie.Need-overflow_sub-many invariant-loop decreases-loop
 sub-stored-at c = search rules
 
-sub-stored-at-2 : tie.Need-overflow-sub-stored-at-2 invariant-loop decreases-loop
+sub-stored-at-2 : tie.Need-overflow_sub-many-in-loop-j invariant-loop decreases-loop
 sub-stored-at-2 c = search rules
 
-add-stored-at : tie.Need-overflow-add-stored-at invariant-loop decreases-loop
+add-stored-at : tie.Need-overflow_add-from invariant-loop decreases-loop
 add-stored-at c = search rules
 
-stored-at-requires : tie.Need-stored-at-requires invariant-loop decreases-loop
+stored-at-requires : tie.Need-stored_at-number-requires invariant-loop decreases-loop
 stored-at-requires c κs = search rules
 
-add-put : tie.Need-overflow-add-put invariant-loop decreases-loop
+add-put : tie.Need-overflow_add-at invariant-loop decreases-loop
 add-put c = search rules
 
 turn-requires : tie.Need-turn-requires invariant-loop decreases-loop
@@ -45,33 +45,32 @@ turn-requires c κs = search rules
 put-requires : tie.Need-put-requires invariant-loop decreases-loop
 put-requires c κs = search rules
 
-add-j : tie.Need-overflow-add-j invariant-loop decreases-loop
+add-j : tie.Need-overflow_add-j invariant-loop decreases-loop
 add-j c = search rules
 
-loop-less : tie.Need-loop-smaller invariant-loop decreases-loop
+loop-less : tie.Need-loop-j-smaller invariant-loop decreases-loop
 loop-less c = search rules
 
-loop-again : tie.Need-loop-preserved invariant-loop decreases-loop
+loop-again : tie.Need-loop-j-preserved invariant-loop decreases-loop
 loop-again c =
-    let start = c.before.before.before.before.before.before.before.before.before.before in
-    let l = c.before.before.before.before.before.before.before.before.loop in
-    let p = start.requires in
-    let a = start.args in
-    let value = c.before.before.before.turn.ensures ∙ ap (turned a.l.0 a.m.0) c.before.before.before.before.before.stored_at.ensures in (
+    let l = c.loop-j in
+    let p = c.requires in
+    let a = c.args in
+    let value = c.turn.ensures ∙ ap (turned a.l.0 a.m.0) c.stored_at-number.ensures in (
       omega arith,
-      omega (arith, c.before.before.put.auto.0, l.invariant.1),
+      omega (arith, c.put.auto.out, l.invariant.1),
       λ xs s h e.
-          rw (c.before.before.put.ensures, value) (undoing-more a.out.now l.out a.from a.many a.at a.l.0 a.m.0 xs l.j s h e p.0 c.before.before.before.before.before.before.before.loop-test.true (l.invariant.2 xs s h e)),
+          rw (c.put.ensures, value) (undoing-more a.out.now l.out a.from a.many a.at a.l.0 a.m.0 xs l.j s h e p.0 c.loop-j-test.true (l.invariant.2 xs s h e)),
     )
 
-same_length : tie.Need-same-length invariant-loop decreases-loop
+same_length : tie.Need-shape_of-out invariant-loop decreases-loop
 same_length c = search rules
 
 returns : tie.Need-returns invariant-loop decreases-loop
-returns c = let a = c.before.before.before.args in λ xs s h e. undoing-all a.out.now c.before.loop.out a.many a.at a.l.0 a.m.0 xs c.before.loop.j e c.loop-test.false (c.before.loop.invariant.2 xs s h e)
+returns c = let a = c.args in λ xs s h e. undoing-all a.out.now c.loop-j.out a.many a.at a.l.0 a.m.0 xs c.loop-j.j e c.loop-j-test.false (c.loop-j.invariant.2 xs s h e)
 
-pub undo-spec : {M : Type 1} → statement M
-undo-spec =
+pub undo_spec : {M : Type 1} → statement M
+undo_spec =
     tie.close
     (tie.spec
     invariant-loop
