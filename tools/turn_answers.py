@@ -45,7 +45,9 @@ def functions(names):
             for word in ("", stem):
                 goals.setdefault("=" + alike(word + old), stem + new)
             steps.setdefault(alike(old), new)
-        for place, by_name in zip(of["places"], of["places_by_name"]):
+        for place, by_name, arm in zip(of["places"], of["places_by_name"], of["arms"]):
+            # What a match has told is one step today.
+            by_name = "I" + arm[0][1:] if arm else by_name
             places.setdefault(alike(stem + place[0]), stem + by_name)
             places.setdefault(alike(place[0]), stem + by_name)
             old, new = place[2][0], place[2][1]
@@ -174,7 +176,10 @@ def moved(part, table, outer, helpers):
         return f"{m[1]} {it}" if it else m[0]
 
     part = re.sub(r"let (\w+) = (\w+)(?:\.before)+ in", of_let, part)
-    return re.sub(rf"(?<![\w.'-])({WORD}) (\w+)((?:\.before)*)(?!\.?[\w'-])", of_call, part)
+    if not helpers:
+        return part
+    names = "|".join(re.escape(it) for it in sorted(helpers, key=len, reverse=True))
+    return re.sub(rf"(?<![\w.'-])({names}) (\w+)((?:\.before)*)(?!\.?[\w'-])", of_call, part)
 
 
 def bare(name):

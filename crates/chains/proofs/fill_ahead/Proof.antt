@@ -42,7 +42,7 @@ small c =
 -- what is known once its two bays and its carrier are read
 module _ (k : tie.After-carrier_key-carrier invariant-loop decreases-loop) where
   abbrev at-hand : tie.After-crossing_at-x invariant-loop decreases-loop
-  at-hand = k.before.before.before
+  at-hand = k.before.before.before.before.before.before
 
   abbrev plan : List ℕ
   plan = at-hand.args.plan.now
@@ -69,10 +69,10 @@ module _ (k : tie.After-carrier_key-carrier invariant-loop decreases-loop) where
   carrier = k.carrier_key-carrier.result
 
   one_less : m ≡ suc (m - 1)
-  one_less = omega (arith, at-hand.loop-m-test.taken)
+  one_less = omega (arith, at-hand.loop-m-test.true)
 
   filling : FillingUp plan links entering moving m
-  filling = at-hand.loop-m.inv.1
+  filling = at-hand.loop-m.invariant.1
 
   left-small : left < most_bays
   left-small = omega (arith, small at-hand, k.bay_key-from.ensures)
@@ -100,7 +100,7 @@ module _ (k : tie.After-carrier_key-carrier invariant-loop decreases-loop) where
   moves = moves-low plan links entering moving m (m - 1) one_less filling left entered carrier left_is entered-is carrier-is left-small entered-small carrier-small
 
   short : length plan ≤ most_crossings
-  short = at-hand.pre.short
+  short = at-hand.requires.short
 
   long : length links ≡ length plan * links_each
   long = filling.long

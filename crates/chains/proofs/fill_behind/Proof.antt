@@ -35,7 +35,7 @@ small c =
 -- what is known once its two bays are read
 module _ (k : tie.After-bay_key-to invariant-loop decreases-loop) where
   abbrev at-hand : tie.After-crossing_at-x invariant-loop decreases-loop
-  at-hand = k.before.before
+  at-hand = k.before.before.before.before
 
   abbrev plan : List ℕ
   plan = at-hand.args.plan.now
@@ -56,10 +56,10 @@ module _ (k : tie.After-bay_key-to invariant-loop decreases-loop) where
   entered = k.bay_key-to.result
 
   inside : m < length plan
-  inside = at-hand.loop-m-test.taken
+  inside = at-hand.loop-m-test.true
 
   filling : FillingDown plan links leaving m
-  filling = at-hand.loop-m.inv.1
+  filling = at-hand.loop-m.invariant.1
 
   left-small : left < most_bays
   left-small = omega (arith, small at-hand, k.bay_key-from.ensures)
@@ -76,7 +76,7 @@ module _ (k : tie.After-bay_key-to invariant-loop decreases-loop) where
   low : (key : ℕ) → key < most_bays → get_or leaving key 0 < most_crossings
   low key h =
       let l = leaves-low plan links leaving m inside filling left entered left_is entered-is left-small entered-small key h in
-      omega (arith, l, inside, at-hand.pre.0.short)
+      omega (arith, l, inside, at-hand.requires.0.short)
 
   long : length links ≡ length plan * links_each
   long = filling.long

@@ -5,17 +5,17 @@ use borrow.Author.Rules.{rules}
 use Rattle.checker.proofs.check.Statement.{statement}
 use Rattle.checker.proofs.check.Tie as tie
 
-check-narrow-requires : tie.Need-check-narrow-requires
-check-narrow-requires c κs = omega (arith, c.if1.true)
+check-narrow-requires : tie.Need-check_narrow-requires
+check-narrow-requires c κs = omega (arith, c.if-bays.true)
 
-returns : tie.Need-returns
-returns c = c.check-narrow.ensures
+returns : tie.Need-returns-then-bays
+returns c = c.check_narrow.ensures
 
-check-wide-requires : tie.Need-check-wide-requires
+check-wide-requires : tie.Need-check_wide-requires
 check-wide-requires c κs = search rules
 
-returns-2 : tie.Need-returns-2
-returns-2 c = c.check-wide.ensures
+returns-2 : tie.Need-returns
+returns-2 c = c.check_wide.ensures
 
-pub check-spec : {M : Type 1} → statement M
-check-spec = tie.close (tie.spec check-narrow-requires returns check-wide-requires returns-2)
+pub check_spec : {M : Type 1} → statement M
+check_spec = tie.close (tie.spec check-narrow-requires returns check-wide-requires returns-2)

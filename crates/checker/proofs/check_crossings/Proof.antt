@@ -13,26 +13,25 @@ place-requires : tie.Need-place-requires
 place-requires c κs = search rules
 
 occupy-requires : tie.Need-occupy-requires
-occupy-requires c κs = let placed = c.before.before.before.before.before.before.before.before.before.before.requires.1 in (search (rules, placed.starts_inside), none-occupied)
+occupy-requires c κs = let placed = c.requires.1 in (search (rules, placed.starts_inside), none-occupied)
 
-play-requires : tie.Need-play-requires
-play-requires c κs = rw c.before.before.before.before.before.before.place.ensures c.before.before.before.before.before.before.before.before.before.before.before.before.before.requires.2
+play-requires : tie.Need-play-legality-requires
+play-requires c κs = rw c.place.ensures c.requires.2
 
 judge-requires : tie.Need-judge-requires
-judge-requires c κs = let placed = c.before.before.before.before.before.before.before.before.before.before.before.before.before.before.before.before.before.requires.1 in (search (rules, placed.as_many), placed.few)
+judge-requires c κs = let placed = c.requires.1 in (search (rules, placed.as_many), placed.few)
 
-same_length : tie.Need-same-length
+same_length : tie.Need-shape_of-at
 same_length c = search rules
 
 returns : tie.Need-returns
 returns c =
-    let play = c.before.before.before.before.play in
-    let place = c.before.before.before.before.before.before.before.before.before.before.before.place in
-    let s = c.before.before.before.before.before.before.before.before.before.before.before.before.before.before.before.before.before.before in
-    nine-ten s.args.rows s.args.table.now s.args.start.now s.args.goal.now (crossings s.args.plan.now) _ _ _ (legality_of play.result)
-    place.ensures c.before.before.before.before.before.before.before.occupy.ensures play.ensures (checked_of c.judge.result) c.judge.ensures
+    let play = c.play-legality in
+    let place = c.place in
+    nine-ten c.args.rows c.args.table.now c.args.start.now c.args.goal.now (crossings c.args.plan.now) _ _ _ (legality_of play.result)
+    place.ensures c.occupy.ensures play.ensures (checked_of c.judge.result) c.judge.ensures
 
-pub check-crossings-spec : {M : Type 1} → statement M
-check-crossings-spec =
+pub check_crossings_spec : {M : Type 1} → statement M
+check_crossings_spec =
     tie.close
     (tie.spec place-requires occupy-requires play-requires judge-requires same_length returns)

@@ -18,13 +18,13 @@ enough k h = length-take-le k (replicate most_bays 0) (rw (length-replicate {A =
 few : (s : tie.Start) → length s.args.start.now ≤ most_bays
 few s = let placed = s.requires.0 in rw placed.as_many placed.few
 
-array-borrow-prefix-at : tie.Need-array-borrow-prefix-at
+array-borrow-prefix-at : tie.Need-slice_bounds-at-end
 array-borrow-prefix-at c = few c.before.before.before.before
 
-slice-aggregate-check-crossings : tie.Need-slice-aggregate-check-crossings
+slice-aggregate-check-crossings : tie.Need-slice_bounds-check_crossings-end
 slice-aggregate-check-crossings c = let start = c.before.before.before.before.before in sym (enough (length start.args.start.now) (few start))
 
-check-crossings-requires : tie.Need-check-crossings-requires
+check-crossings-requires : tie.Need-check_crossings-requires
 check-crossings-requires c κs =
     let start = c.before.before.before.before.before in
     (enough (length start.args.start.now) (few start), start.requires.0, start.requires.1)
@@ -32,8 +32,8 @@ check-crossings-requires c κs =
 returns : tie.Need-returns
 returns c = search rules
 
-pub check-from-spec : {M : Type 1} → statement M
-check-from-spec =
+pub check_from_spec : {M : Type 1} → statement M
+check_from_spec =
     tie.close
     (tie.spec
     array-borrow-prefix-at

@@ -22,24 +22,24 @@ asked s = order s.args.bays s.args.rails.now s.args.start.now s.args.goal.now
 abbrev given : tie.Start → List ℕ
 given s = s.args.plan.now
 
-first-six-requires : tie.Need-first-six-requires
-first-six-requires c κs = let asks = c.before.before.before.before.before.before.requires in (λ few. omega (arith, asks.2 few, asks.1), asks.3)
+first-six-requires : tie.Need-first_six-opened-requires
+first-six-requires c κs = let asks = c.requires in (λ few. omega (arith, asks.2 few, asks.1), asks.3)
 
-enum-known-opened : tie.Need-enum-known-opened
+enum-known-opened : tie.Need-enum_known-opened
 enum-known-opened c = search rules
 
-enum_told : tie.Need-enum-told
+enum_told : tie.Need-enum_told-1
 enum_told c = search rules
 
 -- the yard is open
-passes : (c : tie.After-enum-told) → none ≡ first_six (asked c.before.before.before.before.before.before.before.before.before.before.before) (length (given c.before.before.before.before.before.before.before.before.before.before.before))
-passes c = ap opened_of (sym c.enum_told.given.1) ∙ c.before.before.before.before.first-six.ensures.answer
+passes : (c : tie.In-Open) → none ≡ first_six (asked c.before.before.before.before.before.before.before.before.before.before) (length (given c.before.before.before.before.before.before.before.before.before.before))
+passes c = ap opened_of (sym c.in-Open.is) ∙ c.first_six-opened.ensures.answer
 
-check-from-requires : tie.Need-check-from-requires
+check-from-requires : tie.Need-check_from-requires
 check-from-requires c κs =
-    let s = c.before.before.before.before.before.before.before.before.before.before.before.before in
+    let s = c.before.before.before.before.before.before.before.before.before.before in
     let o = asked s in
-    let past = passes c.before in
+    let past = passes c in
     let enough = s.requires.2 (few_bays o (given s) past) in (
       record {
         as_many = as_many o (given s) past;
@@ -54,24 +54,24 @@ check-from-requires c κs =
       },
     )
 
-same_length : tie.Need-same-length
+same_length : tie.Need-shape_of-table-in-Refused
 same_length c = search rules
 
-returns : tie.Need-returns
-returns c = let s = c.before.before.before.before.before.before.before.before.before.before.before.before in six-refused (asked s) (given s) _ (ap opened_of (sym c.before.opened.given.1) ∙ c.before.before.before.before.before.first-six.ensures.answer)
+returns : tie.Need-returns-in-Refused
+returns c = let s = c.before.before.before.before.before.before.before.before.before.before in six-refused (asked s) (given s) _ (ap opened_of (sym c.in-Refused.is) ∙ c.first_six-opened.ensures.answer)
 
-same-length-2 : tie.Need-same-length-2
+same-length-2 : tie.Need-shape_of-table-in-Open
 same-length-2 c = search rules
 
-returns-2 : tie.Need-returns-2
+returns-2 : tie.Need-returns-in-Open
 returns-2 c =
-    let s = c.before.before.before.before.before.before.before.before.before.before.before.before.before in
-    let past = passes c.before.before in
-    six-passed (asked s) (given s) past s.args.rows _ (c.before.before.before.before.before.before.first-six.ensures.admitted _ c.before.before.enum_told.given.1).rows (s.requires.2 (few_bays (asked s) (given s) past))
-    (checked_of c.check-from.result) c.check-from.ensures
+    let s = c.before.before.before.before.before.before.before.before.before.before.before in
+    let past = passes c.before in
+    six-passed (asked s) (given s) past s.args.rows _ (c.first_six-opened.ensures.admitted _ c.in-Open.is).rows (s.requires.2 (few_bays (asked s) (given s) past))
+    (checked_of c.check_from.result) c.check_from.ensures
 
-pub check-in-spec : {M : Type 1} → statement M
-check-in-spec =
+pub check_in_spec : {M : Type 1} → statement M
+check_in_spec =
     tie.close
     (tie.spec
     first-six-requires

@@ -20,50 +20,49 @@ stored-all start at c len l h e =
     let q : c ≡ length start = omega arith in
     sym (ap (λ k. take k at) p ∙ take-length at) ∙ e ∙ ap (λ k. take k start) q ∙ take-length start
 
-abbrev invariant-loop : tie.invariant-loop
+abbrev invariant-loop : tie.invariant-loop-c
 invariant-loop start at₀ c₀ at c = (c ≤ length start) × (length at ≡ length at₀) × (take c at ≡ take c start)
 
-abbrev decreases-loop : tie.decreases-loop
+abbrev decreases-loop : tie.decreases-loop-c
 decreases-loop start at₀ c₀ at c = length start - c
 
-loop-holds : tie.Need-loop-init invariant-loop decreases-loop
+loop-holds : tie.Need-loop-c-init invariant-loop decreases-loop
 loop-holds c = (omega arith, refl, refl)
 
-mul_at : tie.Need-overflow-mul-at invariant-loop decreases-loop
+mul_at : tie.Need-offset_bounds-start-c invariant-loop decreases-loop
 mul_at c = search rules
 
-shared-slice-read-at : tie.Need-shared-slice-read-at invariant-loop decreases-loop
+shared-slice-read-at : tie.Need-bounds-start-c invariant-loop decreases-loop
 shared-slice-read-at c = search rules
 
-mul-at-2 : tie.Need-overflow-mul-at-2 invariant-loop decreases-loop
+mul-at-2 : tie.Need-offset_bounds-at-c invariant-loop decreases-loop
 mul-at-2 c = search rules
 
-slice-write-at : tie.Need-slice-write-at invariant-loop decreases-loop
+slice-write-at : tie.Need-bounds-at-c invariant-loop decreases-loop
 slice-write-at c = search rules
 
-add-c : tie.Need-overflow-add-c invariant-loop decreases-loop
+add-c : tie.Need-overflow_add-c invariant-loop decreases-loop
 add-c c = search rules
 
-loop-less : tie.Need-loop-smaller invariant-loop decreases-loop
+loop-less : tie.Need-loop-c-smaller invariant-loop decreases-loop
 loop-less c = search rules
 
-loop-again : tie.Need-loop-preserved invariant-loop decreases-loop
+loop-again : tie.Need-loop-c-preserved invariant-loop decreases-loop
 loop-again c =
-    let s = c.before.before.before in
-    let t = c.before.before.loop in (
+    let t = c.loop-c in (
       search rules,
-      length-set t.at t.c (get_or s.args.start.now t.c 0) ∙ t.invariant.1,
-      stored_more s.args.start.now t.at t.c c.before.loop-test.true (omega arith) t.invariant.2,
+      length-set t.at t.c (get_or c.args.start.now t.c 0) ∙ t.invariant.1,
+      stored_more c.args.start.now t.at t.c c.loop-c-test.true (omega arith) t.invariant.2,
     )
 
-same_length : tie.Need-same-length invariant-loop decreases-loop
-same_length c = c.before.loop.invariant.1
+same_length : tie.Need-shape_of-at invariant-loop decreases-loop
+same_length c = c.loop-c.invariant.1
 
 returns : tie.Need-returns invariant-loop decreases-loop
-returns c = stored-all c.before.before.args.start.now c.before.loop.at c.before.loop.c (c.before.loop.invariant.1 ∙ c.before.before.requires) c.before.loop.invariant.0 c.loop-test.false c.before.loop.invariant.2
+returns c = stored-all c.args.start.now c.loop-c.at c.loop-c.c (c.loop-c.invariant.1 ∙ c.requires) c.loop-c.invariant.0 c.loop-c-test.false c.loop-c.invariant.2
 
-pub place-spec : {M : Type 1} → statement M
-place-spec =
+pub place_spec : {M : Type 1} → statement M
+place_spec =
     tie.close
     (tie.spec
     invariant-loop

@@ -6,55 +6,48 @@ use Rattle.gridmap.proofs.RailEnds.{product_small, cell-side, cell-low, cell-wal
 use Rattle.gridmap.proofs.bay_in.Statement.{statement}
 use Rattle.gridmap.proofs.bay_in.Tie as tie
 
-cast-width : tie.Need-overflow-cast-width
+cast-width : tie.Need-overflow_cast-width
 cast-width c = search rules
 
-cast-height : tie.Need-overflow-cast-height
+cast-height : tie.Need-overflow_cast-height
 cast-height c = search rules
 
-mul-number-at : tie.Need-overflow-mul-number-at
+mul-number-at : tie.Need-overflow_mul-height
 mul-number-at c =
-    let start = c.before.before.before.before.before in
-    record { fits = omega (arith, product_small start.args.grid.height start.args.grid.width (search rules) (search rules)) }
+    record { fits = omega (arith, product_small c.args.grid.height c.args.grid.width (search rules) (search rules)) }
 
-mul-number-at-2 : tie.Need-overflow-mul-number-at-2
+mul-number-at-2 : tie.Need-overflow_mul-row
 mul-number-at-2 c =
-    let start = c.before.before.before.before.before in
-    record { fits = omega (arith, product_small start.args.y start.args.grid.width (search rules) (search rules)) }
+    record { fits = omega (arith, product_small c.args.y c.args.grid.width (search rules) (search rules)) }
 
-add-number-at : tie.Need-overflow-add-number-at
+add-number-at : tie.Need-overflow_add-row
 add-number-at c =
-    let start = c.before.before.before.before.before in
-    record { fits = omega (arith, product_small start.args.y start.args.grid.width (search rules) (search rules)) }
+    record { fits = omega (arith, product_small c.args.y c.args.grid.width (search rules) (search rules)) }
 
-number-at-requires : tie.Need-number-at-requires
+number-at-requires : tie.Need-number_at-n-requires
 number-at-requires c κs = search rules
 
-returns : tie.Need-returns
+returns : tie.Need-returns-then-n-eq0
 returns c =
-    let start = c.before.before.before.before.before.before.before in
-    cell-wall start.args.cells.now start.args.grid.height start.args.grid.width start.args.x start.args.y c.before.number_at.result (search rules) (search rules) c.before.number_at.ensures c.if3.true
+    cell-wall c.args.cells.now c.args.grid.height c.args.grid.width c.args.x c.args.y c.number_at-n.result (search rules) (search rules) c.number_at-n.ensures c.if-n-eq0.true
 
-sub-t16 : tie.Need-overflow-sub-t16
+sub-t16 : tie.Need-overflow_sub-result
 sub-t16 c = search rules
 
-returns-2 : tie.Need-returns-2
+returns-2 : tie.Need-returns-then-row-height
 returns-2 c =
-    let start = c.before.before.before.before.before.before.before in
-    cell-bay start.args.cells.now start.args.grid.height start.args.grid.width start.args.x start.args.y c.before.number_at.result (search rules) (search rules) c.before.number_at.ensures c.if3.false
+    cell-bay c.args.cells.now c.args.grid.height c.args.grid.width c.args.x c.args.y c.number_at-n.result (search rules) (search rules) c.number_at-n.ensures c.if-n-eq0.false
 
-returns-3 : tie.Need-returns-3
+returns-3 : tie.Need-returns-then-column-width
 returns-3 c =
-    let start = c.before.before.before.before.before in
-    cell-low start.args.cells.now start.args.grid.height start.args.grid.width start.args.x start.args.y (search rules) (search rules)
+    cell-low c.args.cells.now c.args.grid.height c.args.grid.width c.args.x c.args.y (search rules) (search rules)
 
-returns-4 : tie.Need-returns-4
+returns-4 : tie.Need-returns
 returns-4 c =
-    let start = c.before.before.before.before in
-    cell-side start.args.cells.now start.args.grid.height start.args.grid.width start.args.x start.args.y (search rules)
+    cell-side c.args.cells.now c.args.grid.height c.args.grid.width c.args.x c.args.y (search rules)
 
-pub bay-in-spec : {M : Type 1} → statement M
-bay-in-spec =
+pub bay_in_spec : {M : Type 1} → statement M
+bay_in_spec =
     tie.close
     (tie.spec
     cast-width

@@ -5,17 +5,17 @@ use Rattle.gridmap.proofs.Numbering.{mark-bay, mark-wall}
 use Rattle.gridmap.proofs.mark.Statement.{statement}
 use Rattle.gridmap.proofs.mark.Tie as tie
 
-is-bay-requires : tie.Need-is-bay-requires
+is-bay-requires : tie.Need-is_bay-requires
 is-bay-requires c κs = search rules
 
-add-result : tie.Need-overflow-add-result
+add-result : tie.Need-overflow_add-result
 add-result c = search rules
 
-returns : tie.Need-returns
-returns c = mark-bay c.before.before.args.b c.before.before.args.bays c.before.is-bay.result c.before.is-bay.ensures c.if1.true
+returns : tie.Need-returns-then-is_bay
+returns c = mark-bay c.args.b c.args.bays c.is_bay.result c.is_bay.ensures c.if-is_bay.true
 
-returns-2 : tie.Need-returns-2
-returns-2 c = mark-wall c.before.before.args.b c.before.before.args.bays c.before.is-bay.result c.before.is-bay.ensures c.if1.false
+returns-2 : tie.Need-returns-else-is_bay
+returns-2 c = mark-wall c.args.b c.args.bays c.is_bay.result c.is_bay.ensures c.if-is_bay.false
 
 pub mark_spec : {M : Type 1} → statement M
 mark_spec = tie.close (tie.spec is-bay-requires add-result returns returns-2)

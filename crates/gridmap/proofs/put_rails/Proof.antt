@@ -8,38 +8,37 @@ use Rattle.gridmap.proofs.RailEnds.{rail-next}
 use Rattle.gridmap.proofs.put_rails.Statement.{statement}
 use Rattle.gridmap.proofs.put_rails.Tie as tie
 
-number-at-requires : tie.Need-number-at-requires
+number-at-requires : tie.Need-number_at-lower-requires
 number-at-requires c κs = search rules
 
-number-beside-requires : tie.Need-number-beside-requires
+number-beside-requires : tie.Need-number_beside-beside-requires
 number-beside-requires c κs = search rules
 
-put-rail-requires : tie.Need-put-rail-requires
+put-rail-requires : tie.Need-put_rail-next-requires
 put-rail-requires c κs = search rules
 
-add-number-at : tie.Need-overflow-add-number-at
+add-number-at : tie.Need-overflow_add-i
 add-number-at c = search rules
 
-number-at-requires-2 : tie.Need-number-at-requires-2
+number-at-requires-2 : tie.Need-number_at-below-requires
 number-at-requires-2 c κs = search rules
 
-put-rail-requires-2 : tie.Need-put-rail-requires-2
+put-rail-requires-2 : tie.Need-put_rail-requires
 put-rail-requires-2 c κs =
-    let start = c.before.before.before.before.before.before.before.before.before.before in
-    omega (arith, rail-next _ _ _ _ _ _ c.before.before.before.before.put-rail.ensures, start.requires)
+    omega (arith, rail-next _ _ _ _ _ _ c.put_rail-next.ensures, c.requires)
 
-same_length : tie.Need-same-length
+same_length : tie.Need-shape_of-ends
 same_length c = search rules
 
 returns : tie.Need-returns
 unfolding rails_at_in
 returns c =
-    let number-beside = c.before.before.before.before.before.before.before.before.before.number-beside in
-    let number_at = c.before.before.before.before.before.before.before.before.before.before.number_at in
-    wrote_then (rw (number-beside.ensures, number_at.ensures) at c.before.before.before.before.before.before.before.put-rail.ensures) (rw (c.before.before.before.before.number-at2.ensures, number_at.ensures) at c.before.before.put-rail2.ensures)
+    let number-beside = c.number_beside-beside in
+    let number_at = c.number_at-lower in
+    wrote_then (rw (number-beside.ensures, number_at.ensures) at c.put_rail-next.ensures) (rw (c.number_at-below.ensures, number_at.ensures) at c.put_rail.ensures)
 
-pub put-rails-spec : {M : Type 1} → statement M
-put-rails-spec =
+pub put_rails_spec : {M : Type 1} → statement M
+put_rails_spec =
     tie.close
     (tie.spec
     number-at-requires

@@ -8,77 +8,73 @@ use Rattle.lookup.proofs.Looking.{untold, looked, level-rowed, end_short, distan
 use Rattle.lookup.proofs.way.Statement.{statement}
 use Rattle.lookup.proofs.way.Tie as tie
 
-slice-aggregate-keep : tie.Need-slice-aggregate-keep
+slice-aggregate-keep : tie.Need-slice_bounds-keep-end
 slice-aggregate-keep c = search rules
 
 keep-requires : tie.Need-keep-requires
 keep-requires c κs = search rules
 
-slice-aggregate-minus : tie.Need-slice-aggregate-minus
+slice-aggregate-minus : tie.Need-slice_bounds-minus-end
 slice-aggregate-minus c = search rules
 
 minus-requires : tie.Need-minus-requires
 minus-requires c κs = search rules
 
-slice-aggregate-first-level : tie.Need-slice-aggregate-first-level
+slice-aggregate-first-level : tie.Need-slice_bounds-first_level-end
 slice-aggregate-first-level c = search rules
 
-first-level-requires : tie.Need-first-level-requires
+first-level-requires : tie.Need-first_level-j-requires
 first-level-requires c κs = search rules
 
-add-if1 : tie.Need-overflow-add-if1
+add-if1 : tie.Need-overflow_add-j
 add-if1 c =
-    let start = c.before.before.before.before.before.before.before.before.before.before.before.before in
-    let k = levels-few c.first-level.result start.args.n (omega (arith, start.requires.way.inside)) c.first-level.ensures.fits in
+    let k = levels-few c.first_level-j.result c.args.n (omega (arith, c.requires.way.inside)) c.first_level-j.ensures.fits in
     search rules
 
-mul-if1 : tie.Need-overflow-mul-if1
+mul-if1 : tie.Need-overflow_mul-j
 mul-if1 c = search rules
 
-mul-if1-2 : tie.Need-overflow-mul-if1-2
+mul-if1-2 : tie.Need-overflow_mul-j-2
 mul-if1-2 c = search rules
 
-returns : tie.Need-returns
+returns : tie.Need-returns-then-table-j
 returns c = record { tells = λ s q w. untold s }
 
-mul-common : tie.Need-overflow-mul-common
+mul-common : tie.Need-overflow_mul-j-3
 mul-common c = search rules
 
-cast-common : tie.Need-overflow-cast-common
+cast-common : tie.Need-overflow_cast-x
 cast-common c = search rules
 
-add-common : tie.Need-overflow-add-common
+add-common : tie.Need-overflow_add-j-2
 add-common c = search rules
 
-slice-aggregate-common : tie.Need-slice-aggregate-common
+slice-aggregate-common : tie.Need-slice_bounds-common-end
 slice-aggregate-common c = search rules
 
 common-requires : tie.Need-common-requires
 common-requires c κs =
-    let start = c.before.before.before.before.before.before.before.before.before.before.before.before.before.before.before in
-    let p = start.requires in
+    let p = c.requires in
     let lent = p.way.lent in
-    (search rules, search rules, level-rowed lent.shown lent.most p.levelled _ p.way.inside _ _ c.before.before.if1.false lent.table_size)
+    (search rules, search rules, level-rowed lent.shown lent.most p.levelled _ p.way.inside _ _ c.if-table-j.false lent.table_size)
 
-cast-t24 : tie.Need-overflow-cast-t24
+cast-t24 : tie.Need-overflow_cast-e
 cast-t24 c = search rules
 
-add-lead : tie.Need-overflow-add-lead
+add-lead : tie.Need-overflow_add-j-3
 add-lead c =
-    let first-level = c.before.before.before.before.first-level in
-    let start = c.before.before.before.before.before.before.before.before.before.before.before.before.before.before.before.before in
-    let k = levels-few first-level.result start.args.n (omega (arith, start.requires.way.inside)) first-level.ensures.fits in
+    let first-level = c.first_level-j in
+    let k = levels-few first-level.result c.args.n (omega (arith, c.requires.way.inside)) first-level.ensures.fits in
     search rules
 
 lead-requires : tie.Need-lead-requires
 lead-requires c κs =
-    let if1 = c.before.before.before.before.if1 in
-    let minus = c.before.before.before.before.before.before.before.before.minus in
-    let keep = c.before.before.before.before.before.before.before.before.before.before.before.keep in
-    let start = c.before.before.before.before.before.before.before.before.before.before.before.before.before.before.before.before.before in
-    let p = start.requires in
+    let if1 = c.if-table-j in
+    let minus = c.minus in
+    let keep = c.keep in
+    let p = c.requires in
     let lent = p.way.lent in
-    let g = looked lent.most p.levelled p.way.inside p.unwanted keep.ensures minus.ensures c.before.before.before.before.before.first-level.ensures if1.false c.before.common.ensures in
+    let g = looked lent.most p.levelled p.way.inside p.unwanted keep.ensures minus.ensures c.first_level-j.ensures if1.false c.common.ensures in
     record {
       most = lent.most;
       apart = omega arith;
@@ -90,40 +86,38 @@ lead-requires c κs =
       distant = distant lent.shown g;
     }
 
-add-t28 : tie.Need-overflow-add-t28
+add-t28 : tie.Need-overflow_add-result
 add-t28 c =
-    let if1 = c.before.before.before.before.before.before.before.before.if1 in
-    let first-level = c.before.before.before.before.before.before.before.before.before.first-level in
-    let minus = c.before.before.before.before.before.before.before.before.before.before.before.before.minus in
-    let keep = c.before.before.before.before.before.before.before.before.before.before.before.before.before.before.before.keep in
-    let start = c.before.before.before.before.before.before.before.before.before.before.before.before.before.before.before.before.before.before.before.before.before in
-    let p = start.requires in
-    let g = looked p.way.lent.most p.levelled p.way.inside p.unwanted keep.ensures minus.ensures first-level.ensures if1.false c.before.before.before.before.before.common.ensures in
+    let if1 = c.if-table-j in
+    let first-level = c.first_level-j in
+    let minus = c.minus in
+    let keep = c.keep in
+    let p = c.requires in
+    let g = looked p.way.lent.most p.levelled p.way.inside p.unwanted keep.ensures minus.ensures first-level.ensures if1.false c.common.ensures in
     let k = end_short p.way.lent.shown g in
     search rules
 
-same_length : tie.Need-same-length
+same_length : tie.Need-shape_of-path-then-lead
 same_length c = search rules
 
-returns-2 : tie.Need-returns-2
+returns-2 : tie.Need-returns-then-lead
 returns-2 c =
-    let if1 = c.before.before.before.before.before.before.before.before.if1 in
-    let first-level = c.before.before.before.before.before.before.before.before.before.first-level in
-    let minus = c.before.before.before.before.before.before.before.before.before.before.before.before.minus in
-    let keep = c.before.before.before.before.before.before.before.before.before.before.before.before.before.before.before.keep in
-    let start = c.before.before.before.before.before.before.before.before.before.before.before.before.before.before.before.before.before.before.before.before.before in
-    let p = start.requires in
-    let g = looked p.way.lent.most p.levelled p.way.inside p.unwanted keep.ensures minus.ensures first-level.ensures if1.false c.before.before.before.before.before.common.ensures in
-    record { tells = λ s q w. way-told s g _ (c.before.before.before.lead.ensures.leads (distant s g) c.if2.true) q w _ refl }
+    let if1 = c.if-table-j in
+    let first-level = c.first_level-j in
+    let minus = c.minus in
+    let keep = c.keep in
+    let p = c.requires in
+    let g = looked p.way.lent.most p.levelled p.way.inside p.unwanted keep.ensures minus.ensures first-level.ensures if1.false c.common.ensures in
+    record { tells = λ s q w. way-told s g _ (c.lead.ensures.leads (distant s g) c.if-lead.true) q w _ refl }
 
-same-length-2 : tie.Need-same-length-2
+same-length-2 : tie.Need-shape_of-path
 same-length-2 c = search rules
 
-returns-3 : tie.Need-returns-3
+returns-3 : tie.Need-returns
 returns-3 c = record { tells = λ s q w. untold s }
 
-pub way-spec : {M : Type 1} → statement M
-way-spec =
+pub way_spec : {M : Type 1} → statement M
+way_spec =
     tie.close
     (tie.spec
     slice-aggregate-keep

@@ -16,9 +16,6 @@ use Rattle.marks.specs.contracts.Reported
 use Rattle.marks.proofs.mark_accepted.Statement.{statement}
 use Rattle.marks.proofs.mark_accepted.Tie as tie
 
-not_first : (x : ℕ) → OneOf (1 ∷ 2 ∷ []) x → x ≡ 0 → ⊥
-not_first x o z = ⊎_elim (λ h. omega arith) (λ h. omega arith) o
-
 kept : (marks : List ℕ) (name : ℕ) (r : Reported) → (r ≡ Accepted → ⊥) → marks ≡ marks_after marks name (report_of r)
 unfolding marks_after
 kept marks name Accepted h = absurd (h refl)
@@ -41,7 +38,7 @@ returns c =
 
 returns-2 : tie.Need-returns-in_default
 returns-2 c =
-    kept c.args.marks.now c.args.name c.args.answer (λ e. not_first _ c.in-Accepted.keys2 (ap (Declared.tag_of Reported.the_type) e))
+    kept c.args.marks.now c.args.name c.args.answer c.in_default.not-Accepted
 
 pub mark_accepted_spec : {M : Type 1} → statement M
 mark_accepted_spec = tie.close (tie.spec enum_told slice-write-marks same_length returns returns-2)

@@ -18,7 +18,7 @@ use Rattle.marks.proofs.tell_in_order.Statement.{statement}
 use Rattle.marks.proofs.tell_in_order.Tie as tie
 
 -- the name is in the plan, and the crossing found is its own
-there : (c : tie.In-Crossing-2) → (c.args.name < length (crossings c.args.plan.now))
+there : (c : tie.In-Crossing) → (c.args.name < length (crossings c.args.plan.now))
     × (crossing_of c.in-Crossing.x ≡ named (crossings c.args.plan.now) c.args.name)
 there c =
     found_some (crossings c.args.plan.now) c.args.name (crossing_of c.in-Crossing.x) (ap named_of (sym c.in-Crossing.is) ∙ c.find.ensures)
@@ -42,15 +42,15 @@ returns c =
     told-unknown (crossings c.args.plan.now) c.args.marks.now c.args.name (found_none (crossings c.args.plan.now) c.args.name (ap named_of (sym c.in_default.is) ∙ c.find.ensures))
 
 shared-slice-read-if1 : tie.Need-bounds-marks-at
-shared-slice-read-if1 c = omega (arith, (there c.before.before).0, length-map c.args.plan.now unpack)
+shared-slice-read-if1 c = omega (arith, (there c.before).0, length-map c.args.plan.now unpack)
 
 returns-2 : tie.Need-returns-then-marks-at-eq1
 returns-2 c =
-    told-already (crossings c.args.plan.now) c.args.marks.now c.args.name (there c.before.before.before).0 c.if-marks-at-eq1.true
+    told-already (crossings c.args.plan.now) c.args.marks.now c.args.name (there c.before.before).0 c.if-marks-at-eq1.true
 
 undone-before-requires : tie.Need-undone_before-earlier-requires
 undone-before-requires c κs =
-    (omega (arith, (there c.before.before.before).0, length-map c.args.plan.now unpack), c.requires)
+    (omega (arith, (there c.before.before).0, length-map c.args.plan.now unpack), c.requires)
 
 enum-known-earlier : tie.Need-enum_known-earlier
 enum-known-earlier c = search rules
@@ -60,13 +60,13 @@ enum-told-2 c = search rules
 
 returns-3 : tie.Need-returns-in-Undone
 returns-3 c =
-    let t = there c.before.before.before.before.before.before.before in
+    let t = there c.before.before.before.before in
     told-early (crossings c.args.plan.now) c.args.marks.now c.args.name t.0 c.if-marks-at-eq1.false _
     (ap earlier_of (sym c.in-Undone.is) ∙ c.undone_before-earlier.ensures ∙ same-search (crossings c.args.plan.now) c.args.marks.now c.args.name _ t.1)
 
 returns-4 : tie.Need-returns-in-AllDone
 returns-4 c =
-    let t = there c.before.before.before.before.before.before in
+    let t = there c.before.before.before.before in
     told-accept (crossings c.args.plan.now) c.args.marks.now c.args.name t.0 c.if-marks-at-eq1.false
     (ap earlier_of (sym c.in-AllDone.is) ∙ c.undone_before-earlier.ensures ∙ same-search (crossings c.args.plan.now) c.args.marks.now c.args.name _ t.1)
 

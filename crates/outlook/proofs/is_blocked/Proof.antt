@@ -13,7 +13,7 @@ use borrow.Author.Rules.{rules}
 use Rattle.outlook.proofs.is_blocked.Statement.{statement}
 use Rattle.outlook.proofs.is_blocked.Tie as tie
 
-abbrev invariant-loop : tie.invariant-loop
+abbrev invariant-loop : tie.invariant-loop-x
 invariant-loop table n v empty free shut₀ sides found₀ x₀ shut found x =
     (length shut ≡ words)
     × (found ≤ 2)
@@ -21,138 +21,138 @@ invariant-loop table n v empty free shut₀ sides found₀ x₀ shut found x =
     × (x < span → x < n)
     × Shut v.0 table free shut
 
-abbrev decreases-loop : tie.decreases-loop
+abbrev decreases-loop : tie.decreases-loop-x
 decreases-loop table n v empty free shut₀ sides found₀ x₀ shut found x = span - x
 
-slice-aggregate-keep : tie.Need-slice-aggregate-keep invariant-loop decreases-loop
+slice-aggregate-keep : tie.Need-slice_bounds-keep-end invariant-loop decreases-loop
 slice-aggregate-keep c = search rules
 
 keep-requires : tie.Need-keep-requires invariant-loop decreases-loop
 keep-requires c κs = search rules
 
-slice-aggregate-join : tie.Need-slice-aggregate-join invariant-loop decreases-loop
+slice-aggregate-join : tie.Need-slice_bounds-join-end invariant-loop decreases-loop
 slice-aggregate-join c = search rules
 
-cast-join : tie.Need-overflow-cast-join invariant-loop decreases-loop
+cast-join : tie.Need-overflow_cast-u invariant-loop decreases-loop
 cast-join c = search rules
 
 join-requires : tie.Need-join-requires invariant-loop decreases-loop
-join-requires c κs = let q = c.before.before.before.before.before.before.before.requires in (search rules, omega (arith, q.most, q.first_inside))
+join-requires c κs = let q = c.requires in (search rules, omega (arith, q.most, q.first_inside))
 
-slice-aggregate-join-2 : tie.Need-slice-aggregate-join-2 invariant-loop decreases-loop
+slice-aggregate-join-2 : tie.Need-slice_bounds-join-end-2 invariant-loop decreases-loop
 slice-aggregate-join-2 c = search rules
 
-cast-join-2 : tie.Need-overflow-cast-join-2 invariant-loop decreases-loop
+cast-join-2 : tie.Need-overflow_cast-w invariant-loop decreases-loop
 cast-join-2 c = search rules
 
 join-requires-2 : tie.Need-join-requires-2 invariant-loop decreases-loop
-join-requires-2 c κs = let q = c.before.before.before.before.before.before.before.before.before.before.before.requires in (search rules, omega (arith, q.most, q.second_inside))
+join-requires-2 c κs = let q = c.requires in (search rules, omega (arith, q.most, q.second_inside))
 
-slice-aggregate-alone : tie.Need-slice-aggregate-alone invariant-loop decreases-loop
+slice-aggregate-alone : tie.Need-slice_bounds-alone-end invariant-loop decreases-loop
 slice-aggregate-alone c = search rules
 
-cast-alone : tie.Need-overflow-cast-alone invariant-loop decreases-loop
+cast-alone : tie.Need-overflow_cast-v invariant-loop decreases-loop
 cast-alone c = search rules
 
 alone-requires : tie.Need-alone-requires invariant-loop decreases-loop
-alone-requires c κs = let q = c.before.before.before.before.before.before.before.before.before.before.before.before.before.before.before.requires in (search rules, omega (arith, q.most, q.junction_inside))
+alone-requires c κs = let q = c.requires in (search rules, omega (arith, q.most, q.junction_inside))
 
-slice-aggregate-join-row : tie.Need-slice-aggregate-join-row invariant-loop decreases-loop
+slice-aggregate-join-row : tie.Need-slice_bounds-join_row-end invariant-loop decreases-loop
 slice-aggregate-join-row c = search rules
 
-cast-join-row : tie.Need-overflow-cast-join-row invariant-loop decreases-loop
+cast-join-row : tie.Need-overflow_cast-v-2 invariant-loop decreases-loop
 cast-join-row c = search rules
 
-join-row-requires : tie.Need-join-row-requires invariant-loop decreases-loop
-join-row-requires c κs = let q = c.before.before.before.before.before.before.before.before.before.before.before.before.before.before.before.before.before.before.before.requires in (search rules, omega (arith, q.table_size, q.junction_inside))
+join-row-requires : tie.Need-join_row-requires invariant-loop decreases-loop
+join-row-requires c κs = let q = c.requires in (search rules, omega (arith, q.table_size, q.junction_inside))
 
-slice-aggregate-next-from : tie.Need-slice-aggregate-next-from invariant-loop decreases-loop
+slice-aggregate-next-from : tie.Need-slice_bounds-next_from-end invariant-loop decreases-loop
 slice-aggregate-next-from c = search rules
 
-next-from-requires : tie.Need-next-from-requires invariant-loop decreases-loop
+next-from-requires : tie.Need-next_from-x-requires invariant-loop decreases-loop
 next-from-requires c κs = search rules
 
-loop-holds : tie.Need-loop-init invariant-loop decreases-loop
+loop-holds : tie.Need-loop-x-init invariant-loop decreases-loop
 loop-holds c =
-    let low = c.next-from.ensures in
-    let q = c.before.before.before.before.before.before.before.before.before.before.before.before.before.before.before.before.before.before.before.before.before.before.before.requires in
-    (search rules, omega arith, low.upto, λ h. side-inside _ _ _ _ _ q.charted q.junction_inside c.before.before.before.join-row.ensures h (low.hit h), shut-first c.before.before.before.before.before.before.before.alone.ensures)
+    let low = c.next_from-x.ensures in
+    let q = c.requires in
+    (search rules, omega arith, low.upto, λ h. side-inside _ _ _ _ _ q.charted q.junction_inside c.join_row.ensures h (low.hit h), shut-first c.alone.ensures)
 
-cast-t28 : tie.Need-overflow-cast-t28 invariant-loop decreases-loop
+cast-t28 : tie.Need-overflow_cast-x invariant-loop decreases-loop
 cast-t28 c = search rules
 
-slice-aggregate-open-sides : tie.Need-slice-aggregate-open-sides invariant-loop decreases-loop
+slice-aggregate-open-sides : tie.Need-slice_bounds-open_sides-end invariant-loop decreases-loop
 slice-aggregate-open-sides c = search rules
 
-slice-aggregate-open-sides-2 : tie.Need-slice-aggregate-open-sides-2 invariant-loop decreases-loop
+slice-aggregate-open-sides-2 : tie.Need-slice_bounds-open_sides-end-in-loop-x invariant-loop decreases-loop
 slice-aggregate-open-sides-2 c = search rules
 
-open-sides-requires : tie.Need-open-sides-requires invariant-loop decreases-loop
+open-sides-requires : tie.Need-open_sides-found-requires invariant-loop decreases-loop
 open-sides-requires c κs =
-    let l = c.before.before.before.loop.invariant in
-    let q = c.before.before.before.before.before.before.before.before.before.before.before.before.before.before.before.before.before.before.before.before.before.before.before.before.before.before.before.requires in
+    let l = c.loop-x.invariant in
+    let q = c.requires in
     record {
       most = q.most;
       table_size = q.table_size;
       free_size = search rules;
       shut_size = l.0;
-      inside = l.3 c.before.before.loop-test.true;
+      inside = l.3 c.loop-x-test.true;
       charted = q.charted;
     }
 
-add-found : tie.Need-overflow-add-found invariant-loop decreases-loop
-add-found c = omega (arith, c.before.before.before.before.before.loop.invariant.1, c.before.open-sides.ensures.most)
+add-found : tie.Need-overflow_add-found invariant-loop decreases-loop
+add-found c = omega (arith, c.loop-x.invariant.1, c.open_sides-found.ensures.most)
 
-returns : tie.Need-returns invariant-loop decreases-loop
+returns : tie.Need-returns-then-found-gt2 invariant-loop decreases-loop
 returns c = λ e. not-both e refl
 
-slice-aggregate-next-from-2 : tie.Need-slice-aggregate-next-from-2 invariant-loop decreases-loop
+slice-aggregate-next-from-2 : tie.Need-slice_bounds-next_from-end-in-loop-x invariant-loop decreases-loop
 slice-aggregate-next-from-2 c = search rules
 
-add-next-from : tie.Need-overflow-add-next-from invariant-loop decreases-loop
+add-next-from : tie.Need-overflow_add-x invariant-loop decreases-loop
 add-next-from c = search rules
 
-next-from-requires-2 : tie.Need-next-from-requires-2 invariant-loop decreases-loop
+next-from-requires-2 : tie.Need-next_from-x-requires-in-loop-x invariant-loop decreases-loop
 next-from-requires-2 c κs = search rules
 
-loop-less : tie.Need-loop-smaller invariant-loop decreases-loop
-loop-less c = omega (arith, c.next-from2.ensures.from)
+loop-less : tie.Need-loop-x-smaller invariant-loop decreases-loop
+loop-less c = omega (arith, c.next_from-x-in-loop-x.ensures.from)
 
-loop-again : tie.Need-loop-preserved invariant-loop decreases-loop
+loop-again : tie.Need-loop-x-preserved invariant-loop decreases-loop
 loop-again c =
-    let low = c.next-from2.ensures in
-    let l = c.before.before.before.before.before.before.before.before.loop.invariant in
-    let q = c.before.before.before.before.before.before.before.before.before.before.before.before.before.before.before.before.before.before.before.before.before.before.before.before.before.before.before.before.before.before.before.before.requires in
-    (search rules, omega (arith, c.before.before.if1.false), low.upto, λ h. side-inside _ _ _ _ _ q.charted q.junction_inside c.before.before.before.before.before.before.before.before.before.before.before.before.join-row.ensures h (low.hit h), c.before.before.before.before.open-sides.ensures.stays _ (omega (arith, q.most, q.junction_inside)) l.4)
+    let low = c.next_from-x-in-loop-x.ensures in
+    let l = c.loop-x.invariant in
+    let q = c.requires in
+    (search rules, omega (arith, c.if-found-gt2.false), low.upto, λ h. side-inside _ _ _ _ _ q.charted q.junction_inside c.join_row.ensures h (low.hit h), c.open_sides-found.ensures.stays _ (omega (arith, q.most, q.junction_inside)) l.4)
 
-slice-aggregate-minus : tie.Need-slice-aggregate-minus invariant-loop decreases-loop
+slice-aggregate-minus : tie.Need-slice_bounds-minus-end invariant-loop decreases-loop
 slice-aggregate-minus c = search rules
 
-slice-aggregate-minus-2 : tie.Need-slice-aggregate-minus-2 invariant-loop decreases-loop
+slice-aggregate-minus-2 : tie.Need-slice_bounds-minus-end-2 invariant-loop decreases-loop
 slice-aggregate-minus-2 c = search rules
 
 minus-requires : tie.Need-minus-requires invariant-loop decreases-loop
 minus-requires c κs = search rules
 
-slice-aggregate-has-three : tie.Need-slice-aggregate-has-three invariant-loop decreases-loop
+slice-aggregate-has-three : tie.Need-slice_bounds-has_three-end invariant-loop decreases-loop
 slice-aggregate-has-three c = search rules
 
-has-three-requires : tie.Need-has-three-requires invariant-loop decreases-loop
-has-three-requires c κs = let q = c.before.before.before.before.before.before.before.before.before.before.before.before.before.before.before.before.before.before.before.before.before.before.before.before.before.before.before.before.before.before.requires in record { row = omega (arith, q.table_size, q.junction_inside); seen_size = search rules }
+has-three-requires : tie.Need-has_three-requires invariant-loop decreases-loop
+has-three-requires c κs = let q = c.requires in record { row = omega (arith, q.table_size, q.junction_inside); seen_size = search rules }
 
-returns-2 : tie.Need-returns-2 invariant-loop decreases-loop
+returns-2 : tie.Need-returns invariant-loop decreases-loop
 returns-2 c =
-    let minus = c.before.before.before.minus in
-    let l = c.before.before.before.before.before.before.before.loop.invariant in
-    let join-row = c.before.before.before.before.before.before.before.before.before.before.before.join-row in
-    let join2 = c.before.before.before.before.before.before.before.before.before.before.before.before.before.before.before.before.before.before.before.join2 in
-    let join = c.before.before.before.before.before.before.before.before.before.before.before.before.before.before.before.before.before.before.before.before.before.before.before.join in
-    let keep = c.before.before.before.before.before.before.before.before.before.before.before.before.before.before.before.before.before.before.before.before.before.before.before.before.before.before.before.keep in
-    let q = c.before.before.before.before.before.before.before.before.before.before.before.before.before.before.before.before.before.before.before.before.before.before.before.before.before.before.before.before.before.before.before.requires in
-    λ e. blocked-by _ _ _ _ _ _ _ _ _ _ _ q.most q.first_inside q.second_inside (free-first _ _ _ _ _ _ _ _ q.most keep.ensures join.ensures join2.ensures) l.4 join-row.ensures minus.ensures (c.has-three.ensures.few (not-true _ e))
+    let minus = c.minus in
+    let l = c.loop-x.invariant in
+    let join-row = c.join_row in
+    let join2 = c.join-2 in
+    let join = c.join in
+    let keep = c.keep in
+    let q = c.requires in
+    λ e. blocked-by _ _ _ _ _ _ _ _ _ _ _ q.most q.first_inside q.second_inside (free-first _ _ _ _ _ _ _ _ q.most keep.ensures join.ensures join2.ensures) l.4 join-row.ensures minus.ensures (c.has_three.ensures.few (not-true _ e))
 
-pub is-blocked-spec : {M : Type 1} → statement M
-is-blocked-spec =
+pub is_blocked_spec : {M : Type 1} → statement M
+is_blocked_spec =
     tie.close
     (tie.spec
     invariant-loop

@@ -10,47 +10,45 @@ use borrow.Author.Rules.{rules}
 use Rattle.remaining.proofs.count_left.Statement.{statement}
 use Rattle.remaining.proofs.count_left.Tie as tie
 
-abbrev invariant-loop : tie.invariant-loop
+abbrev invariant-loop : tie.invariant-loop-m
 invariant-loop plan gone n₀ m₀ n m = (m ≤ length plan) × (n ≤ m) × (n + length (rest plan gone m) ≡ length (left gone plan))
 
-abbrev decreases-loop : tie.decreases-loop
+abbrev decreases-loop : tie.decreases-loop-m
 decreases-loop plan gone n₀ m₀ n m = length plan - m
 
-loop-holds : tie.Need-loop-init invariant-loop decreases-loop
+loop-holds : tie.Need-loop-m-init invariant-loop decreases-loop
 loop-holds c = (omega arith, omega arith, omega arith)
 
-shared-slice-read-one-left : tie.Need-shared-slice-read-one-left invariant-loop decreases-loop
+shared-slice-read-one-left : tie.Need-bounds-gone-m invariant-loop decreases-loop
 shared-slice-read-one-left c = search rules
 
-one-left-requires : tie.Need-one-left-requires invariant-loop decreases-loop
+one-left-requires : tie.Need-one_left-n-requires invariant-loop decreases-loop
 one-left-requires c κs = search rules
 
-add-n : tie.Need-overflow-add-n invariant-loop decreases-loop
+add-n : tie.Need-overflow_add-n invariant-loop decreases-loop
 add-n c =
-    let loop = c.before.before.before.loop in
-    let small : c.one_left.result ≤ 1 = rw c.one_left.ensures (one-small (get_or c.before.before.before.before.before.before.args.gone.now loop.m 0)) in omega (arith, c.before.before.loop-test.true, loop.invariant.1)
+    let loop = c.loop-m in
+    let small : c.one_left-n.result ≤ 1 = rw c.one_left-n.ensures (one-small (get_or c.args.gone.now loop.m 0)) in omega (arith, c.loop-m-test.true, loop.invariant.1)
 
-add-m : tie.Need-overflow-add-m invariant-loop decreases-loop
+add-m : tie.Need-overflow_add-m invariant-loop decreases-loop
 add-m c = search rules
 
-loop-less : tie.Need-loop-smaller invariant-loop decreases-loop
+loop-less : tie.Need-loop-m-smaller invariant-loop decreases-loop
 loop-less c = search rules
 
-loop-again : tie.Need-loop-preserved invariant-loop decreases-loop
+loop-again : tie.Need-loop-m-preserved invariant-loop decreases-loop
 loop-again c =
-    let s = c.before.before.before.before.before.before in
-    let t = c.before.before.before.loop in
-    let small : c.one_left.result ≤ 1 = rw c.one_left.ensures (one-small (get_or s.args.gone.now t.m 0)) in
-    (omega (arith, c.before.before.loop-test.true), omega (arith, t.invariant.1), count_next s.args.plan.now s.args.gone.now t.n t.m c.one_left.result _ c.before.before.loop-test.true s.requires c.one_left.ensures t.invariant.2)
+    let t = c.loop-m in
+    let small : c.one_left-n.result ≤ 1 = rw c.one_left-n.ensures (one-small (get_or c.args.gone.now t.m 0)) in
+    (omega (arith, c.loop-m-test.true), omega (arith, t.invariant.1), count_next c.args.plan.now c.args.gone.now t.n t.m c.one_left-n.result _ c.loop-m-test.true c.requires c.one_left-n.ensures t.invariant.2)
 
 returns : tie.Need-returns invariant-loop decreases-loop
 returns c =
-    let s = c.before.before.before.before in
-    let t = c.before.loop in
-    count-end s.args.plan.now s.args.gone.now t.n t.m _ c.loop-test.false s.requires t.invariant.2
+    let t = c.loop-m in
+    count-end c.args.plan.now c.args.gone.now t.n t.m _ c.loop-m-test.false c.requires t.invariant.2
 
-pub count-left-spec : {M : Type 1} → statement M
-count-left-spec =
+pub count_left_spec : {M : Type 1} → statement M
+count_left_spec =
     tie.close
     (tie.spec
     invariant-loop

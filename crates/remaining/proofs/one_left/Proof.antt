@@ -6,11 +6,11 @@ use mathlib.Core.Path.{sym, ap}
 use Rattle.remaining.proofs.one_left.Statement.{statement}
 use Rattle.remaining.proofs.one_left.Tie as tie
 
-returns : tie.Need-returns
-returns c = sym (ap (λ b. if b then 1 else 0) (eq-eqb _ _ c.if1.true))
+returns : tie.Need-returns-then-byte-eq0
+returns c = sym (ap (λ b. if b then 1 else 0) (eq-eqb _ _ c.if-byte-eq0.true))
 
-returns-2 : tie.Need-returns-2
-returns-2 c = sym (ap (λ b. if b then 1 else 0) (ne_eqb _ _ c.if1.false))
+returns-2 : tie.Need-returns-else-byte-eq0
+returns-2 c = sym (ap (λ b. if b then 1 else 0) (ne_eqb _ _ c.if-byte-eq0.false))
 
-pub one-left-spec : {M : Type 1} → statement M
-one-left-spec = tie.close (tie.spec returns returns-2)
+pub one_left_spec : {M : Type 1} → statement M
+one_left_spec = tie.close (tie.spec returns returns-2)

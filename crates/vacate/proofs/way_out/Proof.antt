@@ -5,52 +5,52 @@ use borrow.Author.Rules.{rules}
 use Rattle.vacate.proofs.way_out.Statement.{statement}
 use Rattle.vacate.proofs.way_out.Tie as tie
 
-mul-if1 : tie.Need-overflow-mul-if1
+mul-if1 : tie.Need-overflow_mul-n
 mul-if1 c = search rules
 
-mul-if1-2 : tie.Need-overflow-mul-if1-2
+mul-if1-2 : tie.Need-overflow_mul-n-2
 mul-if1-2 c = search rules
 
-way-to-nearest-requires : tie.Need-way-to-nearest-requires
-way-to-nearest-requires c κs = c.before.before.before.before.before.before.requires.way
+way-to-nearest-requires : tie.Need-way_to_nearest-requires
+way-to-nearest-requires c κs = c.requires.way
 
-same_length : tie.Need-same-length
-same_length c = c.before.before.way-to-nearest.auto.1.1.1.1.1.0
+same_length : tie.Need-shape_of-path-then-table-n
+same_length c = c.way_to_nearest.auto.path
 
-returns : tie.Need-returns
-returns c = c.before.before.way-to-nearest.ensures
+returns : tie.Need-returns-then-table-n
+returns c = c.way_to_nearest.ensures
 
-way-requires : tie.Need-way-requires
-way-requires c κs = c.before.before.before.before.before.before.requires
+way-requires : tie.Need-way-known-requires
+way-requires c κs = c.requires
 
-enum-known-known : tie.Need-enum-known-known
-enum-known-known c = c.match.keys1
+enum-known-known : tie.Need-enum_known-known
+enum-known-known c = search rules
 
-same-length-2 : tie.Need-same-length-2
-same-length-2 c = c.before.before.before.before.before.way.auto.1.1.1.1.1.0
+same-length-2 : tie.Need-shape_of-path-in-To
+same-length-2 c = c.way-known.auto.path
 
-returns-2 : tie.Need-returns-2
-returns-2 c = record { found = λ s q w. c.before.before.before.before.before.way.ensures.tells s q w _ _ c.before.known.given.1 }
+returns-2 : tie.Need-returns-in-To
+returns-2 c = record { found = λ s q w. c.way-known.ensures.tells s q w _ _ c.in-To.is }
 
-enum_told : tie.Need-enum-told
-enum_told c = c.match.keys2
+enum_told : tie.Need-enum_told-1
+enum_told c = search rules
 
-way-to-nearest-requires-2 : tie.Need-way-to-nearest-requires-2
+way-to-nearest-requires-2 : tie.Need-way_to_nearest-requires-2
 way-to-nearest-requires-2 c κs =
-    let way = c.before.before.before.before.before.way in
-    let p = c.before.before.before.before.before.before.before.before.before.before.before.before.requires.way in
-    record { lent = p.lent; inside = p.inside; unheld = p.unheld; wanted_size = p.wanted_size; room = rw way.auto.1.1.1.1.1.0 p.room }
+    let way = c.way-known in
+    let p = c.requires.way in
+    record { lent = p.lent; inside = p.inside; unheld = p.unheld; wanted_size = p.wanted_size; room = rw way.auto.path p.room }
 
-same-length-3 : tie.Need-same-length-3
+same-length-3 : tie.Need-shape_of-path
 same-length-3 c =
-    let way = c.before.before.before.before.before.before.before.before.way in
-    c.before.before.way-to-nearest2.auto.1.1.1.1.1.0 ∙ way.auto.1.1.1.1.1.0
+    let way = c.way-known in
+    c.way_to_nearest-2.auto.path ∙ way.auto.path
 
-returns-3 : tie.Need-returns-3
-returns-3 c = c.before.before.way-to-nearest2.ensures
+returns-3 : tie.Need-returns
+returns-3 c = c.way_to_nearest-2.ensures
 
-pub way-out-spec : {M : Type 1} → statement M
-way-out-spec =
+pub way_out_spec : {M : Type 1} → statement M
+way_out_spec =
     tie.close
     (tie.spec
     mul-if1

@@ -26,33 +26,33 @@ the_last : (a b c : Bool) {d r : Bool} → a ≡ true → b ≡ true → c ≡ f
 unfolding ◌and◌
 the_last a b c e f g h = rw (e, f, g, h)
 
-few-rails-requires : tie.Need-few-rails-requires
+few-rails-requires : tie.Need-few_rails-requires
 few-rails-requires c κs = search rules
 
-returns : tie.Need-returns
-returns c = no-first _ _ _ (sym c.before.few-rails.ensures ∙ not-true _ c.if1.true)
+returns : tie.Need-returns-then-not-few_rails
+returns c = no-first _ _ _ (sym c.few_rails.ensures ∙ c.if-not-few_rails.true)
 
-few-rails-requires-2 : tie.Need-few-rails-requires-2
+few-rails-requires-2 : tie.Need-few_rails-requires-2
 few-rails-requires-2 c κs = search rules
 
-returns-2 : tie.Need-returns-2
-returns-2 c = no_second _ _ _ (sym c.before.few-rails2.ensures ∙ not-true _ c.if2.true)
+returns-2 : tie.Need-returns-then-not-few_rails-2
+returns-2 c = no_second _ _ _ (sym c.few_rails-2.ensures ∙ c.if-not-few_rails-2.true)
 
-is-in-requires : tie.Need-is-in-requires
+is-in-requires : tie.Need-is_in-requires
 is-in-requires c κs = search rules
 
-returns-3 : tie.Need-returns-3
-returns-3 c = no_third _ _ _ (sym c.before.is-in.ensures ∙ c.if3.true)
+returns-3 : tie.Need-returns-then-is_in
+returns-3 c = no_third _ _ _ (sym c.is_in.ensures ∙ c.if-is_in.true)
 
-is-in-requires-2 : tie.Need-is-in-requires-2
+is-in-requires-2 : tie.Need-is_in-requires-2
 is-in-requires-2 c κs = search rules
 
-returns-4 : tie.Need-returns-4
+returns-4 : tie.Need-returns
 returns-4 c =
-    the_last _ _ _ (sym c.before.before.before.before.before.before.few-rails.ensures ∙ not-false _ c.before.before.before.before.before.if1.false) (sym c.before.before.before.before.few-rails2.ensures ∙ not-false _ c.before.before.before.if2.false) (sym c.before.before.is-in.ensures ∙ c.before.if3.false) c.is-in2.ensures
+    the_last _ _ _ (sym c.few_rails.ensures ∙ c.if-not-few_rails.false) (sym c.few_rails-2.ensures ∙ c.if-not-few_rails-2.false) (sym c.is_in.ensures ∙ c.if-is_in.false) c.is_in-2.ensures
 
-pub by-queue-spec : {M : Type 1} → statement M
-by-queue-spec =
+pub by_queue_spec : {M : Type 1} → statement M
+by_queue_spec =
     tie.close
     (tie.spec
     few-rails-requires

@@ -7,11 +7,11 @@ use borrow.Author.Rules.{rules}
 use Rattle.ways.proofs.few_rails.Statement.{statement}
 use Rattle.ways.proofs.few_rails.Tie as tie
 
-count-rails-requires : tie.Need-count-rails-requires
+count-rails-requires : tie.Need-count_rails-requires
 count-rails-requires c κs = search rules
 
 returns : tie.Need-returns
-returns c = ap (λ (k : ℕ). ltb k 4) c.count-rails.ensures
+returns c = ap (λ (k : ℕ). ltb k 4) c.count_rails.ensures
 
-pub few-rails-spec : {M : Type 1} → statement M
-few-rails-spec = tie.close (tie.spec count-rails-requires returns)
+pub few_rails_spec : {M : Type 1} → statement M
+few_rails_spec = tie.close (tie.spec count-rails-requires returns)

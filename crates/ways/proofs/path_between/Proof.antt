@@ -19,39 +19,38 @@ unheld table held u v e t =
     let z = and_right (few table u and few table v) (not (mem held u) and not (mem held v)) (sym e ∙ t) in
     (not-true (mem held u) (and_left (not (mem held u)) (not (mem held v)) z), not-true (mem held v) (and_right (not (mem held u)) (not (mem held v)) z))
 
-cast-by-queue : tie.Need-overflow-cast-by-queue
+cast-by-queue : tie.Need-overflow_cast-u
 cast-by-queue c = search rules
 
-cast-by-queue-2 : tie.Need-overflow-cast-by-queue-2
+cast-by-queue-2 : tie.Need-overflow_cast-v
 cast-by-queue-2 c = search rules
 
-by-queue-requires : tie.Need-by-queue-requires
+by-queue-requires : tie.Need-by_queue-requires
 by-queue-requires c κs = search rules
 
-path-by-queue-requires : tie.Need-path-by-queue-requires
+path-by-queue-requires : tie.Need-path_by_queue-requires
 path-by-queue-requires c κs =
-    let start = c.before.before.before.before.before.before.before.before in
-    let a = start.args in
-    let t = unheld a.table.now a.held.now a.u.0 a.v.0 c.before.before.by-queue.ensures c.before.if1.true in
-    record { asks = start.requires; start_unheld = t.0; goal_unheld = t.1 }
+    let a = c.args in
+    let t = unheld a.table.now a.held.now a.u.0 a.v.0 c.by_queue.ensures c.if-by_queue.true in
+    record { asks = c.requires; start_unheld = t.0; goal_unheld = t.1 }
 
-same_length : tie.Need-same-length
+same_length : tie.Need-shape_of-path-then-by_queue
 same_length c = search rules
 
-returns : tie.Need-returns
+returns : tie.Need-returns-then-by_queue
 returns c = search rules
 
-path-between-requires : tie.Need-path-between-requires
+path-between-requires : tie.Need-path_between-requires
 path-between-requires c κs = search rules
 
-same-length-2 : tie.Need-same-length-2
+same-length-2 : tie.Need-shape_of-path
 same-length-2 c = search rules
 
-returns-2 : tie.Need-returns-2
+returns-2 : tie.Need-returns
 returns-2 c = search rules
 
-pub path-between-spec : {M : Type 1} → statement M
-path-between-spec =
+pub path_between_spec : {M : Type 1} → statement M
+path_between_spec =
     tie.close
     (tie.spec
     cast-by-queue

@@ -5,59 +5,57 @@ use borrow.Author.Rules.{rules}
 use Rattle.ways.proofs.path_by_queue.Statement.{statement}
 use Rattle.ways.proofs.path_by_queue.Tie as tie
 
-slice-aggregate-alone : tie.Need-slice-aggregate-alone
+slice-aggregate-alone : tie.Need-slice_bounds-alone-end
 slice-aggregate-alone c = search rules
 
-cast-alone : tie.Need-overflow-cast-alone
+cast-alone : tie.Need-overflow_cast-v
 cast-alone c = search rules
 
 alone-requires : tie.Need-alone-requires
 alone-requires c κs = search rules
 
-slice-aggregate-one-by-one : tie.Need-slice-aggregate-one-by-one
+slice-aggregate-one-by-one : tie.Need-slice_bounds-one_by_one-end
 slice-aggregate-one-by-one c = search rules
 
-one-by-one-requires : tie.Need-one-by-one-requires
+one-by-one-requires : tie.Need-one_by_one-requires
 one-by-one-requires c κs = search rules
 
-enum-known-m : tie.Need-enum-known-m
+enum-known-m : tie.Need-enum_known-m
 enum-known-m c = search rules
 
-enum_told : tie.Need-enum-told
+enum_told : tie.Need-enum_told-1
 enum_told c = search rules
 
-same_length : tie.Need-same-length
+same_length : tie.Need-shape_of-path-in_default
 same_length c = search rules
 
-returns : tie.Need-returns
+returns : tie.Need-returns-in_default
 returns c =
-    let alone = c.before.before.before.before.before.before.before.before.alone in
-    let start = c.before.before.before.before.before.before.before.before.before.before.before.before.before.before in
-    let p = start.requires in
+    let alone = c.alone in
+    let p = c.requires in
     let asks = p.asks in
     record {
       found = λ s.
           path-none s asks.lent.most _ _ asks.start_inside asks.goal_inside p.start_unheld p.goal_unheld _
-          (rw c.enum_told.given.1 at (c.before.before.before.before.one_by_one.ensures.found s _ (λ b h. alone.ensures b)));
+          (rw c.in_default.is at (c.one_by_one.ensures.found s _ (λ b h. alone.ensures b)));
     }
 
-same-length-2 : tie.Need-same-length-2
+same-length-2 : tie.Need-shape_of-path
 same-length-2 c = search rules
 
-returns-2 : tie.Need-returns-2
+returns-2 : tie.Need-returns
 returns-2 c =
-    let alone = c.before.before.before.before.before.before.before.before.before.alone in
-    let start = c.before.before.before.before.before.before.before.before.before.before.before.before.before.before.before in
-    let p = start.requires in
+    let alone = c.alone in
+    let p = c.requires in
     let asks = p.asks in
     record {
       found = λ s.
           path-first s asks.lent.most _ _ asks.start_inside asks.goal_inside p.start_unheld p.goal_unheld _ _ _
-          (rw c.before.m.given.1 at (c.before.before.before.before.before.one_by_one.ensures.found s _ (λ b h. alone.ensures b)));
+          (rw c.in-To.is at (c.one_by_one.ensures.found s _ (λ b h. alone.ensures b)));
     }
 
-pub path-by-queue-spec : {M : Type 1} → statement M
-path-by-queue-spec =
+pub path_by_queue_spec : {M : Type 1} → statement M
+path_by_queue_spec =
     tie.close
     (tie.spec
     slice-aggregate-alone
