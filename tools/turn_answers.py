@@ -119,7 +119,12 @@ def by_ways(text, steps, joined, module):
             arms.append((m[1], text[m.end() : stop]))
             end = stop + 1
         m = re.compile(rf"\s+(\w+)((?:\.before)*)\.({WORD})\.branch\b").match(text, end)
-        ways = m and len(arms) == 2 and joined.get(steps.get(alike(m[3]), m[3]))
+        step = m and m[3]
+        if not m:
+            m = re.compile(rf"\s+({WORD})()()\.branch\b").match(text, end)
+            lets = m and re.findall(rf"let {re.escape(m[1])} = \w+(?:\.before)*\.({WORD}) in", text[:at])
+            step = lets[-1] if lets else None
+        ways = step and len(arms) == 2 and joined.get(steps.get(alike(step), step))
         if not ways or len(ways) != 2:
             at = end
             continue
@@ -130,7 +135,8 @@ def by_ways(text, steps, joined, module):
             body = body.replace(".taken", ".true").replace(".left", ".false")
             out.append(f"{way} {name} ↦ {body}")
             used.append(way)
-        new = f"elim {m[1]}{m[2]}.{m[3]}.branch [ {out[0]} | {out[1]} ]"
+        place = f"{m[1]}{m[2]}.{m[3]}" if m[3] else m[1]
+        new = f"elim {place}.branch [ {out[0]} | {out[1]} ]"
         text = text[:at] + new + text[m.end() :]
         at += len("elim")
     if used:
@@ -238,8 +244,8 @@ def turned(text, path, table, outer, joined):
         text = "\n\n".join(moved(it, table, outer, helpers) for it in text.split("\n\n"))
 
     # What the check finds by itself today.
-    if re.search(r"= c(?:\.before)*\.match\.keys\d+$", text, re.M):
-        text = re.sub(r"= c(?:\.before)*\.match\.keys\d+$", "= search rules", text, flags=re.M)
+    if re.search(r"= c(?:\.before)*\.match\d*\.keys\d+$", text, re.M):
+        text = re.sub(r"= c(?:\.before)*\.match\d*\.keys\d+$", "= search rules", text, flags=re.M)
         if "borrow.Author.Rules.{rules" not in text:
             text = re.sub(r"(?m)^use ", "use borrow.Author.Rules.{rules}\nuse ", text, count=1)
 
@@ -333,6 +339,12 @@ def turned(text, path, table, outer, joined):
             if params:
                 pick = lambda n, name=m[1], params=params: f"{name}.{params[n[1].count('1')]}" if n[1].count("1") < len(params) else n[0]
                 part = re.sub(rf"(?<![\w.'-]){re.escape(m[1])}\.((?:1\.)*0)(?![\w])", pick, part)
+        bound = dict(re.findall(rf"let ({WORD}) = \w+(?:\.before)*\.({WORD}) in", part))
+        for m in re.finditer(rf"let ({WORD}) = ({WORD})\.(?:auto|new) in", part):
+            params = arms.get("=" + alike(bound.get(m[2], "")))
+            if params:
+                pick = lambda n, name=m[1], params=params: f"{name}.{params[n[1].count('1')]}" if n[1].count("1") < len(params) else n[0]
+                part = re.sub(rf"(?<![\w.'-]){re.escape(m[1])}\.((?:1\.)*0)(?![\w])", pick, part)
         for m in re.finditer(rf"let ({WORD}) = \w+(?:\.before)*\.({WORD}) in", part):
             params = arms.get("=" + alike(m[2]))
             if params:
@@ -361,8 +373,11 @@ def flat(part):
     while m := re.search(r"(?m)^( *)let (\w+) = c(?:\.before)+ in[ \n]\s*|let (\w+) = c(?:\.before)+ in ", part):
         name = m[2] or m[3]
         rest = part[: m.start()] + (m[1] or "") + part[m.end() :] if m[2] else part[: m.start()] + part[m.end() :]
-        if re.search(rf"λ (?:\w+ )*c\b|(?<![\w.'-]){name}(?![\w.'-])|let {name} =", rest):
+        if re.search(rf"(?<![\w.'-]){name}(?![\w.'-])|let {name} =", rest):
             break
+        if re.search(r"λ (?:\w+ )*c\b", rest):
+            part = re.sub(rf"let {name} = c(?:\.before)+ in", f"let {name} = c in", part)
+            continue
         part = re.sub(rf"(?<![\w.'-]){name}(?=\.)", "c", rest)
     return part
 

@@ -5,26 +5,26 @@ use borrow.Author.Rules.{rules}
 use Rattle.acting.proofs.counted.Statement.{statement}
 use Rattle.acting.proofs.counted.Tie as tie
 
-enum_told : tie.Need-enum-told
+enum_told : tie.Need-enum_told-1
 enum_told c = search rules
 
-enum-known-answer : tie.Need-enum-known-answer
+enum-known-answer : tie.Need-enum_known-answer
 enum-known-answer c = search rules
 
-tally-filled-requires : tie.Need-tally-filled-requires
-tally-filled-requires c κs = let p = c.before.before.before.before.requires in (p.0, rw c.before.answer.given.1 at p.2, p.1)
+tally-filled-requires : tie.Need-tally_filled-requires
+tally-filled-requires c κs = let p = c.requires in (p.0, rw c.in-Filled.is at p.2, p.1)
 
-enum-told-2 : tie.Need-enum-told-2
+enum-told-2 : tie.Need-enum_told-in-Failed
 enum-told-2 c = search rules
 
-returns : tie.Need-returns
-returns c = λ t. rw c.enum_told.given.1 refl
+returns : tie.Need-returns-in-Empty
+returns c = λ t. rw c.in-Empty.is refl
 
-returns-2 : tie.Need-returns-2
-returns-2 c = λ t. let f = c.tally-filled.ensures in rw c.before.before.answer.given.1 (_, refl, f.0, f.1 t)
+returns-2 : tie.Need-returns-in-Filled
+returns-2 c = λ t. let f = c.tally_filled.ensures in rw c.in-Filled.is (_, refl, f.0, f.1 t)
 
-returns-3 : tie.Need-returns-3
-returns-3 c = λ t. rw c.enum-told2.given.1 refl
+returns-3 : tie.Need-returns-in-Failed
+returns-3 c = λ t. rw c.in-Failed.is refl
 
 pub counted_spec : {M : Type 1} → statement M
 counted_spec =

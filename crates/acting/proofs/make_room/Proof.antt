@@ -9,10 +9,10 @@ use Rattle.acting.proofs.make_room.Lts as lts
 use Rattle.acting.proofs.counted.Reads as counted-reads
 use Rattle.vacate.proofs.vacate.Reads as vacate-reads
 
-vacate-requires : tie.Need-vacate-requires
+vacate-requires : tie.Need-vacate-answer-requires
 vacate-requires c κs =
-    let p = c.before.before.before.before.before.before.before.before.before.before.requires.0 in
-    let z = c.before.before.before.before.before.before.before.before.before.before.requires.1 in
+    let p = c.requires.0 in
+    let z = c.requires.1 in
     record {
       most = p.most;
       inside = z.inside;
@@ -26,36 +26,34 @@ vacate-requires c κs =
 
 counted-requires : tie.Need-counted-requires
 counted-requires c κs =
-    let start = c.before.before.before.before.before.before.before.before.before.before.before.before.before.before.before.before.before.before.before in
-    let p = start.requires in
-    let v = c.before.before.before.before.before.before.before.before.vacate in
+    let p = c.requires in
+    let v = c.vacate-answer in
     (p.0.most, p.0.table_size, filled_in v.result p.0.placed.apart p.1.inside (v.ensures p.1.shown))
 
-same_length : tie.Need-same-length
+same_length : tie.Need-shape_of-placement
 same_length c = search rules
 
-same-length-2 : tie.Need-same-length-2
+same-length-2 : tie.Need-shape_of-standing
 same-length-2 c = search rules
 
-same-length-3 : tie.Need-same-length-3
+same-length-3 : tie.Need-shape_of-empty
 same-length-3 c = search rules
 
-same-length-4 : tie.Need-same-length-4
+same-length-4 : tie.Need-shape_of-out
 same-length-4 c = search rules
 
 returns : tie.Need-returns
 returns c =
-    let start = c.before.before.before.before.before.before.before.before.before.before.before.before.before.before.before.before.before.before.before.before in
-    let p = start.requires in
-    let v = c.before.before.before.before.before.before.before.before.before.vacate in
+    let p = c.requires in
+    let v = c.vacate-answer in
     let z = p.1 in
     record {
       few = room_within p.0.most v.result c.counted.result (v.ensures z.shown) (c.counted.ensures (record { yard = z.shown.yard; joins = z.shown.joins }));
       acts = λ s. room-acts v.result c.counted.result (v.ensures s) (c.counted.ensures (record { yard = s.yard; joins = s.joins }));
     }
 
-pub make-room-spec : {M : Type 1} → statement M
-make-room-spec =
+pub make_room_spec : {M : Type 1} → statement M
+make_room_spec =
     tie.close
     (tie.spec
     vacate-requires

@@ -8,37 +8,33 @@ use Rattle.agreeing.proofs.Refusing.{eleven-refused, eleven-marks, eleven-none, 
 use Rattle.agreeing.proofs.up_to_eleven.Statement.{statement}
 use Rattle.agreeing.proofs.up_to_eleven.Tie as tie
 
-check-requires : tie.Need-check-requires
+check-requires : tie.Need-check-checked-requires
 check-requires c κs = search rules
 
-enum-known-checked : tie.Need-enum-known-checked
+enum-known-checked : tie.Need-enum_known-checked
 enum-known-checked c = search rules
 
-returns : tie.Need-returns
+returns : tie.Need-returns-in-Refused
 returns c =
-    let s = c.before.before.before.before.before.before.before.before.before in
-    eleven-refused (order s.args.bays s.args.rails.now s.args.start.now s.args.goal.now) s.args.plan.now s.args.marks.now _ (ap checked_of (sym c.before.checked.given.1) ∙ c.before.before.before.check.ensures)
+    eleven-refused (order c.args.bays c.args.rails.now c.args.start.now c.args.goal.now) c.args.plan.now c.args.marks.now _ (ap checked_of (sym c.in-Refused.is) ∙ c.check-checked.ensures)
 
-enum_told : tie.Need-enum-told
+enum_told : tie.Need-enum_told-1
 enum_told c = search rules
 
-bad-marks-requires : tie.Need-bad-marks-requires
+bad-marks-requires : tie.Need-bad_marks-requires
 bad-marks-requires c κs =
-    let s = c.before.before.before.before.before.before.before.before in
-    check-gives-fits (order s.args.bays s.args.rails.now s.args.start.now s.args.goal.now) s.args.plan.now s.args.marks.now (ap checked_of (sym c.enum_told.given.1) ∙ c.before.before.check.ensures)
+    check-gives-fits (order c.args.bays c.args.rails.now c.args.start.now c.args.goal.now) c.args.plan.now c.args.marks.now (ap checked_of (sym c.in_default.is) ∙ c.check-checked.ensures)
 
-returns-2 : tie.Need-returns-2
+returns-2 : tie.Need-returns-then-bad_marks
 returns-2 c =
-    let s = c.before.before.before.before.before.before.before.before.before.before in
-    eleven-marks (order s.args.bays s.args.rails.now s.args.start.now s.args.goal.now) s.args.plan.now s.args.marks.now (ap checked_of (sym c.before.before.enum_told.given.1) ∙ c.before.before.before.before.check.ensures) (sym c.before.bad-marks.ensures ∙ c.if1.true)
+    eleven-marks (order c.args.bays c.args.rails.now c.args.start.now c.args.goal.now) c.args.plan.now c.args.marks.now (ap checked_of (sym c.in_default.is) ∙ c.check-checked.ensures) (sym c.bad_marks.ensures ∙ c.if-bad_marks.true)
 
-returns-3 : tie.Need-returns-3
+returns-3 : tie.Need-returns
 returns-3 c =
-    let s = c.before.before.before.before.before.before.before.before.before.before in
-    eleven-none (order s.args.bays s.args.rails.now s.args.start.now s.args.goal.now) s.args.plan.now s.args.marks.now (ap checked_of (sym c.before.before.enum_told.given.1) ∙ c.before.before.before.before.check.ensures) (sym c.before.bad-marks.ensures ∙ c.if1.false)
+    eleven-none (order c.args.bays c.args.rails.now c.args.start.now c.args.goal.now) c.args.plan.now c.args.marks.now (ap checked_of (sym c.in_default.is) ∙ c.check-checked.ensures) (sym c.bad_marks.ensures ∙ c.if-bad_marks.false)
 
-pub up-to-eleven-spec : {M : Type 1} → statement M
-up-to-eleven-spec =
+pub up_to_eleven_spec : {M : Type 1} → statement M
+up_to_eleven_spec =
     tie.close
     (tie.spec
     check-requires

@@ -25,7 +25,7 @@ place-in-requires c κs = search rules
 mul-rest : tie.Need-overflow-mul-rest
 mul-rest c =
     let start = c.before.before.before.before.before.before.before.before.before.before.before.before.before.before.before.before.before.before.before.before.before.before.before.before in
-    search (rules, c.IsPlace-in.ensures, c.before.before.before.before.before.before.before.before.before.before.before.before.enter.auto.1.1.1.1.1.0, start.well-formed)
+    search (rules, c.place-in.ensures, c.before.before.before.before.before.before.before.before.before.before.before.before.enter.auto.1.1.1.1.1.0, start.well-formed)
 
 sub-rest : tie.Need-overflow-sub-rest
 sub-rest c = search rules
@@ -113,7 +113,7 @@ enter-requires-2 c κs =
     let e : vacate-both.result ≡ Done vacated.given.0.0 = vacated.given.1 in
     let kw : length enter.new.1.1.1.0 ≡ length start.args.standing.now = enter.auto.1.1.1.0 in
     let kv : length vacate-both.new.1.1.1.1.0 ≡ length enter.new.1.1.1.0 = vacate-both.auto.1.1.1.1.0 in
-    let s = tries-on-the-rest (rest-lent _ c.before.before.before.before.before.before.before.before.before.before.before.before.before.before.before.before.before.before.before.before.before.before.before.before.before.IsPlace-in.ensures c.before.before.before.before.before.before.before.before.before.before.before.before.before.before.before.before.before.before.before.out2.given c.before.before.before.before.before.before.before.before.add.ensures) (rw e at ((rw kw at vacate-both.ensures.tries) p.tabled)) in
+    let s = tries-on-the-rest (rest-lent _ c.before.before.before.before.before.before.before.before.before.before.before.before.before.before.before.before.before.before.before.before.before.before.before.before.before.place-in.ensures c.before.before.before.before.before.before.before.before.before.before.before.before.before.before.before.before.before.before.before.out2.given c.before.before.before.before.before.before.before.before.add.ensures) (rw e at ((rw kw at vacate-both.ensures.tries) p.tabled)) in
     let r = round-ready p.tabled k.coupled.differ k.coupled.leads k.coupled.follows z.inside k.behind enter.ensures _ s in
     record {
       coupled = record { leads = r.1; follows = r.0; differ = λ q. k.coupled.differ (sym q) };
@@ -161,7 +161,7 @@ returns-2 c =
     record {
       few = omega (arith, two, last, rw e at vacate-both.ensures.few, c.before.before.before.before.before.before.before.before.before.before.before.before.before.before.before.before.before.before.add.ensures.crossings, c.add2.ensures.crossings);
       tries = λ t j.
-          let s = tries-on-the-rest (rest-lent _ c.before.before.before.before.before.before.before.before.before.before.before.before.before.before.before.before.before.before.before.before.before.before.before.before.before.before.before.before.before.before.before.before.before.before.before.IsPlace-in.ensures c.before.before.before.before.before.before.before.before.before.before.before.before.before.before.before.before.before.before.before.before.before.before.before.before.before.before.before.before.before.out2.given c.before.before.before.before.before.before.before.before.before.before.before.before.before.before.before.before.before.before.add.ensures) (rw e at ((rw kw at vacate-both.ensures.tries) t)) in
+          let s = tries-on-the-rest (rest-lent _ c.before.before.before.before.before.before.before.before.before.before.before.before.before.before.before.before.before.before.before.before.before.before.before.before.before.before.before.before.before.before.before.before.before.before.before.place-in.ensures c.before.before.before.before.before.before.before.before.before.before.before.before.before.before.before.before.before.before.before.before.before.before.before.before.before.before.before.before.before.out2.given c.before.before.before.before.before.before.before.before.before.before.before.before.before.before.before.before.before.before.add.ensures) (rw e at ((rw kw at vacate-both.ensures.tries) t)) in
           let back = on-the-rest (rest-lent _ c.before.before.before.before.before.before.before.before.before.before.before.before.before.before.place-in2.ensures c.before.before.out3.given c.add2.ensures) (rw (kv, kw) at enter2.ensures) in
           round-done t k.coupled.differ k.coupled.leads k.coupled.follows z.inside k.behind enter.ensures _ s j back;
     }

@@ -14,35 +14,35 @@ use Rattle.begun.proofs.any_set.Tie as tie
 abbrev is_set : ℕ → Bool
 is_set m = ltb 0 m
 
-abbrev invariant-loop : tie.invariant-loop
+abbrev invariant-loop : tie.invariant-loop-i
 invariant-loop marks seen₀ i₀ seen i = (i ≤ length marks) × SeenFrom is_set marks seen i
 
-abbrev decreases-loop : tie.decreases-loop
+abbrev decreases-loop : tie.decreases-loop-i
 decreases-loop marks seen₀ i₀ seen i = length marks - i
 
-loop-holds : tie.Need-loop-init invariant-loop decreases-loop
+loop-holds : tie.Need-loop-i-init invariant-loop decreases-loop
 loop-holds c = (omega arith, seen_start is_set c.args.marks.now)
 
-shared-slice-read-seen : tie.Need-shared-slice-read-seen invariant-loop decreases-loop
+shared-slice-read-seen : tie.Need-bounds-marks-i invariant-loop decreases-loop
 shared-slice-read-seen c = search rules
 
-add-i : tie.Need-overflow-add-i invariant-loop decreases-loop
+add-i : tie.Need-overflow_add-i invariant-loop decreases-loop
 add-i c = search rules
 
-loop-less : tie.Need-loop-smaller invariant-loop decreases-loop
+loop-less : tie.Need-loop-i-smaller invariant-loop decreases-loop
 loop-less c = search rules
 
-loop-again : tie.Need-loop-preserved invariant-loop decreases-loop
+loop-again : tie.Need-loop-i-preserved invariant-loop decreases-loop
 loop-again c =
-    let t = c.before.before.loop in
-    (search rules, seen-on is_set c.before.before.before.args.marks.now t.seen t.i t.invariant.1 c.before.loop-test.true)
+    let t = c.loop-i in
+    (search rules, seen-on is_set c.args.marks.now t.seen t.i t.invariant.1 c.loop-i-test.true)
 
 returns : tie.Need-returns invariant-loop decreases-loop
 unfolding any_set
-returns c = let t = c.before.loop in seen_end is_set c.before.before.args.marks.now t.seen t.i t.invariant.1 c.loop-test.false
+returns c = let t = c.loop-i in seen_end is_set c.args.marks.now t.seen t.i t.invariant.1 c.loop-i-test.false
 
-pub any-set-spec : {M : Type 1} → statement M
-any-set-spec =
+pub any_set_spec : {M : Type 1} → statement M
+any_set_spec =
     tie.close
     (tie.spec
     invariant-loop

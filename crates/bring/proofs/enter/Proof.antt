@@ -10,29 +10,28 @@ use Rattle.bring.proofs.Bringing.{followed, entered}
 use Rattle.bring.proofs.enter.Statement.{statement}
 use Rattle.bring.proofs.enter.Tie as tie
 
-cast-first : tie.Need-overflow-cast-first
+cast-first : tie.Need-overflow_cast-first
 cast-first c = search rules
 
-cast-second : tie.Need-overflow-cast-second
+cast-second : tie.Need-overflow_cast-second
 cast-second c = search rules
 
-mul-t13 : tie.Need-overflow-mul-t13
+mul-t13 : tie.Need-offset_bounds-placement-first
 mul-t13 c = search rules
 
-slice-read-t15 : tie.Need-slice-read-t15
+slice-read-t15 : tie.Need-bounds-placement-first
 slice-read-t15 c = search rules
 
-mul-t13-2 : tie.Need-overflow-mul-t13-2
+mul-t13-2 : tie.Need-offset_bounds-placement-second
 mul-t13-2 c = search rules
 
-slice-read-t15-2 : tie.Need-slice-read-t15-2
+slice-read-t15-2 : tie.Need-bounds-placement-second
 slice-read-t15-2 c = search rules
 
-cross-requires : tie.Need-cross-requires
+cross-requires : tie.Need-cross-one-requires
 cross-requires c κs =
-    let start = c.before.before.before.before.before.before.before.before.before.before.before.before in
-    let z = start.requires in
-    let a = start.args in
+    let z = c.requires in
+    let a = c.args in
     record {
       from_inside = z.placed.inside a.couple.leader.0 z.coupled.leads;
       to_inside = z.inside;
@@ -44,17 +43,16 @@ cross-requires c κs =
       placed = z.placed;
     }
 
-cross-requires-2 : tie.Need-cross-requires-2
+cross-requires-2 : tie.Need-cross-crossings-requires
 cross-requires-2 c κs =
-    let cross = c.before.before.before.before.before.before.before.before.before.before.before.before.cross in
-    let start = c.before.before.before.before.before.before.before.before.before.before.before.before.before.before.before.before.before.before.before.before.before.before.before.before.before in
-    let z = start.requires in
+    let cross = c.cross-one in
+    let z = c.requires in
     let k = z.coupled in
-    let a = start.args in
+    let a = c.args in
     let first = tallied-from 0 cross.ensures in
     let f = followed a.placement.now a.couple.leader.0 a.couple.follower.0 a.x.0 z.placed.apart k.leads k.follows k.differ z.free first in
-    let kw : length cross.new.1.0 ≡ length a.standing.now = cross.auto.1.0 in
-    let kf : length cross.new.1.1.0 ≡ length a.empty.now = cross.auto.1.1.0 in
+    let kw : length cross.new.standing ≡ length a.standing.now = cross.auto.standing in
+    let kf : length cross.new.empty ≡ length a.empty.now = cross.auto.empty in
     record {
       from_inside = omega (arith, z.placed.inside a.couple.follower.0 k.follows, kw);
       to_inside = omega (arith, z.placed.inside a.couple.leader.0 k.leads, kw);
@@ -66,27 +64,26 @@ cross-requires-2 c κs =
       placed = rw kw first.placed;
     }
 
-same_length : tie.Need-same-length
-same_length c = c.before.before.before.before.before.before.before.before.cross2.auto.0 ∙ c.before.before.before.before.before.before.before.before.before.before.before.before.before.before.before.before.before.before.before.before.before.cross.auto.0
+same_length : tie.Need-shape_of-placement
+same_length c = c.cross-crossings.auto.placement ∙ c.cross-one.auto.placement
 
-same-length-2 : tie.Need-same-length-2
-same-length-2 c = c.before.before.before.before.before.before.before.before.cross2.auto.1.0 ∙ c.before.before.before.before.before.before.before.before.before.before.before.before.before.before.before.before.before.before.before.before.before.cross.auto.1.0
+same-length-2 : tie.Need-shape_of-standing
+same-length-2 c = c.cross-crossings.auto.standing ∙ c.cross-one.auto.standing
 
-same-length-3 : tie.Need-same-length-3
-same-length-3 c = c.before.before.before.before.before.before.before.before.cross2.auto.1.1.0 ∙ c.before.before.before.before.before.before.before.before.before.before.before.before.before.before.before.before.before.before.before.before.before.cross.auto.1.1.0
+same-length-3 : tie.Need-shape_of-empty
+same-length-3 c = c.cross-crossings.auto.empty ∙ c.cross-one.auto.empty
 
-same-length-4 : tie.Need-same-length-4
-same-length-4 c = c.before.before.before.before.before.before.before.before.cross2.auto.1.1.1.1.1.0 ∙ c.before.before.before.before.before.before.before.before.before.before.before.before.before.before.before.before.before.before.before.before.before.cross.auto.1.1.1.1.1.0
+same-length-4 : tie.Need-shape_of-out
+same-length-4 c = c.cross-crossings.auto.out ∙ c.cross-one.auto.out
 
 returns : tie.Need-returns
 returns c =
-    let cross2 = c.before.before.before.before.before.before.before.before.cross2 in
-    let cross = c.before.before.before.before.before.before.before.before.before.before.before.before.before.before.before.before.before.before.before.before.before.cross in
-    let start = c.before.before.before.before.before.before.before.before.before.before.before.before.before.before.before.before.before.before.before.before.before.before.before.before.before.before.before.before.before.before.before.before.before.before in
-    let z = start.requires in
+    let cross2 = c.cross-crossings in
+    let cross = c.cross-one in
+    let z = c.requires in
     let k = z.coupled in
-    let a = start.args in
-    let kw : length cross.new.1.0 ≡ length a.standing.now = cross.auto.1.0 in
+    let a = c.args in
+    let kw : length cross.new.standing ≡ length a.standing.now = cross.auto.standing in
     let second = rw kw at cross2.ensures in
     entered a.placement.now a.couple.leader.0 a.couple.follower.0 a.x.0 z.placed.apart k.leads k.follows k.differ z.free (tallied-from 0 cross.ensures) (tallied-from 0 second)
 

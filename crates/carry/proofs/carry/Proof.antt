@@ -180,7 +180,7 @@ mul-rest : tie.Need-overflow-mul-rest invariant-loop decreases-loop
 mul-rest c =
     let g = c.before.before.before.before.before.before.before in
     let v = c.before.before.before.loop.invariant in
-    omega (arith, c.IsPlace-in.ensures, v.0, v.1, c.before.before.before.before.before.before.before.before.before.before.before.before.before.before.before.before.before.before.before.before.go-along.ensures.arrives.few (k g) (done g) (there g), low g)
+    omega (arith, c.place-in.ensures, v.0, v.1, c.before.before.before.before.before.before.before.before.before.before.before.before.before.before.before.before.before.before.before.before.go-along.ensures.arrives.few (k g) (done g) (there g), low g)
 
 sub-rest : tie.Need-overflow-sub-rest invariant-loop decreases-loop
 sub-rest c = search rules
@@ -303,7 +303,7 @@ loop-again c =
       omega (arith, out.1, v.5),
       λ goals h apart many same o.
           turn-homed h apart many (l.i - 1) (here d) l.placement (v.2 ∙ same) (rw (← (one d)) at (v.6 goals h apart many same o)) t₀ (omega (arith, p.most, kw)) (rw (← kw) at start.requires.1.0.loopless) (v.7 t₀ goals many o).played.placed (rw e at (f t₀ goals many o)),
-      λ t goals many o. homed_more (rw (← (one d)) at (v.7 t goals many o)) (here d) (rest-lent _ c.before.before.before.before.before.before.before.before.before.before.before.before.before.before.before.before.before.before.before.before.IsPlace-in.ensures out c.add.ensures) (rw e at (f t goals many o)),
+      λ t goals many o. homed_more (rw (← (one d)) at (v.7 t goals many o)) (here d) (rest-lent _ c.before.before.before.before.before.before.before.before.before.before.before.before.before.before.before.before.before.before.before.before.place-in.ensures out c.add.ensures) (rw e at (f t goals many o)),
       n.1.1.1.1.1.1.0 ∙ v.8,
       home-at.ensures.below,
     )

@@ -174,7 +174,7 @@ loop-again c =
       k.1.1.1.1.1.0 ∙ v.4,
       omega (arith, out.1, v.5),
       home-more p.tabled p.most z.loopless start.args.goals.now l.r l.placement b.played.placed g hr v.6 (rw e at (f p.tabled bound z.owners)),
-      λ t. served-more (v.7 t) loop-test.true (rest-lent _ c.before.before.before.before.before.before.before.before.before.before.before.before.before.before.before.before.before.before.before.before.IsPlace-in.ensures out c.add.ensures) (rw e at (f t bound z.owners)),
+      λ t. served-more (v.7 t) loop-test.true (rest-lent _ c.before.before.before.before.before.before.before.before.before.before.before.before.before.before.before.before.before.before.before.before.place-in.ensures out c.add.ensures) (rw e at (f t bound z.owners)),
       k.1.1.1.1.1.1.0 ∙ v.8,
       carry.ensures.settles.below _ e,
     )

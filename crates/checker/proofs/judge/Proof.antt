@@ -30,12 +30,12 @@ enum-told-2 c = search rules
 
 returns-2 : tie.Need-returns-in-Lowest
 returns-2 c =
-    let s = c.before.before.before.before.before.before.before.before in
+    let s = c in
     ap (λ o. o >>= λ c. some (missed c)) (ap away_of (sym c.in-Lowest.is) ∙ c.lowest_away-away.ensures) ∙ ap (λ l. nine_ten (legality_of l) s.args.at.now s.args.goal.now) (sym c.in_default.is)
 
 returns-3 : tie.Need-returns-in-Nobody
 returns-3 c =
-    let s = c.before.before.before.before.before.before.before in
+    let s = c in
     ap (λ o. o >>= λ c. some (missed c)) (ap away_of (sym c.in-Nobody.is) ∙ c.lowest_away-away.ensures) ∙ ap (λ l. nine_ten (legality_of l) s.args.at.now s.args.goal.now) (sym c.in_default.is)
 
 pub judge_spec : {M : Type 1} → statement M

@@ -283,7 +283,7 @@ slice-aggregate-keep-second-4 c =
 mul-keep-second : tie.Need-overflow-mul-keep-second
 mul-keep-second c =
     let start = c.before.before.before.before.before.before.before.before.before.before.before.before.before.before.before.before.before.before.before.before.before.before.before.before.before.before.before.before.before.before.before.before.before.before.before.before.before.before.before.before.before.before.before.before.before.before.before.before.before.before.before in
-    search (rules, c.before.before.before.before.before.IsPlace-in.ensures, c.before.before.before.before.before.before.before.before.before.before.before.before.before.before.before.before.before.before.before.keep_one.auto.1.1.1.1.1.1.1.0, start.well-formed)
+    search (rules, c.before.before.before.before.before.place-in.ensures, c.before.before.before.before.before.before.before.before.before.before.before.before.before.before.before.before.before.before.before.keep_one.auto.1.1.1.1.1.1.1.0, start.well-formed)
 
 sub-keep-second : tie.Need-overflow-sub-keep-second
 sub-keep-second c = search rules
@@ -367,7 +367,7 @@ returns-4 c =
           let o = rw e at (keep_one.ensures.keeps (two_shown t h)) in
           let s = rw kw at keep-second2.ensures.clears in
           clears-as (clear_none (around-of t _ _ _ _ p.most z.junction join-row.ensures remove.ensures) p.most p.placed lowest-common.ensures if1.false)
-          (first_then o (clears-after (λ more sum a. rest-lent _ c.before.before.before.before.before.before.before.before.before.before.before.before.before.before.before.before.before.IsPlace-in.ensures c.before.before.out3.given a) (s t h) c.after.ensures));
+          (first_then o (clears-after (λ more sum a. rest-lent _ c.before.before.before.before.before.before.before.before.before.before.before.before.before.before.before.before.before.place-in.ensures c.before.before.out3.given a) (s t h) c.after.ensures));
     }
 
 pub clear_spec : {M : Type 1} → statement M

@@ -29,7 +29,7 @@ place-in-requires c κs = search rules
 mul-go-on : tie.Need-overflow-mul-go-on
 mul-go-on c =
     let start = c.before.before.before.before.before.before.before.before.before.before.before.before.before.before.before.before.before.before.before.before.before.before.before.before.before.before in
-    search (rules, c.before.before.before.IsPlace-in.ensures, c.before.before.before.before.before.before.before.before.before.before.before.before.before.before.before.before.clear.auto.1.1.1.1.1.1.0, start.well-formed)
+    search (rules, c.before.before.before.place-in.ensures, c.before.before.before.before.before.before.before.before.before.before.before.before.before.before.before.before.clear.auto.1.1.1.1.1.1.0, start.well-formed)
 
 sub-go-on : tie.Need-overflow-sub-go-on
 sub-go-on c = search rules
@@ -115,7 +115,7 @@ returns-2 c =
       clears = λ t s j.
           let k = (clear.ensures.clears t).single _ _ cleared2.given.1 in
           let there = still-there t.yard _ _ _ _ _ s p.placed.apart z.coupled.leads z.coupled.follows j _ k.played.moved in
-          two-in-time t.yard _ _ _ _ _ k (λ more sum a. rest-lent _ c.before.before.before.before.before.before.before.before.IsPlace-in.ensures c.before.before.out2.given a) ((rw kw at c.before.before.before.go_on.ensures.goes_on) t there) c.after.ensures;
+          two-in-time t.yard _ _ _ _ _ k (λ more sum a. rest-lent _ c.before.before.before.before.before.before.before.before.place-in.ensures c.before.before.out2.given a) ((rw kw at c.before.before.before.go_on.ensures.goes_on) t there) c.after.ensures;
     }
 
 same-length-9 : tie.Need-same-length-9

@@ -152,7 +152,7 @@ loop-again c =
       k.1.1.1.1.0 ∙ v.4,
       out.1 ∙ v.5,
       rw (arrived p.tabled p.most can b.played.placed (rw e at (f p.tabled))) (linked_on (length a.standing.now) a.table.now a.r.0 l.placement a.ahead.now l.i loop-test.true v.6),
-      λ t goals. going_more (v.7 t goals) loop-test.true (rest-lent _ c.before.before.before.before.before.before.before.before.before.before.before.before.before.before.before.before.before.before.before.before.IsPlace-in.ensures out c.add.ensures) (rw e at (f t)),
+      λ t goals. going_more (v.7 t goals) loop-test.true (rest-lent _ c.before.before.before.before.before.before.before.before.before.before.before.before.before.before.before.before.before.before.before.before.place-in.ensures out c.add.ensures) (rw e at (f t)),
       k.1.1.1.1.1.0 ∙ v.8,
       advance.ensures.below,
     )

@@ -6,32 +6,31 @@ use Rattle.printing.proofs.Lines.{plan-parts, plan-over}
 use Rattle.printing.proofs.plan.Statement.{statement}
 use Rattle.printing.proofs.plan.Tie as tie
 
-actions-requires : tie.Need-actions-requires
+actions-requires : tie.Need-actions-end-requires
 actions-requires c κs = search rules
 
 cost-requires : tie.Need-cost-requires
 cost-requires c κs = search rules
 
-same_length : tie.Need-same-length
+same_length : tie.Need-shape_of-out-then-crossings-le-CROSSINGS
 same_length c = search rules
 
-returns : tie.Need-returns
+returns : tie.Need-returns-then-crossings-le-CROSSINGS
 returns c =
-    let if1 = c.before.before.before.before.before.before.before.before.if1 in
-    let start = c.before.before.before.before.before.before.before.before.before.before.before in
-    rw (← plan-parts start.args.plan.now if1.true) (wrote_then c.before.before.before.before.before.before.actions.ensures.0 c.before.before.cost.ensures)
+    let if1 = c.if-crossings-le-CROSSINGS in
+    rw (← plan-parts c.args.plan.now if1.true) (wrote_then c.actions-end.ensures.0 c.cost.ensures)
 
 refusal-requires : tie.Need-refusal-requires
 refusal-requires c κs = search rules
 
-same-length-2 : tie.Need-same-length-2
+same-length-2 : tie.Need-shape_of-out
 same-length-2 c = search rules
 
-returns-2 : tie.Need-returns-2
-returns-2 c = rw (plan-over c.before.before.before.before.before.before.before.args.plan.now c.before.before.before.before.if1.false) c.before.before.refusal.ensures.0
+returns-2 : tie.Need-returns
+returns-2 c = rw (plan-over c.args.plan.now c.if-crossings-le-CROSSINGS.false) c.refusal.ensures.0
 
-pub plan-spec : {M : Type 1} → statement M
-plan-spec =
+pub plan_spec : {M : Type 1} → statement M
+plan_spec =
     tie.close
     (tie.spec
     actions-requires

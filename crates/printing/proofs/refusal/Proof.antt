@@ -12,84 +12,66 @@ use Rattle.printing.proofs.Lines.{refusal-plain, refusal-carried, some-carried, 
 use Rattle.printing.proofs.refusal.Statement.{statement}
 use Rattle.printing.proofs.refusal.Tie as tie
 
-slice-aggregate-put-named : tie.Need-slice-aggregate-put-named
-slice-aggregate-put-named c = search rules
-
 number-requires : tie.Need-number-requires
 number-requires c κs = search rules
 
-put-named-requires : tie.Need-put-named-requires
+put-named-requires : tie.Need-put_named-end-requires
 put-named-requires c κs = search rules
 
 carries-requires : tie.Need-carries-requires
 carries-requires c κs = search rules
 
-slice-aggregate-put-named-2 : tie.Need-slice-aggregate-put-named-2
-slice-aggregate-put-named-2 c = search rules
-
 carried-requires : tie.Need-carried-requires
 carried-requires c κs = search rules
 
-put-named-requires-2 : tie.Need-put-named-requires-2
+put-named-requires-2 : tie.Need-put_named-after-requires
 put-named-requires-2 c κs =
-    let number = c.before.before.before.before.before.before.before.before.number in
-    omega (arith, c.before.before.before.before.before.before.before.put-named.ensures.counted, named-short (text "; refused ") number.result (search rules))
+    let number = c.number in
+    omega (arith, c.put_named-end.ensures.counted, named-short (text "; refused ") number.result (search rules))
 
-slice-aggregate-put-text : tie.Need-slice-aggregate-put-text
-slice-aggregate-put-text c = search rules
-
-put-text-requires : tie.Need-put-text-requires
+put-text-requires : tie.Need-put_text-requires
 put-text-requires c κs =
-    let put-named = c.before.before.before.before.before.before.before.before.before.before.before.before.put-named in
-    let number = c.before.before.before.before.before.before.before.before.before.before.before.before.before.number in
-    omega (arith, c.before.before.before.before.put-named2.ensures.counted, put-named.ensures.counted, named-short (text "; refused ") number.result (search rules), named-short (text " ") c.before.before.before.before.before.carried.result (search rules))
+    let put-named = c.put_named-end in
+    let number = c.number in
+    omega (arith, c.put_named-after.ensures.counted, put-named.ensures.counted, named-short (text "; refused ") number.result (search rules), named-short (text " ") c.carried.result (search rules))
 
-same_length : tie.Need-same-length
+same_length : tie.Need-shape_of-out-then-carries
 same_length c = search rules
 
-returns : tie.Need-returns
+returns : tie.Need-returns-then-carries
 returns c =
-    let put-named2 = c.before.before.before.before.before.before.before.put-named2 in
-    let carried = c.before.before.before.before.before.before.before.before.carried in
-    let if1 = c.before.before.before.before.before.before.before.before.before.before.before.if1 in
-    let carries = c.before.before.before.before.before.before.before.before.before.before.before.before.carries in
-    let put-named = c.before.before.before.before.before.before.before.before.before.before.before.before.before.before.before.put-named in
-    let number = c.before.before.before.before.before.before.before.before.before.before.before.before.before.before.before.before.number in
-    let start = c.before.before.before.before.before.before.before.before.before.before.before.before.before.before.before.before.before.before.before.before in
-    (rw (← refusal-carried (refusal_of start.args.r) carried.result (some-carried _ _ (sym carries.ensures ∙ if1.true) carried.ensures), ← number.ensures) (wrote_then (wrote_then put-named.ensures put-named2.ensures) c.before.before.put-text.ensures), omega (arith, c.before.before.put-text.ensures.counted, put-named2.ensures.counted, put-named.ensures.counted, named-short (text "; refused ") number.result (search rules), named-short (text " ") carried.result (search rules)))
+    let put-named2 = c.put_named-after in
+    let carried = c.carried in
+    let if1 = c.if-carries in
+    let carries = c.carries in
+    let put-named = c.put_named-end in
+    let number = c.number in
+    (rw (← refusal-carried (refusal_of c.args.r) carried.result (some-carried _ _ (sym carries.ensures ∙ if1.true) carried.ensures), ← number.ensures) (wrote_then (wrote_then put-named.ensures put-named2.ensures) c.put_text.ensures), omega (arith, c.put_text.ensures.counted, put-named2.ensures.counted, put-named.ensures.counted, named-short (text "; refused ") number.result (search rules), named-short (text " ") carried.result (search rules)))
 
-slice-aggregate-put-text-2 : tie.Need-slice-aggregate-put-text-2
-slice-aggregate-put-text-2 c = search rules
+put-text-requires-2 : tie.Need-put_text-requires-2
+put-text-requires-2 c κs = omega (arith, c.put_named-end.ensures.counted, named-short (text "; refused ") c.number.result (search rules))
 
-put-text-requires-2 : tie.Need-put-text-requires-2
-put-text-requires-2 c κs = omega (arith, c.before.before.before.before.before.before.put-named.ensures.counted, named-short (text "; refused ") c.before.before.before.before.before.before.before.number.result (search rules))
-
-same-length-2 : tie.Need-same-length-2
+same-length-2 : tie.Need-shape_of-out
 same-length-2 c = search rules
 
-returns-2 : tie.Need-returns-2
+returns-2 : tie.Need-returns
 returns-2 c =
-    let put-named = c.before.before.before.before.before.before.before.before.before.put-named in
-    let number = c.before.before.before.before.before.before.before.before.before.before.number in
-    let start = c.before.before.before.before.before.before.before.before.before.before.before.before.before.before in
-    (rw (← refusal-plain (refusal_of start.args.r) (none-carried _ (sym c.before.before.before.before.before.before.carries.ensures ∙ c.before.before.before.before.before.if1.false)), ← number.ensures) (wrote_then put-named.ensures c.before.before.put-text2.ensures), omega (arith, c.before.before.put-text2.ensures.counted, put-named.ensures.counted, named-short (text "; refused ") number.result (search rules)))
+    let put-named = c.put_named-end in
+    let number = c.number in
+    (rw (← refusal-plain (refusal_of c.args.r) (none-carried _ (sym c.carries.ensures ∙ c.if-carries.false)), ← number.ensures) (wrote_then put-named.ensures c.put_text-2.ensures), omega (arith, c.put_text-2.ensures.counted, put-named.ensures.counted, named-short (text "; refused ") number.result (search rules)))
 
-pub refusal-spec : {M : Type 1} → statement M
-refusal-spec =
+pub refusal_spec : {M : Type 1} → statement M
+refusal_spec =
     tie.close
     (tie.spec
-    slice-aggregate-put-named
     number-requires
     put-named-requires
     carries-requires
-    slice-aggregate-put-named-2
     carried-requires
     put-named-requires-2
-    slice-aggregate-put-text
     put-text-requires
     same_length
     returns
-    slice-aggregate-put-text-2
     put-text-requires-2
     same-length-2
     returns-2)

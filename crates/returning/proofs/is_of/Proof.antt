@@ -6,11 +6,11 @@ use borrow.Author.Rules.{rules}
 use Rattle.returning.proofs.is_of.Statement.{statement}
 use Rattle.returning.proofs.is_of.Tie as tie
 
-crossing-at-requires : tie.Need-crossing-at-requires
+crossing-at-requires : tie.Need-crossing_at-x-requires
 crossing-at-requires c κs = search rules
 
 returns : tie.Need-returns
-returns c = ap (is_of c.before.before.before.before.args.carrier.0) c.before.before.crossing-at.ensures
+returns c = ap (is_of c.args.carrier.0) c.crossing_at-x.ensures
 
-pub is-of-spec : {M : Type 1} → statement M
-is-of-spec = tie.close (tie.spec crossing-at-requires returns)
+pub is_of_spec : {M : Type 1} → statement M
+is_of_spec = tie.close (tie.spec crossing-at-requires returns)

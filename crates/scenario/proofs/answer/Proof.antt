@@ -5,20 +5,20 @@ use Rattle.scenario.proofs.Ending.{answer-version, answer-failed, answer-good}
 use Rattle.scenario.proofs.answer.Statement.{statement}
 use Rattle.scenario.proofs.answer.Tie as tie
 
-returns : tie.Need-returns
-returns c = answer-version c.before.args.s c.if1.true
+returns : tie.Need-returns-then-s
+returns c = answer-version c.args.s c.if-s.true
 
-cast-t3 : tie.Need-overflow-cast-t3
+cast-t3 : tie.Need-overflow_cast-result
 cast-t3 c = search rules
 
-add-t4 : tie.Need-overflow-add-t4
+add-t4 : tie.Need-overflow_add-result
 add-t4 c = search rules
 
-returns-2 : tie.Need-returns-2
-returns-2 c = answer-failed c.before.before.before.args.s c.before.before.if1.false c.before.if2.true
+returns-2 : tie.Need-returns-then-s-2
+returns-2 c = answer-failed c.args.s c.if-s.false c.if-s-2.true
 
-returns-3 : tie.Need-returns-3
-returns-3 c = answer-good c.before.before.args.s c.before.if1.false c.if2.false
+returns-3 : tie.Need-returns
+returns-3 c = answer-good c.args.s c.if-s.false c.if-s-2.false
 
-pub answer-spec : {M : Type 1} → statement M
-answer-spec = tie.close (tie.spec returns cast-t3 add-t4 returns-2 returns-3)
+pub answer_spec : {M : Type 1} → statement M
+answer_spec = tie.close (tie.spec returns cast-t3 add-t4 returns-2 returns-3)

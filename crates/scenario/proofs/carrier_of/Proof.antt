@@ -12,52 +12,48 @@ use Rattle.scenario.proofs.carrier_of.Tie as tie
 both-requires : tie.Need-both-requires
 both-requires c κs = search rules
 
-bay-in-requires : tie.Need-bay-in-requires
+bay-in-requires : tie.Need-bay_in-start-requires
 bay-in-requires c κs = search rules
 
-enum-known-start : tie.Need-enum-known-start
+enum-known-start : tie.Need-enum_known-start
 enum-known-start c = search rules
 
-enum_told : tie.Need-enum-told
+enum_told : tie.Need-enum_told-1
 enum_told c = search rules
 
-returns : tie.Need-returns
+returns : tie.Need-returns-in_default
 returns c =
-    let both = c.before.before.before.before.both in
-    let start = c.before.before.before.before.before.before.before in
-    carrier-wall start.args.grid.width start.args.grid.height (bay_by start.args.cells.now start.args.grid) (past_of start.args.p) both.result both.ensures c.before.before.before.if1.true (ap cell_of (sym c.enum_told.given.1) ∙ c.before.before.bay-in.ensures)
+    let both = c.both in
+    carrier-wall c.args.grid.width c.args.grid.height (bay_by c.args.cells.now c.args.grid) (past_of c.args.p) both.result both.ensures c.if-both.true (ap cell_of (sym c.in_default.is) ∙ c.bay_in-start.ensures)
 
-bay-in-requires-2 : tie.Need-bay-in-requires-2
+bay-in-requires-2 : tie.Need-bay_in-goal-requires
 bay-in-requires-2 c κs = search rules
 
-enum-known-goal : tie.Need-enum-known-goal
+enum-known-goal : tie.Need-enum_known-goal
 enum-known-goal c = search rules
 
-enum-told-2 : tie.Need-enum-told-2
+enum-told-2 : tie.Need-enum_told-in_default-goal
 enum-told-2 c = search rules
 
-returns-2 : tie.Need-returns-2
+returns-2 : tie.Need-returns-in_default-goal
 returns-2 c =
-    let start-2 = c.before.before.before.before.start in
-    let both = c.before.before.before.before.before.before.before.before.both in
-    let start = c.before.before.before.before.before.before.before.before.before.before.before in
-    carrier-wall-2 start.args.grid.width start.args.grid.height (bay_by start.args.cells.now start.args.grid) (past_of start.args.p) both.result both.ensures c.before.before.before.before.before.before.before.if1.true start-2.given.0.0 (ap cell_of (sym start-2.given.1) ∙ c.before.before.before.before.before.before.bay-in.ensures) (ap cell_of (sym c.enum-told2.given.1) ∙ c.before.before.bay-in2.ensures)
+   
+    let both = c.both in
+    carrier-wall-2 c.args.grid.width c.args.grid.height (bay_by c.args.cells.now c.args.grid) (past_of c.args.p) both.result both.ensures c.if-both.true c.in-Bay.s (ap cell_of (sym c.in-Bay.is) ∙ c.bay_in-start.ensures) (ap cell_of (sym c.in_default-goal.is) ∙ c.bay_in-goal.ensures)
 
-returns-3 : tie.Need-returns-3
+returns-3 : tie.Need-returns-then-both
 returns-3 c =
-    let start-2 = c.before.before.before.before.before.start in
-    let if1 = c.before.before.before.before.before.before.before.before.if1 in
-    let both = c.before.before.before.before.before.before.before.before.before.both in
-    let start = c.before.before.before.before.before.before.before.before.before.before.before.before in
-    carrier-at start.args.grid.width start.args.grid.height (bay_by start.args.cells.now start.args.grid) (past_of start.args.p) both.result both.ensures if1.true start-2.given.0.0 (ap cell_of (sym start-2.given.1) ∙ c.before.before.before.before.before.before.before.bay-in.ensures) c.before.goal.given.0.0 (ap cell_of (sym c.before.goal.given.1) ∙ c.before.before.before.bay-in2.ensures)
+   
+    let if1 = c.if-both in
+    let both = c.both in
+    carrier-at c.args.grid.width c.args.grid.height (bay_by c.args.cells.now c.args.grid) (past_of c.args.p) both.result both.ensures if1.true c.in-Bay.s (ap cell_of (sym c.in-Bay.is) ∙ c.bay_in-start.ensures) c.in-Bay-goal.g (ap cell_of (sym c.in-Bay-goal.is) ∙ c.bay_in-goal.ensures)
 
-returns-4 : tie.Need-returns-4
+returns-4 : tie.Need-returns
 returns-4 c =
-    let start = c.before.before.before.before in
-    carrier-bad start.args.grid.width start.args.grid.height (bay_by start.args.cells.now start.args.grid) (past_of start.args.p) c.before.both.result c.before.both.ensures c.if1.false
+    carrier-bad c.args.grid.width c.args.grid.height (bay_by c.args.cells.now c.args.grid) (past_of c.args.p) c.both.result c.both.ensures c.if-both.false
 
-pub carrier-of-spec : {M : Type 1} → statement M
-carrier-of-spec =
+pub carrier_of_spec : {M : Type 1} → statement M
+carrier_of_spec =
     tie.close
     (tie.spec
     both-requires

@@ -5,8 +5,8 @@ use Rattle.scenario.proofs.Ending.{finishes-failed, finishes-between, finishes-l
 use Rattle.scenario.proofs.finished.Statement.{statement}
 use Rattle.scenario.proofs.finished.Tie as tie
 
-returns : tie.Need-returns
-returns c = λ o. finishes-failed c.before.before.args.cells.now c.before.before.args.grid c.before.before.args.s o c.if1.true
+returns : tie.Need-returns-then-s
+returns c = λ o. finishes-failed c.args.cells.now c.args.grid c.args.s o c.if-s.true
 
 released-requires : tie.Need-released-requires
 released-requires c κs = search rules
@@ -14,15 +14,13 @@ released-requires c κs = search rules
 closed-requires : tie.Need-closed-requires
 closed-requires c κs = search rules
 
-returns-2 : tie.Need-returns-2
+returns-2 : tie.Need-returns-then-s-2
 returns-2 c =
-    let start = c.before.before.before.before.before in
-    λ o. finishes-line start.args.cells.now start.args.grid start.args.s c.before.before.before.if1.false c.before.before.if2.true o _ c.before.released.ensures _ c.closed.ensures
+    λ o. finishes-line c.args.cells.now c.args.grid c.args.s c.if-s.false c.if-s-2.true o _ c.released.ensures _ c.closed.ensures
 
-returns-3 : tie.Need-returns-3
+returns-3 : tie.Need-returns
 returns-3 c =
-    let start = c.before.before.before in
-    λ o. finishes-between start.args.cells.now start.args.grid start.args.s c.before.if1.false o c.if2.false
+    λ o. finishes-between c.args.cells.now c.args.grid c.args.s c.if-s.false o c.if-s-2.false
 
-pub finished-spec : {M : Type 1} → statement M
-finished-spec = tie.close (tie.spec returns released-requires closed-requires returns-2 returns-3)
+pub finished_spec : {M : Type 1} → statement M
+finished_spec = tie.close (tie.spec returns released-requires closed-requires returns-2 returns-3)

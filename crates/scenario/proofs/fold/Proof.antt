@@ -8,26 +8,26 @@ use Rattle.scenario.proofs.fold.Tie as tie
 start-requires : tie.Need-start-requires
 start-requires c κs = search rules
 
-feed-on-requires : tie.Need-feed-on-requires
+feed-on-requires : tie.Need-feed_on-s-requires
 feed-on-requires c κs = search rules
 
-finish-on-requires : tie.Need-finish-on-requires
+finish-on-requires : tie.Need-finish_on-requires
 finish-on-requires c κs = search rules
 
-same_length : tie.Need-same-length
+same_length : tie.Need-shape_of-starts
 same_length c = search rules
 
-same-length-2 : tie.Need-same-length-2
+same-length-2 : tie.Need-shape_of-goals
 same-length-2 c = search rules
 
 returns : tie.Need-returns
 returns c =
-    let feed-on = c.before.before.before.before.before.before.before.before.before.before.before.feed-on in
-    let start-3 = c.before.before.before.before.before.before.before.before.before.before.before.before.before.before.start in
+    let feed-on = c.feed_on-s in
+    let start-3 = c.start in
     let start-place = c.before.before.before.before.before.before.before.before.before.before.before.before.before.before.before.before.before.before.before in
-    let start = start-place.args in came-all start.cells.now start.grid start.file.now _ _ _ start-3.ensures feed-on.ensures c.before.before.before.before.finish-on.ensures
+    let start = start-place.args in came-all start.cells.now start.grid start.file.now _ _ _ start-3.ensures feed-on.ensures c.finish_on.ensures
 
-pub fold-spec : {M : Type 1} → statement M
-fold-spec =
+pub fold_spec : {M : Type 1} → statement M
+fold_spec =
     tie.close
     (tie.spec start-requires feed-on-requires finish-on-requires same_length same-length-2 returns)

@@ -8,37 +8,36 @@ use Rattle.fields.specs.ReadAs.{past_of}
 use Rattle.scenario.proofs.on_byte.Statement.{statement}
 use Rattle.scenario.proofs.on_byte.Tie as tie
 
-text-seen-requires : tie.Need-text-seen-requires
+text-seen-requires : tie.Need-text_seen-t-requires
 text-seen-requires c κs = search rules
 
-returns : tie.Need-returns
+returns : tie.Need-returns-then-s
 unfolding in_line
-returns c = record { failed = refl; version = refl; count = refl; under = λ bay cs. rw c.before.if1.true (ap in_version c.text-seen.ensures) }
+returns c = record { failed = refl; version = refl; count = refl; under = λ bay cs. rw c.if-s.true (ap in_version c.text_seen-t.ensures) }
 
-cast-field-past : tie.Need-overflow-cast-field-past
+cast-field-past : tie.Need-overflow_cast-grid
 cast-field-past c = search rules
 
-cast-field-past-2 : tie.Need-overflow-cast-field-past-2
+cast-field-past-2 : tie.Need-overflow_cast-grid-then-b-eq9
 cast-field-past-2 c = search rules
 
-field-past-requires : tie.Need-field-past-requires
+field-past-requires : tie.Need-field_past-p-requires
 field-past-requires c κs = search rules
 
-returns-2 : tie.Need-returns-2
+returns-2 : tie.Need-returns-then-b-eq9
 unfolding in_line
-returns-2 c = record { failed = refl; version = refl; count = refl; under = λ bay cs. rw (c.before.before.before.before.if1.false, eq-eqb c.before.before.before.before.before.args.b 9 c.before.before.before.if2.true) (ap (λ p. in_carrier cs p blank) c.field_past.ensures) }
+returns-2 c = record { failed = refl; version = refl; count = refl; under = λ bay cs. rw (c.if-s.false, eq-eqb c.args.b 9 c.if-b-eq9.true) (ap (λ p. in_carrier cs p blank) c.field_past-p.ensures) }
 
-seen-requires : tie.Need-seen-requires
+seen-requires : tie.Need-seen-f-requires
 seen-requires c κs = search rules
 
-returns-3 : tie.Need-returns-3
+returns-3 : tie.Need-returns
 unfolding in_line
 returns-3 c =
-    let start = c.before.before.before in
-    record { failed = refl; version = refl; count = refl; under = λ bay cs. rw (c.before.before.if1.false, ne_eqb start.args.b 9 c.before.if2.false) (ap (in_carrier cs (past_of start.args.s.past)) c.seen.ensures) }
+    record { failed = refl; version = refl; count = refl; under = λ bay cs. rw (c.if-s.false, ne_eqb c.args.b 9 c.if-b-eq9.false) (ap (in_carrier cs (past_of c.args.s.past)) c.seen-f.ensures) }
 
-pub on-byte-spec : {M : Type 1} → statement M
-on-byte-spec =
+pub on_byte_spec : {M : Type 1} → statement M
+on_byte_spec =
     tie.close
     (tie.spec
     text-seen-requires

@@ -5,38 +5,35 @@ use Rattle.scenario.proofs.Stepping.{steps-failed, steps-end, steps-cr, steps_on
 use Rattle.scenario.proofs.step.Statement.{statement}
 use Rattle.scenario.proofs.step.Tie as tie
 
-returns : tie.Need-returns
-returns c = λ o. steps-failed c.before.before.args.cells.now c.before.before.args.grid c.before.before.args.s c.before.before.args.b o c.if1.true
+returns : tie.Need-returns-then-s
+returns c = λ o. steps-failed c.args.cells.now c.args.grid c.args.s c.args.b o c.if-s.true
 
 closed-requires : tie.Need-closed-requires
 closed-requires c κs = search rules
 
-returns-2 : tie.Need-returns-2
+returns-2 : tie.Need-returns-then-b-eq10
 returns-2 c =
-    let start = c.before.before.before.before in
-    λ o. steps-end start.args.cells.now start.args.grid start.args.s start.args.b o c.before.before.if1.false c.before.if2.true _ (c.closed.ensures o)
+    λ o. steps-end c.args.cells.now c.args.grid c.args.s c.args.b o c.if-s.false c.if-b-eq10.true _ (c.closed.ensures o)
 
-released-requires : tie.Need-released-requires
+released-requires : tie.Need-released-u-requires
 released-requires c κs = search rules
 
 marked-requires : tie.Need-marked-requires
 marked-requires c κs = search rules
 
-returns-3 : tie.Need-returns-3
+returns-3 : tie.Need-returns-then-b-eq13
 returns-3 c =
-    let start = c.before.before.before.before.before.before in
-    λ o. steps-cr start.args.cells.now start.args.grid start.args.s start.args.b o c.before.before.before.before.if1.false c.before.before.before.if2.false _ c.before.before.released.ensures c.before.if3.true _ c.marked.ensures
+    λ o. steps-cr c.args.cells.now c.args.grid c.args.s c.args.b o c.if-s.false c.if-b-eq10.false _ c.released-u.ensures c.if-b-eq13.true _ c.marked.ensures
 
-on-byte-requires : tie.Need-on-byte-requires
+on-byte-requires : tie.Need-on_byte-requires
 on-byte-requires c κs = search rules
 
 marked-requires-2 : tie.Need-marked-requires-2
 marked-requires-2 c κs = search rules
 
-returns-4 : tie.Need-returns-4
+returns-4 : tie.Need-returns
 returns-4 c =
-    let start = c.before.before.before.before.before.before.before in
-    λ o. steps_on start.args.cells.now start.args.grid start.args.s start.args.b o c.before.before.before.before.before.if1.false c.before.before.before.before.if2.false _ c.before.before.before.released.ensures c.before.before.if3.false _ c.before.on-byte.ensures _ c.marked2.ensures
+    λ o. steps_on c.args.cells.now c.args.grid c.args.s c.args.b o c.if-s.false c.if-b-eq10.false _ c.released-u.ensures c.if-b-eq13.false _ c.on_byte.ensures _ c.marked-2.ensures
 
 pub step_spec : {M : Type 1} → statement M
 step_spec =

@@ -5,11 +5,11 @@ use Rattle.scenario.proofs.Taking.{with-count}
 use Rattle.scenario.proofs.taken.Statement.{statement}
 use Rattle.scenario.proofs.taken.Tie as tie
 
-counted-requires : tie.Need-counted-requires
+counted-requires : tie.Need-counted-n-requires
 counted-requires c κs = search rules
 
 returns : tie.Need-returns
-returns c = with-count c.before.args.s c.counted.result c.counted.ensures
+returns c = with-count c.args.s c.counted-n.result c.counted-n.ensures
 
-pub taken-spec : {M : Type 1} → statement M
-taken-spec = tie.close (tie.spec counted-requires returns)
+pub taken_spec : {M : Type 1} → statement M
+taken_spec = tie.close (tie.spec counted-requires returns)

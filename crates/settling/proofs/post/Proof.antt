@@ -12,37 +12,36 @@ use Rattle.held_lines.specs.Lines.{line_at}
 use Rattle.settling.proofs.post.Statement.{statement}
 use Rattle.settling.proofs.post.Tie as tie
 
-crossing-at-requires : tie.Need-crossing-at-requires
+crossing-at-requires : tie.Need-crossing_at-x-requires
 crossing-at-requires c κs = search rules
 
-cast-carrier : tie.Need-overflow-cast-carrier
+cast-carrier : tie.Need-overflow_cast-carrier
 cast-carrier c = search rules
 
 posted-requires : tie.Need-posted-requires
-posted-requires c κs = let s = c.before.before.before in ((fits-named most_bays most_bays s.args.plan.now s.requires.0.fits s.args.name s.requires.0.inside (crossing_of c.before.crossing-at.result) c.before.crossing-at.ensures).0, s.requires.0.not_all)
+posted-requires c κs = ((fits-named most_bays most_bays c.args.plan.now c.requires.0.fits c.args.name c.requires.0.inside (crossing_of c.crossing_at-x.result) c.crossing_at-x.ensures).0, c.requires.0.not_all)
 
-line-at-requires : tie.Need-line-at-requires
+line-at-requires : tie.Need-line_at-requires
 line-at-requires c κs = search rules
 
-cast-charged : tie.Need-overflow-cast-charged
+cast-charged : tie.Need-overflow_cast-name
 cast-charged c = search rules
 
 charged-requires : tie.Need-charged-requires
-charged-requires c κs = let s = c.before.before.before.before.before in rw (ap (λ (l : Line). l.billed) (c.line-at.ensures ∙ ap (λ (y : Crossing). line_at s.args.held y.carrier) c.before.before.before.crossing-at.ensures)) s.requires.0.not_full
+charged-requires c κs = rw (ap (λ (l : Line). l.billed) (c.line_at.ensures ∙ ap (λ (y : Crossing). line_at c.args.held y.carrier) c.crossing_at-x.ensures)) c.requires.0.not_full
 
 returns : tie.Need-returns
 returns c =
-    let s = c.before.before.before.before.before.before in
-    let x = c.before.before.before.before.crossing-at.ensures in
+    let x = c.crossing_at-x.ensures in
     record {
       answers = refl;
-      leaves = c.before.before.posted.ensures ∙ ap₂ (posted s.args.running) x (s.requires.1 s.requires.0.inside);
+      leaves = c.posted.ensures ∙ ap₂ (posted c.args.running) x (c.requires.1 c.requires.0.inside);
       place = ap (λ (y : Crossing). y.carrier) x;
-      line_then = c.charged.ensures ∙ ap (λ (l : Line). charged l s.args.name) (c.before.line-at.ensures ∙ ap (λ (y : Crossing). line_at s.args.held y.carrier) x);
+      line_then = c.charged.ensures ∙ ap (λ (l : Line). charged l c.args.name) (c.line_at.ensures ∙ ap (λ (y : Crossing). line_at c.args.held y.carrier) x);
     }
 
-pub post-spec : {M : Type 1} → statement M
-post-spec =
+pub post_spec : {M : Type 1} → statement M
+post_spec =
     tie.close
     (tie.spec
     crossing-at-requires

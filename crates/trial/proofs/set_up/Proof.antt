@@ -61,7 +61,7 @@ place-in-requires c κs = search rules
 mul-clear-two : tie.Need-overflow-mul-clear-two
 mul-clear-two c =
     let start = c.before.before.before.before.before.before.before.before.before.before.before.before.before.before.before.before.before.before.before.before.before.before.before.before.before.before.before.before.before in
-    search (rules, c.before.before.before.IsPlace-in.ensures, c.before.before.before.before.before.before.before.before.before.before.before.before.before.before.before.before.before.before.bring.auto.1.1.1.1.1.1.0, start.well-formed)
+    search (rules, c.before.before.before.place-in.ensures, c.before.before.before.before.before.before.before.before.before.before.before.before.before.before.before.before.before.before.bring.auto.1.1.1.1.1.1.0, start.well-formed)
 
 sub-clear-two : tie.Need-overflow-sub-clear-two
 sub-clear-two c = search rules
@@ -126,7 +126,7 @@ returns-2 c =
       sets_up = λ t led.
           let x = tried-done (rw e at (bring.ensures.tries t)) in
           let there = at-junction x.0 led p.placed.apart z.coupled.leads z.coupled.follows z.coupled.differ x.1 _ x.2.moved in
-          set-up-all x.0 x.1 x.2 (λ more sum a. rest-lent _ c.before.before.before.before.before.before.before.before.before.before.before.before.before.before.IsPlace-in.ensures c.before.before.out2.given a) ((rw kw at clear-two.ensures.clears) t led.sound there) c.after.ensures;
+          set-up-all x.0 x.1 x.2 (λ more sum a. rest-lent _ c.before.before.before.before.before.before.before.before.before.before.before.before.before.before.place-in.ensures c.before.before.out2.given a) ((rw kw at clear-two.ensures.clears) t led.sound there) c.after.ensures;
     }
 
 pub set-up-spec : {M : Type 1} → statement M
