@@ -1,5 +1,7 @@
 // What every action is lent and what it answers: it is lent the rest of the list, counts from nothing, and answers a tally of what it made. Here too:
 // vacating and crossing counted so.
+#![tactic(auto)]
+
 ghost use Rattle.std.specs.Prelude.{◌≡◌, min, ◌+◌, ◌*◌, ◌≤◌, ◌<◌, length};
 ghost use Rattle.words.specs.Sets.{words, span};
 ghost use Rattle.moving.specs.Bounds.{room_crossing};

@@ -1,5 +1,7 @@
 // What plan, start and marks give worked out afresh, in one pass over a plan that has passed the check and marks that are in order. The marks are counted
 // apart, many at a time.
+#![tactic(auto)]
+
 ghost use Rattle.std.specs.Prelude.{◌≡◌, ◌≤◌, max, eqb, length, replicate};
 ghost use Rattle.paper.specs.Basics.{if◌then◌else◌};
 ghost use Rattle.paper.specs.Limits.{most_bays};

@@ -1,4 +1,6 @@
 // Whether record and lines are what plan, start and marks give: the refusals that come first, all of it worked out afresh, and the comparison.
+#![tactic(auto)]
+
 ghost use Rattle.std.specs.Prelude.{◌≡◌};
 ghost use Rattle.paper.specs.Order.{order};
 ghost use Rattle.checker.specs.Reading.{checked_of};

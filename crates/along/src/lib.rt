@@ -1,4 +1,6 @@
 // A carrier goes its shortest path to its goal, in a carousel past the finished carriers. There it is finished.
+#![tactic(auto)]
+
 ghost use Rattle.std.specs.Prelude.{◌≡◌, length};
 ghost use Rattle.words.specs.Sets.{span};
 ghost use Rattle.rings.specs.Ways.{PathAsks};

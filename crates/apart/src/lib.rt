@@ -1,4 +1,6 @@
 // The lowest bay that is not reached from bay 0: refusal 3.
+#![tactic(auto)]
+
 ghost use Rattle.std.specs.Prelude.{◌≡◌, [], ◌∷◌, ◌*◌, ◌^◌, ◌≤◌, ◌<◌, length};
 ghost use Rattle.paper.specs.Limits.{most_bays};
 ghost use Rattle.paper.specs.Yard.{Yard};

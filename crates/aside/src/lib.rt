@@ -1,4 +1,6 @@
 // Two neighbours of a junction are emptied one after the other, holding the junction and a third.
+#![tactic(auto)]
+
 ghost use Rattle.acting.specs.Acting.{Ready};
 ghost use Rattle.aside.specs.Asking.{AsideAsks, AsideSays};
 

@@ -1,5 +1,7 @@
 // One kept bay e of a junction, and what an attempt to empty another neighbour x beside it needs: the second way to do so, and copies, on
 // which it is played.
+#![tactic(auto)]
+
 ghost use Rattle.std.specs.Prelude.{◌≡◌, ◌≤◌, length, take};
 ghost use Rattle.acting.specs.Acting.{Ready};
 ghost use Rattle.attempts.specs.Asking.{AroundSays, AttemptAsks};

@@ -1,4 +1,6 @@
 // Whether nothing of a plan is done, by its marks.
+#![tactic(auto)]
+
 ghost use Rattle.std.specs.Prelude.{◌≡◌};
 ghost use Rattle.begun.specs.Fresh.{any_set, is_fresh};
 

@@ -1,4 +1,5 @@
 // What is kept beside a plan as its reports come in: one running record and one account line for each carrier. C reads both, so their fields lie in order.
+#![tactic(auto)]
 
 // Where the carriers stand, how many crossings are done, and the highest slot in which anything is done, or 0. The places beyond the carriers are 0.
 #[repr(C)]

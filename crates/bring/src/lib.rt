@@ -1,4 +1,6 @@
 // Bring: two carriers go to a junction one behind the other.
+#![tactic(auto)]
+
 ghost use Rattle.std.specs.Prelude.{[], ◌∷◌};
 ghost use Rattle.acting.specs.Acting.{Ready};
 ghost use Rattle.bring.specs.Bringing.{EnterAsks, EnterSays, OneAsks, BringAsks, BringSays};

@@ -1,5 +1,7 @@
 // The carriers of a scenario, as they are counted and stored: none before the version, no 255th, and each with its start and goal at its number's
 // place in the two lent lists.
+#![tactic(auto)]
+
 ghost use Rattle.std.specs.Prelude.{◌≡◌};
 ghost use Rattle.carrier_lists.specs.Counting.{count_in, kept};
 

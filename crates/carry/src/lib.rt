@@ -1,4 +1,6 @@
 // A carrier's turn: it goes its shortest path, in a carousel past the finished ones, and then those that it displaced go home.
+#![tactic(auto)]
+
 ghost use Rattle.acting.specs.Acting.{Ready};
 ghost use Rattle.along.specs.Along.{TurnAsks};
 ghost use Rattle.carry.specs.Carrying.{OwnedAsks, CarrySays};

@@ -1,4 +1,6 @@
 // The procedure: carriers by rising number, each with its turn.
+#![tactic(auto)]
+
 ghost use Rattle.acting.specs.Acting.{Ready};
 ghost use Rattle.carry_all.specs.Serving.{CarryAllAsks, CarryAllSays};
 

@@ -1,5 +1,7 @@
 // Numbers written in decimal between blanks, read from bytes: what the programs that run the vectors read their cases with.
 // A list stands as its count and then its numbers.
+#![tactic(auto)]
+
 ghost use Rattle.std.specs.Prelude.{◌≡◌, ◌+◌, ◌*◌, ◌%◌, ◌^◌, ◌<◌, ◌≤◌, length, take, drop};
 ghost use Rattle.cases.specs.Numerals.{is_digit, from_digit, Reads};
 

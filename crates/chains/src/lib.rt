@@ -1,5 +1,7 @@
 // Links between the crossings of a plan that share a bay or a carrier. Each leads past crossings that cannot be what a search looks for. Crossings are dropped
 // and never come back, so a link stays right; a search that follows several puts the first one right up to what it found.
+#![tactic(auto)]
+
 ghost use Rattle.std.specs.Prelude.{◌≡◌, [], ◌<◌};
 ghost use Rattle.paper.specs.Yard.{most_crossings};
 ghost use Rattle.chains.specs.Links.{Linked, Ahead};

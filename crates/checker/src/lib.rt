@@ -1,5 +1,7 @@
 // The plan check: refusals 1 to 6 by the yard's opening, then 9 and 10 by playing the plan from the start.
 // It takes any plan and never asks the planner.
+#![tactic(auto)]
+
 ghost use Rattle.std.specs.Prelude.{◌≡◌, false, ℕ, ◌*◌, ◌≤◌, length};
 ghost use Rattle.paper.specs.Yard.{crossings};
 ghost use Rattle.paper.specs.Order.{order};

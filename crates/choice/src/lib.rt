@@ -1,5 +1,7 @@
 // The choice among bays that are equally near: the one with fewest rails, and only then the lowest number. Every search for the nearest empty bay
 // takes its answer from here.
+#![tactic(auto)]
+
 ghost use Rattle.std.specs.Prelude.{◌≡◌, not, ℕ, ◌+◌, ◌*◌, ◌≤◌, ◌<◌, length};
 ghost use Rattle.paper.specs.Basics.{◌and◌};
 ghost use Rattle.words.specs.Sets.{mem, mem_row, words, span};

@@ -1,5 +1,7 @@
 // Clear, once through the neighbours of the junction other than the follower's bay: two of them are kept empty, the empty ones first,
 // then those that can be vacated, in rising order.
+#![tactic(auto)]
+
 ghost use Rattle.acting.specs.Acting.{Ready};
 ghost use Rattle.clear.specs.Clearing.{ClearAsks, ClearSays};
 

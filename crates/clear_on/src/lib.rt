@@ -1,5 +1,7 @@
 // Clearing goes on where it ended with one kept bay e: another neighbour x of the junction is emptied beside it, by the first attempt that
 // succeeds.
+#![tactic(auto)]
+
 ghost use Rattle.acting.specs.Acting.{Ready};
 ghost use Rattle.attempts.specs.Asking.{KeptAsks};
 ghost use Rattle.clear_on.specs.Going.{After, AfterAsks};

@@ -1,5 +1,7 @@
 // Two lists of crossings compared: how many leading crossings are equal, the rest of the longer list, and each carrier's difference.
 // All is tested and counted before anything is written, so a refusal leaves the differences as they were.
+#![tactic(auto)]
+
 ghost use Rattle.std.specs.Prelude.{◌≡◌, ◌≤◌, length, replicate};
 ghost use Rattle.paper.specs.Basics.{or_else};
 ghost use Rattle.paper.specs.Limits.{most_carriers};

@@ -1,4 +1,6 @@
 // A list copied to the front of another.
+#![tactic(auto)]
+
 ghost use Rattle.std.specs.Prelude.{◌≡◌, ◌++◌, ◌≤◌, length, drop};
 
 // Bytes.

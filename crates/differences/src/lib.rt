@@ -1,4 +1,6 @@
 // Each carrier's difference: its crossings in the second list less those in the first.
+#![tactic(auto)]
+
 ghost use Rattle.std.specs.Prelude.{◌≡◌, pos, ◌-ℤ◌, length};
 ghost use Rattle.paper.specs.Limits.{most_carriers};
 ghost use Rattle.differences.specs.Filled.{FillSays};

@@ -1,5 +1,7 @@
 // What stands on a docket: bays, carriers, crossings with their 64-bit number, and refusals with theirs.
 // Bay and Carrier are types of their own: a bay number where a carrier's is due does not pass the compiler.
+#![tactic(auto)]
+
 ghost use Rattle.std.specs.Prelude.{◌≡◌};
 ghost use Rattle.std.proofs.Math.Option.{get_or};
 ghost use Rattle.paper.specs.Yard.{pack as packed, unpack as unpacked};

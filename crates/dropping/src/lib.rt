@@ -1,6 +1,8 @@
 // There-and-back trips dropped, cut after cut. Every crossing keeps its place; a byte beside each says whether it is dropped, and a set of names says where
 // a trip may begin. A cut drops one carrier's crossings, so only leavings whose next entering was dropped are looked at again. The lowest name of the set
 // is found word by word, since a cut sends the look back. A search by bay or carrier goes by links, past the crossings that cannot be what it looks for.
+#![tactic(auto)]
+
 ghost use Rattle.std.specs.Prelude.{◌≡◌, suc, ◌≤◌, ◌<◌, ◌*◌, ◌-◌, eqb, length, get_or};
 ghost use Rattle.paper.specs.Basics.{◌and◌, if◌then◌else◌};
 ghost use Rattle.paper.specs.Yard.{crossings, named};

@@ -1,4 +1,6 @@
 // The lines of a surveyors' file: what is known of the line under way, and what a line that ends makes of it.
+#![tactic(auto)]
+
 ghost use Rattle.edge_lines.specs.Lines.{OneMore, Opened, Broken, Marked, Takes, Closes};
 
 // What is due: the `p` line; or, with its bays and rails and how many ends were read since, a rail.

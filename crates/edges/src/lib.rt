@@ -1,5 +1,7 @@
 // The surveyors' file byte by byte: a state of fixed size goes in and comes out. The ends read so far are no part of it: it has their
 // count and the last rail, which `feed` stores where the count has grown. So a file of any length is read in the same room.
+#![tactic(auto)]
+
 ghost use Rattle.std.specs.Prelude.{◌≡◌, List, [], ℕ, ◌≤◌, length, drop};
 ghost use Rattle.paper.specs.Basics.{if◌then◌else◌};
 ghost use Rattle.paper.specs.Text.{Text, is_digit};

@@ -1,5 +1,7 @@
 // Slots by either edition, in the documents' order of tests, for any input at all. Reports and bills go on by the first edition, so they
 // never ask this crate.
+#![tactic(auto)]
+
 ghost use Rattle.std.specs.Prelude.{◌≡◌, ◌++◌, ◌≤◌, length, drop};
 ghost use Rattle.paper.specs.Limits.{most_bays};
 ghost use Rattle.paper.specs.Yard.{crossings, most_crossings};

@@ -1,5 +1,7 @@
 // The attempts to empty another neighbour of a junction beside the kept one: with each the first way, and if that never works the second. Each is
 // played on copies and logged from the log's start, so that one that fails is forgotten.
+#![tactic(auto)]
+
 ghost use Rattle.acting.specs.Acting.{Ready};
 ghost use Rattle.attempts.specs.Asking.{AttemptAsks};
 ghost use Rattle.either_way.specs.Either.{AttemptSays, OthersAsk, FirstKeptSays, EitherSays};

@@ -1,4 +1,6 @@
 // Records and lines by value: whether two records are the same, and how an accepted crossing changes a record and a line.
+#![tactic(auto)]
+
 ghost use Rattle.std.specs.Prelude.{◌≡◌, ◌<◌, get_or};
 ghost use Rattle.paper.specs.Limits.{most_bays};
 ghost use Rattle.docket.specs.Reading.{crossing_of};

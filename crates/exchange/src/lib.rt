@@ -1,5 +1,7 @@
 // Exchange: leader and follower trade places around a junction, by six crossings, which are only written down here. They go to the lent
 // list where it has room.
+#![tactic(auto)]
+
 ghost use Rattle.std.specs.Prelude.{[], ◌∷◌, ◌+◌, ◌<◌};
 ghost use Rattle.paper.specs.Yard.{crossing};
 ghost use Rattle.moving.specs.Bounds.{room_crossing};

@@ -1,5 +1,7 @@
 // What is kept of a scenario's line, byte by byte: the version under way, a field under way, and the fields that are past. Straight
 // functions over tiny ones, each equal to its definition.
+#![tactic(auto)]
+
 ghost use Rattle.std.specs.Prelude.{◌≡◌, true, false, suc, ◌<◌, ltb, leb};
 ghost use Rattle.paper.specs.Basics.{if◌then◌else◌, ◌and◌, ◌or◌};
 ghost use Rattle.paper.specs.Text.{is_digit, is_point, text};

@@ -1,4 +1,6 @@
 // The room that a map and a scenario are read into.
+#![tactic(auto)]
+
 ghost use Rattle.std.specs.Prelude.{◌≡◌};
 ghost use Rattle.file_room.specs.Room.{map_bytes, scenario_bytes};
 

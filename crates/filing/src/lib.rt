@@ -1,4 +1,6 @@
 // The two files as an order: a yard's bays and rails and its carriers' starts and goals, or refusal 14 or 15.
+#![tactic(auto)]
+
 ghost use Rattle.filing.specs.Filing.{file_of, MapFiled, ScenarioFiled, Files};
 
 use docket::Refusal;

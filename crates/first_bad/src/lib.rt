@@ -1,4 +1,6 @@
 // The first bad rail and the first bad carrier of a list: refusals 2, 5 and 6. The good rails go into the table of joined bays.
+#![tactic(auto)]
+
 ghost use Rattle.std.specs.Prelude.{◌≡◌, false, [], ℕ, ◌+◌, ◌*◌, ◌≤◌, ◌<◌, length, eqb, leb};
 ghost use Rattle.paper.specs.Basics.{◌or◌, first_bad};
 ghost use Rattle.paper.specs.Limits.{most_bays};

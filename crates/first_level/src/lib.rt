@@ -1,4 +1,6 @@
 // The levels of a table are read from the lowest on, until one has what is looked for.
+#![tactic(auto)]
+
 ghost use Rattle.std.specs.Prelude.{◌≡◌, ◌≤◌, ◌<◌, length};
 ghost use Rattle.words.specs.Sets.{words, span};
 ghost use Rattle.first_level.specs.Reading.{FirstLevel};

@@ -1,4 +1,6 @@
 // The flag on the command line.
+#![tactic(auto)]
+
 ghost use Rattle.std.specs.Prelude.{◌≡◌};
 ghost use Rattle.paper.specs.Text.{text, same};
 

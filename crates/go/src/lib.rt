@@ -1,4 +1,6 @@
 // A carrier goes its path: it steps through the bays ahead, one after the other.
+#![tactic(auto)]
+
 ghost use Rattle.acting.specs.Acting.{Ready};
 ghost use Rattle.step.specs.Asking.{StepAsks, StepSettles};
 ghost use Rattle.go.specs.Going.{GoAsks, GoSays};

@@ -1,5 +1,7 @@
 // The map file read: its sides and the count of its bays or its first bad line, its cells numbered, its rails in their order, and
 // the bay of a cell. A cell's number is 0 for a wall and one more than the bay's for a bay.
+#![tactic(auto)]
+
 ghost use Rattle.std.specs.Prelude.{◌≡◌, ◌+◌, ◌*◌, ◌≤◌, ◌<◌, ◌^◌, length};
 ghost use Rattle.paper.specs.Map.{bay_letter};
 ghost use Rattle.paper.specs.Text.{count};

@@ -1,4 +1,6 @@
 // A text handed over in a lent list: whole, or not at all where it does not fit. Either way the caller learns how many bytes it takes.
+#![tactic(auto)]
+
 ghost use Rattle.std.specs.Prelude.{◌≡◌};
 ghost use Rattle.paper.specs.Print.{printed};
 ghost use Rattle.docket.specs.Reading.{verdict_of};

@@ -1,4 +1,6 @@
 // Account lines by value: an array with a place for each carrier that a yard may have, and how many lines there are.
+#![tactic(auto)]
+
 ghost use Rattle.std.specs.Prelude.{◌≡◌, ◌≤◌};
 ghost use Rattle.paper.specs.Limits.{most_bays};
 ghost use Rattle.held_lines.specs.Lines.{no_lines, held_of, top_of, line_at, gathered, listed};

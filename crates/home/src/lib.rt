@@ -1,4 +1,6 @@
 // The way home: the finished carriers that were displaced step back to their goals, the last bay of the path first. Here is what is done at one bay.
+#![tactic(auto)]
+
 ghost use Rattle.acting.specs.Acting.{Ready};
 ghost use Rattle.home.specs.Homing.{HomeAsks, HomeSays};
 

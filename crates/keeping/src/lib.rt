@@ -1,4 +1,6 @@
 // Bays around a junction are kept empty: the first of some others that can be vacated, and a second one beside a bay that is kept.
+#![tactic(auto)]
+
 ghost use Rattle.acting.specs.Acting.{Ready};
 ghost use Rattle.keeping.specs.Keeping.{After, AfterAsks, KeepAsks, KeepSays, KeepSecondAsks, KeepSecondSays};
 

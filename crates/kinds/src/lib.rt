@@ -1,4 +1,6 @@
 // What kind of yard it is: in a carousel every bay has exactly two rails.
+#![tactic(auto)]
+
 ghost use Rattle.std.specs.Prelude.{◌≡◌, ◌*◌, ◌≤◌, length};
 ghost use Rattle.paper.specs.Yard.{Yard, carousel};
 ghost use Rattle.words.specs.Sets.{words, span};

@@ -1,5 +1,7 @@
 // A map's bays and rails, by the numbers of its cells, in a lent list; or 8 where the rails have more ends than it holds.
 // All is counted before the first number is stored, so a refusal does not change the list.
+#![tactic(auto)]
+
 ghost use Rattle.gridmap.specs.Cells.{rails_in};
 ghost use Rattle.docket.specs.Reading.{verdict_of};
 ghost use Rattle.laying.specs.Laying.{laid, MapSays};

@@ -1,4 +1,6 @@
 // How many leading crossings of two lists are equal, and the rest of the longer list.
+#![tactic(auto)]
+
 ghost use Rattle.std.specs.Prelude.{◌≡◌, min};
 ghost use Rattle.docket.specs.Reading.{verdict_of};
 ghost use Rattle.leading.specs.Leading.{equal_leading, longer_by, part_by, Within};

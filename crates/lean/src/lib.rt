@@ -1,4 +1,6 @@
 // The procedure played on a small stack: by the rails alone, with no room but the least.
+#![tactic(auto)]
+
 ghost use Rattle.std.specs.Prelude.{◌≤◌, length};
 ghost use Rattle.play.specs.Playing.{Admitted};
 ghost use Rattle.outcome.specs.Handing.{HandsOut, HandsOutKept, HandsOutDue};

@@ -1,5 +1,7 @@
 // Record and account lines by value: opened, tested, and changed by an accepted report. The functions that are lent a record and lines are thin ones above
 // this crate.
+#![tactic(auto)]
+
 ghost use Rattle.std.specs.Prelude.{◌≡◌};
 ghost use Rattle.paper.specs.Order.{order};
 ghost use Rattle.bills.specs.Answering.{agreement};

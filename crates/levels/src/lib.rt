@@ -1,4 +1,6 @@
 // Levels above the rails: level after level, the table gets for each bay the bays at most so many rails away, one more at each level.
+#![tactic(auto)]
+
 ghost use Rattle.std.specs.Prelude.{◌≡◌, true, ℕ, ◌+◌, ◌≤◌, ◌<◌, length, get_or};
 ghost use Rattle.levels.specs.Raising.{RowRaised, LevelRaised, RaiseRowAsks, RaiseLevelAsks, RaiseAsks, RaiseSays};
 

@@ -1,5 +1,7 @@
 // How much room a plan is likely to need, by the yard's numbers, its junctions and the carriers. No answer depends on it: it tells in which room the
 // procedure is played first. The numbers were found on random orders in yards of 16 to 256 bays.
+#![tactic(auto)]
+
 ghost use Rattle.std.specs.Prelude.{◌≡◌, true, ◌+◌, ◌≤◌, ◌<◌};
 ghost use Rattle.paper.specs.Limits.{most_bays, most_crossings};
 

@@ -1,4 +1,6 @@
 // A line of a printed plan or of reports: the number that it says, a comment, or a broken layout.
+#![tactic(auto)]
+
 ghost use Rattle.std.specs.Prelude.{◌≡◌, leb};
 ghost use Rattle.paper.specs.Basics.{◌and◌};
 ghost use Rattle.paper.specs.Text.{SPACE, value, split};

@@ -1,4 +1,6 @@
 // A file line by line: where a line's text ends and the next line begins, and whether a line is a given text or begins with it.
+#![tactic(auto)]
+
 ghost use Rattle.std.specs.Prelude.{◌≡◌};
 ghost use Rattle.paper.specs.Text.{same};
 ghost use Rattle.lines.specs.Lines.{EndOf, LineAt, begins};

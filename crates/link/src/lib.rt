@@ -1,5 +1,7 @@
 // A scenario over the serial link, in pieces of at most PIECE bytes: its state by value. It is plain numbers, so that any bytes which a
 // caller lends are some state.
+#![tactic(auto)]
+
 ghost use Rattle.std.specs.Prelude.{◌≡◌};
 ghost use Rattle.link.specs.Link.{yes_of, bit_of, reading_in, under_way_of};
 

@@ -1,4 +1,6 @@
 // The three calls of the serial link: begin, piece and end.
+#![tactic(auto)]
+
 ghost use Rattle.paper.specs.Map.{read_map};
 ghost use Rattle.link.specs.Link.{FedSays, OverSays, BeginSays, PieceSays, EndSays};
 

@@ -1,5 +1,7 @@
 // A scenario's carriers, by the numbers of the map's cells, in lent lists; or 15, or 8 where there are more than these hold.
 // All is counted before the first number is stored, so a refusal changes no list.
+#![tactic(auto)]
+
 ghost use Rattle.paper.specs.Scenario.{read_scenario};
 ghost use Rattle.scenario.specs.Under.{bay_by};
 ghost use Rattle.docket.specs.Reading.{verdict_of};

@@ -1,6 +1,8 @@
 // Runs the vectors of check, slots, report and runs of reports, and prints how many answers and end contents agree.
 // In data/ a case is its numbers, each list behind its count. Cases with a bay of 2^16 or more, or a mark of 2^8 or more, are left out:
 // the functions' types have no place for them.
+#![tactic(auto)]
+
 use cases::{first8, first16, first64};
 use checker::Checked;
 use docket::Refusal;

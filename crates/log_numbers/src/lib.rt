@@ -1,4 +1,6 @@
 // How C is told what the check, slots, the report log and the books answer. The rest is told by crates/numbers and crates/plan_numbers.
+#![tactic(auto)]
+
 ghost use Rattle.checker.specs.Reading.{checked_of};
 ghost use Rattle.marks.specs.Reading.{report_of};
 ghost use Rattle.ledger.specs.Statements.{agreement_of};

@@ -1,5 +1,7 @@
 // Where a table goes on above its rails, the way to the nearest wanted bay is looked up in its levels. They know of no held bays, and these only take
 // paths away: so a walk past the held bays that is a rail nearer at each step is the answer, and where it is stuck, the way has to be searched for.
+#![tactic(auto)]
+
 ghost use Rattle.lookup.specs.Told.{LeadAsks, LeadSays, LookupAsks, LookupSays};
 
 use docket::Bay;

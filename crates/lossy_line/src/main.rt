@@ -2,6 +2,8 @@
 // that share no code with the check, and billed. Record and account lines are kept beside the marks, and compared after every report with
 // those worked out afresh. It prints what must come out whatever the line does: each crossing accepted once and legal, every carrier home,
 // every bill the plan's count.
+#![tactic(auto)]
+
 use bills::Record;
 use cases::{first8, first16, first64};
 use docket::{Crossing, Refusal};

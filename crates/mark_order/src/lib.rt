@@ -1,5 +1,7 @@
 // Whether the marks of a plan that has passed the check are in order: refusal 11. Each test is one pass over the plan. Its carriers and bays are below
 // BAYS, so what a pass remembers of them are two small arrays.
+#![tactic(auto)]
+
 ghost use Rattle.std.specs.Prelude.{◌≡◌, true, not, ℕ, ◌≤◌, ◌<◌, eqb, length, get_or};
 ghost use Rattle.paper.specs.Basics.{◌or◌, any};
 ghost use Rattle.paper.specs.Limits.{most_bays};

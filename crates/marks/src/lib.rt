@@ -1,4 +1,6 @@
 // The marks of a plan that has passed the check: what a report on them answers, and the one mark that it changes.
+#![tactic(auto)]
+
 ghost use Rattle.std.specs.Prelude.{◌≡◌, not, ◌≤◌, ◌<◌, length};
 ghost use Rattle.paper.specs.Basics.{◌and◌, find, up_to};
 ghost use Rattle.paper.specs.Limits.{most_bays};

@@ -1,4 +1,6 @@
 // The done crossings, moved on a placement in plan order.
+#![tactic(auto)]
+
 ghost use Rattle.std.specs.Prelude.{◌≡◌, length};
 ghost use Rattle.paper.specs.Limits.{most_bays};
 ghost use Rattle.paper.specs.Yard.{crossings, after};

@@ -1,5 +1,7 @@
 // Carriers move: one crosses, or those on a path move one bay on. Crossings are counted always, and stored where the lent list has
 // room, so that an empty list only counts. Nothing is searched here.
+#![tactic(auto)]
+
 ghost use Rattle.std.specs.Prelude.{◌≡◌, ◌+◌, ◌<◌, length, get_or, set};
 ghost use Rattle.moving.specs.Bounds.{room_crossing};
 ghost use Rattle.moving.specs.Placed.{MovedOn, CrossAsks, CrossSays, ShiftAsks, ShiftSays};

@@ -1,4 +1,6 @@
 // Sets of names as 64-bit words, as long as the plan needs: the lowest name from one on.
+#![tactic(auto)]
+
 ghost use Rattle.std.specs.Prelude.{ℕ, ◌+◌, ◌*◌, ◌^◌, ◌≤◌, ◌<◌, ◌≡◌, length};
 ghost use Rattle.std.specs.Int.Count.{count_trailing_zeros};
 ghost use Rattle.words.specs.Sets.{mem, Lowest};

@@ -1,5 +1,7 @@
 // The junctions near a carrier, tried one by one, nearest first and ties lowest: the first of them whose trial succeeds is that of its swap. Most swaps find
 // theirs within a few rails.
+#![tactic(auto)]
+
 ghost use Rattle.std.specs.Prelude.{◌≡◌, true, ◌≤◌, length};
 ghost use Rattle.words.specs.Sets.{words};
 ghost use Rattle.acting.specs.Acting.{Ready};

@@ -1,4 +1,6 @@
 // The two numbers by which C is told an answer: document 01's number, 0 where it is accepted, and the value that goes with it.
+#![tactic(auto)]
+
 ghost use Rattle.std.proofs.Math.Option.{none, some};
 ghost use Rattle.docket.specs.Reading.{refusal_of, verdict_of};
 ghost use Rattle.numbers.specs.Numbers.{number_of, value_of, verdict_number, verdict_value};

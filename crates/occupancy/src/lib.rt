@@ -1,4 +1,6 @@
 // The occupied bays of a placement as a set, and how many bays are empty.
+#![tactic(auto)]
+
 ghost use Rattle.std.specs.Prelude.{◌≡◌, ℕ, ◌≤◌, length, eqb, ltb};
 ghost use Rattle.paper.specs.Basics.{◌and◌, ◌or◌};
 ghost use Rattle.paper.specs.Limits.{most_bays};

@@ -1,4 +1,6 @@
 // What the procedure comes to for its caller: 7, 8, or the plan in the list that was lent.
+#![tactic(auto)]
+
 ghost use Rattle.std.specs.Prelude.{List, ℕ};
 ghost use Rattle.paper.specs.Procedure.{Outcome};
 ghost use Rattle.play.specs.Playing.{Plays};

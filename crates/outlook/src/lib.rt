@@ -1,5 +1,7 @@
 // Whether a junction is blocked. From each of its sides it is looked ring by ring, not passing the junction, for an empty bay or one of the two carriers:
 // that is mostly near. A side where there is none is shut.
+#![tactic(auto)]
+
 ghost use Rattle.std.specs.Prelude.{◌≡◌, true};
 ghost use Rattle.outlook.specs.Outlook.{ThreeAsks, ThreeSays, SideAsks, SideSays, OutlookAsks, OutlookSays};
 

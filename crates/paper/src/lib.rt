@@ -1,5 +1,7 @@
 // The limits as the code has them, in the lowest crate, since arrays from words to link have their lengths. specs/Limits has them for the
 // definitions; `yard::Yard::limits` proves that the two agree.
+#![tactic(auto)]
+
 pub const FEWEST: usize = 2;
 
 pub const BAYS: usize = 256;

@@ -1,4 +1,6 @@
 // Where the carriers stand, by plan and marks: the start, and then the done crossings in plan order.
+#![tactic(auto)]
+
 ghost use Rattle.paper.specs.Order.{order};
 ghost use Rattle.placement.specs.Standing.{PlacementSays};
 

@@ -1,4 +1,6 @@
 // A placement made ready to be played on: who stands at each bay, and which bays are empty.
+#![tactic(auto)]
+
 ghost use Rattle.std.specs.Prelude.{◌≡◌, ℕ, ◌≤◌, ◌<◌, length};
 ghost use Rattle.paper.specs.Yard.{bay_of};
 ghost use Rattle.paper.proofs.Playing.{Apart};

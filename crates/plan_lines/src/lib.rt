@@ -1,4 +1,6 @@
 // The lines of a print: a crossing's, and the comment behind them.
+#![tactic(auto)]
+
 ghost use Rattle.std.specs.Prelude.{◌∷◌, [], ◌+◌, ◌<◌, ◌^◌};
 ghost use Rattle.paper.specs.Print.{action_line, cost_line, ended};
 ghost use Rattle.docket.specs.Reading.{crossing_of};

@@ -1,4 +1,6 @@
 // How C is told what planning answers.
+#![tactic(auto)]
+
 ghost use Rattle.std.specs.Prelude.{◌≡◌};
 ghost use Rattle.docket.specs.Reading.{verdict_of};
 ghost use Rattle.planner.specs.Statement.{planned_of, uncounted, parked_by};

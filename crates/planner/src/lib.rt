@@ -1,4 +1,6 @@
 // The planner: refusals 1 to 6 by the yard's opening, then the procedure, then 7 and 8.
+#![tactic(auto)]
+
 ghost use Rattle.paper.specs.Order.{order};
 ghost use Rattle.play.specs.Playing.{Admitted};
 ghost use Rattle.outcome.specs.Handing.{HandsOut, HandsOutKept};

@@ -1,4 +1,6 @@
 // A lent plan, read by name: the crossing at a place of it, and the lookup that finds the crossing of any name or says that there is none.
+#![tactic(auto)]
+
 ghost use Rattle.std.specs.Prelude.{◌≡◌, ◌<◌, length};
 ghost use Rattle.paper.specs.Yard.{crossings, named};
 ghost use Rattle.docket.specs.Reading.{crossing_of};

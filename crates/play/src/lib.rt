@@ -1,5 +1,7 @@
 // The procedure played from a start, by carriers' bays alone: who stands where is worked out here, and in crowded yards the levels above
 // the rails.
+#![tactic(auto)]
+
 ghost use Rattle.std.specs.Prelude.{◌≤◌, ◌<◌, ◌*◌, length};
 ghost use Rattle.words.specs.Sets.{words, span};
 ghost use Rattle.play.specs.Playing.{Admitted, TableAsks, PlayOnAsks, PlaysOut};

@@ -1,4 +1,6 @@
 // Prints the plan of the document's example, and refusals with a carried number and without.
+#![tactic(auto)]
+
 use docket::Refusal;
 use libc::STDOUT_FILENO;
 

@@ -1,4 +1,6 @@
 // An answer whose plan stands in a list, and its print: how much room every print has, and the bytes that are written there.
+#![tactic(auto)]
+
 ghost use Rattle.std.specs.Prelude.{◌≡◌};
 ghost use Rattle.paper.specs.Program.{program_room};
 ghost use Rattle.print_room.specs.Printout.{print_room, Within, Prints};

@@ -1,5 +1,7 @@
 // The print of a plan and of a refusal into lent bytes. All bytes are counted and those that fit are stored, so a caller whose
 // room was too small learns how much it takes.
+#![tactic(auto)]
+
 ghost use Rattle.std.specs.Prelude.{◌*◌, ◌≤◌, length};
 ghost use Rattle.paper.specs.Yard.{most_crossings};
 ghost use Rattle.paper.specs.Answers.{refused};

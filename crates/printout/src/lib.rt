@@ -1,4 +1,6 @@
 // The program whole: from the bytes of the two files to the bytes that are printed, the plan shortened or not.
+#![tactic(auto)]
+
 ghost use Rattle.std.specs.Prelude.{◌≤◌};
 ghost use Rattle.stores.specs.Writing.{Wrote};
 ghost use Rattle.filing.specs.Filing.{file_of};

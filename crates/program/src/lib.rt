@@ -1,4 +1,6 @@
 // The program on bytes: from the two files to all that is printed.
+#![tactic(auto)]
+
 ghost use Rattle.std.specs.Prelude.{◌≡◌, ◌≤◌, length};
 ghost use Rattle.paper.specs.Order.{order as order_of};
 ghost use Rattle.paper.specs.Answers.{plan as planned};

@@ -1,4 +1,6 @@
 // Texts and numbers into lent bytes. All bytes are counted and those that fit are stored, so a writer can count on past the end.
+#![tactic(auto)]
+
 ghost use Rattle.std.specs.Prelude.{◌+◌, ◌<◌, ◌^◌, length};
 ghost use Rattle.paper.specs.Print.{decimal};
 ghost use Rattle.stores.specs.Writing.{Wrote};

@@ -1,5 +1,7 @@
 // The queue of a search, in which bays are met one by one: each stands in it from when it was met, with the bay from which it was. A ring of
 // bays is passed at once, and the path to a bay is read back from it.
+#![tactic(auto)]
+
 ghost use Rattle.std.specs.Prelude.{◌≡◌, [], ◌+◌, take};
 ghost use Rattle.queue.specs.Meeting.{in_word, new_in, new, Queued, Meets, EnqueueAsks, MeetWordAsks, MeetAsks, back};
 ghost use Rattle.queue.specs.Queue.{PassAsks, PassSays, TraceAsks};

@@ -1,4 +1,6 @@
 // A printed plan and a file of reported names, read line by line into a lent list: the numbers, or the first bad line, which changes nothing.
+#![tactic(auto)]
+
 ghost use Rattle.std.specs.Prelude.{◌≡◌, ◌+◌, ◌<◌, ◌^◌, set};
 ghost use Rattle.stores.specs.Writing.{Wrote};
 ghost use Rattle.readback.specs.Files.{Gives, PlanRead, ReportsRead};

@@ -1,5 +1,7 @@
 // The whole reading of a map and of a scenario, for a caller that has files and no reader: bays and rails, starts and goals, or refusal 14 or 15;
 // and 8 where what was read is longer than the lent lists. A refusal changes no list.
+#![tactic(auto)]
+
 ghost use Rattle.paper.specs.Map.{read_map};
 ghost use Rattle.docket.specs.Reading.{verdict_of};
 ghost use Rattle.listing.specs.Reading.{laying, listing, MapSays, ScenarioSays};

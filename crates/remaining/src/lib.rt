@@ -1,4 +1,6 @@
 // The crossings that are still in the plan: counted, and written where the lent list has room for them.
+#![tactic(auto)]
+
 ghost use Rattle.std.specs.Prelude.{◌≡◌, ◌++◌, ◌≤◌, eqb, length, drop};
 ghost use Rattle.paper.specs.Basics.{if◌then◌else◌};
 ghost use Rattle.paper.specs.Yard.{crossings, most_crossings};

@@ -1,6 +1,8 @@
 // A lent plan played from a placement, crossing by crossing, each tested in constant time: the table of joined bays for the rail,
 // a mark for each occupied bay for the bay that it enters, the placement for the rest. Each bay has a byte of its own, so that no crossing
 // waits for the one before it, as it would where many bays share a word.
+#![tactic(auto)]
+
 ghost use Rattle.std.specs.Prelude.{◌≡◌, [], ℕ, ◌≤◌, ◌<◌, length, get_or};
 ghost use Rattle.paper.specs.Yard.{crossings};
 ghost use Rattle.paper.specs.Docket.{not_home};

@@ -1,4 +1,6 @@
 // Slots and the report log: what the other crates work out, in the document's order of tests, for any input at all.
+#![tactic(auto)]
+
 ghost use Rattle.paper.specs.Order.{order};
 ghost use Rattle.reports.specs.Statements.{SlotsSay, ReportSays};
 

@@ -1,4 +1,6 @@
 // Playing a plan backwards: the crossings in reverse order, from and to exchanged, for lists of any content.
+#![tactic(auto)]
+
 ghost use Rattle.std.specs.Prelude.{◌≡◌, ◌++◌, ◌≤◌, length, drop};
 ghost use Rattle.paper.specs.Yard.{pack as packed, turned as turned_of, unpack as unpacked};
 ghost use Rattle.reversing.specs.Reversing.{reversed};

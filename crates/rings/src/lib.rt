@@ -1,5 +1,7 @@
 // Ring by ring around a bay, through bays not held: rows of words, of which row i is ring i. The nearest bay of a set, the choice among
 // the nearest, and the shortest path are read from them. The room for the path is lent.
+#![tactic(auto)]
+
 ghost use Rattle.std.specs.Prelude.{◌≡◌, true, ℕ, ◌+◌, ◌*◌, ◌≤◌, ◌<◌, length};
 ghost use Rattle.paper.specs.Basics.{◌and◌};
 ghost use Rattle.words.specs.Sets.{mem, mem_row, words, span};

@@ -1,5 +1,7 @@
 // The procedure played in a room where its crossings are kept, and what comes of it handed out; a plan longer than its room is played once more. Yard and
 // placements pass 1 to 6.
+#![tactic(auto)]
+
 ghost use Rattle.std.specs.Prelude.{◌≤◌, length};
 ghost use Rattle.play.specs.Playing.{Admitted};
 ghost use Rattle.outcome.specs.Handing.{HandsOutKept, HandsOutDue};

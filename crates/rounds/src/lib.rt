@@ -1,4 +1,6 @@
 // A search from a bay, round after round: the bays of a queue lead to the next ring, which is also told as a set.
+#![tactic(auto)]
+
 ghost use Rattle.rounds.specs.Rounds.{RingAsks, RingSays};
 
 // The bays of the queue from `start` to `count` are passed: what they lead to goes to its end, and is the ring then.

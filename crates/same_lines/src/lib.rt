@@ -1,4 +1,6 @@
 // Whether two lists of lines are the same.
+#![tactic(auto)]
+
 ghost use Rattle.std.specs.Prelude.{◌≡◌, ◌<◌, take};
 ghost use Rattle.paper.specs.Limits.{most_bays};
 ghost use Rattle.bills.specs.Answering.{is_same_line, same_lines};

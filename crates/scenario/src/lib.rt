@@ -1,5 +1,7 @@
 // The scenario file byte by byte, and whole: starts and goals, or the first bad line. The carriers read so far are no part of the
 // state: it has their count and the last one, which the reader of the file stores when the count has grown.
+#![tactic(auto)]
+
 ghost use Rattle.std.specs.Prelude.{◌≡◌, true, false, ◌<◌};
 ghost use Rattle.paper.specs.Bytes.{carrier_of};
 ghost use Rattle.fields.specs.ReadAs.{past_of};

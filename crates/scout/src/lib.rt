@@ -1,5 +1,7 @@
 // A scout: a pair that goes ahead of the trials of a swap, on a copy of the placement. It goes on from where it came for an earlier trial, so that the
 // part that their ways share is gone once. What a scout cannot do no trial can.
+#![tactic(auto)]
+
 ghost use Rattle.std.specs.Prelude.{◌≡◌, false, ◌+◌, ◌≤◌, ◌<◌, length, take};
 ghost use Rattle.words.specs.Sets.{words, span};
 ghost use Rattle.acting.specs.Acting.{Ready};

@@ -1,5 +1,7 @@
 // The scouts of a swap: whether there is hope for a trial at a far junction. There are two of them, one for each of the two carriers that may lead, and the bays
 // that one of them could not enter are noted: a path that passes such a bay leads nowhere.
+#![tactic(auto)]
+
 ghost use Rattle.std.specs.Prelude.{◌≡◌, true};
 ghost use Rattle.acting.specs.Acting.{Ready};
 ghost use Rattle.scouts.specs.Scouts.{NoneYet, PassesAsks, PassesSays, PathAsks, PathSays, NotedSays, SendAsks, SendSays, ForeseeAsks, ForeseeSays};

@@ -1,6 +1,8 @@
 // Runs the vectors' paths and vacates and prints how many agree, and each one that does not.
 // A path case is bays, from, to, rail ends, bays to avoid and the path's bays, none where there is no path. A vacate case is bays, x,
 // rail ends, placement, held bays, then 0 for empty, 1 for crossings, 2 for failed, and the crossings. A list stands behind its count.
+#![tactic(auto)]
+
 ghost use Rattle.std.specs.Prelude.{ℕ, ◌*◌, ◌≤◌, ◌<◌, ◌≡◌, length};
 ghost use Rattle.paper.specs.Yard.{bay_of};
 ghost use Rattle.paper.proofs.Playing.{Apart};

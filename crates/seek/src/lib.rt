@@ -1,5 +1,7 @@
 // The far junctions of a swap, nearest first and ties lowest, to the first whose trial succeeds. One search from the carrier's bay finds the paths to all of them.
 // The first trial is made at once. Before any other a scout is sent, and the trial is made only where the scout sees no reason why it should fail.
+#![tactic(auto)]
+
 ghost use Rattle.std.specs.Prelude.{◌≡◌, length};
 ghost use Rattle.words.specs.Sets.{mem, words};
 ghost use Rattle.acting.specs.Acting.{Ready};

@@ -1,5 +1,7 @@
 // The library for C: each function hands its arguments to a proved one and tells the answer by two numbers, document 01's own and the value
 // that goes with it. include/sejjekoru.h declares them.
+#![tactic(auto)]
+
 mod by_edition;
 mod compare;
 mod files;

@@ -1,5 +1,7 @@
 // The names at which a there-and-back trip begins, before anything is dropped: those whose carrier is the next to enter the bay that it leaves. Few are, so
 // few names have to be looked at.
+#![tactic(auto)]
+
 ghost use Rattle.std.specs.Prelude.{◌≡◌, false, [], ◌≤◌, ◌<◌, ◌*◌, length};
 ghost use Rattle.chains.specs.Links.{Linked};
 ghost use Rattle.setting_out.specs.SetOut.{StaysOut, SetOut, OneMore};

@@ -1,4 +1,6 @@
 // The bays of the finished carriers are kept as a set. Here is what a step changes in it.
+#![tactic(auto)]
+
 ghost use Rattle.settle.specs.Settling.{SettleAsks, SettleSays};
 
 use docket::Bay;

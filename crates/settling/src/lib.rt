@@ -1,4 +1,6 @@
 // A report on a record and lines that agree: an accepted name changes the record, one line and one mark, and any other answer changes nothing.
+#![tactic(auto)]
+
 ghost use Rattle.std.specs.Prelude.{◌≡◌};
 ghost use Rattle.paper.specs.Answers.{accepts};
 ghost use Rattle.marks.specs.Reading.{report_of};

@@ -1,4 +1,6 @@
 // Plans shortened: there-and-back trips are dropped. Clearing working room takes time, so a plan gets room for about as many crossings as it has.
+#![tactic(auto)]
+
 ghost use Rattle.std.specs.Prelude.{◌≡◌};
 ghost use Rattle.paper.specs.Yard.{most_crossings};
 ghost use Rattle.paper.specs.Order.{order};

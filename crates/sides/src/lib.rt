@@ -1,4 +1,6 @@
 // The map file's layout: its height and width, or its first bad line. What the rows say is read once they are known to be good.
+#![tactic(auto)]
+
 ghost use Rattle.std.specs.Prelude.{◌≡◌, ◌≤◌, leb};
 ghost use Rattle.paper.specs.Basics.{◌or◌, if◌then◌else◌};
 ghost use Rattle.paper.specs.Text.{all};

@@ -1,4 +1,6 @@
 // The slots of a plan, told by two numbers.
+#![tactic(auto)]
+
 ghost use Rattle.std.specs.Prelude.{◌≡◌, length};
 ghost use Rattle.paper.specs.Order.{order};
 ghost use Rattle.paper.specs.Answers.{slots_refusal, slots_end};

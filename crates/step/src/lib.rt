@@ -1,5 +1,7 @@
 // One step of a carrier: the next bay is vacated and the carrier crosses, or else it is swapped with the carrier there. A step is lent the rest of
 // the list, and answers what it counted.
+#![tactic(auto)]
+
 ghost use Rattle.acting.specs.Acting.{Ready};
 ghost use Rattle.step.specs.Asking.{StepAsks, AsideAsks, StepSays, StepSettles, StepInAsks, StepInSays};
 

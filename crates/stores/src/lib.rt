@@ -1,5 +1,7 @@
 // Storing into lent lists: what fits is stored and what does not is left out, so that a writer can count on past the end and its
 // caller learns how much room it takes.
+#![tactic(auto)]
+
 ghost use Rattle.std.specs.Prelude.{◌≡◌, set};
 
 // One byte.

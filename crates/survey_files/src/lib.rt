@@ -1,4 +1,6 @@
 // Surveyors' files, read into a yard and written from one. A refusal changes no lent list.
+#![tactic(auto)]
+
 ghost use Rattle.surveying.specs.Says.{ReadSays, WriteSays};
 
 use docket::{Refusal, Verdict};

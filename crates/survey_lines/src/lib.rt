@@ -1,4 +1,6 @@
 // A yard's rails as a surveyors' file. All bytes are counted and those that fit are stored, so an empty list only counts.
+#![tactic(auto)]
+
 ghost use Rattle.std.specs.Prelude.{◌∷◌, [], ◌+◌, ◌/◌, ◌≤◌, ◌<◌, ◌^◌, length};
 ghost use Rattle.paper.specs.Limits.{most_rails};
 ghost use Rattle.paper.specs.Print.{ended};

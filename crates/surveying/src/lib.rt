@@ -1,4 +1,6 @@
 // What was read of a surveyors' file is tested as a yard and taken over. A refusal changes no lent list.
+#![tactic(auto)]
+
 ghost use Rattle.std.specs.Prelude.{◌≡◌};
 ghost use Rattle.survey.specs.Survey.{first_three};
 ghost use Rattle.surveying.specs.Says.{tested_of, Refuses, AcceptSays, TakeSays, SettleSays};

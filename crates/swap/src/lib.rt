@@ -1,5 +1,7 @@
 // Swap: the first junction, nearest first, whose trial succeeds is used; its crossings stay in the list, and the two carriers trade places. A
 // swap is lent the rest of the list, and answers what it counted.
+#![tactic(auto)]
+
 ghost use Rattle.acting.specs.Acting.{Ready};
 ghost use Rattle.trade.specs.Trading.{TradeAsks};
 ghost use Rattle.near.specs.Seeking.{SeekAsks};

@@ -1,4 +1,6 @@
 // The timed plan on bytes: from the two files to all that is printed. It is handed over whole or not at all.
+#![tactic(auto)]
+
 ghost use Rattle.filing.specs.Filing.{file_of};
 ghost use Rattle.timed_handing.specs.Timed.{program_timed};
 ghost use Rattle.timed_handing.specs.Handing.{TimedSays};

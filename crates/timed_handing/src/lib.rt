@@ -1,4 +1,6 @@
 // An answer's timed print, by either edition of slots. It is handed over whole or not at all.
+#![tactic(auto)]
+
 ghost use Rattle.print_room.specs.Ready.{Slottable};
 ghost use Rattle.timed_handing.specs.Handing.{TimedPrints, HandsOver};
 

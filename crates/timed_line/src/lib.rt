@@ -1,4 +1,6 @@
 // A line of the timed print: the slot's time, and then the crossing as in the plain print.
+#![tactic(auto)]
+
 ghost use Rattle.std.specs.Prelude.{◌≡◌, ◌∷◌, [], ◌+◌, ◌-◌, ◌<◌, ◌^◌};
 ghost use Rattle.paper.specs.Print.{ended};
 ghost use Rattle.docket.specs.Reading.{crossing_of};

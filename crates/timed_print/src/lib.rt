@@ -1,4 +1,6 @@
 // The timed print of a plan whose slots are known, into lent bytes. As in the plain print all bytes are counted and those that fit are stored.
+#![tactic(auto)]
+
 ghost use Rattle.std.specs.Prelude.{◌≡◌, ◌*◌, ◌≤◌, length};
 ghost use Rattle.paper.specs.Yard.{crossings, most_crossings};
 ghost use Rattle.stores.specs.Writing.{Wrote};

@@ -1,4 +1,6 @@
 // Two carriers trade places: what a swap comes to, in the placement and in what stands at each bay.
+#![tactic(auto)]
+
 ghost use Rattle.trade.specs.Trading.{TradeAsks, TradeSays};
 
 use docket::Carrier;

@@ -1,5 +1,7 @@
 // The train slots of a plan, in one pass that keeps the last slot of each carrier and the slot of the latest leaving of each bay.
 // It takes plans that have passed the check, whose carriers and bays are below BAYS, so both tables are small arrays.
+#![tactic(auto)]
+
 ghost use Rattle.std.specs.Prelude.{◌≡◌, ◌++◌, ◌≤◌, ◌<◌, length, drop};
 ghost use Rattle.paper.specs.Limits.{most_bays};
 ghost use Rattle.paper.specs.Yard.{crossings, most_crossings};

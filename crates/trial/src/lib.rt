@@ -1,5 +1,7 @@
 // A trial at a junction: bring, clear, exchange, undo. It is played on copies, so that nobody has moved if it fails. It is lent the rest of the
 // list: its crossings go there as they are made, and undo reads them back. Where that is too short they are only counted.
+#![tactic(auto)]
+
 ghost use Rattle.std.specs.Prelude.{◌≡◌, min, max, eqb, ltb, length, get_or};
 ghost use Rattle.paper.specs.Basics.{◌and◌};
 ghost use Rattle.acting.specs.Acting.{Ready};

@@ -1,4 +1,6 @@
 // Undo: what was stored in the list is read back, turned and traded.
+#![tactic(auto)]
+
 ghost use Rattle.std.specs.Prelude.{◌≡◌, ◌+◌, ◌≤◌, ◌<◌, get_or, set};
 ghost use Rattle.paper.specs.Procedure.{trade};
 ghost use Rattle.moving.specs.Bounds.{room_crossing};

@@ -1,5 +1,7 @@
 // Making room: a bay is vacated. The way to the nearest empty bay is found, and the carriers on it move one bay on. Vacating is lent the rest of
 // the list, and counts what it made.
+#![tactic(auto)]
+
 ghost use Rattle.std.specs.Prelude.{◌≡◌, false};
 ghost use Rattle.words.specs.Sets.{mem};
 ghost use Rattle.rings.specs.Ways.{WaySays};

@@ -1,5 +1,7 @@
 // `vault MAP SCENARIO` prints the plan that the two files ask for, or one line that says why there is none; `vault --shorten MAP SCENARIO` prints
 // it without its there-and-back trips.
+#![tactic(auto)]
+
 ghost use Rattle.std.specs.Prelude.{◌≡◌, ◌+◌, ◌≤◌, length};
 ghost use Rattle.paper.specs.Text.{text, same};
 ghost use Rattle.stores.specs.Writing.{Wrote};

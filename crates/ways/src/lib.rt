@@ -1,5 +1,7 @@
 // The shortest path to the nearest wanted bay. Where few rails lead to a bay, the bays are met one by one, each from the first in the
 // queue that is joined to it, and the path is read backwards; elsewhere ring by ring.
+#![tactic(auto)]
+
 ghost use Rattle.std.specs.Prelude.{◌≡◌, ◌+◌, ◌*◌, ◌≤◌, length};
 ghost use Rattle.words.specs.Sets.{words};
 ghost use Rattle.rings.specs.Ways.{PathAsks, PathSays, WayAsks, WaySays};

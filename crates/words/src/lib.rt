@@ -1,4 +1,6 @@
 // Sets of bays as 64-bit words, and tables with a set in each row. A set has any count of words; a row has WORDS.
+#![tactic(auto)]
+
 ghost use Rattle.std.specs.Prelude.{◌≡◌, true, false, not, ℕ, ◌+◌, ◌-◌, ◌*◌, ◌/◌, ◌^◌, ◌≤◌, ◌<◌, length, eqb};
 ghost use Rattle.std.specs.Int.Count.{count_trailing_zeros};
 ghost use Rattle.paper.specs.Basics.{◌and◌, ◌or◌};

@@ -1,4 +1,6 @@
 // A yard, its limits, and how one is opened: refusals 1 to 6 in their order, and the table of joined bays.
+#![tactic(auto)]
+
 ghost use Rattle.std.specs.Prelude.{◌≡◌, false, ℕ, ◌*◌, ◌≤◌, length};
 ghost use Rattle.paper.specs.Limits.{fewest_bays, most_bays, set_words, most_rails, most_carriers, most_crossings, kept_empty};
 ghost use Rattle.paper.specs.Order.{order};

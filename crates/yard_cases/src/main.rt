@@ -2,6 +2,8 @@
 // A case is bays, crossings of a lent plan, rail ends, start and goal, each list behind its count, then the refusal's number and what it
 // carries; 0 0 is an open yard. The cases are those of the vectors' plan and check, where every answer past 6 reads as an open yard, and
 // the limits of document 01, Y10 among them. 164 of the vectors' 1,742 are left out: they name a bay over 65,535, which no bay number holds.
+#![tactic(auto)]
+
 use libc::STDOUT_FILENO;
 use yard::{Opened, Yard};
 

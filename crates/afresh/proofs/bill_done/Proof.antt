@@ -84,9 +84,12 @@ loop-again c =
     let asked-with = c.asked_with-asked in
     let t = c.loop-i in
     let more = c.loop-i-test.true in
-    elim c.if-marks-i-eq1.branch [ then-marks-i-eq1 w ↦ rw (w.billed-is, w.last-is) (working-done c.args.plan.now c.args.marks.now c.requires.0 c.requires.2 c.args.name c.args.at.now c.requires.3 t.billed t.last t.carriers t.bays t.highest t.asked t.i t.invariant more
-    (crossing_of c.crossing_at-x.result) c.crossing_at-x.ensures _ _ _ c.next_slot-slot.ensures _ asked-with.ensures _ c.highest_with-highest.ensures w.if-marks-i-eq1.true) | else-marks-i-eq1 w ↦ rw (w.billed-is, w.last-is) (working-undone c.args.plan.now c.args.marks.now c.requires.0 c.requires.2 c.args.name c.args.at.now c.requires.3 t.billed t.last t.carriers t.bays t.highest t.asked t.i t.invariant more
-    (crossing_of c.crossing_at-x.result) c.crossing_at-x.ensures _ _ _ c.next_slot-slot.ensures _ asked-with.ensures _ c.highest_with-highest.ensures w.if-marks-i-eq1.false) ]
+    elim c.if-marks-i-eq1.branch [
+      | then-marks-i-eq1 w ↦ rw (w.billed-is, w.last-is) (working-done c.args.plan.now c.args.marks.now c.requires.0 c.requires.2 c.args.name c.args.at.now c.requires.3 t.billed t.last t.carriers t.bays t.highest t.asked t.i t.invariant more
+          (crossing_of c.crossing_at-x.result) c.crossing_at-x.ensures _ _ _ c.next_slot-slot.ensures _ asked-with.ensures _ c.highest_with-highest.ensures w.if-marks-i-eq1.true)
+      | else-marks-i-eq1 w ↦ rw (w.billed-is, w.last-is) (working-undone c.args.plan.now c.args.marks.now c.requires.0 c.requires.2 c.args.name c.args.at.now c.requires.3 t.billed t.last t.carriers t.bays t.highest t.asked t.i t.invariant more
+          (crossing_of c.crossing_at-x.result) c.crossing_at-x.ensures _ _ _ c.next_slot-slot.ensures _ asked-with.ensures _ c.highest_with-highest.ensures w.if-marks-i-eq1.false)
+    ]
 
 lead-requires : tie.Need-lead-requires invariant-loop decreases-loop
 lead-requires c κs = search rules

@@ -104,7 +104,6 @@ part-make-room-end c = search rules
 make-room-requires-2 : tie.Need-make_room-emptied-requires
 make-room-requires-2 c κs =
     let join2 = c.join-2 in
-   
     let make-room = c.make_room-vacated in
     let join = c.join in
     let alone = c.alone in
@@ -140,7 +139,6 @@ returns-2 : tie.Need-returns-in_default-emptied
 returns-2 c =
     let make-room2 = c.make_room-emptied in
     let join2 = c.join-2 in
-   
     let make-room = c.make_room-vacated in
     let join = c.join in
     let alone = c.alone in
@@ -178,8 +176,6 @@ returns-3 : tie.Need-returns
 returns-3 c =
     let make-room2 = c.make_room-emptied in
     let join2 = c.join-2 in
-   
-   
     let make-room = c.make_room-vacated in
     let join = c.join in
     let alone = c.alone in

@@ -172,7 +172,6 @@ part-enter-end c = search rules
 
 enter-requires-2 : tie.Need-enter-entered-requires
 enter-requires-2 c κs =
-   
     let make-room = c.make_room-vacated in
     let join = c.join in
     let alone = c.alone in
@@ -215,7 +214,6 @@ same-length-12 c = c.out-3-1.given.1 ∙ c.make_room-vacated.auto.out
 returns-3 : tie.Need-returns
 returns-3 c =
     let enter2 = c.enter-entered in
-   
     let make-room = c.make_room-vacated in
     let join = c.join in
     let alone = c.alone in

@@ -4,11 +4,11 @@ use Rattle.editions.proofs.Saying.{known-one, known-else}
 use Rattle.editions.proofs.known.Statement.{statement}
 use Rattle.editions.proofs.known.Tie as tie
 
-returns : tie.Need-returns
-returns c = known-one _ c.if1.true
+returns : tie.Need-returns-then-edition-eq1
+returns c = known-one _ c.if-edition-eq1.true
 
-returns-2 : tie.Need-returns-2
-returns-2 c = known-else _ c.if1.false
+returns-2 : tie.Need-returns
+returns-2 c = known-else _ c.if-edition-eq1.false
 
-pub known-spec : {M : Type 1} → statement M
-known-spec = tie.close (tie.spec returns returns-2)
+pub known_spec : {M : Type 1} → statement M
+known_spec = tie.close (tie.spec returns returns-2)

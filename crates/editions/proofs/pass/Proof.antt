@@ -7,23 +7,23 @@ use borrow.Author.Rules.{rules}
 use Rattle.editions.proofs.pass.Statement.{statement}
 use Rattle.editions.proofs.pass.Tie as tie
 
-train-pass-requires : tie.Need-train-pass-requires
+train-pass-requires : tie.Need-train_pass-requires
 train-pass-requires c κs = search rules
 
-same_length : tie.Need-same-length
+same_length : tie.Need-shape_of-out-then-edition-eq2
 same_length c = search rules
 
-returns : tie.Need-returns
-returns c = let s = c.before.before.before.before.before.before.before.args in rw (by_two s.edition (crossings s.plan.now) (eq-eqb _ _ c.before.before.before.before.if1.true)) c.before.before.train-pass.ensures
+returns : tie.Need-returns-then-edition-eq2
+returns c = let s = c.args in rw (by_two s.edition (crossings s.plan.now) (eq-eqb _ _ c.if-edition-eq2.true)) c.train_pass.ensures
 
-slot-pass-requires : tie.Need-slot-pass-requires
+slot-pass-requires : tie.Need-slot_pass-requires
 slot-pass-requires c κs = search rules
 
-same-length-2 : tie.Need-same-length-2
+same-length-2 : tie.Need-shape_of-out
 same-length-2 c = search rules
 
-returns-2 : tie.Need-returns-2
-returns-2 c = let s = c.before.before.before.before.before.before.before.args in rw (by_one s.edition (crossings s.plan.now) (ne_eqb _ _ c.before.before.before.before.if1.false)) c.before.before.slot-pass.ensures
+returns-2 : tie.Need-returns
+returns-2 c = let s = c.args in rw (by_one s.edition (crossings s.plan.now) (ne_eqb _ _ c.if-edition-eq2.false)) c.slot_pass.ensures
 
 pub pass_spec : {M : Type 1} → statement M
 pass_spec =

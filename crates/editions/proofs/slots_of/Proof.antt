@@ -9,41 +9,41 @@ use borrow.Author.Rules.{rules}
 use Rattle.editions.proofs.slots_of.Statement.{statement}
 use Rattle.editions.proofs.slots_of.Tie as tie
 
-known-requires : tie.Need-known-requires
+known-requires : tie.Need-known-fits-requires
 known-requires c κs = search rules
 
-returns : tie.Need-returns
-returns c = let s = c.before.before.before.before.before.before.before in says-unknown (order s.args.bays s.args.rails.now s.args.start.now s.args.goal.now) s.args.plan.now s.args.edition (sym c.before.known.ensures ∙ not-true _ c.if1.true) s.args.out.now
+returns : tie.Need-returns-then-not-fits
+returns c = says-unknown (order c.args.bays c.args.rails.now c.args.start.now c.args.goal.now) c.args.plan.now c.args.edition (sym c.known-fits.ensures ∙ c.if-not-fits.true) c.args.out.now
 
-check-requires : tie.Need-check-requires
+check-requires : tie.Need-check-checked-requires
 check-requires c κs = search rules
 
-enum-known-checked : tie.Need-enum-known-checked
+enum-known-checked : tie.Need-enum_known-checked
 enum-known-checked c = search rules
 
-returns-2 : tie.Need-returns-2
-returns-2 c = let s = c.before.before.before.before.before.before.before.before.before.before.before in says-refused (order s.args.bays s.args.rails.now s.args.start.now s.args.goal.now) s.args.plan.now s.args.edition (sym c.before.before.before.before.before.known.ensures ∙ not-false _ c.before.before.before.before.if1.false) s.args.out.now _ (ap checked_of (sym c.before.checked.given.1) ∙ c.before.before.before.check.ensures)
+returns-2 : tie.Need-returns-in-Refused
+returns-2 c = says-refused (order c.args.bays c.args.rails.now c.args.start.now c.args.goal.now) c.args.plan.now c.args.edition (sym c.known-fits.ensures ∙ c.if-not-fits.false) c.args.out.now _ (ap checked_of (sym c.in-Refused.is) ∙ c.check-checked.ensures)
 
-enum_told : tie.Need-enum-told
+enum_told : tie.Need-enum_told-1
 enum_told c = search rules
 
-returns-3 : tie.Need-returns-3
-returns-3 c = let s = c.before.before.before.before.before.before.before.before.before.before.before in says-room (order s.args.bays s.args.rails.now s.args.start.now s.args.goal.now) s.args.plan.now s.args.edition (sym c.before.before.before.before.before.known.ensures ∙ not-false _ c.before.before.before.before.if1.false) (ap checked_of (sym c.before.enum_told.given.1) ∙ c.before.before.before.check.ensures) s.args.out.now c.if2.true
+returns-3 : tie.Need-returns-then-out-plan
+returns-3 c = says-room (order c.args.bays c.args.rails.now c.args.start.now c.args.goal.now) c.args.plan.now c.args.edition (sym c.known-fits.ensures ∙ c.if-not-fits.false) (ap checked_of (sym c.in_default.is) ∙ c.check-checked.ensures) c.args.out.now c.if-out-plan.true
 
 pass-requires : tie.Need-pass-requires
-pass-requires c κs = let s = c.before.before.before.before.before.before.before.before.before.before.before.before in let known = sym c.before.before.before.before.before.before.known.ensures ∙ not-false _ c.before.before.before.before.before.if1.false in let passes = ap checked_of (sym c.before.before.enum_told.given.1) ∙ c.before.before.before.before.check.ensures in (c.before.if2.false, short (order s.args.bays s.args.rails.now s.args.start.now s.args.goal.now) s.args.plan.now s.args.edition known passes, fits (order s.args.bays s.args.rails.now s.args.start.now s.args.goal.now) s.args.plan.now s.args.edition known passes)
+pass-requires c κs = let known = sym c.known-fits.ensures ∙ c.if-not-fits.false in let passes = ap checked_of (sym c.in_default.is) ∙ c.check-checked.ensures in (c.if-out-plan.false, short (order c.args.bays c.args.rails.now c.args.start.now c.args.goal.now) c.args.plan.now c.args.edition known passes, fits (order c.args.bays c.args.rails.now c.args.start.now c.args.goal.now) c.args.plan.now c.args.edition known passes)
 
-same_length : tie.Need-same-length
+same_length : tie.Need-shape_of-out
 same_length c = search rules
 
-returns-4 : tie.Need-returns-4
+returns-4 : tie.Need-returns
 returns-4 c =
-    let if1 = c.before.before.before.before.before.before.before.before.if1 in
-    let known = c.before.before.before.before.before.before.before.before.before.known in
-    let s = c.before.before.before.before.before.before.before.before.before.before.before.before.before.before.before in says-written (order s.args.bays s.args.rails.now s.args.start.now s.args.goal.now) s.args.plan.now s.args.edition (sym known.ensures ∙ not-false _ if1.false) (ap checked_of (sym c.before.before.before.before.before.enum_told.given.1) ∙ c.before.before.before.before.before.before.before.check.ensures) s.args.out.now _ c.before.before.before.before.if2.false c.before.before.pass.ensures
+    let if1 = c.if-not-fits in
+    let known = c.known-fits in
+    says-written (order c.args.bays c.args.rails.now c.args.start.now c.args.goal.now) c.args.plan.now c.args.edition (sym known.ensures ∙ if1.false) (ap checked_of (sym c.in_default.is) ∙ c.check-checked.ensures) c.args.out.now _ c.if-out-plan.false c.pass.ensures
 
-pub slots-of-spec : {M : Type 1} → statement M
-slots-of-spec =
+pub slots_of_spec : {M : Type 1} → statement M
+slots_of_spec =
     tie.close
     (tie.spec
     known-requires

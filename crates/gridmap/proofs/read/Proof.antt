@@ -25,7 +25,6 @@ same_length c = search rules
 
 returns : tie.Need-returns-in-Sides
 returns c =
-   
     reads-good c.args.file.now c.args.cells.now c.in-Sides.height c.in-Sides.width (sym (ap sides_of c.in-Sides.is) ∙ c.read-found.ensures) _ c.number-bays.ensures.0 _ c.number-bays.ensures.1
 
 returns-2 : tie.Need-returns-in-Bad

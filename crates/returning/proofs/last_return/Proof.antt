@@ -81,7 +81,7 @@ loop-again c =
     let l = if1.last in
     let inside = c.loop-m-test.true in
     let step : (l ≤ t.m) × (last_from x (crossings c.args.plan.now) c.args.gone.now l (t.m + 1) ≡ last_from x (crossings c.args.plan.now) c.args.gone.now c.args.name (suc c.args.name)) =
-    elim if1.branch [ then-enters_bay+else-not-is_of w ↦ rw (w.chosen-last ∙ later-one t.last t.m w.if-not-is_of.result t.invariant.2 w.if-not-is_of.ensures) (omega arith, returning-back c.args.plan.now c.args.gone.now c.requires.long_gone x t.last t.m inside (sym enters-bay.ensures ∙ w.if-enters_bay.true) (sym w.is_of-arg-1.ensures ∙ not-false _ w.is_of.false) ∙ t.invariant.5) | else-enters_bay w ↦ rw w.last-is (omega (arith, t.invariant.2), returning-past c.args.plan.now c.args.gone.now c.requires.long_gone x t.last t.m inside (sym enters-bay.ensures ∙ w.if-enters_bay.false) ∙ t.invariant.5) ] in
+    elim if1.branch [ then-enters_bay+else-not-is_of w ↦ rw (w.last-is ∙ later-one t.last t.m w.chosen-last.result t.invariant.2 w.chosen-last.ensures) (omega arith, returning-back c.args.plan.now c.args.gone.now c.requires.long_gone x t.last t.m inside (sym enters-bay.ensures ∙ w.if-enters_bay.true) (sym w.is_of.ensures ∙ w.if-not-is_of.false) ∙ t.invariant.5) | else-enters_bay w ↦ rw w.last-is (omega (arith, t.invariant.2), returning-past c.args.plan.now c.args.gone.now c.requires.long_gone x t.last t.m inside (sym enters-bay.ensures ∙ w.if-enters_bay.false) ∙ t.invariant.5) ] in
     let is = t.invariant.6 inside in
     (omega (arith, t.invariant.0, n.after), n.upto, omega (arith, step.0, n.after), search rules, n.linked, returning-over c.args.plan.now c.args.gone.now c.requires.long_gone x l (named (crossings c.args.plan.now) t.m).to (r - (t.m + 1)) (t.m + 1) r (omega (arith, n.after)) n.upto is (λ k u h e. n.met.passed k (omega arith) h e) ∙ step.1, λ u. n.met.meets u ∙ is)
 
