@@ -14,7 +14,7 @@ use Rattle.yard.specs.Table.{Table}
 use Rattle.moving.specs.Bounds.{swap_most}
 use Rattle.acting.specs.Acting.{Tabled, Tallied, nothing}
 use Rattle.acting.specs.declared.Tally.{Tally}
-use Rattle.step.specs.Asking.{Loopless, BaysBelow}
+use Rattle.go.specs.Lower.{Loopless, BaysBelow}
 use Rattle.go.specs.Going.{plan_of, Linked}
 use Rattle.along.specs.declared.ToGoal.{ToGoal}
 use Rattle.along.specs.declared.Gone.{Gone}

@@ -5,8 +5,10 @@ ghost use Rattle.acting.specs.Acting.{Ready};
 ghost use Rattle.along.specs.Along.{TurnAsks};
 ghost use Rattle.carry.specs.Carrying.{OwnedAsks, CarrySays};
 
+pub use along;
 use along::{Gone, ToGoal};
 use docket::Bay;
+pub use home;
 use home::{HomeBay, Staged};
 
 // Carrier r goes its path, then those that it displaced go home: at the bays of the path one after the other, the last of them first. Each is lent the

@@ -6,10 +6,10 @@ use Rattle.paper.specs.Path.{nearest_first}
 use Rattle.paper.specs.Procedure.{Outcome, procedure}
 use Rattle.paper.specs.Yard.{Yard, Placement}
 use Rattle.acting.specs.Acting.{Tabled, nothing}
-use Rattle.step.specs.Asking.{Loopless, BaysBelow}
-use Rattle.along.specs.Along.{Goals}
-use Rattle.home.specs.Homing.{Owners, StagesAs}
-use Rattle.home.specs.declared.Staged.{Staged}
+use Rattle.carry.specs.Lower.{Loopless, BaysBelow}
+use Rattle.carry.specs.Lower.{Goals}
+use Rattle.carry.specs.Lower.{Owners, StagesAs}
+use Rattle.carry.specs.Lower.{Staged}
 use Rattle.carry.specs.Carrying.{Settles}
 
 -- every bay is reached from every other, in a yard that the table shows

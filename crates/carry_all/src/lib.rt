@@ -4,9 +4,10 @@
 ghost use Rattle.acting.specs.Acting.{Ready};
 ghost use Rattle.carry_all.specs.Serving.{CarryAllAsks, CarryAllSays};
 
-use along::ToGoal;
+use carry::along::ToGoal;
+use carry::home::Staged;
 use docket::{Bay, Carrier};
-use home::Staged;
+pub use home;
 
 // All carriers by rising number, each lent the rest of the list. What the yard is, is asked once, since in a carousel every bay must tell.
 pub fn carry_all(

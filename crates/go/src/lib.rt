@@ -7,6 +7,7 @@ ghost use Rattle.go.specs.Going.{GoAsks, GoSays};
 
 use acting::Tried;
 use docket::{Bay, Carrier};
+pub use step;
 use step::NextStep;
 
 // One step of r to w: r crosses at once where w is empty.

@@ -1,1 +1,2 @@
 pub mod Homing
+pub mod Lower

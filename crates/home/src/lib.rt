@@ -6,7 +6,8 @@ ghost use Rattle.home.specs.Homing.{HomeAsks, HomeSays};
 
 use acting::{Tally, Tried};
 use docket::{Bay, Carrier};
-use step::NextStep;
+use go::step;
+use go::step::NextStep;
 
 // The tally of what was made, or the carrier that could not step.
 #[derive(Clone, Copy)]

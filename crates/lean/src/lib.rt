@@ -2,10 +2,10 @@
 #![tactic(auto)]
 
 ghost use Rattle.std.specs.Prelude.{◌≤◌, length};
-ghost use Rattle.play.specs.Playing.{Admitted};
+ghost use Rattle.outcome.specs.Lower.{Admitted};
 ghost use Rattle.outcome.specs.Handing.{HandsOut, HandsOutKept, HandsOutDue};
 
-use outcome::{Counted, Handed};
+use outcome::{Counted, Handed, play};
 use yard::Yard;
 
 // Crossings that the least room holds.

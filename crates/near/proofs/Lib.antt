@@ -1,2 +1,3 @@
 pub mod Seeking
 pub mod Foreseeing
+pub mod Lower

@@ -7,7 +7,8 @@ ghost use Rattle.play.specs.Playing.{Plays};
 ghost use Rattle.outcome.specs.Handing.{HandsIfKept};
 
 use docket::Refusal;
-use home::Staged;
+pub use play;
+use play::home::Staged;
 use yard::Yard;
 
 // What planning answers: the plan's length, and beside it how many of its vacates, undoing left aside, filled a bay of three rails or more; or why there is no

@@ -2,13 +2,13 @@
 #![tactic(auto)]
 
 ghost use Rattle.paper.specs.Order.{order};
-ghost use Rattle.play.specs.Playing.{Admitted};
-ghost use Rattle.outcome.specs.Handing.{HandsOut, HandsOutKept};
+ghost use Rattle.likely.specs.Lower.{Admitted};
+ghost use Rattle.rooms.specs.Lower.{HandsOut, HandsOutKept};
 ghost use Rattle.planner.specs.Statement.{CountSays, PlanSays};
 
 use docket::Refusal;
 use lean::LEAST;
-use outcome::{Counted, Handed};
+use rooms::outcome::{Counted, Handed};
 use yard::{Opened, Yard};
 
 // What the planner answers: the plan's length, or why there is none.

@@ -3,10 +3,11 @@
 #![tactic(auto)]
 
 ghost use Rattle.std.specs.Prelude.{◌≤◌, length};
-ghost use Rattle.play.specs.Playing.{Admitted};
+ghost use Rattle.outcome.specs.Lower.{Admitted};
 ghost use Rattle.outcome.specs.Handing.{HandsOutKept, HandsOutDue};
 
-use outcome::{Counted, Handed};
+pub use outcome;
+use outcome::{Counted, Handed, play};
 use yard::Yard;
 
 // In lent room: 7, 8 or the plan, or a plan that is longer than that room.

@@ -1,3 +1,4 @@
 pub mod Stepping
 pub mod Aside
 pub mod Settling
+pub mod Lower

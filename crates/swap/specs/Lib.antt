@@ -1,1 +1,2 @@
 pub mod Swapping
+pub mod Lower

@@ -1,2 +1,3 @@
 pub mod Attempting
 pub mod Copying
+pub mod Lower

@@ -9,29 +9,29 @@ use Rattle.ledger.proofs.Agreeing.{compare-refused, compare-agrees, compare-diff
 use Rattle.ledger.proofs.compare.Statement.{statement}
 use Rattle.ledger.proofs.compare.Tie as tie
 
-up-to-eleven-requires : tie.Need-up-to-eleven-requires
+up-to-eleven-requires : tie.Need-up_to_eleven-checked-requires
 up-to-eleven-requires c κs = search rules
 
-enum-known-checked : tie.Need-enum-known-checked
+enum-known-checked : tie.Need-enum_known-checked
 enum-known-checked c = search rules
 
-returns : tie.Need-returns
-returns c = let s = c.before.before.before.before.before.before.before.before.before in compare-refused (order s.args.bays s.args.rails.now s.args.start.now s.args.goal.now) s.args.plan.now s.args.marks.now s.args.accounts.running s.args.accounts.held c.before.checked.given.0.0 (ap checked_of (sym c.before.checked.given.1) ∙ c.before.before.before.up-to-eleven.ensures)
+returns : tie.Need-returns-in-Refused
+returns c = compare-refused (order c.args.bays c.args.rails.now c.args.start.now c.args.goal.now) c.args.plan.now c.args.marks.now c.args.accounts.running c.args.accounts.held c.in-Refused.r (ap checked_of (sym c.in-Refused.is) ∙ c.up_to_eleven-checked.ensures)
 
-enum_told : tie.Need-enum-told
+enum_told : tie.Need-enum_told-1
 enum_told c = search rules
 
-agree-requires : tie.Need-agree-requires
-agree-requires c κs = let s = c.before.before.before.before.before.before.before.before in fit_of (order s.args.bays s.args.rails.now s.args.start.now s.args.goal.now) s.args.plan.now s.args.marks.now (ap checked_of (sym c.enum_told.given.1) ∙ c.before.before.up-to-eleven.ensures)
+agree-requires : tie.Need-agree-agreed-requires
+agree-requires c κs = fit_of (order c.args.bays c.args.rails.now c.args.start.now c.args.goal.now) c.args.plan.now c.args.marks.now (ap checked_of (sym c.in_default.is) ∙ c.up_to_eleven-checked.ensures)
 
-returns-2 : tie.Need-returns-2
-returns-2 c = let s = c.before.before.before.before.before.before.before.before.before.before in compare-agrees (order s.args.bays s.args.rails.now s.args.start.now s.args.goal.now) s.args.plan.now s.args.marks.now s.args.accounts.running s.args.accounts.held (ap checked_of (sym c.before.before.enum_told.given.1) ∙ c.before.before.before.before.up-to-eleven.ensures) (sym c.if1.true ∙ c.before.agree.ensures.0)
+returns-2 : tie.Need-returns-then-agreed
+returns-2 c = compare-agrees (order c.args.bays c.args.rails.now c.args.start.now c.args.goal.now) c.args.plan.now c.args.marks.now c.args.accounts.running c.args.accounts.held (ap checked_of (sym c.in_default.is) ∙ c.up_to_eleven-checked.ensures) (sym c.if-agreed.true ∙ c.agree-agreed.ensures.0)
 
-returns-3 : tie.Need-returns-3
-returns-3 c = let s = c.before.before.before.before.before.before.before.before.before.before in compare-differs (order s.args.bays s.args.rails.now s.args.start.now s.args.goal.now) s.args.plan.now s.args.marks.now s.args.accounts.running s.args.accounts.held (ap checked_of (sym c.before.before.enum_told.given.1) ∙ c.before.before.before.before.up-to-eleven.ensures) (sym c.if1.false ∙ c.before.agree.ensures.0)
+returns-3 : tie.Need-returns
+returns-3 c = compare-differs (order c.args.bays c.args.rails.now c.args.start.now c.args.goal.now) c.args.plan.now c.args.marks.now c.args.accounts.running c.args.accounts.held (ap checked_of (sym c.in_default.is) ∙ c.up_to_eleven-checked.ensures) (sym c.if-agreed.false ∙ c.agree-agreed.ensures.0)
 
-pub compare-spec : {M : Type 1} → statement M
-compare-spec =
+pub compare_spec : {M : Type 1} → statement M
+compare_spec =
     tie.close
     (tie.spec
     up-to-eleven-requires

@@ -12,47 +12,44 @@ use Rattle.ledger.proofs.Opened.{open-refused, eleven-first, then-room, open-wri
 use Rattle.ledger.proofs.open.Statement.{statement}
 use Rattle.ledger.proofs.open.Tie as tie
 
-up-to-eleven-requires : tie.Need-up-to-eleven-requires
+up-to-eleven-requires : tie.Need-up_to_eleven-checked-requires
 up-to-eleven-requires c κs = search rules
 
-enum-known-checked : tie.Need-enum-known-checked
+enum-known-checked : tie.Need-enum_known-checked
 enum-known-checked c = search rules
 
-no-lines-requires : tie.Need-no-lines-requires
+no-lines-requires : tie.Need-no_lines-requires
 no-lines-requires c κs = search rules
 
 hold-requires : tie.Need-hold-requires
 hold-requires c κs = search rules
 
-returns : tie.Need-returns
+returns : tie.Need-returns-in-Refused
 returns c =
-    let checked = c.before.before.before.checked in
-    let s = c.before.before.before.before.before.before.before.before.before.before.before in
-    let o = order s.args.bays s.args.rails.now s.args.start.now s.args.goal.now in open-refused o s.args.plan.now s.args.marks.now s.args.running s.args.count checked.given.0.0 c.hold.result (c.hold.ensures ∙ ap (held_of 0) c.before.no_lines.ensures) (eleven-first o s.args.plan.now s.args.marks.now s.args.running s.args.count checked.given.0.0 (ap checked_of (sym checked.given.1) ∙ c.before.before.before.before.before.up-to-eleven.ensures))
+    let o = order c.args.bays c.args.rails.now c.args.start.now c.args.goal.now in open-refused o c.args.plan.now c.args.marks.now c.args.running c.args.count c.in-Refused.r c.hold.result (c.hold.ensures ∙ ap (held_of 0) c.no_lines.ensures) (eleven-first o c.args.plan.now c.args.marks.now c.args.running c.args.count c.in-Refused.r (ap checked_of (sym c.in-Refused.is) ∙ c.up_to_eleven-checked.ensures))
 
-enum_told : tie.Need-enum-told
+enum_told : tie.Need-enum_told-1
 enum_told c = search rules
 
-no-lines-requires-2 : tie.Need-no-lines-requires-2
+no-lines-requires-2 : tie.Need-no_lines-requires-then-count-start
 no-lines-requires-2 c κs = search rules
 
-hold-requires-2 : tie.Need-hold-requires-2
+hold-requires-2 : tie.Need-hold-requires-then-count-start
 hold-requires-2 c κs = search rules
 
-returns-2 : tie.Need-returns-2
+returns-2 : tie.Need-returns-then-count-start
 returns-2 c = let s = c.before.before.before.before.before.before.before.before.before.before.before in
-    let o = order s.args.bays s.args.rails.now s.args.start.now s.args.goal.now in open-refused o s.args.plan.now s.args.marks.now s.args.running s.args.count _ c.hold2.result (c.hold2.ensures ∙ ap (held_of 0) c.before.no-lines2.ensures) (then-room o s.args.plan.now s.args.marks.now s.args.running s.args.count (ap checked_of (sym c.before.before.before.enum_told.given.1) ∙ c.before.before.before.before.before.up-to-eleven.ensures) c.before.before.if1.true)
+    let o = order s.args.bays s.args.rails.now s.args.start.now s.args.goal.now in open-refused o s.args.plan.now s.args.marks.now s.args.running s.args.count _ c.hold-then-count-start.result (c.hold-then-count-start.ensures ∙ ap (held_of 0) c.no_lines-then-count-start.ensures) (then-room o s.args.plan.now s.args.marks.now s.args.running s.args.count (ap checked_of (sym c.in_default.is) ∙ c.up_to_eleven-checked.ensures) c.if-count-start.true)
 
-work-out-requires : tie.Need-work-out-requires
-work-out-requires c κs = let s = c.before.before.before.before.before.before.before.before.before in fit_of (order s.args.bays s.args.rails.now s.args.start.now s.args.goal.now) s.args.plan.now s.args.marks.now (ap checked_of (sym c.before.enum_told.given.1) ∙ c.before.before.before.up-to-eleven.ensures)
+work-out-requires : tie.Need-work_out-fresh-requires
+work-out-requires c κs = fit_of (order c.args.bays c.args.rails.now c.args.start.now c.args.goal.now) c.args.plan.now c.args.marks.now (ap checked_of (sym c.in_default.is) ∙ c.up_to_eleven-checked.ensures)
 
-returns-3 : tie.Need-returns-3
+returns-3 : tie.Need-returns
 returns-3 c =
-    let s = c.before.before.before.before.before.before.before.before.before.before.before.before in
-    let w = c.before.before.work-out in
-    let as_many = c.before.before.before.if1.false in
-    open-written (order s.args.bays s.args.rails.now s.args.start.now s.args.goal.now) s.args.plan.now s.args.marks.now s.args.running s.args.count (ap checked_of (sym c.before.before.before.before.enum_told.given.1) ∙ c.before.before.before.before.before.before.up-to-eleven.ensures) as_many
-    w.result.running w.ensures.is_record w.result.held (w.ensures.is_held ∙ ap (λ k. gathered (lines_of k (crossings s.args.plan.now) s.args.marks.now)) (sym as_many))
+    let w = c.work_out-fresh in
+    let as_many = c.if-count-start.false in
+    open-written (order c.args.bays c.args.rails.now c.args.start.now c.args.goal.now) c.args.plan.now c.args.marks.now c.args.running c.args.count (ap checked_of (sym c.in_default.is) ∙ c.up_to_eleven-checked.ensures) as_many
+    w.result.running w.ensures.is_record w.result.held (w.ensures.is_held ∙ ap (λ k. gathered (lines_of k (crossings c.args.plan.now) c.args.marks.now)) (sym as_many))
 
 pub open_spec : {M : Type 1} → statement M
 open_spec =

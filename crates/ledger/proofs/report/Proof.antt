@@ -20,68 +20,63 @@ no-refusal : (r : paper.Refusal) → accepts (refuse r) ≡ false
 unfolding accepts
 no-refusal r = refl
 
-up-to-eleven-requires : tie.Need-up-to-eleven-requires
+up-to-eleven-requires : tie.Need-up_to_eleven-checked-requires
 up-to-eleven-requires c κs = search rules
 
-enum-known-checked : tie.Need-enum-known-checked
+enum-known-checked : tie.Need-enum_known-checked
 enum-known-checked c = search rules
 
 unchanged-requires : tie.Need-unchanged-requires
 unchanged-requires c κs = search rules
 
-same_length : tie.Need-same-length
+same_length : tie.Need-shape_of-marks-in-Refused
 same_length c = search rules
 
-returns : tie.Need-returns
+returns : tie.Need-returns-in-Refused
 returns c =
-    let s = c.before.before.before.before.before.before.before.before.before.before.before in
-    let o = order s.args.bays s.args.rails.now s.args.start.now s.args.goal.now in
+    let o = order c.args.bays c.args.rails.now c.args.start.now c.args.goal.now in
     let u = c.unchanged.ensures in
-    let r = c.before.before.checked.given in
-    billing-left o s.args.plan.now s.args.marks.now s.args.accounts.running s.args.accounts.held s.args.name c.unchanged.result s.args.marks.now (refuse (refusal_of r.0.0)) (billing-refused o s.args.plan.now s.args.marks.now s.args.accounts.running s.args.accounts.held s.args.name c.unchanged.result s.args.marks.now _ (compare-refused o s.args.plan.now s.args.marks.now s.args.accounts.running s.args.accounts.held r.0.0 (ap checked_of (sym r.1) ∙ c.before.before.before.before.up-to-eleven.ensures))) (no-refusal _) (ap report_of u.0) u.1 u.2 u.3 refl
+    let r = c.checked-1.given in
+    billing-left o c.args.plan.now c.args.marks.now c.args.accounts.running c.args.accounts.held c.args.name c.unchanged.result c.args.marks.now (refuse (refusal_of r.0.0)) (billing-refused o c.args.plan.now c.args.marks.now c.args.accounts.running c.args.accounts.held c.args.name c.unchanged.result c.args.marks.now _ (compare-refused o c.args.plan.now c.args.marks.now c.args.accounts.running c.args.accounts.held r.0.0 (ap checked_of (sym r.1) ∙ c.up_to_eleven-checked.ensures))) (no-refusal _) (ap report_of u.0) u.1 u.2 u.3 refl
 
-enum_told : tie.Need-enum-told
+enum_told : tie.Need-enum_told-1
 enum_told c = search rules
 
-agree-requires : tie.Need-agree-requires
-agree-requires c κs = let s = c.before.before.before.before.before.before.before.before.before.before in fit_of (order s.args.bays s.args.rails.now s.args.start.now s.args.goal.now) s.args.plan.now s.args.marks.now (ap checked_of (sym c.before.enum_told.given.1) ∙ c.before.before.before.up-to-eleven.ensures)
+agree-requires : tie.Need-agree-agreed-requires
+agree-requires c κs = fit_of (order c.args.bays c.args.rails.now c.args.start.now c.args.goal.now) c.args.plan.now c.args.marks.now (ap checked_of (sym c.in_default.is) ∙ c.up_to_eleven-checked.ensures)
 
-unchanged-requires-2 : tie.Need-unchanged-requires-2
+unchanged-requires-2 : tie.Need-unchanged-requires-then-not-agreed
 unchanged-requires-2 c κs = search rules
 
-same-length-2 : tie.Need-same-length-2
+same-length-2 : tie.Need-shape_of-marks-then-not-agreed
 same-length-2 c = search rules
 
-returns-2 : tie.Need-returns-2
+returns-2 : tie.Need-returns-then-not-agreed
 returns-2 c =
-    let s = c.before.before.before.before.before.before.before.before.before.before.before.before.before.before in
-    let o = order s.args.bays s.args.rails.now s.args.start.now s.args.goal.now in
-    let u = c.unchanged2.ensures in
-    let passes = ap checked_of (sym c.before.before.before.before.before.enum_told.given.1) ∙ c.before.before.before.before.before.before.before.up-to-eleven.ensures in
-    billing-left o s.args.plan.now s.args.marks.now s.args.accounts.running s.args.accounts.held s.args.name c.unchanged2.result s.args.marks.now (refuse paper.disagrees) (billing-differs o s.args.plan.now s.args.marks.now s.args.accounts.running s.args.accounts.held s.args.name c.unchanged2.result s.args.marks.now (compare-differs o s.args.plan.now s.args.marks.now s.args.accounts.running s.args.accounts.held passes (sym (not-true _ c.before.if1.true) ∙ c.before.before.before.agree.ensures.0))) (no-refusal _) (ap report_of u.0) u.1 u.2 u.3 refl
+    let o = order c.args.bays c.args.rails.now c.args.start.now c.args.goal.now in
+    let u = c.unchanged-then-not-agreed.ensures in
+    let passes = ap checked_of (sym c.in_default.is) ∙ c.up_to_eleven-checked.ensures in
+    billing-left o c.args.plan.now c.args.marks.now c.args.accounts.running c.args.accounts.held c.args.name c.unchanged-then-not-agreed.result c.args.marks.now (refuse paper.disagrees) (billing-differs o c.args.plan.now c.args.marks.now c.args.accounts.running c.args.accounts.held c.args.name c.unchanged-then-not-agreed.result c.args.marks.now (compare-differs o c.args.plan.now c.args.marks.now c.args.accounts.running c.args.accounts.held passes (sym (c.if-not-agreed.true) ∙ c.agree-agreed.ensures.0))) (no-refusal _) (ap report_of u.0) u.1 u.2 u.3 refl
 
 settle-requires : tie.Need-settle-requires
 settle-requires c κs =
-    let agree = c.before.before.before.agree in
-    let s = c.before.before.before.before.before.before.before.before.before.before.before.before.before.before in
-    let o = order s.args.bays s.args.rails.now s.args.start.now s.args.goal.now in
-    let passes = ap checked_of (sym c.before.before.before.before.before.enum_told.given.1) ∙ c.before.before.before.before.before.before.before.up-to-eleven.ensures in
-    (may-settle o s.args.plan.now s.args.marks.now s.args.accounts.running s.args.accounts.held (compare-agrees o s.args.plan.now s.args.marks.now s.args.accounts.running s.args.accounts.held passes (sym (not-false _ c.before.if1.false) ∙ agree.ensures.0)), agree.ensures.1)
+    let agree = c.agree-agreed in
+    let o = order c.args.bays c.args.rails.now c.args.start.now c.args.goal.now in
+    let passes = ap checked_of (sym c.in_default.is) ∙ c.up_to_eleven-checked.ensures in
+    (may-settle o c.args.plan.now c.args.marks.now c.args.accounts.running c.args.accounts.held (compare-agrees o c.args.plan.now c.args.marks.now c.args.accounts.running c.args.accounts.held passes (sym (c.if-not-agreed.false) ∙ agree.ensures.0)), agree.ensures.1)
 
-same-length-3 : tie.Need-same-length-3
+same-length-3 : tie.Need-shape_of-marks
 same-length-3 c = search rules
 
-returns-3 : tie.Need-returns-3
+returns-3 : tie.Need-returns
 returns-3 c =
-    let enum_told = c.before.before.before.before.before.before.before.before.enum_told in
-    let up-to-eleven = c.before.before.before.before.before.before.before.before.before.before.up-to-eleven in
-    let s = c.before.before.before.before.before.before.before.before.before.before.before.before.before.before.before.before.before in
-    let o = order s.args.bays s.args.rails.now s.args.start.now s.args.goal.now in
-    let passes = ap checked_of (sym enum_told.given.1) ∙ up-to-eleven.ensures in
-    billing-settled o s.args.plan.now s.args.marks.now s.args.accounts.running s.args.accounts.held s.args.name c.before.before.settle.result _ (compare-agrees o s.args.plan.now s.args.marks.now s.args.accounts.running s.args.accounts.held passes (sym (not-false _ c.before.before.before.before.if1.false) ∙ c.before.before.before.before.before.before.agree.ensures.0)) c.before.before.settle.ensures
+    let up-to-eleven = c.up_to_eleven-checked in
+    let o = order c.args.bays c.args.rails.now c.args.start.now c.args.goal.now in
+    let passes = ap checked_of (sym c.in_default.is) ∙ up-to-eleven.ensures in
+    billing-settled o c.args.plan.now c.args.marks.now c.args.accounts.running c.args.accounts.held c.args.name c.settle.result _ (compare-agrees o c.args.plan.now c.args.marks.now c.args.accounts.running c.args.accounts.held passes (sym (c.if-not-agreed.false) ∙ c.agree-agreed.ensures.0)) c.settle.ensures
 
-pub report-spec : {M : Type 1} → statement M
-report-spec =
+pub report_spec : {M : Type 1} → statement M
+report_spec =
     tie.close
     (tie.spec
     up-to-eleven-requires

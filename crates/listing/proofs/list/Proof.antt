@@ -41,7 +41,6 @@ same-length-2 c = search rules
 returns-3 : tie.Need-returns-else-goals-needed
 returns-3 c =
     let if1 = c.if-starts-needed in
-   
     let read = c.read-found in
     list-fits read.ensures _ _ _ c.in-Carriers.is if1.false c.if-goals-needed.false c.read.ensures
 

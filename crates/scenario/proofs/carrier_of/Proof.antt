@@ -37,13 +37,11 @@ enum-told-2 c = search rules
 
 returns-2 : tie.Need-returns-in_default-goal
 returns-2 c =
-   
     let both = c.both in
     carrier-wall-2 c.args.grid.width c.args.grid.height (bay_by c.args.cells.now c.args.grid) (past_of c.args.p) both.result both.ensures c.if-both.true c.in-Bay.s (ap cell_of (sym c.in-Bay.is) ∙ c.bay_in-start.ensures) (ap cell_of (sym c.in_default-goal.is) ∙ c.bay_in-goal.ensures)
 
 returns-3 : tie.Need-returns-then-both
 returns-3 c =
-   
     let if1 = c.if-both in
     let both = c.both in
     carrier-at c.args.grid.width c.args.grid.height (bay_by c.args.cells.now c.args.grid) (past_of c.args.p) both.result both.ensures if1.true c.in-Bay.s (ap cell_of (sym c.in-Bay.is) ∙ c.bay_in-start.ensures) c.in-Bay-goal.g (ap cell_of (sym c.in-Bay-goal.is) ∙ c.bay_in-goal.ensures)

@@ -41,7 +41,6 @@ same-length-2 c = wrote-length c.fold-in-Carriers.ensures.stored.goals_wrote
 
 returns : tie.Need-returns-in-Carriers
 returns c =
-   
     let answer = c.answer-found in
     let fold = c.fold in
     reads-good c.args.file.now c.args.grid c.args.cells.now c.in-Carriers.field-0 (ap answer_of (sym c.in-Carriers.is) ∙ answer.ensures ∙ ended-answer c.args.file.now c.args.grid c.args.cells.now _ fold.ensures) _ c.fold-in-Carriers.ensures _ c.answer.ensures

@@ -10,7 +10,7 @@ use borrow.Author.Rules.{rules}
 use Rattle.paper.proofs.Members.{nothing-in-nil}
 use Rattle.words.specs.Sets.{span}
 use Rattle.acting.proofs.Holding.{ready-again}
-use Rattle.clear_on.proofs.Attempting.{in-bays}
+use Rattle.trial.proofs.Lower.{in-bays}
 use Rattle.trial.proofs.Copying.{part, part-inside}
 use Rattle.scouts.proofs.Sending.{came-of, sent-most, sent-of}
 use Rattle.scouts.proofs.send.Statement.{statement}

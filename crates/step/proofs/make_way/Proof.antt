@@ -6,7 +6,7 @@ use native.Mathlib.Omega.{arith}
 use lib.ListN.{length, get_or}
 use borrow.Author.Rules.{rules}
 use Rattle.acting.proofs.Acting.{tallied-from, acted-done, acted-failed}
-use Rattle.clear.proofs.Clearing.{ready-again}
+use Rattle.swap.proofs.Lower.{ready-again}
 use Rattle.step.proofs.Stepping.{held_by, met-carrier, met-other, met-beside, stepped-swap, r-there, r-inside, w-empty, stepped-cross}
 use Rattle.acting.specs.declared.Tried.TheVariants.{Done}
 use Rattle.acting.specs.declared.Tried.TheVariants.{Failed}

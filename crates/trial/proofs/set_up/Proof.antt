@@ -5,7 +5,7 @@ use native.Mathlib.Omega.{arith}
 use lib.ListN.{length}
 use borrow.Author.Rules.{rules}
 use Rattle.acting.proofs.Acting.{tried-done, tried-failed}
-use Rattle.clear.proofs.Clearing.{ready-again}
+use Rattle.clear_on.proofs.Lower.{ready-again}
 use Rattle.acting.proofs.Lending.{rest-lent}
 use Rattle.clear_on.proofs.Attempting.{pair-none, pair-after, after-asks}
 use Rattle.moving.specs.Bounds.{bring_most, clear_most}
