@@ -60,7 +60,6 @@ enum-told-2 c = search rules
 
 returns-2 : tie.Need-returns-in_default-take invariant-loop decreases-loop
 returns-2 c =
-   
     let loop = c.loop-stop in
     left-bad c.args.file.now loop.n loop.due loop.at c.in-Text.stop c.in-Text.next (c.next_line.ensures.line c.in-Text.stop c.in-Text.next c.in-Text.is) (ap taken_of (sym c.in_default-take.is) ∙ c.take.ensures) ∙ loop.invariant.1.1
 
@@ -69,13 +68,11 @@ add-n c = search rules
 
 loop-less : tie.Need-loop-stop-smaller invariant-loop decreases-loop
 loop-less c =
-   
     let next-line = c.next_line in
     let t = next-line.ensures.line c.in-Text.stop c.in-Text.next c.in-Text.is in omega (arith, t.on, t.within)
 
 loop-again : tie.Need-loop-stop-preserved invariant-loop decreases-loop
 loop-again c =
-   
     let next-line = c.next_line in
     let loop = c.loop-stop in
     let t = next-line.ensures.line c.in-Text.stop c.in-Text.next c.in-Text.is in (t.within, (omega (arith, t.on, loop.invariant.1.0), left-on c.args.file.now loop.n loop.due loop.at c.in-Text.stop c.in-Text.next (next-line.ensures.line c.in-Text.stop c.in-Text.next c.in-Text.is) c.in-Due.d (ap taken_of (sym c.in-Due.is) ∙ c.take.ensures) ∙ loop.invariant.1.1))

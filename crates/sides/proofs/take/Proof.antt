@@ -35,7 +35,6 @@ side-after-requires-2 c κs = search rules
 
 returns-3 : tie.Need-returns-then-w-eq0
 returns-3 c =
-   
     width-no c.args.due c.args.text.now c.in-Width.h c.in-Width.is c.side_after-w.result c.side_after-w.ensures c.if-w-eq0.true
 
 enum-known-due-2 : tie.Need-enum_known-due-in-Map-1
@@ -46,7 +45,6 @@ is-word-requires-2 c κs = search rules
 
 returns-4 : tie.Need-returns-then-is_word-2
 returns-4 c =
-   
     map-yes c.args.due c.args.text.now c.in-Map.h c.in-Map.w c.in-Map.is c.is_word-in-Map.result c.is_word-in-Map.ensures c.if-is_word-2.true
 
 enum-known-due-3 : tie.Need-enum_known-due-in-Row-1
@@ -65,12 +63,10 @@ returns-6 c =
 
 returns-7 : tie.Need-returns-else-w-eq0
 returns-7 c =
-   
     width-yes c.args.due c.args.text.now c.in-Width.h c.in-Width.is c.side_after-w.result c.side_after-w.ensures c.if-w-eq0.false
 
 returns-8 : tie.Need-returns-else-is_word-2
 returns-8 c =
-   
     map-no c.args.due c.args.text.now c.in-Map.h c.in-Map.w c.in-Map.is c.is_word-in-Map.result c.is_word-in-Map.ensures c.if-is_word-2.false
 
 returns-9 : tie.Need-returns-in-Row

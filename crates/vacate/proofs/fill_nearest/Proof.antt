@@ -68,7 +68,6 @@ slice-aggregate-shift c =
 
 shift-requires : tie.Need-shift-requires
 shift-requires c κs =
-   
     let p = c.requires.0 in
     let full = c.requires.1 in
     let w = c.way_out in
@@ -100,7 +99,6 @@ same-length-5 c =
 returns-2 : tie.Need-returns
 returns-2 c =
     let shift = c.shift in
-   
     let p = c.requires.0 in
     let full = c.requires.1 in
     let w = c.way_out in
