@@ -40,8 +40,9 @@ $(OUT)/libsejjekoru.a: $(OUT)/sejjekoru.o $(OUT)/version.o
 $(OUT)/$(SONAME): $(OUT)/sejjekoru.o $(OUT)/version.o
 	$(CC) $(LDFLAGS) -shared -Wl,-soname,$(SONAME) -Wl,-z,text $(OUT)/sejjekoru.o $(OUT)/version.o -o $@
 
+# a copy, and no link: `rt ci` takes no link below the top of the repository
 $(OUT)/libsejjekoru.so: $(OUT)/$(SONAME)
-	ln -sf $(SONAME) $@
+	cp $(OUT)/$(SONAME) $@
 
 PROGRAM = program/vault.c program/desk.c program/order.c program/words.c program/file_words.c program/lines.c program/refusals.c program/files.c \
   program/plans.c program/books.c program/reverses.c program/timed.c program/surveys.c
