@@ -370,7 +370,7 @@ def turned(text, path, table, outer, joined):
 
 def flat(part):
     """A place further out that is only read by its fields: the goal's own place has them too."""
-    while m := re.search(r"(?m)^( *)let (\w+) = c(?:\.before)+ in[ \n]\s*|let (\w+) = c(?:\.before)+ in ", part):
+    while m := re.search(r"(?m)^( *)let (\w+) = c(?:\.before)+ in[ \n]\s*|let (\w+) = c(?:\.before)+ in\s+", part):
         name = m[2] or m[3]
         rest = part[: m.start()] + (m[1] or "") + part[m.end() :] if m[2] else part[: m.start()] + part[m.end() :]
         if re.search(rf"(?<![\w.'-]){name}(?![\w.'-])|let {name} =", rest):

@@ -39,8 +39,7 @@ hold-requires-2 : tie.Need-hold-requires-then-count-start
 hold-requires-2 c κs = search rules
 
 returns-2 : tie.Need-returns-then-count-start
-returns-2 c = let s = c.before.before.before.before.before.before.before.before.before.before.before in
-    let o = order s.args.bays s.args.rails.now s.args.start.now s.args.goal.now in open-refused o s.args.plan.now s.args.marks.now s.args.running s.args.count _ c.hold-then-count-start.result (c.hold-then-count-start.ensures ∙ ap (held_of 0) c.no_lines-then-count-start.ensures) (then-room o s.args.plan.now s.args.marks.now s.args.running s.args.count (ap checked_of (sym c.in_default.is) ∙ c.up_to_eleven-checked.ensures) c.if-count-start.true)
+returns-2 c = let o = order c.args.bays c.args.rails.now c.args.start.now c.args.goal.now in open-refused o c.args.plan.now c.args.marks.now c.args.running c.args.count _ c.hold-then-count-start.result (c.hold-then-count-start.ensures ∙ ap (held_of 0) c.no_lines-then-count-start.ensures) (then-room o c.args.plan.now c.args.marks.now c.args.running c.args.count (ap checked_of (sym c.in_default.is) ∙ c.up_to_eleven-checked.ensures) c.if-count-start.true)
 
 work-out-requires : tie.Need-work_out-fresh-requires
 work-out-requires c κs = fit_of (order c.args.bays c.args.rails.now c.args.start.now c.args.goal.now) c.args.plan.now c.args.marks.now (ap checked_of (sym c.in_default.is) ∙ c.up_to_eleven-checked.ensures)

@@ -36,8 +36,7 @@ returns : tie.Need-returns-in-Refused
 returns c =
     let o = order c.args.bays c.args.rails.now c.args.start.now c.args.goal.now in
     let u = c.unchanged.ensures in
-    let r = c.checked-1.given in
-    billing-left o c.args.plan.now c.args.marks.now c.args.accounts.running c.args.accounts.held c.args.name c.unchanged.result c.args.marks.now (refuse (refusal_of r.0.0)) (billing-refused o c.args.plan.now c.args.marks.now c.args.accounts.running c.args.accounts.held c.args.name c.unchanged.result c.args.marks.now _ (compare-refused o c.args.plan.now c.args.marks.now c.args.accounts.running c.args.accounts.held r.0.0 (ap checked_of (sym r.1) ∙ c.up_to_eleven-checked.ensures))) (no-refusal _) (ap report_of u.0) u.1 u.2 u.3 refl
+    billing-left o c.args.plan.now c.args.marks.now c.args.accounts.running c.args.accounts.held c.args.name c.unchanged.result c.args.marks.now (refuse (refusal_of c.in-Refused.r)) (billing-refused o c.args.plan.now c.args.marks.now c.args.accounts.running c.args.accounts.held c.args.name c.unchanged.result c.args.marks.now _ (compare-refused o c.args.plan.now c.args.marks.now c.args.accounts.running c.args.accounts.held c.in-Refused.r (ap checked_of (sym c.in-Refused.is) ∙ c.up_to_eleven-checked.ensures))) (no-refusal _) (ap report_of u.0) u.1 u.2 u.3 refl
 
 enum_told : tie.Need-enum_told-1
 enum_told c = search rules
@@ -56,14 +55,14 @@ returns-2 c =
     let o = order c.args.bays c.args.rails.now c.args.start.now c.args.goal.now in
     let u = c.unchanged-then-not-agreed.ensures in
     let passes = ap checked_of (sym c.in_default.is) ∙ c.up_to_eleven-checked.ensures in
-    billing-left o c.args.plan.now c.args.marks.now c.args.accounts.running c.args.accounts.held c.args.name c.unchanged-then-not-agreed.result c.args.marks.now (refuse paper.disagrees) (billing-differs o c.args.plan.now c.args.marks.now c.args.accounts.running c.args.accounts.held c.args.name c.unchanged-then-not-agreed.result c.args.marks.now (compare-differs o c.args.plan.now c.args.marks.now c.args.accounts.running c.args.accounts.held passes (sym (c.if-not-agreed.true) ∙ c.agree-agreed.ensures.0))) (no-refusal _) (ap report_of u.0) u.1 u.2 u.3 refl
+    billing-left o c.args.plan.now c.args.marks.now c.args.accounts.running c.args.accounts.held c.args.name c.unchanged-then-not-agreed.result c.args.marks.now (refuse paper.disagrees) (billing-differs o c.args.plan.now c.args.marks.now c.args.accounts.running c.args.accounts.held c.args.name c.unchanged-then-not-agreed.result c.args.marks.now (compare-differs o c.args.plan.now c.args.marks.now c.args.accounts.running c.args.accounts.held passes (sym (not-true _ c.if-not-agreed.true) ∙ c.agree-agreed.ensures.0))) (no-refusal _) (ap report_of u.0) u.1 u.2 u.3 refl
 
 settle-requires : tie.Need-settle-requires
 settle-requires c κs =
     let agree = c.agree-agreed in
     let o = order c.args.bays c.args.rails.now c.args.start.now c.args.goal.now in
     let passes = ap checked_of (sym c.in_default.is) ∙ c.up_to_eleven-checked.ensures in
-    (may-settle o c.args.plan.now c.args.marks.now c.args.accounts.running c.args.accounts.held (compare-agrees o c.args.plan.now c.args.marks.now c.args.accounts.running c.args.accounts.held passes (sym (c.if-not-agreed.false) ∙ agree.ensures.0)), agree.ensures.1)
+    (may-settle o c.args.plan.now c.args.marks.now c.args.accounts.running c.args.accounts.held (compare-agrees o c.args.plan.now c.args.marks.now c.args.accounts.running c.args.accounts.held passes (sym (not-false _ c.if-not-agreed.false) ∙ agree.ensures.0)), agree.ensures.1)
 
 same-length-3 : tie.Need-shape_of-marks
 same-length-3 c = search rules
@@ -74,7 +73,7 @@ returns-3 c =
     let up-to-eleven = c.up_to_eleven-checked in
     let o = order c.args.bays c.args.rails.now c.args.start.now c.args.goal.now in
     let passes = ap checked_of (sym c.in_default.is) ∙ up-to-eleven.ensures in
-    billing-settled o c.args.plan.now c.args.marks.now c.args.accounts.running c.args.accounts.held c.args.name c.settle.result _ (compare-agrees o c.args.plan.now c.args.marks.now c.args.accounts.running c.args.accounts.held passes (sym (c.if-not-agreed.false) ∙ c.agree-agreed.ensures.0)) c.settle.ensures
+    billing-settled o c.args.plan.now c.args.marks.now c.args.accounts.running c.args.accounts.held c.args.name c.settle.result _ (compare-agrees o c.args.plan.now c.args.marks.now c.args.accounts.running c.args.accounts.held passes (sym (not-false _ c.if-not-agreed.false) ∙ c.agree-agreed.ensures.0)) c.settle.ensures
 
 pub report_spec : {M : Type 1} → statement M
 report_spec =
