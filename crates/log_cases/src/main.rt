@@ -6,8 +6,8 @@
 use cases::{first8, first16, first64};
 use checker::Checked;
 use docket::Refusal;
-use libc::STDOUT_FILENO;
 use marks::Reported;
+use std::{fs, io};
 
 // An answer in the vectors' numbers: the refusal's and what it carries, 99 for "already", 0 for what is no refusal.
 #[derive(Clone, Copy)]
@@ -342,33 +342,19 @@ fn count_all(kind: u64, text: &[u8]) -> Tally {
     }
 }
 
-// The whole of a file of data/; what cannot be opened is empty, and so agrees with no expected line.
-fn load(path: &[u8], text: &mut [u8]) -> usize {
-    let fd = os::open_read(path);
-    if fd < 0 {
-        return 0;
-    }
-    let n = io::read_full(fd, text);
-    libc::close(fd);
-    n
+// Counts over the whole of a file of data/.
+fn load(rt: &HostRuntime, path: &str, kind: u64) -> io::Result<Tally> {
+    let text = fs::read(rt, path)?;
+    Ok(count_all(kind, &text))
 }
 
-fn show(name: &[u8], t: Tally) {
-    io::write_all(STDOUT_FILENO, name);
-    io::print_decimal(STDOUT_FILENO, t.agree);
-    io::write_all(STDOUT_FILENO, b" of ");
-    io::print_decimal(STDOUT_FILENO, t.cases);
-    io::write_all(STDOUT_FILENO, b"\n");
+fn show(rt: &impl Print, name: &str, t: Tally) -> io::Result<()> {
+    println!(rt; "{name} {} of {}", t.agree, t.cases)
 }
 
-fn main() {
-    let mut text = [0u8; 131072];
-    let a = load(b"check", &mut text);
-    show(b"check ", count_all(0, first8(&text, a)));
-    let b = load(b"slots", &mut text);
-    show(b"slots ", count_all(1, first8(&text, b)));
-    let c = load(b"report", &mut text);
-    show(b"report ", count_all(2, first8(&text, c)));
-    let d = load(b"reports", &mut text);
-    show(b"reports ", count_all(3, first8(&text, d)));
+fn main(rt: HostRuntime) -> io::Result<()> {
+    show(&rt, "check", load(&rt, "check", 0)?)?;
+    show(&rt, "slots", load(&rt, "slots", 1)?)?;
+    show(&rt, "report", load(&rt, "report", 2)?)?;
+    show(&rt, "reports", load(&rt, "reports", 3)?)
 }

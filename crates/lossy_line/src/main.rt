@@ -5,15 +5,15 @@
 #![tactic(auto)]
 
 use bills::Record;
-use cases::{first8, first16, first64};
+use cases::{first16, first64};
 use docket::{Crossing, Refusal};
 use held_lines::HeldLines;
 use ledger::{Accounts, Agreement};
-use libc::STDOUT_FILENO;
 use marks::Reported;
 use plans::Named;
 use settling::Settlement;
 use std::num::wrapping_add_u64;
+use std::{fs, io};
 use yard::Yard;
 
 // The numbers of the line's dice: Marsaglia's xorshift.
@@ -279,23 +279,27 @@ fn tampered(running: Record, done: u32) -> Record {
     }
 }
 
-fn show_tampered(answer: Reported, done: u32, agreed: Agreement) {
+fn show_tampered(
+    rt: &impl Print,
+    answer: Reported,
+    done: u32,
+    agreed: Agreement,
+) -> io::Result<()> {
     let Reported::Refused(r) = answer else {
-        return;
+        return Ok(());
     };
     let Refusal::Disagrees = r else {
-        return;
+        return Ok(());
     };
     if done == 1 && is_agreed(agreed) {
-        io::write_all(
-            STDOUT_FILENO,
-            b"tampered record refused 19, nothing changed\n",
-        );
+        println!(rt; "tampered record refused 19, nothing changed")?;
     }
+    Ok(())
 }
 
 // A first report, on a record that counts a crossing as done, is answered with 19. It changes nothing: with that count taken back all agrees.
 fn tamper(
+    rt: &impl Print,
     bays: u64,
     rails: &[u16],
     start: &[u16],
@@ -303,7 +307,7 @@ fn tamper(
     plan: &[u64],
     marks: &mut [u8],
     books: Books,
-) {
+) -> io::Result<()> {
     let running = books.running;
     let held = books.held;
     let accounts = Accounts {
@@ -320,7 +324,7 @@ fn tamper(
         held: left,
     };
     let agreed = ledger::compare(bays, rails, start, goal, plan, marks, accounts);
-    show_tampered(answer, then.done, agreed);
+    show_tampered(rt, answer, then.done, agreed)
 }
 
 // A day on the line.
@@ -470,18 +474,23 @@ fn wrong(plan: &[u64], bills: &[u64]) -> u64 {
     n
 }
 
-fn show(line: Line, plan: &[u64], illegal: u64, away: u64, wrong: u64) {
-    put(b"accepted ", line.accepted as u64);
-    say(b" of ", plan.len() as u64);
-    say(b"illegal ", illegal);
-    say(b"not home ", away);
-    say(b"wrong bills ", wrong);
+fn show(
+    rt: &impl Print,
+    line: Line,
+    plan: &[u64],
+    illegal: u64,
+    away: u64,
+    wrong: u64,
+) -> io::Result<()> {
+    put(rt, "accepted ", line.accepted as u64)?;
+    say(rt, " of ", plan.len() as u64)?;
+    say(rt, "illegal ", illegal)?;
+    say(rt, "not home ", away)?;
+    say(rt, "wrong bills ", wrong)?;
     if 0 < line.lost && 0 < line.early && 0 < line.repeated {
-        io::write_all(
-            STDOUT_FILENO,
-            b"some were lost, some came early, some were repeated\n",
-        );
+        println!(rt; "some were lost, some came early, some were repeated")?;
     }
+    Ok(())
 }
 
 // The carriers at their starts, if there is room for all of them.
@@ -495,16 +504,25 @@ fn place(start: &[u16], at: &mut [u16]) {
 const NOWHERE: u16 = 65535;
 
 // Replays and bills what the line accepted, and shows how it ended.
-fn settle(line: Line, rails: &[u16], start: &[u16], goal: &[u16], plan: &[u64], got: &[u64]) {
+fn settle(
+    rt: &impl Print,
+    line: Line,
+    rails: &[u16],
+    start: &[u16],
+    goal: &[u16],
+    plan: &[u64],
+    got: &[u64],
+) -> io::Result<()> {
     let mut at = [NOWHERE; 256];
     let mut bills = [0u64; 256];
     place(start, &mut at);
     let illegal = play_all(rails, plan, got, &mut at, &mut bills);
-    show(line, plan, illegal, away(&at, goal), wrong(plan, &bills));
+    show(rt, line, plan, illegal, away(&at, goal), wrong(plan, &bills))
 }
 
 // The books are opened, tampered with, and kept for a day.
 fn keep_day(
+    rt: &impl Print,
     bays: u64,
     rails: &[u16],
     start: &[u16],
@@ -512,74 +530,90 @@ fn keep_day(
     plan: &[u64],
     marks: &mut [u8],
     got: &mut [u64],
-) -> Day {
+) -> io::Result<Day> {
     let books = open_books(bays, rails, start, goal, plan, marks);
-    tamper(bays, rails, start, goal, plan, marks, books);
-    run(bays, rails, start, goal, plan, marks, got, books)
+    tamper(rt, bays, rails, start, goal, plan, marks, books)?;
+    Ok(run(bays, rails, start, goal, plan, marks, got, books))
 }
 
 // The marks of a plan are as many as its crossings.
 fn run_marked(
+    rt: &impl Print,
     bays: u64,
     rails: &[u16],
     start: &[u16],
     goal: &[u16],
     plan: &[u64],
     got: &mut [u64],
-) -> Day {
+) -> io::Result<Day> {
     let mut marks = [0u8; 1024];
     let n = plan.len();
     if n <= 1024 {
-        keep_day(bays, rails, start, goal, plan, &mut marks[..n], got)
+        keep_day(rt, bays, rails, start, goal, plan, &mut marks[..n], got)
     } else {
-        keep_day(bays, rails, start, goal, plan, &mut marks, got)
+        keep_day(rt, bays, rails, start, goal, plan, &mut marks, got)
     }
 }
 
 // A carrier's line, and how many crossings are billed to it.
-fn show_line(held: HeldLines, c: usize) -> u64 {
+fn show_line(rt: &impl Print, held: HeldLines, c: usize) -> io::Result<u64> {
     if Yard::BAYS <= c {
-        return 0;
+        return Ok(0);
     }
     let line = held_lines::line_at(held, c);
-    put(b"carrier ", line.carrier as u64);
-    put(b" billed ", line.billed as u64);
-    say(b" last name ", line.last as u64);
-    line.billed as u64
+    put(rt, "carrier ", line.carrier as u64)?;
+    put(rt, " billed ", line.billed as u64)?;
+    say(rt, " last name ", line.last as u64)?;
+    Ok(line.billed as u64)
 }
 
 // Each carrier's line, and how many crossings are billed in all.
-fn show_lines(held: HeldLines) -> u64 {
+fn show_lines(rt: &impl Print, held: HeldLines) -> io::Result<u64> {
     let mut sum = 0;
     let mut c = 0;
     while c < held.count {
-        sum = wrapping_add_u64(sum, show_line(held, c));
+        sum = wrapping_add_u64(sum, show_line(rt, held, c)?);
         c += 1;
     }
-    sum
+    Ok(sum)
 }
 
-fn show_books(books: Books, plan: &[u64]) {
+fn show_books(rt: &impl Print, books: Books, plan: &[u64]) -> io::Result<()> {
     let running = books.running;
     let held = books.held;
-    say(b"disagreed ", books.differed);
-    say(b"done ", running.done as u64);
-    say(b"highest slot ", running.highest as u64);
-    put(b"billed ", show_lines(held));
-    say(b" of ", plan.len() as u64);
+    say(rt, "disagreed ", books.differed)?;
+    say(rt, "done ", running.done as u64)?;
+    say(rt, "highest slot ", running.highest as u64)?;
+    put(rt, "billed ", show_lines(rt, held)?)?;
+    say(rt, " of ", plan.len() as u64)
 }
 
 // The day, and what came of it.
-fn simulate(bays: u64, rails: &[u16], start: &[u16], goal: &[u16], plan: &[u64]) {
+fn simulate(
+    rt: &impl Print,
+    bays: u64,
+    rails: &[u16],
+    start: &[u16],
+    goal: &[u16],
+    plan: &[u64],
+) -> io::Result<()> {
     let mut got = [0u64; 1024];
-    let day = run_marked(bays, rails, start, goal, plan, &mut got);
+    let day = run_marked(rt, bays, rails, start, goal, plan, &mut got)?;
     let line = day.line;
     let books = day.books;
-    settle(line, rails, start, goal, plan, first64(&got, line.accepted));
-    show_books(books, plan);
+    settle(
+        rt,
+        line,
+        rails,
+        start,
+        goal,
+        plan,
+        first64(&got, line.accepted),
+    )?;
+    show_books(rt, books, plan)
 }
 
-fn read(text: &[u8]) {
+fn read(rt: &impl Print, text: &[u8]) -> io::Result<()> {
     let mut rails = [0u16; 512];
     let mut start = [0u16; 256];
     let mut goal = [0u16; 256];
@@ -590,31 +624,24 @@ fn read(text: &[u8]) {
     let c = cases::list16(text, b.next, &mut goal);
     let d = cases::list64(text, c.next, &mut plan);
     simulate(
+        rt,
         bays.value,
         first16(&rails, a.count),
         first16(&start, b.count),
         first16(&goal, c.count),
         first64(&plan, d.count),
-    );
+    )
 }
 
-fn put(words: &[u8], n: u64) {
-    io::write_all(STDOUT_FILENO, words);
-    io::print_decimal(STDOUT_FILENO, n);
+fn put(rt: &impl Print, words: &str, n: u64) -> io::Result<()> {
+    print!(rt; "{words}{n}")
 }
 
-fn say(words: &[u8], n: u64) {
-    put(words, n);
-    io::write_all(STDOUT_FILENO, b"\n");
+fn say(rt: &impl Print, words: &str, n: u64) -> io::Result<()> {
+    println!(rt; "{words}{n}")
 }
 
-fn main() {
-    let mut text = [0u8; 8192];
-    let fd = os::open_read(b"plan");
-    if fd < 0 {
-        return;
-    }
-    let size = io::read_full(fd, &mut text);
-    libc::close(fd);
-    read(first8(&text, size));
+fn main(rt: HostRuntime) -> io::Result<()> {
+    let text = fs::read(&rt, "plan")?;
+    read(&rt, &text)
 }

@@ -11,8 +11,8 @@ ghost use Rattle.rings.specs.Search.{Shown};
 ghost use Rattle.moving.specs.Placed.{Placed};
 
 use docket::Bay;
-use libc::STDOUT_FILENO;
 use rings::Path;
+use std::{fs, io};
 use vacate::Vacated;
 use words::{SPAN, WORDS};
 use yard::{Opened, Yard};
@@ -140,7 +140,7 @@ fn path_case(text: &[u8], at: usize) -> Outcome {
 }
 
 // How many cases of the text agree.
-fn paths_agreeing(text: &[u8]) -> u64 {
+fn paths_agreeing(rt: &impl Print, text: &[u8]) -> io::Result<u64> {
     let count = cases::number(text, 0);
     let total = count.value;
     let mut next = count.next;
@@ -151,12 +151,12 @@ fn paths_agreeing(text: &[u8]) -> u64 {
         if o.agrees {
             agree += 1;
         } else {
-            report(b"path case ", i);
+            report(rt, "path case ", i)?;
         }
         next = o.next;
         i += 1;
     }
-    agree
+    Ok(agree)
 }
 
 // Vacates x. The table that is lent ends with the rails, so that no levels are asked of it.
@@ -273,7 +273,7 @@ fn vacate_case(text: &[u8], at: usize) -> Outcome {
     }
 }
 
-fn vacates_agreeing(text: &[u8]) -> u64 {
+fn vacates_agreeing(rt: &impl Print, text: &[u8]) -> io::Result<u64> {
     let count = cases::number(text, 0);
     let total = count.value;
     let mut next = count.next;
@@ -284,47 +284,31 @@ fn vacates_agreeing(text: &[u8]) -> u64 {
         if o.agrees {
             agree += 1;
         } else {
-            report(b"vacate case ", i);
+            report(rt, "vacate case ", i)?;
         }
         next = o.next;
         i += 1;
     }
-    agree
+    Ok(agree)
 }
 
-fn report(what: &[u8], i: u64) {
-    io::write_all(STDOUT_FILENO, what);
-    io::print_decimal(STDOUT_FILENO, i);
-    io::write_all(STDOUT_FILENO, b" does not agree\n");
+fn report(rt: &impl Print, what: &str, i: u64) -> io::Result<()> {
+    println!(rt; "{what}{i} does not agree")
 }
 
-fn paths_of(name: &[u8]) -> u64 {
-    let fd = os::open_read(name);
-    if fd < 0 {
-        os::fail(name);
-        return 0;
-    }
-    let mut buf = io::large_buffer();
-    let n = io::read_full(fd, &mut buf);
-    libc::close(fd);
-    paths_agreeing(&buf[..n])
+fn paths_of(rt: &HostRuntime, name: &str) -> io::Result<u64> {
+    let text = fs::read(rt, name)?;
+    paths_agreeing(rt, &text)
 }
 
-fn vacates_of(name: &[u8]) -> u64 {
-    let fd = os::open_read(name);
-    if fd < 0 {
-        os::fail(name);
-        return 0;
-    }
-    let mut buf = io::large_buffer();
-    let n = io::read_full(fd, &mut buf);
-    libc::close(fd);
-    vacates_agreeing(&buf[..n])
+fn vacates_of(rt: &HostRuntime, name: &str) -> io::Result<u64> {
+    let text = fs::read(rt, name)?;
+    vacates_agreeing(rt, &text)
 }
 
-fn main() {
-    io::print_decimal(STDOUT_FILENO, paths_of(b"path"));
-    io::write_all(STDOUT_FILENO, b" paths agree\n");
-    io::print_decimal(STDOUT_FILENO, vacates_of(b"vacate"));
-    io::write_all(STDOUT_FILENO, b" vacates agree\n");
+fn main(rt: HostRuntime) -> io::Result<()> {
+    let paths = paths_of(&rt, "path")?;
+    println!(rt; "{paths} paths agree")?;
+    let vacates = vacates_of(&rt, "vacate")?;
+    println!(rt; "{vacates} vacates agree")
 }

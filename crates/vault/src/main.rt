@@ -9,7 +9,13 @@ ghost use Rattle.filing.specs.Filing.{file_of};
 ghost use Rattle.print_room.specs.Printout.{print_room};
 ghost use Rattle.print_room.specs.Whole.{print_for};
 
-use libc::{STDERR_FILENO, STDOUT_FILENO};
+use std::env::{Env, FillError};
+use std::io::Read;
+use std::rt::Files;
+use std::{fs, io};
+
+// As many bytes as the longest path that the system opens, and its end.
+const PATH_BYTES: usize = 4096;
 
 // How many of a file's first bytes are in the buffer, and whether it could be read. No contract says which bytes these are: what a call of the
 // operating system puts into a buffer is not known to the proof. So the promises begin with the bytes read, in `print`, and end with the bytes
@@ -21,26 +27,29 @@ struct Loaded {
 }
 
 // One more read into the buffer: 0 bytes at the file's end.
-fn read_on(fd: i32, buffer: &mut [u8], at: usize) -> Loaded
+fn read_on(file: &mut impl Read, buffer: &mut [u8], at: usize) -> Loaded
     requires { at ≤ length buffer.old }
     ensures { at + result.bytes ≤ length buffer.new }
 {
-    let room = &mut buffer[at..];
-    let got = libc::read(fd, room);
-    let n = io::count(got, room);
-    Loaded {
-        bytes: n,
-        readable: got >= 0,
+    match file.read(&mut buffer[at..]) {
+        Ok(n) => Loaded {
+            bytes: n,
+            readable: true,
+        },
+        Err(_) => Loaded {
+            bytes: 0,
+            readable: false,
+        },
     }
 }
 
 // As much of the file as the buffer holds.
-fn fill(fd: i32, buffer: &mut [u8]) -> Loaded
+fn fill(file: &mut impl Read, buffer: &mut [u8]) -> Loaded
     ensures { result.bytes ≤ length buffer.new }
 {
     let mut done = 0;
     while done < buffer.len() {
-        let more = read_on(fd, buffer, done);
+        let more = read_on(file, buffer, done);
         if more.bytes == 0 {
             return Loaded {
                 bytes: done,
@@ -55,20 +64,23 @@ fn fill(fd: i32, buffer: &mut [u8]) -> Loaded
     }
 }
 
-// A directory and a file that is not there can't be read.
-fn load(path: &[u8], buffer: &mut [u8]) -> Loaded
+// A directory and a file that is not there can't be read. Nor can one whose path is not UTF-8: std names no such file.
+fn load(rt: &impl Files, path: &[u8], buffer: &mut [u8]) -> Loaded
     ensures { result.bytes ≤ length buffer.new }
 {
-    let fd = os::open_read(path);
-    if fd < 0 {
+    let Ok(name) = str::from_utf8(path) else {
         return Loaded {
             bytes: 0,
             readable: false,
         };
-    }
-    let loaded = fill(fd, buffer);
-    libc::close(fd);
-    loaded
+    };
+    let Ok(mut file) = fs::open(rt, name) else {
+        return Loaded {
+            bytes: 0,
+            readable: false,
+        };
+    };
+    fill(&mut file, buffer)
 }
 
 // All that is printed for two files, each with whether it could be read: what the paper prints; with the flag as first word, with the plan shortened.
@@ -90,13 +102,18 @@ fn print(
 }
 
 // These many bytes of a file decide the answer, however long it is, and every print fits in these many. It has no contract of its own: it lends nothing
-// and answers nothing. What it writes is the whole of what `print` answers.
-fn answer(word: &[u8], map_path: &[u8], scenario_path: &[u8]) {
+// and answers only whether the print was written. What it writes is the whole of what `print` answers.
+fn answer(
+    rt: &(impl Files + Print),
+    word: &[u8],
+    map_path: &[u8],
+    scenario_path: &[u8],
+) -> io::Result<()> {
     let mut map = [0u8; file_room::MAP_BYTES];
     let mut scenario = [0u8; file_room::SCENARIO_BYTES];
     let mut out = [0u8; print_room::PRINT_BYTES];
-    let first = load(map_path, &mut map);
-    let second = load(scenario_path, &mut scenario);
+    let first = load(rt, map_path, &mut map);
+    let second = load(rt, scenario_path, &mut scenario);
     let m = first.bytes;
     let s = second.bytes;
     let n = print(
@@ -107,32 +124,47 @@ fn answer(word: &[u8], map_path: &[u8], scenario_path: &[u8]) {
         second.readable,
         &mut out,
     );
-    io::write_all(STDOUT_FILENO, &out[..n]);
+    rt.write_all(&out[..n])
 }
 
-// The two files are named by the words from `first` on.
-fn answer_from(word: &[u8], first: usize)
+// Puts a word of the command line at the start of the buffer: none of its bytes where it is missing or longer than the buffer.
+fn arg(rt: &impl Env, i: usize, buffer: &mut [u8]) -> usize
+    ensures { result ≤ length buffer.new }
+{
+    rt.arg(i, buffer).unwrap_or(0)
+}
+
+fn is_given(rt: &impl Env, i: usize) -> bool {
+    let mut start = [0u8; 1];
+    match rt.arg(i, &mut start) {
+        Ok(_) => true,
+        Err(FillError::TooLong) => true,
+        Err(FillError::NotPresent) => false,
+    }
+}
+
+// The two files are named by the words from `first` on. Where standard error takes no usage, the answer is still printed.
+fn answer_from(rt: &HostRuntime, word: &[u8], first: usize) -> io::Result<()>
     requires { first ≤ 2 }
 {
-    if os::arg_count() != first + 2 {
-        io::write_all(
-            STDERR_FILENO,
-            b"usage: vault [--shorten] MAP SCENARIO (a grid map and a scenario file; prints the plan or the refusal)\n",
+    if !is_given(rt, first + 1) || is_given(rt, first + 2) {
+        let _ = eprintln!(rt;
+            "usage: vault [--shorten] MAP SCENARIO (a grid map and a scenario file; prints the plan or the refusal)"
         );
     }
-    let mut map = io::buffer();
-    let m = os::arg(first, &mut map);
-    let mut scenario = io::buffer();
-    let s = os::arg(first + 1, &mut scenario);
-    answer(word, &map[..m], &scenario[..s]);
+    let mut map = [0u8; PATH_BYTES];
+    let m = arg(rt, first, &mut map);
+    let mut scenario = [0u8; PATH_BYTES];
+    let s = arg(rt, first + 1, &mut scenario);
+    answer(rt, word, &map[..m], &scenario[..s])
 }
 
-fn main() {
-    let mut word = io::buffer();
-    let w = os::arg(1, &mut word);
+fn main(rt: HostRuntime) -> io::Result<()> {
+    let mut word = [0u8; PATH_BYTES];
+    let w = arg(&rt, 1, &mut word);
     if flag::is_shorten(&word[..w]) {
-        answer_from(&word[..w], 2);
+        answer_from(&rt, &word[..w], 2)
     } else {
-        answer_from(&word[..w], 1);
+        answer_from(&rt, &word[..w], 1)
     }
 }

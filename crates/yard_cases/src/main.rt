@@ -4,7 +4,7 @@
 // the limits of document 01, Y10 among them. 164 of the vectors' 1,742 are left out: they name a bay over 65,535, which no bay number holds.
 #![tactic(auto)]
 
-use libc::STDOUT_FILENO;
+use std::{fs, io};
 use yard::{Opened, Yard};
 
 // The answer in the vectors' numbers.
@@ -62,19 +62,12 @@ fn compared(text: &[u8], at: usize, a: Code) -> Outcome {
     }
 }
 
-fn report(name: &[u8], i: u64, a: Code) {
-    io::write_all(STDOUT_FILENO, name);
-    io::write_all(STDOUT_FILENO, b" case ");
-    io::print_decimal(STDOUT_FILENO, i);
-    io::write_all(STDOUT_FILENO, b" answered ");
-    io::print_decimal(STDOUT_FILENO, a.0);
-    io::write_all(STDOUT_FILENO, b" ");
-    io::print_decimal(STDOUT_FILENO, a.1);
-    io::write_all(STDOUT_FILENO, b"\n");
+fn report(rt: &impl Print, name: &str, i: u64, a: Code) -> io::Result<()> {
+    println!(rt; "{name} case {i} answered {} {}", a.0, a.1)
 }
 
 // How many cases of the text agree.
-fn agreeing(name: &[u8], text: &[u8]) -> u64 {
+fn agreeing(rt: &impl Print, name: &str, text: &[u8]) -> io::Result<u64> {
     let count = cases::number(text, 0);
     let total = count.value;
     let mut next = count.next;
@@ -85,35 +78,27 @@ fn agreeing(name: &[u8], text: &[u8]) -> u64 {
         if o.agrees {
             agree += 1;
         } else {
-            report(name, i, o.answer);
+            report(rt, name, i, o.answer)?;
         }
         next = o.next;
         i += 1;
     }
-    agree
+    Ok(agree)
 }
 
 // How many cases of the file agree.
-fn of_file(name: &[u8]) -> u64 {
-    let fd = os::open_read(name);
-    if fd < 0 {
-        os::fail(name);
-        return 0;
-    }
-    let mut buf = io::large_buffer();
-    let n = io::read_full(fd, &mut buf);
-    libc::close(fd);
-    agreeing(name, &buf[..n])
+fn of_file(rt: &HostRuntime, name: &str) -> io::Result<u64> {
+    let text = fs::read(rt, name)?;
+    agreeing(rt, name, &text)
 }
 
-fn tell(n: u64) {
-    io::print_decimal(STDOUT_FILENO, n);
-    io::write_all(STDOUT_FILENO, b" agree\n");
+fn tell(rt: &impl Print, n: u64) -> io::Result<()> {
+    println!(rt; "{n} agree")
 }
 
-fn main() {
-    tell(of_file(b"0"));
-    tell(of_file(b"1"));
-    tell(of_file(b"2"));
-    tell(of_file(b"3"));
+fn main(rt: HostRuntime) -> io::Result<()> {
+    tell(&rt, of_file(&rt, "0")?)?;
+    tell(&rt, of_file(&rt, "1")?)?;
+    tell(&rt, of_file(&rt, "2")?)?;
+    tell(&rt, of_file(&rt, "3")?)
 }

@@ -4,14 +4,14 @@ use Rattle.std.proofs.Common.{sym, arith, length-take-le, take_all, rules}
 use Rattle.cases.proofs.first16.Statement.{statement}
 use Rattle.cases.proofs.first16.Tie as tie
 
-slice-aggregate-result : tie.Need-slice-aggregate-result
-slice-aggregate-result c = sym (length-take-le c.before.before.args.n c.before.before.args.list.now c.before.if1.true)
+slice-aggregate-result : tie.Need-slice_bounds-result-end
+slice-aggregate-result c = sym (length-take-le c.args.n c.args.list.now c.if-n-list.true)
 
-returns : tie.Need-returns
+returns : tie.Need-returns-then-n-list
 returns c = search rules
 
-returns-2 : tie.Need-returns-2
-returns-2 c = sym (take_all c.before.args.n c.before.args.list.now (omega arith))
+returns-2 : tie.Need-returns-else-n-list
+returns-2 c = sym (take_all c.args.n c.args.list.now (omega arith))
 
-pub first16-spec : {M : Type 1} → statement M
-first16-spec = tie.close (tie.spec slice-aggregate-result returns returns-2)
+pub first16_spec : {M : Type 1} → statement M
+first16_spec = tie.close (tie.spec slice-aggregate-result returns returns-2)

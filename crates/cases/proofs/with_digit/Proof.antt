@@ -11,26 +11,26 @@ top v d high fits =
     let same : 18446744073709551610 + d ≡ v * 10 + d = omega (arith, one) in
     rw same (omega (arith, fits))
 
-cast-d : tie.Need-overflow-cast-d
+cast-d : tie.Need-overflow_cast-d
 cast-d c = search rules
 
-mul-wrapping-add-u64 : tie.Need-overflow-mul-wrapping-add-u64
+mul-wrapping-add-u64 : tie.Need-overflow_mul-value
 mul-wrapping-add-u64 c = search rules
 
-wrapping-add-u64-requires : tie.Need-wrapping-add-u64-requires
+wrapping-add-u64-requires : tie.Need-wrapping_add_u64-requires
 wrapping-add-u64-requires c κs = search rules
 
-wrapping-add-u64-requires-2 : tie.Need-wrapping-add-u64-requires-2
+wrapping-add-u64-requires-2 : tie.Need-wrapping_add_u64-requires-else-value-le1844674407370955160
 wrapping-add-u64-requires-2 c κs = search rules
 
-returns : tie.Need-returns
-returns c = λ fits. omega (arith, c.wrapping-add-u64.ensures, fits)
+returns : tie.Need-returns-then-value-le1844674407370955160
+returns c = λ fits. omega (arith, c.wrapping_add_u64.ensures, fits)
 
-returns-2 : tie.Need-returns-2
-returns-2 c = λ fits. c.wrapping-add-u642.ensures ∙ top _ _ c.before.if1.false fits
+returns-2 : tie.Need-returns-else-value-le1844674407370955160
+returns-2 c = λ fits. c.wrapping_add_u64-else-value-le1844674407370955160.ensures ∙ top _ _ c.if-value-le1844674407370955160.false fits
 
-pub with-digit-spec : {M : Type 1} → statement M
-with-digit-spec =
+pub with_digit_spec : {M : Type 1} → statement M
+with_digit_spec =
     tie.close
     (tie.spec
     cast-d

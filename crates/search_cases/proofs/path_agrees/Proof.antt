@@ -13,34 +13,33 @@ use Rattle.search_cases.proofs.path_is.Reads as path-is-reads
 open-requires : tie.Need-open-requires
 open-requires c κs = search rules
 
-enum-known-y : tie.Need-enum-known-y
+enum-known-y : tie.Need-enum_known-y
 enum-known-y c = search rules
 
-enum_told : tie.Need-enum-told
+enum_told : tie.Need-enum_told-1
 enum_told c = search rules
 
-returns : tie.Need-returns
+returns : tie.Need-returns-in_default
 returns c = search rules
 
-returns-2 : tie.Need-returns-2
+returns-2 : tie.Need-returns-then-n-gt-SPAN
 returns-2 c = search rules
 
-returns-3 : tie.Need-returns-3
+returns-3 : tie.Need-returns-then-n-u
 returns-3 c = search rules
 
-returns-4 : tie.Need-returns-4
+returns-4 : tie.Need-returns-then-n-v
 returns-4 c = search rules
 
-path-is-requires : tie.Need-path-is-requires
+path-is-requires : tie.Need-path_is-requires
 path-is-requires c κs =
-    let start = c.before.before.before.before.before.before.before.before.before.before.before.before.before in
-    (omega arith, omega arith, omega arith, start.requires, shown-any (opened-table c.before.before.before.before.before.before.before.«open».ensures _ c.before.before.before.before.before.y.given.1) start.requires)
+    (omega arith, omega arith, omega arith, c.requires, shown-any (opened-table c.before.before.before.before.before.«open».ensures _ c.in-Open.is) c.requires)
 
-returns-5 : tie.Need-returns-5
+returns-5 : tie.Need-returns
 returns-5 c = search rules
 
-pub path-agrees-spec : {M : Type 1} → statement M
-path-agrees-spec =
+pub path_agrees_spec : {M : Type 1} → statement M
+path_agrees_spec =
     tie.close
     (tie.spec
     open-requires

@@ -12,45 +12,43 @@ use Rattle.search_cases.proofs.path_is.Reads as reads
 use Rattle.search_cases.proofs.path_is.Lts as lts
 use Rattle.search_cases.proofs.same16.Reads as same16-reads
 
-slice-aggregate-path-between : tie.Need-slice-aggregate-path-between
+slice-aggregate-path-between : tie.Need-slice_bounds-path_between-end-2
 slice-aggregate-path-between c = search rules
 
-path-between-requires : tie.Need-path-between-requires
+path-between-requires : tie.Need-path_between-requires
 path-between-requires c κs = search rules
 
-enum-known-m : tie.Need-enum-known-m
+enum-known-m : tie.Need-enum_known-m
 enum-known-m c = search rules
 
-enum_told : tie.Need-enum-told
+enum_told : tie.Need-enum_told-1
 enum_told c = search rules
 
-returns : tie.Need-returns
+returns : tie.Need-returns-in_default
 returns c = search rules
 
-array-share-prefix-path : tie.Need-array-share-prefix-path
+array-share-prefix-path : tie.Need-slice_bounds-path-end
 array-share-prefix-path c =
-    let path-between = c.before.before.before.before.path-between in
-    let start = c.before.before.before.before.before.before.before.before.before in
-    let t = rw c.before.m.given.1 at (path-between.ensures.found start.requires.4) in
-    let kept : length path-between.new.1.1.1.1.1.0 ≡ span = path-between.auto.1.1.1.1.1.0 in
-    omega (arith, t.fits, start.requires.0, kept)
+    let path-between = c.path_between in
+    let t = rw c.in-First.is at (path-between.ensures.found c.requires.4) in
+    let kept : length path-between.new.path ≡ span = path-between.auto.path in
+    omega (arith, t.fits, c.requires.0, kept)
 
-slice-aggregate-same16 : tie.Need-slice-aggregate-same16
+slice-aggregate-same16 : tie.Need-slice_bounds-same16-end
 slice-aggregate-same16 c =
-    let path-between = c.before.before.before.before.before.path-between in
-    let start = c.before.before.before.before.before.before.before.before.before.before in
-    let t = rw c.before.before.m.given.1 at (path-between.ensures.found start.requires.4) in
-    let kept : length path-between.new.1.1.1.1.1.0 ≡ span = path-between.auto.1.1.1.1.1.0 in
-    sym (length-take-le _ _ (omega (arith, t.fits, start.requires.0, kept)))
+    let path-between = c.path_between in
+    let t = rw c.in-First.is at (path-between.ensures.found c.requires.4) in
+    let kept : length path-between.new.path ≡ span = path-between.auto.path in
+    sym (length-take-le _ _ (omega (arith, t.fits, c.requires.0, kept)))
 
 same16-requires : tie.Need-same16-requires
 same16-requires c κs = search rules
 
-returns-2 : tie.Need-returns-2
+returns-2 : tie.Need-returns
 returns-2 c = search rules
 
-pub path-is-spec : {M : Type 1} → statement M
-path-is-spec =
+pub path_is_spec : {M : Type 1} → statement M
+path_is_spec =
     tie.close
     (tie.spec
     slice-aggregate-path-between

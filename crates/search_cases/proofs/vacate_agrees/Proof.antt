@@ -17,76 +17,75 @@ use Rattle.search_cases.proofs.vacated.Reads as vacated-reads
 open-requires : tie.Need-open-requires
 open-requires c κs = search rules
 
-enum-known-y : tie.Need-enum-known-y
+enum-known-y : tie.Need-enum_known-y
 enum-known-y c = search rules
 
-enum_told : tie.Need-enum-told
+enum_told : tie.Need-enum_told-1
 enum_told c = search rules
 
-same_length : tie.Need-same-length
+same_length : tie.Need-shape_of-placement-in_default
 same_length c = search rules
 
-returns : tie.Need-returns
+returns : tie.Need-returns-in_default
 returns c = search rules
 
-same-length-2 : tie.Need-same-length-2
+same-length-2 : tie.Need-shape_of-placement-then-n-gt-SPAN
 same-length-2 c = search rules
 
-returns-2 : tie.Need-returns-2
+returns-2 : tie.Need-returns-then-n-gt-SPAN
 returns-2 c = search rules
 
-same-length-3 : tie.Need-same-length-3
+same-length-3 : tie.Need-shape_of-placement-then-n-x
 same-length-3 c = search rules
 
-returns-3 : tie.Need-returns-3
+returns-3 : tie.Need-returns-then-n-x
 returns-3 c = search rules
 
-array-borrow-prefix-standing : tie.Need-array-borrow-prefix-standing
+array-borrow-prefix-standing : tie.Need-slice_bounds-standing-end
 array-borrow-prefix-standing c = search rules
 
-slice-aggregate-vacated : tie.Need-slice-aggregate-vacated
-slice-aggregate-vacated c = sym (length-take-le _ _ c.before.before.before.before.if1.false)
+slice-aggregate-vacated : tie.Need-slice_bounds-vacated-end
+slice-aggregate-vacated c = sym (length-take-le _ _ c.if-n-gt-SPAN.false)
 
-slice-aggregate-vacated-2 : tie.Need-slice-aggregate-vacated-2
+slice-aggregate-vacated-2 : tie.Need-slice_bounds-vacated-end-2
 slice-aggregate-vacated-2 c = search rules
 
-vacated-requires : tie.Need-vacated-requires
+vacated-requires : tie.Need-vacated-r-requires
 vacated-requires c κs =
-    let if1 = c.before.before.before.before.before.if1 in
-    let start = c.before.before.before.before.before.before.before.before.before.before.before.before.before.before.before.before in
-    ready c.before.before.before.before.before.before.before.before.before.«open».ensures _ c.before.before.before.before.before.before.before.y.given.1 (replicate 256 0) if1.false if1.false (omega arith) start.requires
+    let if1 = c.if-n-gt-SPAN in
+    ready c.before.before.before.before.before.before.before.«open».ensures _ c.in-Open.is (replicate 256 0) if1.false if1.false (omega arith) c.requires
 
-same-length-4 : tie.Need-same-length-4
+same-length-4 : tie.Need-shape_of-placement-then-m-gt-SPAN
 same-length-4 c = search rules
 
-returns-4 : tie.Need-returns-4
+returns-4 : tie.Need-returns-then-m-gt-SPAN
 returns-4 c = search rules
 
-array-share-prefix-out : tie.Need-array-share-prefix-out
+array-share-prefix-out : tie.Need-slice_bounds-out-end
 array-share-prefix-out c = search rules
 
-slice-aggregate-same64 : tie.Need-slice-aggregate-same64
+slice-aggregate-same64 : tie.Need-slice_bounds-same64-end
 slice-aggregate-same64 c =
-    let vacated = c.before.before.before.before.before.before.before.before.vacated in
-    let kept : length vacated.new.1.1.1.1.1.0 ≡ span = vacated.auto.1.1.1.1.1.0 in sym (length-take-le _ _ (omega (arith, c.before.before.before.if3.false, kept)))
+    let vacated = c.vacated-r in
+    let kept : length vacated.new.out ≡ span = vacated.auto.out in sym (length-take-le _ _ (omega (arith, c.if-m-gt-SPAN.false, kept)))
 
 same64-requires : tie.Need-same64-requires
 same64-requires c κs = search rules
 
-same-length-5 : tie.Need-same-length-5
+same-length-5 : tie.Need-shape_of-placement-then-r-kind
 same-length-5 c = search rules
 
-returns-5 : tie.Need-returns-5
+returns-5 : tie.Need-returns-then-r-kind
 returns-5 c = search rules
 
-same-length-6 : tie.Need-same-length-6
+same-length-6 : tie.Need-shape_of-placement-else-r-kind
 same-length-6 c = search rules
 
-returns-6 : tie.Need-returns-6
+returns-6 : tie.Need-returns-else-r-kind
 returns-6 c = search rules
 
-pub vacate-agrees-spec : {M : Type 1} → statement M
-vacate-agrees-spec =
+pub vacate_agrees_spec : {M : Type 1} → statement M
+vacate_agrees_spec =
     tie.close
     (tie.spec
     open-requires

@@ -8,16 +8,15 @@ use borrow.Author.Rules.{rules}
 use Rattle.search_cases.proofs.vacated_by_rails.Statement.{statement}
 use Rattle.search_cases.proofs.vacated_by_rails.Tie as tie
 
-mul-rails : tie.Need-overflow-mul-rails
+mul-rails : tie.Need-overflow_mul-rails
 mul-rails c = search rules
 
-slice-aggregate-vacate : tie.Need-slice-aggregate-vacate
-slice-aggregate-vacate c = sym (length-take-le _ _ c.before.before.before.before.before.before.before.requires.2)
+slice-aggregate-vacate : tie.Need-slice_bounds-vacate-end
+slice-aggregate-vacate c = sym (length-take-le _ _ c.requires.2)
 
 vacate-requires : tie.Need-vacate-requires
 vacate-requires c κs =
-    let start = c.before.before.before.before.before.before.before.before.before.before.before in
-    let p = start.requires in
+    let p = c.requires in
     let room = rails-room _ _ p.2 in
     record {
       most = p.0;
@@ -30,23 +29,23 @@ vacate-requires c κs =
       levelled = levelled-rails _ _ p.2 (omega (arith, p.1));
     }
 
-same_length : tie.Need-same-length
+same_length : tie.Need-shape_of-placement
 same_length c = search rules
 
-same-length-2 : tie.Need-same-length-2
+same-length-2 : tie.Need-shape_of-standing
 same-length-2 c = search rules
 
-same-length-3 : tie.Need-same-length-3
+same-length-3 : tie.Need-shape_of-empty
 same-length-3 c = search rules
 
-same-length-4 : tie.Need-same-length-4
+same-length-4 : tie.Need-shape_of-out
 same-length-4 c = search rules
 
 returns : tie.Need-returns
 returns c = search rules
 
-pub vacated-by-rails-spec : {M : Type 1} → statement M
-vacated-by-rails-spec =
+pub vacated_by_rails_spec : {M : Type 1} → statement M
+vacated_by_rails_spec =
     tie.close
     (tie.spec
     mul-rails
