@@ -13,61 +13,59 @@ use borrow.Author.Rules.{rules}
 use Rattle.either_way.proofs.attempt.Statement.{statement}
 use Rattle.either_way.proofs.attempt.Tie as tie
 
-slice-aggregate-copy : tie.Need-slice-aggregate-copy
+slice-aggregate-copy : tie.Need-slice_bounds-copy-end
 slice-aggregate-copy c = search rules
 
 copy-requires : tie.Need-copy-requires
 copy-requires c κs = search rules
 
-slice-aggregate-copy-2 : tie.Need-slice-aggregate-copy-2
+slice-aggregate-copy-2 : tie.Need-slice_bounds-copy-end-2
 slice-aggregate-copy-2 c = search rules
 
 copy-requires-2 : tie.Need-copy-requires-2
 copy-requires-2 c κs = search rules
 
-slice-aggregate-keep : tie.Need-slice-aggregate-keep
+slice-aggregate-keep : tie.Need-slice_bounds-keep-end
 slice-aggregate-keep c = search rules
 
 keep-requires : tie.Need-keep-requires
 keep-requires c κs = search rules
 
-array-borrow-prefix-bays : tie.Need-array-borrow-prefix-bays
+array-borrow-prefix-bays : tie.Need-slice_bounds-bays-end
 array-borrow-prefix-bays c = search rules
 
-slice-aggregate-used : tie.Need-slice-aggregate-used
-slice-aggregate-used c = sym (ap length c.before.before.before.before.before.before.before.before.copy.ensures)
+slice-aggregate-used : tie.Need-slice_bounds-used-end
+slice-aggregate-used c = sym (ap length c.copy.ensures)
 
-array-borrow-prefix-carriers : tie.Need-array-borrow-prefix-carriers
+array-borrow-prefix-carriers : tie.Need-slice_bounds-carriers-end
 array-borrow-prefix-carriers c = search rules
 
-slice-aggregate-stood : tie.Need-slice-aggregate-stood
-slice-aggregate-stood c = sym (ap length c.before.before.before.before.before.before.copy2.ensures)
+slice-aggregate-stood : tie.Need-slice_bounds-stood-end
+slice-aggregate-stood c = sym (ap length c.copy-2.ensures)
 
-slice-aggregate-go-round : tie.Need-slice-aggregate-go-round
+slice-aggregate-go-round : tie.Need-slice_bounds-go_round-end
 slice-aggregate-go-round c = search rules
 
-go-round-requires : tie.Need-go-round-requires
+go-round-requires : tie.Need-go_round-requires
 go-round-requires c κs =
-    let copy2 = c.before.before.before.before.before.before.before.before.before.copy2 in
-    let copy = c.before.before.before.before.before.before.before.before.before.before.before.before.copy in
-    let start = c.before.before.before.before.before.before.before.before.before.before.before.before.before.before.before.before.before.before.before in
-    let p = start.requires.0 in
-    let z = start.requires.1 in
+    let copy2 = c.copy-2 in
+    let copy = c.copy in
+    let p = c.requires.0 in
+    let z = c.requires.1 in
     let e = copy.ensures in
     let d = copy2.ensures in
-    (ready-copy p _ _ _ e d (search rules) c.before.before.before.before.before.before.keep.ensures.row, record { around = kept-copy _ _ e d z.around; inside = rw d z.inside })
+    (ready-copy p _ _ _ e d (search rules) c.keep.ensures.row, record { around = kept-copy _ _ e d z.around; inside = rw d z.inside })
 
-same_length : tie.Need-same-length
-same_length c = c.before.before.before.before.before.go-round.auto.1.1.1.1.1.1.0
+same_length : tie.Need-shape_of-log-then-second
+same_length c = c.go_round.auto.out
 
-returns : tie.Need-returns
+returns : tie.Need-returns-then-second
 returns c =
-    let go-round = c.before.before.before.before.before.go-round in
-    let if1 = c.before.before.before.before.before.before.before.before.if1 in
-    let copy2 = c.before.before.before.before.before.before.before.before.before.before.before.before.before.before.before.copy2 in
-    let copy = c.before.before.before.before.before.before.before.before.before.before.before.before.before.before.before.before.before.before.copy in
-    let start = c.before.before.before.before.before.before.before.before.before.before.before.before.before.before.before.before.before.before.before.before.before.before.before.before.before in
-    let a = start.args in
+    let go-round = c.go_round in
+    let if1 = c.if-second in
+    let copy2 = c.copy-2 in
+    let copy = c.copy in
+    let a = c.args in
     let e = copy.ensures in
     let d = copy2.ensures in
     record {
@@ -75,31 +73,29 @@ returns c =
       attempts = λ t j. rw if1.true (attempted {o = way_with true t.yard a.one a.x.0 a.placement.now} (rw (e, d) at go-round.ensures.tries t j));
     }
 
-slice-aggregate-vacate-both : tie.Need-slice-aggregate-vacate-both
+slice-aggregate-vacate-both : tie.Need-slice_bounds-vacate_both-end
 slice-aggregate-vacate-both c = search rules
 
-vacate-both-requires : tie.Need-vacate-both-requires
+vacate-both-requires : tie.Need-vacate_both-requires
 vacate-both-requires c κs =
-    let copy2 = c.before.before.before.before.before.before.before.before.before.before.before.before.copy2 in
-    let copy = c.before.before.before.before.before.before.before.before.before.before.before.before.before.before.before.copy in
-    let start = c.before.before.before.before.before.before.before.before.before.before.before.before.before.before.before.before.before.before.before.before.before.before in
-    let p = start.requires.0 in
-    let z = start.requires.1 in
+    let copy2 = c.copy-2 in
+    let copy = c.copy in
+    let p = c.requires.0 in
+    let z = c.requires.1 in
     let e = copy.ensures in
     let d = copy2.ensures in
-    (ready-copy p _ _ _ e d (search rules) c.before.before.before.before.before.before.before.before.before.keep.ensures.row, record { junction = rw d z.around.junction; held = rw d z.around.behind; emptied = rw d z.around.kept; inside = rw d z.inside })
+    (ready-copy p _ _ _ e d (search rules) c.keep.ensures.row, record { junction = rw d z.around.junction; held = rw d z.around.behind; emptied = rw d z.around.kept; inside = rw d z.inside })
 
-same-length-2 : tie.Need-same-length-2
-same-length-2 c = c.before.before.before.before.before.vacate-both.auto.1.1.1.1.1.1.0
+same-length-2 : tie.Need-shape_of-log
+same-length-2 c = c.vacate_both.auto.out
 
-returns-2 : tie.Need-returns-2
+returns-2 : tie.Need-returns
 returns-2 c =
-    let vacate-both = c.before.before.before.before.before.vacate-both in
-    let if1 = c.before.before.before.before.before.before.before.before.before.before.before.if1 in
-    let copy2 = c.before.before.before.before.before.before.before.before.before.before.before.before.before.before.before.before.before.before.copy2 in
-    let copy = c.before.before.before.before.before.before.before.before.before.before.before.before.before.before.before.before.before.before.before.before.before.copy in
-    let start = c.before.before.before.before.before.before.before.before.before.before.before.before.before.before.before.before.before.before.before.before.before.before.before.before.before.before.before.before in
-    let a = start.args in
+    let vacate-both = c.vacate_both in
+    let if1 = c.if-second in
+    let copy2 = c.copy-2 in
+    let copy = c.copy in
+    let a = c.args in
     let e = copy.ensures in
     let d = copy2.ensures in
     record {
@@ -107,8 +103,8 @@ returns-2 c =
       attempts = λ t j. rw if1.false (attempted {o = way_with false t.yard a.one a.x.0 a.placement.now} (rw (e, d) at vacate-both.ensures.tries t));
     }
 
-pub attempt-spec : {M : Type 1} → statement M
-attempt-spec =
+pub attempt_spec : {M : Type 1} → statement M
+attempt_spec =
     tie.close
     (tie.spec
     slice-aggregate-copy

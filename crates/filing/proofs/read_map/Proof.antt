@@ -8,16 +8,15 @@ use Rattle.filing.proofs.read_map.Tie as tie
 read-requires : tie.Need-read-requires
 read-requires c κs = search rules
 
-same_length : tie.Need-same-length
+same_length : tie.Need-shape_of-cells-then-readable
 same_length c = search rules
 
-returns : tie.Need-returns
-returns c = map-there c.before.before.before.before.if1.true c.before.before.read.ensures
+returns : tie.Need-returns-then-readable
+returns c = map-there c.if-readable.true c.read.ensures
 
-returns-2 : tie.Need-returns-2
+returns-2 : tie.Need-returns
 returns-2 c =
-    let start = c.before.before.before in
-    map-missing start.args.map.now start.args.cells.now c.if1.false
+    map-missing c.args.map.now c.args.cells.now c.if-readable.false
 
-pub read-map-spec : {M : Type 1} → statement M
-read-map-spec = tie.close (tie.spec read-requires same_length returns returns-2)
+pub read_map_spec : {M : Type 1} → statement M
+read_map_spec = tie.close (tie.spec read-requires same_length returns returns-2)

@@ -8,19 +8,18 @@ use Rattle.filing.proofs.read_scenario.Tie as tie
 read-requires : tie.Need-read-requires
 read-requires c κs = search rules
 
-same_length : tie.Need-same-length
+same_length : tie.Need-shape_of-starts-then-readable
 same_length c = search rules
 
-same-length-2 : tie.Need-same-length-2
+same-length-2 : tie.Need-shape_of-goals-then-readable
 same-length-2 c = search rules
 
-returns : tie.Need-returns
-returns c = scenario-there c.before.before.before.before.before.before.before.if1.true c.before.before.before.before.read.ensures
+returns : tie.Need-returns-then-readable
+returns c = scenario-there c.if-readable.true c.read.ensures
 
-returns-2 : tie.Need-returns-2
+returns-2 : tie.Need-returns
 returns-2 c =
-    let start = c.before.before.before.before.before in
-    scenario-missing start.args.scenario.now start.args.cells.now start.args.starts.now start.args.goals.now start.args.grid c.if1.false
+    scenario-missing c.args.scenario.now c.args.cells.now c.args.starts.now c.args.goals.now c.args.grid c.if-readable.false
 
-pub read-scenario-spec : {M : Type 1} → statement M
-read-scenario-spec = tie.close (tie.spec read-requires same_length same-length-2 returns returns-2)
+pub read_scenario_spec : {M : Type 1} → statement M
+read_scenario_spec = tie.close (tie.spec read-requires same_length same-length-2 returns returns-2)

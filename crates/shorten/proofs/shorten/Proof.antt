@@ -9,70 +9,64 @@ use borrow.Author.Rules.{rules}
 use Rattle.shorten.proofs.shorten.Statement.{statement}
 use Rattle.shorten.proofs.shorten.Tie as tie
 
-check-requires : tie.Need-check-requires
+check-requires : tie.Need-check-checked-requires
 check-requires c κs = search rules
 
-enum-known-checked : tie.Need-enum-known-checked
+enum-known-checked : tie.Need-enum_known-checked
 enum-known-checked c = search rules
 
-returns : tie.Need-returns
+returns : tie.Need-returns-in-Refused
 returns c =
-    let s = c.before.before.before.before.before.before.before.before.before.before in
-    let o = order s.args.bays s.args.rails.now s.args.start.now s.args.goal.now in
-    says-refused o s.args.plan.now s.args.marks.now s.args.out.now _ (ap checked_of (sym c.before.checked.given.1) ∙ c.before.before.before.check.ensures)
+    let o = order c.args.bays c.args.rails.now c.args.start.now c.args.goal.now in
+    says-refused o c.args.plan.now c.args.marks.now c.args.out.now _ (ap checked_of (sym c.in-Refused.is) ∙ c.check-checked.ensures)
 
-enum_told : tie.Need-enum-told
+enum_told : tie.Need-enum_told-1
 enum_told c = search rules
 
-is-fresh-requires : tie.Need-is-fresh-requires
+is-fresh-requires : tie.Need-is_fresh-requires
 is-fresh-requires c κs = search rules
 
-shorten-checked-requires : tie.Need-shorten-checked-requires
+shorten-checked-requires : tie.Need-shorten_checked-requires
 shorten-checked-requires c κs =
-    let s = c.before.before.before.before.before.before.before.before.before.before.before.before in
-    let o = order s.args.bays s.args.rails.now s.args.start.now s.args.goal.now in
-    let passes = ap checked_of (sym c.before.before.before.enum_told.given.1) ∙ c.before.before.before.before.before.check.ensures in
+    let o = order c.args.bays c.args.rails.now c.args.start.now c.args.goal.now in
+    let passes = ap checked_of (sym c.in_default.is) ∙ c.check-checked.ensures in
     record {
-      lawful = lawful o s.args.plan.now s.args.marks.now s.args.out.now passes;
-      short = short-plan o s.args.plan.now s.args.marks.now s.args.out.now passes;
-      fits = fits o s.args.plan.now s.args.marks.now s.args.out.now passes;
+      lawful = lawful o c.args.plan.now c.args.marks.now c.args.out.now passes;
+      short = short-plan o c.args.plan.now c.args.marks.now c.args.out.now passes;
+      fits = fits o c.args.plan.now c.args.marks.now c.args.out.now passes;
     }
 
-same_length : tie.Need-same-length
+same_length : tie.Need-shape_of-out-then-is_fresh
 same_length c = search rules
 
-returns-2 : tie.Need-returns-2
+returns-2 : tie.Need-returns-then-is_fresh
 returns-2 c =
-    let s = c.before.before.before.before.before.before.before.before.before.before.before.before.before.before.before in
-    let o = order s.args.bays s.args.rails.now s.args.start.now s.args.goal.now in
-    let passes = ap checked_of (sym c.before.before.before.before.before.before.enum_told.given.1) ∙ c.before.before.before.before.before.before.before.before.check.ensures in
-    let fresh = sym c.before.before.before.before.before.is-fresh.ensures ∙ c.before.before.before.before.if1.true in
-    says-room o s.args.plan.now s.args.marks.now s.args.out.now passes (fresh-good s.args.plan.now s.args.marks.now fresh) (fresh-undone s.args.plan.now s.args.marks.now fresh) c.before.before.shorten-checked.result _ c.before.before.shorten-checked.ensures
+    let o = order c.args.bays c.args.rails.now c.args.start.now c.args.goal.now in
+    let passes = ap checked_of (sym c.in_default.is) ∙ c.check-checked.ensures in
+    let fresh = sym c.is_fresh.ensures ∙ c.if-is_fresh.true in
+    says-room o c.args.plan.now c.args.marks.now c.args.out.now passes (fresh-good c.args.plan.now c.args.marks.now fresh) (fresh-undone c.args.plan.now c.args.marks.now fresh) c.shorten_checked.result _ c.shorten_checked.ensures
 
-bad-marks-requires : tie.Need-bad-marks-requires
+bad-marks-requires : tie.Need-bad_marks-requires
 bad-marks-requires c κs =
-    let s = c.before.before.before.before.before.before.before.before.before.before.before in
-    let o = order s.args.bays s.args.rails.now s.args.start.now s.args.goal.now in
-    fits o s.args.plan.now s.args.marks.now s.args.out.now (ap checked_of (sym c.before.before.enum_told.given.1) ∙ c.before.before.before.before.check.ensures)
+    let o = order c.args.bays c.args.rails.now c.args.start.now c.args.goal.now in
+    fits o c.args.plan.now c.args.marks.now c.args.out.now (ap checked_of (sym c.in_default.is) ∙ c.check-checked.ensures)
 
-returns-3 : tie.Need-returns-3
+returns-3 : tie.Need-returns-then-bad_marks
 returns-3 c =
-    let s = c.before.before.before.before.before.before.before.before.before.before.before.before.before in
-    let o = order s.args.bays s.args.rails.now s.args.start.now s.args.goal.now in
-    let passes = ap checked_of (sym c.before.before.before.before.enum_told.given.1) ∙ c.before.before.before.before.before.before.check.ensures in
-    says-mismarked o s.args.plan.now s.args.marks.now s.args.out.now passes (sym c.before.bad-marks.ensures ∙ c.if2.true)
+    let o = order c.args.bays c.args.rails.now c.args.start.now c.args.goal.now in
+    let passes = ap checked_of (sym c.in_default.is) ∙ c.check-checked.ensures in
+    says-mismarked o c.args.plan.now c.args.marks.now c.args.out.now passes (sym c.bad_marks.ensures ∙ c.if-bad_marks.true)
 
-returns-4 : tie.Need-returns-4
+returns-4 : tie.Need-returns
 returns-4 c =
-    let s = c.before.before.before.before.before.before.before.before.before.before.before.before.before in
-    let o = order s.args.bays s.args.rails.now s.args.start.now s.args.goal.now in
-    let passes = ap checked_of (sym c.before.before.before.before.enum_told.given.1) ∙ c.before.before.before.before.before.before.check.ensures in
-    let good = sym c.before.bad-marks.ensures ∙ c.if2.false in
-    let stale = sym c.before.before.before.is-fresh.ensures ∙ c.before.before.if1.false in
-    says-begun o s.args.plan.now s.args.marks.now s.args.out.now passes good (good-done s.args.plan.now s.args.marks.now stale good)
+    let o = order c.args.bays c.args.rails.now c.args.start.now c.args.goal.now in
+    let passes = ap checked_of (sym c.in_default.is) ∙ c.check-checked.ensures in
+    let good = sym c.bad_marks.ensures ∙ c.if-bad_marks.false in
+    let stale = sym c.is_fresh.ensures ∙ c.if-is_fresh.false in
+    says-begun o c.args.plan.now c.args.marks.now c.args.out.now passes good (good-done c.args.plan.now c.args.marks.now stale good)
 
-pub shorten-spec : {M : Type 1} → statement M
-shorten-spec =
+pub shorten_spec : {M : Type 1} → statement M
+shorten_spec =
     tie.close
     (tie.spec
     check-requires

@@ -6,44 +6,44 @@ use Rattle.shorten.proofs.Rooms.{shorter}
 use Rattle.shorten.proofs.shorten_checked.Statement.{statement}
 use Rattle.shorten.proofs.shorten_checked.Tie as tie
 
-shorten-few-requires : tie.Need-shorten-few-requires
-shorten-few-requires c κs = let s = c.before.before.before.before in shorter s.args.plan.now most_crossings few_crossings c.before.if1.true s.requires
+shorten-few-requires : tie.Need-shorten_few-requires
+shorten-few-requires c κs = shorter c.args.plan.now most_crossings few_crossings c.if-plan-le-FEW.true c.requires
 
-same_length : tie.Need-same-length
-same_length c = c.before.before.shorten-few.auto.1.0
+same_length : tie.Need-shape_of-out-then-plan-le-FEW
+same_length c = c.shorten_few.auto.out
 
-returns : tie.Need-returns
-returns c = c.before.before.shorten-few.ensures
+returns : tie.Need-returns-then-plan-le-FEW
+returns c = c.shorten_few.ensures
 
-shorten-some-requires : tie.Need-shorten-some-requires
-shorten-some-requires c κs = let s = c.before.before.before.before.before in shorter s.args.plan.now most_crossings some_crossings c.before.if2.true s.requires
+shorten-some-requires : tie.Need-shorten_some-requires
+shorten-some-requires c κs = shorter c.args.plan.now most_crossings some_crossings c.if-plan-le-SOME.true c.requires
 
-same-length-2 : tie.Need-same-length-2
-same-length-2 c = c.before.before.shorten-some.auto.1.0
+same-length-2 : tie.Need-shape_of-out-then-plan-le-SOME
+same-length-2 c = c.shorten_some.auto.out
 
-returns-2 : tie.Need-returns-2
-returns-2 c = c.before.before.shorten-some.ensures
+returns-2 : tie.Need-returns-then-plan-le-SOME
+returns-2 c = c.shorten_some.ensures
 
-shorten-many-requires : tie.Need-shorten-many-requires
-shorten-many-requires c κs = let s = c.before.before.before.before.before.before in shorter s.args.plan.now most_crossings many_crossings c.before.if3.true s.requires
+shorten-many-requires : tie.Need-shorten_many-requires
+shorten-many-requires c κs = shorter c.args.plan.now most_crossings many_crossings c.if-plan-le-MANY.true c.requires
 
-same-length-3 : tie.Need-same-length-3
-same-length-3 c = c.before.before.shorten-many.auto.1.0
+same-length-3 : tie.Need-shape_of-out-then-plan-le-MANY
+same-length-3 c = c.shorten_many.auto.out
 
-returns-3 : tie.Need-returns-3
-returns-3 c = c.before.before.shorten-many.ensures
+returns-3 : tie.Need-returns-then-plan-le-MANY
+returns-3 c = c.shorten_many.ensures
 
-shorten-most-requires : tie.Need-shorten-most-requires
-shorten-most-requires c κs = let s = c.before.before.before.before.before.before in s.requires
+shorten-most-requires : tie.Need-shorten_most-requires
+shorten-most-requires c κs = c.requires
 
-same-length-4 : tie.Need-same-length-4
-same-length-4 c = c.before.before.shorten-most.auto.1.0
+same-length-4 : tie.Need-shape_of-out
+same-length-4 c = c.shorten_most.auto.out
 
-returns-4 : tie.Need-returns-4
-returns-4 c = c.before.before.shorten-most.ensures
+returns-4 : tie.Need-returns
+returns-4 c = c.shorten_most.ensures
 
-pub shorten-checked-spec : {M : Type 1} → statement M
-shorten-checked-spec =
+pub shorten_checked_spec : {M : Type 1} → statement M
+shorten_checked_spec =
     tie.close
     (tie.spec
     shorten-few-requires

@@ -8,38 +8,37 @@ use Rattle.shorten.proofs.shorten_in.Statement.{statement}
 use Rattle.shorten.proofs.shorten_in.Tie as tie
 
 fill-requires : tie.Need-fill-requires
-fill-requires c κs = let s = c.before.before.before.before.before.before in record { short = s.requires.asked.short; long = s.requires.links_long; fits = s.requires.asked.fits }
+fill-requires c κs = record { short = c.requires.asked.short; long = c.requires.links_long; fits = c.requires.asked.fits }
 
-set-out-requires : tie.Need-set-out-requires
-set-out-requires c κs = (c.before.before.before.before.fill.ensures, c.before.before.before.before.before.before.before.before.before.before.before.requires.room)
+set-out-requires : tie.Need-set_out-requires
+set-out-requires c κs = (c.fill.ensures, c.requires.room)
 
-drop-trips-requires : tie.Need-drop-trips-requires
+drop-trips-requires : tie.Need-drop_trips-requires
 drop-trips-requires c κs =
-    let s = c.before.before.before.before.before.before.before.before.before.before.before.before.before.before.before.before.before in
-    let set_out = c.before.before.before.before.before.set_out in
-    let long = set_out.auto.1.1.0 in
-    (look-start s.args.plan.now s.args.gone.now _ s.requires.asked.lawful s.requires.fresh (omega (arith, s.requires.room, long)) (omega (arith, s.requires.held, long)) set_out.ensures, linked-fresh s.args.plan.now _ c.before.before.before.before.before.before.before.before.before.before.fill.ensures s.args.gone.now)
+    let set_out = c.set_out in
+    let long = set_out.auto.todo in
+    (look-start c.args.plan.now c.args.gone.now _ c.requires.asked.lawful c.requires.fresh (omega (arith, c.requires.room, long)) (omega (arith, c.requires.held, long)) set_out.ensures, linked-fresh c.args.plan.now _ c.fill.ensures c.args.gone.now)
 
 finish-requires : tie.Need-finish-requires
-finish-requires c κs = let d = c.before.before.before.before.before.before.before.before.drop-trips.ensures in (d.0, d.1, c.before.before.before.before.before.before.before.before.before.before.before.before.before.before.before.before.before.before.before.before.before.before.before.before.before.before.requires.asked.short)
+finish-requires c κs = let d = c.drop_trips.ensures in (d.0, d.1, c.requires.asked.short)
 
-same_length : tie.Need-same-length
-same_length c = c.before.before.before.before.before.before.before.before.before.before.before.drop-trips.auto.1.0
+same_length : tie.Need-shape_of-gone
+same_length c = c.drop_trips.auto.gone
 
-same-length-2 : tie.Need-same-length-2
-same-length-2 c = c.before.before.before.before.before.before.before.before.before.before.before.drop-trips.auto.1.1.0 ∙ c.before.before.before.before.before.before.before.before.before.before.before.before.before.before.before.before.before.set_out.auto.1.1.0
+same-length-2 : tie.Need-shape_of-todo
+same-length-2 c = c.drop_trips.auto.todo ∙ c.set_out.auto.todo
 
-same-length-3 : tie.Need-same-length-3
-same-length-3 c = c.before.before.before.before.before.before.before.before.before.before.before.drop-trips.auto.1.1.1.0 ∙ c.before.before.before.before.before.before.before.before.before.before.before.before.before.before.before.before.before.before.before.before.before.before.fill.auto.1.0
+same-length-3 : tie.Need-shape_of-links
+same-length-3 c = c.drop_trips.auto.links ∙ c.fill.auto.links
 
-same-length-4 : tie.Need-same-length-4
-same-length-4 c = c.before.before.finish.auto.1.1.0
+same-length-4 : tie.Need-shape_of-out
+same-length-4 c = c.finish.auto.out
 
 returns : tie.Need-returns
-returns c = c.before.before.finish.ensures
+returns c = c.finish.ensures
 
-pub shorten-in-spec : {M : Type 1} → statement M
-shorten-in-spec =
+pub shorten_in_spec : {M : Type 1} → statement M
+shorten_in_spec =
     tie.close
     (tie.spec
     fill-requires

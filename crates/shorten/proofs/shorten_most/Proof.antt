@@ -9,35 +9,35 @@ use Rattle.paper.specs.Limits.{most_crossings}
 use Rattle.shorten.proofs.shorten_most.Statement.{statement}
 use Rattle.shorten.proofs.shorten_most.Tie as tie
 
-mul-long : tie.Need-overflow-mul-long
-mul-long c = omega (arith, c.before.before.requires.short)
+mul-long : tie.Need-overflow_mul-long
+mul-long c = omega (arith, c.requires.short)
 
-array-borrow-prefix-gone : tie.Need-array-borrow-prefix-gone
-array-borrow-prefix-gone c = omega (arith, c.before.before.requires.short)
+array-borrow-prefix-gone : tie.Need-slice_bounds-gone-end
+array-borrow-prefix-gone c = omega (arith, c.requires.short)
 
-slice-aggregate-shorten-in : tie.Need-slice-aggregate-shorten-in
-slice-aggregate-shorten-in c = let s = c.before.before.before in sym (enough 0 (length s.args.plan.now) most_crossings s.requires.short)
+slice-aggregate-shorten-in : tie.Need-slice_bounds-shorten_in-end
+slice-aggregate-shorten-in c = sym (enough 0 (length c.args.plan.now) most_crossings c.requires.short)
 
-slice-aggregate-shorten-in-2 : tie.Need-slice-aggregate-shorten-in-2
+slice-aggregate-shorten-in-2 : tie.Need-slice_bounds-shorten_in-end-2
 slice-aggregate-shorten-in-2 c = search rules
 
-array-borrow-prefix-links : tie.Need-array-borrow-prefix-links
-array-borrow-prefix-links c = omega (arith, c.before.before.before.before.requires.short)
+array-borrow-prefix-links : tie.Need-slice_bounds-links-end
+array-borrow-prefix-links c = omega (arith, c.requires.short)
 
-slice-aggregate-shorten-in-3 : tie.Need-slice-aggregate-shorten-in-3
-slice-aggregate-shorten-in-3 c = let s = c.before.before.before.before.before in sym (links-enough 0 (length s.args.plan.now) most_crossings s.requires.short)
+slice-aggregate-shorten-in-3 : tie.Need-slice_bounds-shorten_in-end-3
+slice-aggregate-shorten-in-3 c = sym (links-enough 0 (length c.args.plan.now) most_crossings c.requires.short)
 
-shorten-in-requires : tie.Need-shorten-in-requires
-shorten-in-requires c κs = let s = c.before.before.before.before.before.before in roomy s.args.plan.now most_crossings (omega arith) (omega arith) s.requires
+shorten-in-requires : tie.Need-shorten_in-requires
+shorten-in-requires c κs = roomy c.args.plan.now most_crossings (omega arith) (omega arith) c.requires
 
-same_length : tie.Need-same-length
-same_length c = c.before.before.before.before.before.shorten-in.auto.1.1.1.1.0
+same_length : tie.Need-shape_of-out
+same_length c = c.shorten_in.auto.out
 
 returns : tie.Need-returns
-returns c = c.before.before.before.before.before.shorten-in.ensures
+returns c = c.shorten_in.ensures
 
-pub shorten-most-spec : {M : Type 1} → statement M
-shorten-most-spec =
+pub shorten_most_spec : {M : Type 1} → statement M
+shorten_most_spec =
     tie.close
     (tie.spec
     mul-long

@@ -6,20 +6,19 @@ use borrow.Author.Rules.{rules}
 use Rattle.timed_print.proofs.print.Statement.{statement}
 use Rattle.timed_print.proofs.print.Tie as tie
 
-lines-requires : tie.Need-lines-requires
+lines-requires : tie.Need-lines-end-requires
 lines-requires c κs = search rules
 
 cost-requires : tie.Need-cost-requires
 cost-requires c κs = search rules
 
-same_length : tie.Need-same-length
+same_length : tie.Need-shape_of-out
 same_length c = search rules
 
 returns : tie.Need-returns
 returns c =
-    let start = c.before.before.before.before.before.before.before.before.before.before.before in
-    let s = start.args in
-    rw (← print-parts s.slots.now s.plan.now) (wrote_then c.before.before.before.before.before.before.lines.ensures.0 c.before.before.cost.ensures)
+    let s = c.args in
+    rw (← print-parts s.slots.now s.plan.now) (wrote_then c.lines-end.ensures.0 c.cost.ensures)
 
-pub print-spec : {M : Type 1} → statement M
-print-spec = tie.close (tie.spec lines-requires cost-requires same_length returns)
+pub print_spec : {M : Type 1} → statement M
+print_spec = tie.close (tie.spec lines-requires cost-requires same_length returns)
