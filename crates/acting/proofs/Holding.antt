@@ -1,5 +1,6 @@
 -- What is lent stays ready while actions play on it, and bays that are held show as a list: two of them, or those two and a third.
 -- Assumes nothing.
+use Rattle.std.specs.Prelude.{if◌then◌else◌}
 use mathlib.Core.Path.{◌≡◌, refl, ◌∙◌}
 use mathlib.Core.Bool.{Bool, true, false}
 use mathlib.Core.List.{List, [], ◌∷◌}
@@ -7,7 +8,7 @@ use Prim.Native.Nat.{ℕ, ◌<◌}
 use native.Mathlib.Omega.{arith}
 use lib.Dec.{eqb}
 use lib.ListN.{length}
-use Rattle.paper.specs.Basics.{if◌then◌else◌, ◌or◌, elem}
+use Rattle.paper.specs.Basics.{◌or◌, elem}
 use Rattle.paper.specs.Yard.{Bay}
 use Rattle.words.specs.Sets.{mem, span}
 use Rattle.rings.specs.Search.{Shown}

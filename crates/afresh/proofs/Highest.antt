@@ -1,4 +1,5 @@
 -- Why one pass finds the highest slot in which anything is done: at each turn it is the higher of what was found and what is still to come.
+use Rattle.std.specs.Prelude.{if◌then◌else◌}
 use mathlib.Core.Path.{◌≡◌, sym, ◌∙◌, ap, ap₂}
 use mathlib.Core.List.{List, ◌∷◌}
 use Prim.Native.Nat.{ℕ, ◌≤◌, ◌<◌, ◌+◌, max}
@@ -6,7 +7,6 @@ use native.Mathlib.Omega.{arith}
 use native.Mathlib.Numerals.{add-one}
 use lib.ListN.{length, get_or, drop, replicate}
 use lib.Seq.{drop-cons}
-use Rattle.paper.specs.Basics.{if◌then◌else◌}
 use Rattle.paper.specs.Limits.{most_bays}
 use Rattle.paper.specs.Yard.{Crossing, crossings, named}
 use Rattle.paper.specs.Dependence.{done, slots}

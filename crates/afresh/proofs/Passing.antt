@@ -1,5 +1,6 @@
 -- One pass over plan and marks: what is done of the rest, from a name on, and what each of the passes has worked out by then. At each turn what stands
 -- there, and then what the rest gives, is the whole.
+use Rattle.std.specs.Prelude.{if◌then◌else◌}
 use mathlib.Core.Path.{◌≡◌, refl, sym, ◌∙◌, ap, ap₂}
 use mathlib.Core.List.{List, [], ◌∷◌}
 use Prim.Native.Nat.{ℕ, suc, ◌≤◌, ◌<◌, ◌+◌}
@@ -10,7 +11,7 @@ use lib.Dec.{eqb}
 use lib.ListN.{length, get_or, drop, set, replicate, length-set, length-replicate, get_or-replicate}
 use lib.Seq.{drop-cons, get_or-set_same, get_or-set_other}
 use Rattle.lists.proofs.Lists.{low_zeros, low-set}
-use Rattle.paper.specs.Basics.{if◌then◌else◌, ◌and◌}
+use Rattle.paper.specs.Basics.{◌and◌}
 use Rattle.paper.specs.Limits.{most_bays}
 use Rattle.paper.specs.Yard.{Placement, Carrier, Crossing, crossings, named, after, move}
 use Rattle.paper.specs.Dependence.{done, done_of, count_of}

@@ -1,11 +1,11 @@
 -- The pass over plan and marks, turn by turn: its four parts go on side by side.
+use Rattle.std.specs.Prelude.{if◌then◌else◌}
 use mathlib.Core.Path.{◌≡◌}
 use mathlib.Core.List.{List}
 use Prim.Native.Nat.{ℕ, ◌≤◌, ◌<◌, ◌+◌, max}
 use native.Mathlib.Omega.{arith}
 use lib.Dec.{eqb}
 use lib.ListN.{length, get_or, set, replicate}
-use Rattle.paper.specs.Basics.{if◌then◌else◌}
 use Rattle.paper.specs.Limits.{most_bays}
 use Rattle.paper.specs.Yard.{Placement, Crossing, crossings, named, most_crossings}
 use Rattle.paper.specs.Dependence.{done}

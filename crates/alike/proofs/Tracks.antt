@@ -1,6 +1,7 @@
 -- Crossings over the same tracks take alike placements to alike ones: a legal crossing empties the bay that it leaves and fills the one that it
 -- enters, and whoever stood where it leaves stands where it enters.
 -- Assumes nothing.
+use Rattle.std.specs.Prelude.{if◌then◌else◌}
 use mathlib.Core.Path.{◌≡◌, refl, sym, ◌∙◌, ap, ap₂}
 use mathlib.Core.Bool.{true, false, not}
 use mathlib.Core.List.{List, [], ◌∷◌, ◌++◌, map-append, reverse-cons}
@@ -8,7 +9,7 @@ use Prim.Native.Nat.{◌<◌}
 use lib.Dec.{eqb}
 use lib.ListN.{length, length-set}
 use borrow.Author.Tests.{eqb-true, eqb-false, ne_eqb, eq-eqb}
-use Rattle.paper.specs.Basics.{if◌then◌else◌, elem, In, Out}
+use Rattle.paper.specs.Basics.{elem, In, Out}
 use Rattle.paper.specs.Yard.{Bay, Carrier, Yard, Placement, Crossing, bay_of, carrier_at, is_empty, move, after, legal_plan, reverse_of}
 use Rattle.paper.specs.Procedure.{shift, undo}
 use Rattle.paper.proofs.Tests.{by_cases, never}

@@ -1,5 +1,6 @@
 -- The path found is the paper's: it leads from r's bay over rails to its goal. Where there is none, or r cannot go it, the paper is stuck too.
 -- Assumes nothing.
+use Rattle.std.specs.Prelude.{if◌then◌else◌}
 use mathlib.Core.Path.{◌≡◌, sym, ◌∙◌, ap, refl}
 use mathlib.Core.Bool.{true, false}
 use mathlib.Core.List.{List, [], ◌∷◌, drop_last}
@@ -10,7 +11,7 @@ use native.Mathlib.Numerals.{add-one}
 use lib.ListN.{length, drop, take, length-take, length-drop}
 use lib.Dec.{eqb}
 use lib.Seq.{take-suc, take-nil, length-take-le}
-use Rattle.paper.specs.Basics.{◌or◌, if◌then◌else◌}
+use Rattle.paper.specs.Basics.{◌or◌}
 use Rattle.paper.specs.Path.{Route, path_between}
 use Rattle.paper.specs.Procedure.{Made, only, together, step, Outcome, planned, stuck, or_stuck, onward, ◌next◌, path_of, go, way_home, along, carry}
 use Rattle.paper.specs.Yard.{Bay, Carrier, Yard, Placement, bay_of, after, carousel}

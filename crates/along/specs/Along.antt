@@ -1,8 +1,8 @@
 -- What a carrier's turn asks, and what going its path says: distinct goals among the bays, one for each carrier; the finished ones at home; a path.
 -- Assumes nothing.
-use Rattle.std.specs.Prelude.{Bool, ◌≡◌, List, [], ◌∷◌, ℕ, ◌+◌, ◌*◌, ◌≤◌, ◌<◌, length, take, drop}
+use Rattle.std.specs.Prelude.{Bool, ◌≡◌, List, [], ◌∷◌, ℕ, ◌+◌, ◌*◌, ◌≤◌, ◌<◌, length, take, drop, if◌then◌else◌}
 use Rattle.std.proofs.Math.Option.{some}
-use Rattle.paper.specs.Basics.{if◌then◌else◌, NoDup}
+use Rattle.paper.specs.Basics.{NoDup}
 use Rattle.paper.specs.Path.{path_between}
 use Rattle.paper.specs.Procedure.{Made, stuck, path_of as way, go, carry}
 use Rattle.paper.specs.Yard.{Bay, Carrier, Yard, Placement, bay_of, carousel}

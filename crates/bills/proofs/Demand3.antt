@@ -1,5 +1,6 @@
 -- Demand 3 over record, lines and marks together, for any sequence of reports on a plan that passes the check. A report that is accepted
 -- is one that the paper's report accepts, and any other changes nothing: so the run is the paper's run of the reports that were accepted.
+use Rattle.std.specs.Prelude.{if◌then◌else◌}
 use mathlib.Core.Path.{◌≡◌, refl, sym, ◌∙◌, ap}
 use mathlib.Core.Bool.{true, false}
 use mathlib.Core.List.{List, [], ◌∷◌, map}
@@ -7,7 +8,6 @@ use mathlib.Core.Option.{none}
 use Prim.Native.Nat.{ℕ, suc, ◌<◌}
 use native.Mathlib.Omega.{arith}
 use lib.ListN.{length, get_or, length-map}
-use Rattle.paper.specs.Basics.{if◌then◌else◌}
 use Rattle.paper.specs.Yard.{Carrier, Yard, Placement, Crossing, after, legal_plan, pack, unpack, crossings}
 use Rattle.paper.specs.Order.{Order}
 use Rattle.paper.specs.Dependence.{done_of, count_of}

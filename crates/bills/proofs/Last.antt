@@ -1,5 +1,6 @@
 -- The last name in a line: the highest done name of its carrier, which is the last one accepted, since a carrier's crossings depend on each other
 -- and so are accepted in their order.
+use Rattle.std.specs.Prelude.{if◌then◌else◌}
 use mathlib.Core.Path.{◌≡◌, refl, ◌∙◌, ap}
 use mathlib.Core.Bool.{true, false}
 use mathlib.Core.Logic.{◌↔◌}
@@ -9,7 +10,7 @@ use native.Mathlib.Omega.{arith}
 use lib.Dec.{eqb}
 use lib.ListN.{length, set, replicate}
 use borrow.Author.Tests.{eqb-true, eqb-false, eq-eqb}
-use Rattle.paper.specs.Basics.{if◌then◌else◌, ◌and◌}
+use Rattle.paper.specs.Basics.{◌and◌}
 use Rattle.paper.specs.Yard.{Carrier, Crossing, crossings, named, most_crossings}
 use Rattle.paper.specs.Order.{order}
 use Rattle.paper.specs.Dependence.{done, is_done}

@@ -1,5 +1,6 @@
 -- One accepted name more: what record and lines worked out afresh become is what changing them in place gives. An undone crossing is independent of
 -- every done one behind it, so no later crossing of its carrier is done, and whether it moves its carrier in its turn or last is the same.
+use Rattle.std.specs.Prelude.{if◌then◌else◌}
 use mathlib.Core.Path.{◌≡◌, refl, sym, ◌∙◌, ap}
 use mathlib.Core.Bool.{true, false}
 use mathlib.Core.List.{List, [], ◌∷◌, map}
@@ -9,7 +10,7 @@ use lib.Dec.{eqb}
 use lib.ListN.{length, get_or, set, length-set, length-map}
 use lib.Seq.{get_or-set_same, get_or-set_other, set-append_left, set_comm, ext_get_or}
 use borrow.Author.Tests.{eqb-true, eqb-false, eq-eqb, ne_eqb}
-use Rattle.paper.specs.Basics.{if◌then◌else◌, ◌and◌, up_to, count_from}
+use Rattle.paper.specs.Basics.{◌and◌, up_to, count_from}
 use Rattle.paper.specs.Yard.{Bay, Carrier, Placement, Yard, Crossing, move, named, after, legal_plan}
 use Rattle.paper.specs.Dependence.{done, is_done, done_of, count_of, slots}
 use Rattle.paper.proofs.Tests.{by_cases}

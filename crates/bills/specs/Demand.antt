@@ -1,8 +1,8 @@
 -- Demand 3 over record, lines and marks together, as a record of what has to hold. proofs/Demand3 proves it whole, and proofs/Nailed derives from it alone what a biller
 -- relies on.
 -- Assumes nothing.
-use Rattle.std.specs.Prelude.{◌≡◌, true, false, ◌↔◌, List, [], ◌∷◌, map, ℕ, ◌<◌, ◌+◌, eqb, length, get_or}
-use Rattle.paper.specs.Basics.{if◌then◌else◌, In, NoDup}
+use Rattle.std.specs.Prelude.{◌≡◌, true, false, ◌↔◌, List, [], ◌∷◌, map, ℕ, ◌<◌, ◌+◌, eqb, length, get_or, if◌then◌else◌}
+use Rattle.paper.specs.Basics.{In, NoDup}
 use Rattle.paper.specs.Yard.{Carrier, Placement, Crossing, after, legal_plan, crossings, named}
 use Rattle.paper.specs.Order.{Order}
 use Rattle.paper.specs.Dependence.{is_done, count_of, placement_by}

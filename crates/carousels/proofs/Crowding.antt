@@ -1,10 +1,10 @@
 -- Those who stand each at a place of its own are no more than the places.
+use Rattle.std.specs.Prelude.{if◌then◌else◌}
 use mathlib.Core.Path.{◌≡◌}
 use Prim.Native.Nat.{ℕ, zero, suc, ◌<◌, ◌≤◌, ◌-◌}
 use native.Mathlib.Omega.{arith}
 use lib.Dec.{ltb}
 use borrow.Author.Tests.{ltb-true, ltb-false}
-use Rattle.paper.specs.Basics.{if◌then◌else◌}
 use Rattle.paper.proofs.Tests.{by_cases}
 
 -- the numbers above t come one lower

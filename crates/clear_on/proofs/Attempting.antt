@@ -1,6 +1,7 @@
 -- Going on in code is the paper's: the attempts are with the junction's other neighbours, and what the first that succeeds has logged in the rest of the
 -- list stands in the whole behind what was made before.
 -- Assumes nothing.
+use Rattle.std.specs.Prelude.{if◌then◌else◌}
 use mathlib.Core.Path.{◌≡◌, sym, ◌∙◌, ap, refl}
 use mathlib.Core.Bool.{Bool, true, false, not}
 use mathlib.Core.List.{List, [], ◌∷◌, ◌++◌, map, map-append}
@@ -9,7 +10,7 @@ use Prim.Native.Nat.{ℕ, ◌≤◌, ◌<◌, ◌-◌, ◌+◌}
 use native.Mathlib.Omega.{arith}
 use lib.ListN.{length, length-map, length-append}
 use lib.Dec.{eqb}
-use Rattle.paper.specs.Basics.{if◌then◌else◌, ◌and◌, ◌or◌, elem, without, up_to}
+use Rattle.paper.specs.Basics.{◌and◌, ◌or◌, elem, without, up_to}
 use Rattle.paper.specs.Yard.{Bay, Carrier, Yard, Placement, pack, after, joined, neighbours}
 use Rattle.paper.specs.Procedure.{Made, together, Cleared, clear_once, go_on, gone_on, clear}
 use Rattle.paper.proofs.Tests.{never}

@@ -1,4 +1,5 @@
 -- One pass that counts: what stands counted, with what the rest gives, is the whole; and no carrier number above 253 has been passed.
+use Rattle.std.specs.Prelude.{if◌then◌else◌}
 use mathlib.Core.Path.{◌≡◌, refl, sym, ◌∙◌, ap}
 use mathlib.Core.Bool.{true, false}
 use mathlib.Core.List.{List, [], ◌∷◌}
@@ -11,7 +12,7 @@ use lib.Dec.{eqb, leb}
 use lib.ListN.{length, get_or, drop, set, replicate, length-set, length-replicate, get_or-replicate, drop_of_length-le}
 use lib.Seq.{drop-cons, get_or-set_same, get_or-set_other}
 use Rattle.lists.proofs.Lists.{low_zeros, low-set}
-use Rattle.paper.specs.Basics.{find, if◌then◌else◌}
+use Rattle.paper.specs.Basics.{find}
 use Rattle.paper.specs.Limits.{most_carriers}
 use Rattle.paper.specs.Yard.{Carrier, crossings}
 use Rattle.paper.specs.Dependence.{count_of}

@@ -1,4 +1,5 @@
 -- Dropping goes up name by name: what is dropped so far, and then what dropping the rest would give, is the whole.
+use Rattle.std.specs.Prelude.{if◌then◌else◌}
 use mathlib.Core.Path.{◌≡◌, refl, sym, ◌∙◌, ap}
 use mathlib.Core.List.{List, ◌∷◌}
 use Prim.Native.Nat.{ℕ, zero, suc, ◌≤◌, ◌<◌, ◌+◌}
@@ -6,7 +7,6 @@ use native.Mathlib.Omega.{arith}
 use native.Mathlib.Numerals.{add-one}
 use lib.ListN.{length, get_or, take, drop, set, take-append-drop}
 use lib.Seq.{set-get_or, drop-cons, take-suc-set, drop-set-lt, append_snoc}
-use Rattle.paper.specs.Basics.{if◌then◌else◌}
 use Rattle.paper.specs.Yard.{Carrier, Crossing, crossings, named}
 use Rattle.paper.proofs.Tests.{by_cases}
 use Rattle.plans.proofs.Rest.{rest-next}

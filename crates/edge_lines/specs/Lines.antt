@@ -1,8 +1,7 @@
 -- How the code's state reads as the state of the survey's step, and what a line that ends makes of it.
 -- Assumes nothing.
-use Rattle.std.specs.Prelude.{Bool, true, false, List, [], ◌∷◌, ◌++◌, ◌≡◌, ℕ, suc, ◌+◌, ◌≤◌, ◌<◌, ltb, length, drop}
+use Rattle.std.specs.Prelude.{Bool, true, false, List, [], ◌∷◌, ◌++◌, ◌≡◌, ℕ, suc, ◌+◌, ◌≤◌, ◌<◌, ltb, length, drop, if◌then◌else◌}
 use Rattle.std.proofs.Math.Option.{Option}
-use Rattle.paper.specs.Basics.{if◌then◌else◌}
 use Rattle.paper.specs.Yard.{Bay}
 use Rattle.paper.specs.Text.{Text, text}
 use Rattle.paper.specs.Bytes.{State, failed, going, line_closed}

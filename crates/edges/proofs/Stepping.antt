@@ -1,4 +1,5 @@
 -- A byte of the file makes of the state what the definition's step makes of it, byte by byte of the four kinds; and so does the end.
+use Rattle.std.specs.Prelude.{if◌then◌else◌}
 use mathlib.Core.Path.{◌≡◌, refl, sym, ◌∙◌, ap}
 use mathlib.Core.Bool.{Bool, true, false}
 use mathlib.Core.List.{List}
@@ -8,7 +9,6 @@ use native.Mathlib.Omega.{arith}
 use lib.Dec.{eqb}
 use lib.ListN.{length}
 use borrow.Author.Tests.{ne_eqb}
-use Rattle.paper.specs.Basics.{if◌then◌else◌}
 use Rattle.paper.specs.Yard.{Bay}
 use Rattle.paper.specs.Bytes.{State, failed, going, release, feed, line_closed, ending, end_after, finish_file}
 use Rattle.paper.proofs.Tests.{by_cases, never}

@@ -1,4 +1,5 @@
 -- What is kept follows the definitions case by case: a digit more, a field at its index, a byte of the version.
+use Rattle.std.specs.Prelude.{if◌then◌else◌}
 use mathlib.Core.Path.{◌≡◌, sym, ◌∙◌}
 use mathlib.Core.Bool.{Bool, true, false}
 use Prim.Native.Nat.{ℕ, suc, ◌+◌, ◌-◌, ◌*◌, ◌≤◌, ◌<◌}
@@ -6,7 +7,7 @@ use native.Mathlib.Omega.{arith}
 use lib.Dec.{eqb, ltb, leb}
 use lib.ListN.{get_or, get_or-eq_default}
 use borrow.Author.Tests.{leb-true, ltb-true, ne_eqb, lt-ltb, le-ltb, le-leb}
-use Rattle.paper.specs.Basics.{if◌then◌else◌, ◌and◌}
+use Rattle.paper.specs.Basics.{◌and◌}
 use Rattle.paper.proofs.Tests.{and_left, and_right}
 use Rattle.paper.specs.Text.{is_digit, text}
 use native.Mathlib.Numerals.{add-one}

@@ -1,4 +1,5 @@
 -- Every order fits in 16,384 ends of rails and 254 carriers: a cell is the lower bay of two rails at most, and a 255th carrier's line is bad.
+use Rattle.std.specs.Prelude.{if◌then◌else◌}
 use mathlib.Core.Path.{◌≡◌, refl}
 use mathlib.Core.Bool.{Bool, true, false}
 use mathlib.Core.List.{List, [], ◌∷◌, ◌++◌, map}
@@ -9,7 +10,7 @@ use native.Mathlib.Nat.{mul-le-mul}
 use lib.Dec.{ltb}
 use lib.ListN.{length, length-append}
 use borrow.Author.Tests.{ltb-true}
-use Rattle.paper.specs.Basics.{if◌then◌else◌, ◌and◌, ◌or◌, concat, up_to}
+use Rattle.paper.specs.Basics.{◌and◌, ◌or◌, concat, up_to}
 use Rattle.paper.specs.Limits.{most_carriers}
 use Rattle.paper.specs.Yard.{Bay}
 use Rattle.paper.specs.Text.{Text, text, TAB, lines, split, same, Read, good, bad_line, read_lines}

@@ -1,9 +1,9 @@
 -- The first bytes of the two files decide all that the program prints: the plan as it is, shortened, or with its times by either edition.
+use Rattle.std.specs.Prelude.{if◌then◌else◌}
 use mathlib.Core.Path.{◌≡◌, ap}
 use mathlib.Core.Bool.{Bool}
 use mathlib.Core.Option.{Option}
 use Prim.Native.Nat.{ℕ}
-use Rattle.paper.specs.Basics.{if◌then◌else◌}
 use Rattle.paper.specs.Docket.{edition}
 use Rattle.paper.specs.Answers.{refused}
 use Rattle.paper.specs.Text.{Text}

@@ -1,5 +1,6 @@
 -- The numbers that `gridmap::read` leaves are those of the map: a cell has a number if it is a bay, and then one more than the bays
 -- before it. So rails and bays by the numbers are the map's.
+use Rattle.std.specs.Prelude.{if◌then◌else◌}
 use mathlib.Core.Path.{◌≡◌, refl, sym, ◌∙◌, ap}
 use mathlib.Core.Bool.{Bool, true, false}
 use mathlib.Core.List.{List, [], ◌∷◌, ◌++◌, map}
@@ -11,7 +12,7 @@ use lib.Dec.{eqb, ltb}
 use lib.ListN.{length, get_or, take, drop, get_or-append, get_or-eq_default}
 use lib.Seq.{sets, sets-eq}
 use borrow.Author.Tests.{ne_eqb, ltb-true, ltb-false}
-use Rattle.paper.specs.Basics.{if◌then◌else◌, ◌and◌, ◌or◌, concat, up_to}
+use Rattle.paper.specs.Basics.{◌and◌, ◌or◌, concat, up_to}
 use Rattle.paper.specs.Text.{Text, count}
 use Rattle.paper.specs.Map.{Grid, bay_letter, cells, bay_at, number_at, bay_in, rails_at, rail_ends}
 use Rattle.paper.proofs.Tests.{by_cases}

@@ -1,5 +1,6 @@
 -- A map's rails are held as the document says: lower bay first, in rising order of lower, then higher bay. Bays are numbered in the
 -- order of their cells, and of a cell's own rails the one to the cell beside it leads to the lower bay.
+use Rattle.std.specs.Prelude.{if◌then◌else◌}
 use mathlib.Core.Path.{◌≡◌, refl, ◌∙◌, ap}
 use mathlib.Core.Bool.{true, false}
 use mathlib.Core.List.{List, [], ◌∷◌, map}
@@ -9,7 +10,7 @@ use native.Mathlib.Omega.{arith}
 use lib.Dec.{ltb}
 use lib.ListN.{length, get_or, take}
 use borrow.Author.Tests.{ltb-true}
-use Rattle.paper.specs.Basics.{if◌then◌else◌, ◌and◌, concat, count_from, up_to, ◌or◌}
+use Rattle.paper.specs.Basics.{◌and◌, concat, count_from, up_to, ◌or◌}
 use Rattle.paper.specs.Yard.{Rail}
 use Rattle.paper.specs.Text.{Text, count}
 use Rattle.paper.specs.Map.{Grid, bay_letter, cells, bay_at, number_at, rails_at, rail_ends}

@@ -1,4 +1,5 @@
 -- A pass over the two lists: the equal ones passed, with those to come, are the whole.
+use Rattle.std.specs.Prelude.{if◌then◌else◌}
 use mathlib.Core.Path.{◌≡◌, refl, ◌∙◌, ap, ap₂}
 use mathlib.Core.List.{List, [], ◌∷◌}
 use Prim.Native.Nat.{ℕ, zero, suc, ◌≤◌, ◌<◌, ◌+◌, min}
@@ -8,7 +9,6 @@ use borrow.Author.Tests.{eq-eqb, ne_eqb, leb-true, leb-false}
 use lib.Dec.{eqb, leb}
 use lib.ListN.{length, get_or, drop, drop_of_length-le}
 use lib.Seq.{drop-cons}
-use Rattle.paper.specs.Basics.{if◌then◌else◌}
 use Rattle.paper.proofs.Tests.{by_cases}
 use Rattle.leading.specs.Leading.{equal_leading}
 

@@ -1,10 +1,10 @@
 -- The whole of a report, way out by way out.
+use Rattle.std.specs.Prelude.{if◌then◌else◌}
 use mathlib.Core.Path.{◌≡◌, refl, sym, ◌∙◌, ap}
 use mathlib.Core.Bool.{Bool, true, false}
 use mathlib.Core.List.{List}
 use Prim.Native.Nat.{ℕ}
 use lib.ListN.{set}
-use Rattle.paper.specs.Basics.{if◌then◌else◌}
 use Rattle.paper.specs.Yard.{crossings}
 use Rattle.paper.specs.Order.{Order}
 use Rattle.paper.specs.Docket as paper

@@ -1,4 +1,5 @@
 -- Digits read one by one, up to the most: a number that passes it never comes back below, so reading may stop there.
+use Rattle.std.specs.Prelude.{if◌then◌else◌}
 use mathlib.Core.Path.{◌≡◌, refl, sym, ◌∙◌, ap}
 use mathlib.Core.Bool.{Bool, true, false}
 use mathlib.Core.List.{[], ◌∷◌}
@@ -10,7 +11,7 @@ use lib.Dec.{leb}
 use lib.ListN.{length, get_or, take, drop, length-drop, drop_of_length-le}
 use lib.Seq.{drop-cons, take_all}
 use borrow.Author.Tests.{eq-eqb, ne_eqb, leb-true, leb-false, le-leb, lt-leb}
-use Rattle.paper.specs.Basics.{if◌then◌else◌, ◌and◌}
+use Rattle.paper.specs.Basics.{◌and◌}
 use Rattle.paper.specs.Text.{Text, all, is_digit, value, value_from}
 use Rattle.paper.specs.Print.{number_after}
 use Rattle.paper.proofs.Tests.{by_cases}

@@ -1,4 +1,5 @@
 -- An action's words are the pieces between spaces, and they are cut off one by one; what the words say is what the paper reads.
+use Rattle.std.specs.Prelude.{if◌then◌else◌}
 use mathlib.Core.Path.{◌≡◌, refl, sym, ◌∙◌, ap}
 use mathlib.Core.Bool.{true, false}
 use mathlib.Core.List.{List, [], ◌∷◌, append_assoc, append-nil}
@@ -10,7 +11,7 @@ use lib.Dec.{eqb, leb, ltb}
 use lib.ListN.{length, get_or, take, drop, drop_of_length-le}
 use lib.Seq.{drop-cons, take-suc, take_all}
 use borrow.Author.Tests.{eq-eqb, ne_eqb, ltb-true, ltb-false}
-use Rattle.paper.specs.Basics.{if◌then◌else◌, ◌and◌, ◌>>=◌}
+use Rattle.paper.specs.Basics.{◌and◌, ◌>>=◌}
 use Rattle.paper.specs.Yard.{Crossing, crossing, pack}
 use Rattle.paper.specs.Text.{Text, text, SPACE, join, split, same}
 use Rattle.paper.specs.Print.{number_after, read_action}

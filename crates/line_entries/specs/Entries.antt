@@ -1,8 +1,8 @@
 -- What a line of a printed plan says, and what a line of reports says. An action is read as the paper reads it (`read_action`).
 -- Assumes nothing.
-use Rattle.std.specs.Prelude.{Bool, true, false, ℕ, eqb, leb, length, get_or}
+use Rattle.std.specs.Prelude.{Bool, true, false, ℕ, eqb, leb, length, get_or, if◌then◌else◌}
 use Rattle.std.proofs.Math.Option.{Option, none, some}
-use Rattle.paper.specs.Basics.{if◌then◌else◌, ◌and◌}
+use Rattle.paper.specs.Basics.{◌and◌}
 use Rattle.paper.specs.Yard.{Crossing, pack}
 use Rattle.paper.specs.Text.{Text, all, is_digit, value}
 use Rattle.paper.specs.Print.{read_action}

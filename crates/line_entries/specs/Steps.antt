@@ -1,8 +1,8 @@
 -- What each function makes of its part of a line.
 -- Assumes nothing.
-use Rattle.std.specs.Prelude.{Bool, true, false, List, [], ◌∷◌, ◌≡◌, ℕ, ◌+◌, ◌-◌, ◌*◌, ◌≤◌, ◌<◌, leb, length, take, drop}
+use Rattle.std.specs.Prelude.{Bool, true, false, List, [], ◌∷◌, ◌≡◌, ℕ, ◌+◌, ◌-◌, ◌*◌, ◌≤◌, ◌<◌, leb, length, take, drop, if◌then◌else◌}
 use Rattle.std.proofs.Math.Option.{Option, none, some}
-use Rattle.paper.specs.Basics.{if◌then◌else◌, ◌and◌}
+use Rattle.paper.specs.Basics.{◌and◌}
 use Rattle.paper.specs.Yard.{crossing, pack}
 use Rattle.paper.specs.Text.{Text, text, split, same, is_digit}
 use Rattle.paper.specs.Print.{number_after}

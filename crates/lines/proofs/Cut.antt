@@ -1,4 +1,5 @@
 -- Lines are made from the right, so up to the first LF they make one line, without a CR at its end, and the rest makes the others.
+use Rattle.std.specs.Prelude.{if◌then◌else◌}
 use mathlib.Core.Path.{◌≡◌, refl, sym, ◌∙◌, ap}
 use mathlib.Core.Bool.{true, false, not}
 use mathlib.Core.List.{[], ◌∷◌, ◌++◌, append-nil}
@@ -9,7 +10,7 @@ use lib.Dec.{eqb}
 use lib.ListN.{length, take, drop, get_or, take-append-drop, drop_of_length-le, length-drop}
 use lib.Seq.{take-suc, drop-cons, drop-drop, get_or-drop}
 use borrow.Author.Tests.{ne_eqb, not-true}
-use Rattle.paper.specs.Basics.{if◌then◌else◌, ◌and◌}
+use Rattle.paper.specs.Basics.{◌and◌}
 use Rattle.paper.specs.Text.{Text, LF, CR, join, begins_with_lf, lines, all}
 use Rattle.paper.proofs.Tests.{by_cases, and_left, and_right, and_both}
 use Rattle.lines.specs.declared.FoundLine.TheVariants as the

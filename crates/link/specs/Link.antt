@@ -1,9 +1,8 @@
 -- What a link's numbers stand for, and what each call answers and leaves.
 -- Assumes nothing.
-use Rattle.std.specs.Prelude.{Bool, true, false, ◌≡◌, ℕ, ◌-◌, eqb, leb, length, take, replicate}
+use Rattle.std.specs.Prelude.{Bool, true, false, ◌≡◌, ℕ, ◌-◌, eqb, leb, length, take, replicate, if◌then◌else◌}
 use mathlib.Core.List.{List, [], ◌∷◌, foldl}
 use Rattle.std.proofs.lemmas.List.Edits.{sets}
-use Rattle.paper.specs.Basics.{if◌then◌else◌}
 use Rattle.paper.specs.Limits.{most_carriers}
 use Rattle.paper.specs.Yard.{Bay}
 use Rattle.paper.specs.Docket.{no_14, no_15, ended, long_piece, Verdict, granted, denied}

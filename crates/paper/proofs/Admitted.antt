@@ -1,5 +1,6 @@
 -- What it means that 1 to 6 were passed, row by row: the sizes fit, each rail joins two bays of the yard, every bay is reached
 -- by rails, two bays stay empty, and carriers stand apart.
+use Rattle.std.specs.Prelude.{if◌then◌else◌}
 use mathlib.Core.Path.{◌≡◌, refl, sym, ◌∙◌, ap}
 use mathlib.Core.Bool.{Bool, true, false, not}
 use mathlib.Core.List.{List, [], ◌∷◌, ◌++◌}
@@ -10,7 +11,7 @@ use native.Mathlib.Omega.{arith}
 use lib.Dec.{eqb, leb, ltb}
 use lib.ListN.{length}
 use borrow.Author.Tests.{not-true, not-false, leb-false, eqb-true, eqb-false, eq-eqb, ltb-false, le-ltb}
-use Rattle.paper.specs.Basics.{if◌then◌else◌, ◌and◌, ◌or◌, any, filter, first_bad, elem, up_to, In, Out, NoDup, when, place_of}
+use Rattle.paper.specs.Basics.{◌and◌, ◌or◌, any, filter, first_bad, elem, up_to, In, Out, NoDup, when, place_of}
 use Rattle.paper.specs.Yard.{Bay, Carrier, Rail, Yard, Placement, fewest_bays, most_bays, most_rails, most_crossings, kept_empty, bay_of, occupied, empty_bays, joined}
 use Rattle.paper.specs.Order.{Order}
 use Rattle.paper.specs.Path.{Along, Reached, nearest_first}

@@ -1,12 +1,13 @@
 -- Any two answers of the code that a statement allows are equal: it says which definition the answer reads as, and the reading tells any two answers apart. The
 -- crates above cite this for their functions. A refusal is told by its number and what it carries.
+use Rattle.std.specs.Prelude.{if◌then◌else◌}
 use mathlib.Core.Path.{◌≡◌, refl, sym, ◌∙◌, ap, ap₂}
 use mathlib.Core.Bool.{true, false}
 use mathlib.Core.List.{List, [], ◌∷◌}
 use mathlib.Core.Option.{Option, get_or}
 use Prim.Native.Nat.{ℕ}
 use lib.Dec.{eqb}
-use Rattle.paper.specs.Basics.{if◌then◌else◌, elem}
+use Rattle.paper.specs.Basics.{elem}
 use Rattle.paper.specs.Docket.{Refusal, size, rail, apart, crowd, start, goal, stopped, room, illegal, missed, mismarked, unknown, early, bad_map, bad_scenario, bad_survey, ended, long_piece, disagrees, edition, begun, bad_plan, bad_reports, number, carried}
 use Rattle.paper.proofs.Tests.{not-both}
 

@@ -1,5 +1,6 @@
 -- What is kept of a field or of a given text, byte by byte, decides the layout's tests of it: counts are kept up to one past
 -- the limit, which is all that a test asks.
+use Rattle.std.specs.Prelude.{if◌then◌else◌}
 use mathlib.Core.Path.{◌≡◌, refl, sym, ◌∙◌, ap, ap₂}
 use mathlib.Core.Bool.{Bool, true, false, not}
 use mathlib.Core.List.{[], ◌∷◌, foldl}
@@ -9,7 +10,7 @@ use lib.Dec.{eqb, ltb, leb, leb-suc-suc, leb-suc-zero}
 use lib.ListN.{length, get_or, take, drop, drop_of_length-le}
 use lib.Seq.{drop-cons, get_or-take, length-take-le}
 use borrow.Author.Tests.{eqb-true, eq-eqb, ne_eqb, leb-true, leb-false, ltb-true, ltb-false, le-leb, lt-ltb}
-use Rattle.paper.specs.Basics.{if◌then◌else◌, ◌and◌, ◌or◌, any}
+use Rattle.paper.specs.Basics.{◌and◌, ◌or◌, any}
 use Rattle.paper.specs.Text.{Text, same, all, count, is_digit, is_point, value, value_from, sized, is_number}
 use Rattle.paper.specs.Scenario.{is_length}
 use Rattle.paper.specs.Bytes.{Match, unmatched, match_byte, matched, Field, blank, grow, tally, see, field_of, sized_field, number_field, length_field}

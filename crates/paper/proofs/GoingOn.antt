@@ -1,5 +1,6 @@
 -- Clearing goes on with one kept bay e. An attempt vacates x and then e, holding the two carriers' bays, or does so while both stand a bay
 -- further on: so it is legal, the two stand where they stood, and x and e are empty. What sufficed without going on is as it was.
+use Rattle.std.specs.Prelude.{if◌then◌else◌}
 use mathlib.Core.Path.{◌≡◌, refl, sym, ◌∙◌}
 use mathlib.Core.Bool.{true, false}
 use mathlib.Core.List.{List, [], ◌∷◌, ◌++◌}
@@ -7,7 +8,7 @@ use mathlib.Core.Option.{Option, some}
 use Prim.Native.Nat.{ℕ, ◌<◌}
 use lib.Dec.{eqb, ltb}
 use lib.ListN.{length, get_or, drop, length-set}
-use Rattle.paper.specs.Basics.{if◌then◌else◌, ◌and◌, ◌>>=◌, filter, first_of, up_to, In, Out}
+use Rattle.paper.specs.Basics.{◌and◌, ◌>>=◌, filter, first_of, up_to, In, Out}
 use Rattle.paper.specs.Yard.{Bay, Carrier, Yard, Placement, Crossing, crossing, bay_of, move, after, joined, legal_plan, junction}
 use Rattle.paper.specs.Path.{nearest_first, shortest_path}
 use Rattle.paper.specs.Procedure.{Made, together, Action, ◌then◌, cross, vacate, bring, clear_once, aside, around, gone_on, clear, finish, trial_led, trial, swap}

@@ -1,5 +1,6 @@
 -- The slots rise strictly along dependence and are the lowest that do: each is one more than the highest it must exceed. One
 -- pass with the last slot of each carrier and bay finds them, since slots at a bay only rise.
+use Rattle.std.specs.Prelude.{if◌then◌else◌}
 use mathlib.Core.Path.{◌≡◌, refl, sym, ◌∙◌, ap, ap₂, fun_ext}
 use mathlib.Core.Bool.{Bool, true, false}
 use mathlib.Core.Option.{none}
@@ -10,7 +11,7 @@ use lib.Dec.{eqb}
 use lib.ListN.{length, get_or, set, take, drop, replicate, length-map, length-append, length-set}
 use lib.Seq.{take_at, drop_at, length-take-le, get_or-take, get_or-set_same, get_or-set_other}
 use borrow.Author.Tests.{eqb-true, eqb-false}
-use Rattle.paper.specs.Basics.{if◌then◌else◌, ◌or◌}
+use Rattle.paper.specs.Basics.{◌or◌}
 use Rattle.paper.specs.Yard.{Crossing, unpack, crossings, named}
 use Rattle.paper.specs.Order.{Order}
 use Rattle.paper.specs.Dependence.{depend, highest, slots_after, slots}

@@ -1,4 +1,5 @@
 -- The scenario read byte by byte is the scenario read line by line, in whatever pieces the bytes come.
+use Rattle.std.specs.Prelude.{if◌then◌else◌}
 use mathlib.Core.Path.{◌≡◌, refl, sym, ◌∙◌, ap, ap₂}
 use mathlib.Core.Bool.{Bool, true, false}
 use mathlib.Core.List.{List, [], ◌∷◌, ◌++◌, foldl}
@@ -8,7 +9,7 @@ use native.Mathlib.Omega.{arith}
 use lib.Dec.{eqb, ltb}
 use lib.ListN.{length}
 use borrow.Author.Tests.{ne_eqb}
-use Rattle.paper.specs.Basics.{if◌then◌else◌, ◌and◌, ◌>>=◌, when, ◌or◌}
+use Rattle.paper.specs.Basics.{◌and◌, ◌>>=◌, when, ◌or◌}
 use Rattle.paper.specs.Limits.{most_carriers}
 use Rattle.paper.specs.Yard.{Bay}
 use Rattle.paper.specs.Text.{Text, TAB, join, split, value, sized, is_number, text}

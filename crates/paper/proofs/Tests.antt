@@ -1,10 +1,11 @@
 -- Taking tests and missing answers apart.
+use Rattle.std.specs.Prelude.{if◌then◌else◌}
 use mathlib.Core.Path.{◌≡◌, refl, sym, ◌∙◌}
 use mathlib.Core.Bool.{Bool, true, false, true≢false}
 use mathlib.Core.Option.{Option, none, some}
 use Prim.Native.Nat.{ℕ}
 use native.Mathlib.Omega.{arith}
-use Rattle.paper.specs.Basics.{if◌then◌else◌, ◌and◌, ◌or◌, ◌>>=◌, or_else, when}
+use Rattle.paper.specs.Basics.{◌and◌, ◌or◌, ◌>>=◌, or_else, when}
 use Rattle.paper.specs.Text.{Read, good, bad_line}
 
 pub by_cases : {P : Type 0} (b : Bool) → (b ≡ true → P) → (b ≡ false → P) → P

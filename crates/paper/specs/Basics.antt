@@ -1,17 +1,12 @@
 -- The few tools that the rules are written with: tests, lists, and answers that may be missing.
 -- Assumes nothing.
-use Rattle.std.specs.Prelude.{Bool, true, false, not, List, [], ◌∷◌, ◌++◌, ◌≡◌, ℕ, zero, suc, min, max, eqb}
+use Rattle.std.specs.Prelude.{Bool, true, false, not, List, [], ◌∷◌, ◌++◌, ◌≡◌, ℕ, zero, suc, min, max, eqb, if◌then◌else◌}
 use Rattle.std.proofs.Math.Option.{Option, none, some}
 
-infix 10 if◌then◌else◌
 infix 10 if_some◌then◌else◌
 infixl 20 ◌>>=◌
 infixl 30 ◌or◌
 infixl 35 ◌and◌
-abbrev pub if◌then◌else◌ : {A : Type 0} → Bool → A → A → A
-if true then a else b = a
-if false then a else b = b
-
 -- Both tests pass; one of them does. They stay shut in proofs (mathlib's && and || open everywhere), so that a law's arguments are found.
 unfoldable pub ◌and◌ : Bool → Bool → Bool
 true and b = b

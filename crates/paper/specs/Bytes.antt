@@ -1,10 +1,10 @@
 -- Files byte by byte, for code and for files that come in pieces: a small state, a step and a finish. proofs/Fed shows for any
 -- layout that folding the step over a file and finishing gives what reading its lines gives.
 -- Assumes nothing.
-use Rattle.std.specs.Prelude.{Bool, true, false, not, ℕ, suc, ◌+◌, ◌-◌, ◌*◌, eqb, ltb, leb, length, get_or}
+use Rattle.std.specs.Prelude.{Bool, true, false, not, ℕ, suc, ◌+◌, ◌-◌, ◌*◌, eqb, ltb, leb, length, get_or, if◌then◌else◌}
 use mathlib.Core.List.{List, [], ◌∷◌, ◌++◌, foldl}
 use Rattle.std.proofs.Math.Option.{Option, none, some}
-use Rattle.paper.specs.Basics.{if◌then◌else◌, ◌and◌, ◌or◌, ◌>>=◌, when}
+use Rattle.paper.specs.Basics.{◌and◌, ◌or◌, ◌>>=◌, when}
 use Rattle.paper.specs.Limits.{most_carriers}
 use Rattle.paper.specs.Yard.{Bay}
 use Rattle.paper.specs.Text.{Text, text, LF, CR, TAB, is_digit, is_point, Read, good, bad_line}

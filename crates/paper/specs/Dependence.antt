@@ -1,8 +1,8 @@
 -- Dependence, slots and marks.
 -- Assumes nothing.
-use Rattle.std.specs.Prelude.{◌≡◌, Bool, true, not, List, [], ◌∷◌, ◌++◌, ℕ, zero, suc, max, ◌<◌, ◌≤◌, eqb, length, get_or, replicate}
+use Rattle.std.specs.Prelude.{◌≡◌, Bool, true, not, List, [], ◌∷◌, ◌++◌, ℕ, zero, suc, max, ◌<◌, ◌≤◌, eqb, length, get_or, replicate, if◌then◌else◌}
 use Rattle.std.proofs.Math.Option.{Option}
-use Rattle.paper.specs.Basics.{if◌then◌else◌, ◌and◌, ◌or◌, any, find, up_to}
+use Rattle.paper.specs.Basics.{◌and◌, ◌or◌, any, find, up_to}
 use Rattle.paper.specs.Yard.{Carrier, Placement, Crossing, named, after}
 
 -- "Two crossings depend on each other if they have the same carrier or share any bay."

@@ -1,8 +1,8 @@
 -- The scenario file: its layout, and the starts and goals in it.
 -- Assumes nothing.
-use Rattle.std.specs.Prelude.{Bool, List, [], ◌∷◌, ◌++◌, ℕ, eqb, ltb, leb, length, get_or}
+use Rattle.std.specs.Prelude.{Bool, List, [], ◌∷◌, ◌++◌, ℕ, eqb, ltb, leb, length, get_or, if◌then◌else◌}
 use Rattle.std.proofs.Math.Option.{Option, none, some}
-use Rattle.paper.specs.Basics.{if◌then◌else◌, ◌and◌, ◌or◌, ◌>>=◌, when, any}
+use Rattle.paper.specs.Basics.{◌and◌, ◌or◌, ◌>>=◌, when, any}
 use Rattle.paper.specs.Limits.{most_carriers}
 use Rattle.paper.specs.Yard.{Bay}
 use Rattle.paper.specs.Text.{Text, text, TAB, lines, split, same, all, count, is_digit, is_point, value, sized, is_number, Read, read_lines}

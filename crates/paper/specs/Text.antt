@@ -1,10 +1,10 @@
 -- Bytes, lines, fields and numbers in text, and files that are read line by line.
 -- Assumes nothing.
-use Rattle.std.specs.Prelude.{Bool, true, false, List, [], ◌∷◌, ℕ, suc, ◌+◌, ◌-◌, ◌*◌, eqb, leb, length}
+use Rattle.std.specs.Prelude.{Bool, true, false, List, [], ◌∷◌, ℕ, suc, ◌+◌, ◌-◌, ◌*◌, eqb, leb, length, if◌then◌else◌}
 use Rattle.std.proofs.Math.Option.{Option}
 use Prim.Native.Char.{code}
 use Prim.Native.String.{String, [] as nothing, ◌∷◌ as ◌then◌}
-use Rattle.paper.specs.Basics.{if◌then◌else◌, if_some◌then◌else◌, ◌and◌}
+use Rattle.paper.specs.Basics.{if_some◌then◌else◌, ◌and◌}
 
 -- a list of bytes
 abbrev pub Text : Type 0

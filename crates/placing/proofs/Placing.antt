@@ -1,5 +1,6 @@
 -- One carrier after the other takes its bay: the bays of those before c have their carrier, and all others have none and are empty.
 -- Assumes nothing.
+use Rattle.std.specs.Prelude.{if◌then◌else◌}
 use mathlib.Core.Path.{◌≡◌, refl, sym, ◌∙◌}
 use mathlib.Core.Bool.{Bool, true, false, not}
 use mathlib.Core.List.{List}
@@ -11,7 +12,7 @@ use lib.Dec.{eqb}
 use lib.ListN.{length, get_or, set, take}
 use lib.Seq.{get_or-set_same, get_or-set_other, take-suc, take_all}
 use borrow.Author.Tests.{eq-eqb, ne_eqb}
-use Rattle.paper.specs.Basics.{if◌then◌else◌, ◌and◌, ◌or◌, elem}
+use Rattle.paper.specs.Basics.{◌and◌, ◌or◌, elem}
 use Rattle.paper.specs.Yard.{Bay, Placement, bay_of, carrier_at}
 use Rattle.paper.proofs.Tests.{by_cases}
 use Rattle.paper.proofs.Playing.{Apart}

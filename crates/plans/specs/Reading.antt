@@ -1,8 +1,7 @@
 -- What a name finds in a plan, and how the code's answer reads as that.
 -- Assumes nothing.
-use Rattle.std.specs.Prelude.{List, ℕ, leb, length}
+use Rattle.std.specs.Prelude.{List, ℕ, leb, length, if◌then◌else◌}
 use Rattle.std.proofs.Math.Option.{Option, none, some}
-use Rattle.paper.specs.Basics.{if◌then◌else◌}
 use Rattle.paper.specs.Yard.{Crossing, named}
 use Rattle.docket.specs.Reading.{crossing_of}
 use Rattle.plans.specs.declared.Named.{Named}

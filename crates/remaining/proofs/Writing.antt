@@ -1,4 +1,5 @@
 -- What is still in the plan is counted and written name by name: what is written so far and then what is left of the rest is the whole.
+use Rattle.std.specs.Prelude.{if◌then◌else◌}
 use mathlib.Core.Path.{◌≡◌, refl, sym, ◌∙◌, ap, ap₂}
 use mathlib.Core.List.{List, [], ◌∷◌, ◌++◌, append-nil}
 use Prim.Native.Nat.{ℕ, suc, ◌≤◌, ◌<◌, ◌+◌}
@@ -8,7 +9,6 @@ use lib.Dec.{eqb, ltb}
 use lib.ListN.{length, get_or, take, drop, set, length-set, take-append-drop, drop_of_length-le}
 use lib.Seq.{drop-cons, take-set-le, take-suc-set, drop-set-lt, append_snoc}
 use borrow.Author.Tests.{eq-eqb, ne_eqb, ltb-true, ltb-false}
-use Rattle.paper.specs.Basics.{if◌then◌else◌}
 use Rattle.paper.proofs.Tests.{by_cases}
 use Rattle.trips.specs.Names.{left}
 use Rattle.trips.proofs.Naming.{left_in, left_out, by_byte}

@@ -1,5 +1,6 @@
 -- Demand 3 of the code's own `report`: of every run of it from fresh marks, whatever answers and marks its statement allows.
 -- It holds since the statement allows one answer only, the paper's, so a run is the paper's run.
+use Rattle.std.specs.Prelude.{if◌then◌else◌}
 use mathlib.Core.Path.{◌≡◌, refl, ◌∙◌, ap}
 use mathlib.Core.Bool.{true, false}
 use mathlib.Core.Logic.{◌↔◌}
@@ -7,7 +8,7 @@ use mathlib.Core.List.{List, [], ◌∷◌, map}
 use mathlib.Core.Option.{none}
 use Prim.Native.Nat.{ℕ, ◌<◌}
 use lib.ListN.{length}
-use Rattle.paper.specs.Basics.{if◌then◌else◌, In, NoDup}
+use Rattle.paper.specs.Basics.{In, NoDup}
 use Rattle.paper.specs.Yard.{Carrier, after, legal_plan, crossings, named}
 use Rattle.paper.specs.Order.{Order}
 use Rattle.paper.specs.Dependence.{is_done, done_of, count_of, fresh}

@@ -1,5 +1,6 @@
 -- The search for the last return goes up name by name: a crossing that is dropped or leads elsewhere is passed, a return of the carrier is the
 -- last so far, and another carrier's entering ends it.
+use Rattle.std.specs.Prelude.{if◌then◌else◌}
 use mathlib.Core.Path.{◌≡◌, refl, sym, ◌∙◌, ap}
 use mathlib.Core.Bool.{true, false}
 use mathlib.Core.List.{List, [], ◌∷◌}
@@ -11,7 +12,7 @@ use lib.Dec.{eqb, ltb}
 use lib.ListN.{length, get_or, drop, drop_of_length-le}
 use lib.Seq.{drop-cons}
 use borrow.Author.Tests.{eqb-true, lt-ltb}
-use Rattle.paper.specs.Basics.{if◌then◌else◌, ◌and◌, ◌>>=◌, or_else}
+use Rattle.paper.specs.Basics.{◌and◌, ◌>>=◌, or_else}
 use Rattle.paper.specs.Yard.{Crossing, crossings, named}
 use Rattle.paper.proofs.Tests.{and_left, and_right, by-option}
 use Rattle.plans.proofs.Rest.{rest-next}

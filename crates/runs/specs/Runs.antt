@@ -1,7 +1,7 @@
 -- Any sequence of calls on one plan, its marks, its record and its lines: plain reports, billed reports, openings and agreement tests, mixed as they come.
 -- Assumes nothing.
-use Rattle.std.specs.Prelude.{Bool, true, false, ◌↔◌, List, [], ◌∷◌, map, ◌≡◌, ℕ, ◌<◌, length}
-use Rattle.paper.specs.Basics.{if◌then◌else◌, In, NoDup}
+use Rattle.std.specs.Prelude.{Bool, true, false, ◌↔◌, List, [], ◌∷◌, map, ◌≡◌, ℕ, ◌<◌, length, if◌then◌else◌}
+use Rattle.paper.specs.Basics.{In, NoDup}
 use Rattle.paper.specs.Yard.{Carrier, Placement, after, legal_plan, crossings, named}
 use Rattle.paper.specs.Order.{Order}
 use Rattle.paper.specs.Dependence.{is_done, count_of, placement_by}

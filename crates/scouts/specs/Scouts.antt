@@ -1,8 +1,8 @@
 -- The scouts of a swap: where each of them has come to, and which bays none can enter.
 -- Assumes nothing.
-use Rattle.std.specs.Prelude.{◌≡◌, Bool, true, false, List, [], ◌++◌, ◌⊎◌, ℕ, suc, ◌+◌, ◌≤◌, ◌<◌, eqb, ltb, length, get_or, take, drop}
+use Rattle.std.specs.Prelude.{◌≡◌, Bool, true, false, List, [], ◌++◌, ◌⊎◌, ℕ, suc, ◌+◌, ◌≤◌, ◌<◌, eqb, ltb, length, get_or, take, drop, if◌then◌else◌}
 use Rattle.std.proofs.Math.Option.{Option, none, some}
-use Rattle.paper.specs.Basics.{if◌then◌else◌, ◌and◌, In}
+use Rattle.paper.specs.Basics.{◌and◌, In}
 use Rattle.paper.specs.Path.{Free, nearest_first, shortest_path}
 use Rattle.paper.specs.Procedure.{Made, bring, trial_led}
 use Rattle.paper.specs.Yard.{Bay, Carrier, Yard, Placement, bay_of, after}

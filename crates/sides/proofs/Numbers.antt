@@ -1,4 +1,5 @@
 -- A side is its one or two digits' number if that is at most 64: a byte that is no digit counts as 100, so it spoils the number.
+use Rattle.std.specs.Prelude.{if◌then◌else◌}
 use mathlib.Core.Path.{◌≡◌, refl, ◌∙◌}
 use mathlib.Core.Bool.{true, false}
 use mathlib.Core.List.{[], ◌∷◌}
@@ -9,7 +10,7 @@ use lib.Dec.{leb}
 use lib.ListN.{length, take, drop, get_or, length-drop}
 use lib.Seq.{take_all}
 use borrow.Author.Tests.{le-leb, lt-leb}
-use Rattle.paper.specs.Basics.{if◌then◌else◌, ◌and◌, when}
+use Rattle.paper.specs.Basics.{◌and◌, when}
 use Rattle.paper.specs.Text.{Text, all, is_digit, value, value_from, sized, is_number}
 use Rattle.paper.specs.Map.{side_after, most_side}
 use Rattle.paper.proofs.Tests.{by_cases}

@@ -1,8 +1,8 @@
 -- Letters of a row, and sides in digits, as the code reads them.
 -- Assumes nothing.
-use Rattle.std.specs.Prelude.{Bool, ℕ, zero, suc, ◌-◌, leb}
+use Rattle.std.specs.Prelude.{Bool, ℕ, zero, suc, ◌-◌, leb, if◌then◌else◌}
 use Rattle.std.proofs.Math.Option.{Option, none, some}
-use Rattle.paper.specs.Basics.{if◌then◌else◌, ◌and◌, ◌or◌, when}
+use Rattle.paper.specs.Basics.{◌and◌, ◌or◌, when}
 use Rattle.paper.specs.Text.{Text, is_digit, value, is_number}
 use Rattle.paper.specs.Map.{bay_letter, wall_letter, most_side}
 

@@ -1,8 +1,8 @@
 // The map file's layout: its height and width, or its first bad line. What the rows say is read once they are known to be good.
 #![tactic(auto)]
 
-ghost use Rattle.std.specs.Prelude.{◌≡◌, ◌≤◌, leb};
-ghost use Rattle.paper.specs.Basics.{◌or◌, if◌then◌else◌};
+ghost use Rattle.std.specs.Prelude.{◌≡◌, ◌≤◌, leb, if◌then◌else◌};
+ghost use Rattle.paper.specs.Basics.{◌or◌};
 ghost use Rattle.paper.specs.Text.{all};
 ghost use Rattle.paper.specs.Map.{side_after, bay_letter, is_row, read_map};
 ghost use Rattle.sides.specs.Letters.{letter, digit_of, side_in, side_of};

@@ -1,5 +1,6 @@
 -- The survey read byte by byte is the survey read line by line: behind the word stand two fields, and each byte of a field decides
 -- whether it can still be a number of one to five digits.
+use Rattle.std.specs.Prelude.{if◌then◌else◌}
 use mathlib.Core.Path.{◌≡◌, refl, sym, ◌∙◌}
 use mathlib.Core.Bool.{Bool, true, false}
 use mathlib.Core.List.{List, [], ◌∷◌, foldl}
@@ -9,7 +10,7 @@ use native.Mathlib.Omega.{arith}
 use lib.Dec.{eqb, ltb, leb}
 use lib.ListN.{length, take, drop}
 use borrow.Author.Tests.{ne_eqb, leb-true, ltb-true, ltb-false, le-leb, lt-leb}
-use Rattle.paper.specs.Basics.{if◌then◌else◌, ◌and◌, ◌>>=◌}
+use Rattle.paper.specs.Basics.{◌and◌, ◌>>=◌}
 use Rattle.paper.specs.Text.{Text, SPACE, join, split, same, all, is_digit, value, sized, is_number}
 use Rattle.paper.specs.Bytes.{Field, blank, see, field_of, tally}
 use Rattle.paper.proofs.Tests.{by_cases, and_left}

@@ -2,9 +2,9 @@
 -- reads as the lines do. What it keeps has a fixed size but for the ends that were read, so a file of any length is read in the
 -- same room: comment lines make files that keep the layout as long as one likes.
 -- Assumes nothing.
-use Rattle.std.specs.Prelude.{false, List, [], ◌∷◌, ℕ, suc, eqb, ltb, leb}
+use Rattle.std.specs.Prelude.{false, List, [], ◌∷◌, ℕ, suc, eqb, ltb, leb, if◌then◌else◌}
 use Rattle.std.proofs.Math.Option.{Option, none, some}
-use Rattle.paper.specs.Basics.{if◌then◌else◌, ◌and◌}
+use Rattle.paper.specs.Basics.{◌and◌}
 use Rattle.paper.specs.Yard.{Bay}
 use Rattle.paper.specs.Text.{Text, SPACE, is_digit, Read}
 use Rattle.paper.specs.Bytes.{State, going, feed, finish_file, tally}

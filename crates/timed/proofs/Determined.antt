@@ -1,10 +1,10 @@
 -- Any two answers that the statement allows are equal, and so is what is left in the lent list.
+use Rattle.std.specs.Prelude.{if◌then◌else◌}
 use mathlib.Core.List.{List}
 use Prim.Native.Nat.{ℕ}
 use lib.Dec.{ltb}
 use lib.ListN.{length}
 use lib.Seq.{sets}
-use Rattle.paper.specs.Basics.{if◌then◌else◌}
 use Rattle.paper.specs.Docket.{granted, denied, room}
 use Rattle.paper.specs.Text.{Text}
 use Rattle.paper.proofs.Determined.{Determined, determined-by}

@@ -1,8 +1,7 @@
 -- What the steps from an answer to its print promise.
 -- Assumes nothing.
-use Rattle.std.specs.Prelude.{◌≡◌, List, ℕ, ltb, length}
+use Rattle.std.specs.Prelude.{◌≡◌, List, ℕ, ltb, length, if◌then◌else◌}
 use Rattle.std.proofs.lemmas.List.Edits.{sets}
-use Rattle.paper.specs.Basics.{if◌then◌else◌}
 use Rattle.paper.specs.Docket.{granted, denied, room}
 use Rattle.paper.specs.Answers.{Answer}
 use Rattle.paper.specs.Text.{Text}

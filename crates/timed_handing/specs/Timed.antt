@@ -1,8 +1,7 @@
 -- The program with `--timed`: the plan that the two files ask for, each crossing with its time.
 -- Assumes nothing.
-use Rattle.std.specs.Prelude.{Bool, ℕ}
+use Rattle.std.specs.Prelude.{Bool, ℕ, if◌then◌else◌}
 use Rattle.std.proofs.Math.Option.{Option}
-use Rattle.paper.specs.Basics.{if◌then◌else◌}
 use Rattle.paper.specs.Docket.{edition}
 use Rattle.paper.specs.Answers.{Answer, accepted, refused}
 use Rattle.paper.specs.Text.{Text}

@@ -1,4 +1,5 @@
 -- The crossings that are met before a name, each with its slot: by them a name's slot is read off, and each name adds one.
+use Rattle.std.specs.Prelude.{if◌then◌else◌}
 use mathlib.Core.Path.{◌≡◌, refl, ap}
 use mathlib.Core.Bool.{Bool, true}
 use mathlib.Core.List.{List, [], ◌∷◌}
@@ -7,7 +8,6 @@ use native.Mathlib.Omega.{arith}
 use lib.Dec.{ltb}
 use lib.ListN.{length, get_or, take}
 use borrow.Author.Tests.{ltb-true, ltb-false}
-use Rattle.paper.specs.Basics.{if◌then◌else◌}
 use Rattle.paper.specs.Yard.{Placement, Crossing, named, move, after}
 use Rattle.paper.proofs.Tests.{by_cases}
 use Rattle.trains.specs.Slots.{Timed, train_slot, train_slots_after, train_slots}

@@ -1,11 +1,11 @@
 -- One pass gives the train slots: a table holds for each carrier, and for each bay, the slot of the latest that the definition looks for.
+use Rattle.std.specs.Prelude.{if◌then◌else◌}
 use mathlib.Core.Path.{◌≡◌, refl, sym, ap}
 use mathlib.Core.List.{List, [], ◌∷◌}
 use Prim.Native.Nat.{ℕ, suc, max, ◌<◌}
 use lib.Dec.{eqb}
 use lib.ListN.{length, set, replicate}
 use borrow.Author.Tests.{eqb-true, eqb-false, eq-eqb, ne_eqb}
-use Rattle.paper.specs.Basics.{if◌then◌else◌}
 use Rattle.paper.specs.Yard.{Crossing}
 use Rattle.paper.specs.OnePass.{put}
 use Rattle.paper.proofs.Tests.{by_cases}

@@ -1,6 +1,7 @@
 -- Why a slot's crossings can be done all at once. A bay is left in a later slot than it was entered, since the carrier makes both, and is entered
 -- again no earlier than it was left. So once the crossings of the slots up to t are done, each crossing that comes next in the plan and is of
 -- these slots is legal there too: its carrier stands at `from`, and `to` is empty.
+use Rattle.std.specs.Prelude.{if◌then◌else◌}
 use mathlib.Core.Path.{◌≡◌, refl, sym, ◌∙◌, ap}
 use mathlib.Core.Bool.{Bool, true, false}
 use mathlib.Core.List.{List, [], ◌∷◌}
@@ -10,7 +11,7 @@ use lib.Dec.{eqb, leb, ltb}
 use lib.ListN.{length, take, length-set}
 use lib.Seq.{get_or-set_same, get_or-set_other}
 use borrow.Author.Tests.{eqb-true, eqb-false, eq-eqb, ne_eqb, ltb-true, ltb-false, leb-true, leb-false, le-leb, lt-leb}
-use Rattle.paper.specs.Basics.{if◌then◌else◌, Out}
+use Rattle.paper.specs.Basics.{Out}
 use Rattle.paper.specs.Yard.{Bay, Carrier, Yard, Placement, Crossing, bay_of, named, move, after, legal_plan}
 use Rattle.paper.proofs.Tests.{by_cases}
 use Rattle.paper.proofs.Playing.{Apart, Legal, legal-facts, plan-head, plan-tail, out_of, out-no, move-self, move-other, move-apart, move-differs, move-empties, move-out}

@@ -1,8 +1,8 @@
 -- The timed plan: "one `T: (move ..) [1]` a line in plan order, T the slot less one, the comment line last as in 01"; and reading it.
 -- Assumes nothing.
-use Rattle.std.specs.Prelude.{List, [], ◌∷◌, ◌++◌, ℕ, suc, ◌-◌, eqb, leb, length, get_or, take, drop}
+use Rattle.std.specs.Prelude.{List, [], ◌∷◌, ◌++◌, ℕ, suc, ◌-◌, eqb, leb, length, get_or, take, drop, if◌then◌else◌}
 use Rattle.std.proofs.Math.Option.{Option, none, some}
-use Rattle.paper.specs.Basics.{if◌then◌else◌, ◌and◌, ◌>>=◌}
+use Rattle.paper.specs.Basics.{◌and◌, ◌>>=◌}
 use Rattle.paper.specs.Yard.{Crossing}
 use Rattle.paper.specs.Text.{Text, text, SPACE, split, same, all, is_digit, value}
 use Rattle.paper.specs.Print.{decimal, action_line, cost_line, ended, read_action}

@@ -1,7 +1,7 @@
 -- The second edition of slots, for depots with block signals: a carrier may roll into a bay in the slot in which another rolls out.
 -- Assumes nothing.
-use Rattle.std.specs.Prelude.{Bool, List, [], ◌∷◌, ℕ, zero, suc, max, eqb}
-use Rattle.paper.specs.Basics.{if◌then◌else◌, highest_of}
+use Rattle.std.specs.Prelude.{Bool, List, [], ◌∷◌, ℕ, zero, suc, max, eqb, if◌then◌else◌}
+use Rattle.paper.specs.Basics.{highest_of}
 use Rattle.paper.specs.Yard.{Bay, Carrier, Crossing}
 
 -- a crossing with its slot

@@ -1,9 +1,9 @@
 -- There-and-back trips: a carrier leaves a bay and stands there again, and no other carrier has entered it meanwhile. Shortening
 -- drops such trips until there is none.
 -- Assumes nothing.
-use Rattle.std.specs.Prelude.{Bool, not, List, [], ◌∷◌, ◌++◌, ◌≡◌, ℕ, zero, suc, ◌<◌, ◌-◌, eqb, length, take, drop}
+use Rattle.std.specs.Prelude.{Bool, not, List, [], ◌∷◌, ◌++◌, ◌≡◌, ℕ, zero, suc, ◌<◌, ◌-◌, eqb, length, take, drop, if◌then◌else◌}
 use Rattle.std.proofs.Math.Option.{Option, none, some}
-use Rattle.paper.specs.Basics.{if◌then◌else◌, if_some◌then◌else◌, ◌>>=◌, or_else, filter}
+use Rattle.paper.specs.Basics.{if_some◌then◌else◌, ◌>>=◌, or_else, filter}
 use Rattle.paper.specs.Yard.{Bay, Carrier, Crossing, named}
 
 -- a crossing into bay a; a crossing of carrier c

@@ -1,5 +1,6 @@
 -- `dropping::drop_trip` meets its contract. The leaving, and then one byte at a time up to the last return; names that are passed stay as they are.
 -- Assumes nothing.
+use Rattle.std.specs.Prelude.{if◌then◌else◌}
 use borrow.Author.Rules.{rules}
 use borrow.Author.Tests.{eqb-true}
 use Rattle.dropping.proofs.Trimming.{trim-next, trim_end, trim-over}
@@ -8,7 +9,6 @@ use Rattle.chains.proofs.Linking.{linked-drop}
 use Rattle.chains.specs.Links.{Linked}
 use Rattle.trips.specs.Names.{drop_trip}
 use Rattle.paper.specs.Yard.{crossings, named}
-use Rattle.paper.specs.Basics.{if◌then◌else◌}
 use lib.ListN.{length, get_or, set, length-set}
 use Prim.Native.Nat.{suc, ◌≤◌, ◌<◌, ◌+◌, ◌-◌}
 use mathlib.Core.Path.{◌≡◌, refl, sym, ◌∙◌, ap}

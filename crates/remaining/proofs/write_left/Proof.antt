@@ -1,7 +1,7 @@
 -- `remaining::write_left` meets its contract. What is written so far and what is left of the rest are the whole; a dropped crossing is written over.
 -- Assumes nothing.
+use Rattle.std.specs.Prelude.{if◌then◌else◌}
 use Rattle.remaining.proofs.Writing.{Writing, writing_start, writing-inside, writing-next, writing-end, one-small}
-use Rattle.paper.specs.Basics.{if◌then◌else◌}
 use Rattle.trips.specs.Names.{left}
 use lib.Dec.{eqb}
 use lib.ListN.{length, get_or}
