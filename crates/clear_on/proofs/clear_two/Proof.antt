@@ -11,46 +11,43 @@ use Rattle.clear_on.proofs.Attempting.{pair-none, pair-both, pair-after, after-a
 use Rattle.clear_on.proofs.clear_two.Statement.{statement}
 use Rattle.clear_on.proofs.clear_two.Tie as tie
 
-clear-requires : tie.Need-clear-requires
+clear-requires : tie.Need-clear-cleared-requires
 clear-requires c κs =
-    let start = c.before.before.before.before.before.before.before.before.before in
-    let z = start.requires.1 in
-    (start.requires.0, record { junction = z.junction; behind = z.behind })
+    let z = c.requires.1 in
+    (c.requires.0, record { junction = z.junction; behind = z.behind })
 
-enum-known-cleared : tie.Need-enum-known-cleared
-enum-known-cleared c = c.match.keys1
+enum-known-cleared : tie.Need-enum_known-cleared
+enum-known-cleared c = search rules
 
-enum-known-cleared-2 : tie.Need-enum-known-cleared-2
-enum-known-cleared-2 c = c.match.keys2
+enum-known-cleared-2 : tie.Need-enum_known-cleared-in-Single-1
+enum-known-cleared-2 c = search rules
 
-place-in-requires : tie.Need-place-in-requires
+place-in-requires : tie.Need-place_in-from-requires
 place-in-requires c κs = search rules
 
-mul-go-on : tie.Need-overflow-mul-go-on
+mul-go-on : tie.Need-offset_bounds-out-from
 mul-go-on c =
-    let start = c.before.before.before.before.before.before.before.before.before.before.before.before.before.before.before.before.before.before.before.before.before.before.before.before.before.before in
-    search (rules, c.before.before.before.place-in.ensures, c.before.before.before.before.before.before.before.before.before.before.before.before.before.before.before.before.clear.auto.1.1.1.1.1.1.0, start.well-formed)
+    search (rules, c.place_in-from.ensures, c.clear-cleared.auto.out, c.well_formed)
 
-sub-go-on : tie.Need-overflow-sub-go-on
+sub-go-on : tie.Need-slice_bounds-go_on-count
 sub-go-on c = search rules
 
-part-go-on-start : tie.Need-slice-bounds-go-on-start
+part-go-on-start : tie.Need-slice_bounds-go_on-start
 part-go-on-start c = search rules
 
-part-go-on-end : tie.Need-slice-bounds-go-on-end
+part-go-on-end : tie.Need-slice_bounds-go_on-end
 part-go-on-end c = search rules
 
-go-on-requires : tie.Need-go-on-requires
+go-on-requires : tie.Need-go_on-rest-requires
 go-on-requires c κs =
-    let cleared2 = c.before.before.before.before.before.before.before.cleared2 in
-    let clear = c.before.before.before.before.before.before.before.before.before.before.before.before.before.before.before.before.before.clear in
-    let start = c.before.before.before.before.before.before.before.before.before.before.before.before.before.before.before.before.before.before.before.before.before.before.before.before.before.before.before in
-    let p = start.requires.0 in
-    let z = start.requires.1 in
-    let k = (clear.ensures.clears p.tabled).single _ _ cleared2.given.1 in
-    let kp : length clear.new.1.1.1.0 ≡ length start.args.placement.now = clear.auto.1.1.1.0 in
-    let kw : length clear.new.1.1.1.1.0 ≡ length start.args.standing.now = clear.auto.1.1.1.1.0 in (
-      ready-again p _ _ _ kw clear.auto.1.1.1.1.1.0 k.played.placed,
+   
+    let clear = c.clear-cleared in
+    let p = c.requires.0 in
+    let z = c.requires.1 in
+    let k = (clear.ensures.clears p.tabled).single _ _ c.in-Single.is in
+    let kp : length clear.new.placement ≡ length c.args.placement.now = clear.auto.placement in
+    let kw : length clear.new.standing ≡ length c.args.standing.now = clear.auto.standing in (
+      ready-again p _ _ _ kw clear.auto.empty k.played.placed,
       record {
         coupled = record { leads = rw kp z.coupled.leads; follows = rw kp z.coupled.follows; differ = z.coupled.differ };
         junction = rw kw z.junction;
@@ -62,81 +59,80 @@ go-on-requires c κs =
 
 after-requires : tie.Need-after-requires
 after-requires c κs =
-    let f = c.before.before.before.before.before.before.before.before.before.before.before.before.before.before.before.before.before.before.before.before.clear.ensures.few.single _ _ c.before.before.before.before.before.before.before.before.before.before.cleared2.given.1 in
-    after-asks clear_once_most attempt_most f.1 c.before.before.go_on.ensures.few (omega arith)
+    let f = c.clear-cleared.ensures.few.single _ _ c.in-Single.is in
+    after-asks clear_once_most attempt_most f.1 c.go_on-rest.ensures.few (omega arith)
 
-enum_told : tie.Need-enum-told
-enum_told c = c.match.keys3
+enum_told : tie.Need-enum_told-1
+enum_told c = search rules
 
-same_length : tie.Need-same-length
-same_length c = c.before.before.before.before.before.before.before.before.before.before.before.clear.auto.1.1.1.0
+same_length : tie.Need-shape_of-placement-in-Both
+same_length c = c.clear-cleared.auto.placement
 
-same-length-2 : tie.Need-same-length-2
-same-length-2 c = c.before.before.before.before.before.before.before.before.before.before.before.clear.auto.1.1.1.1.0
+same-length-2 : tie.Need-shape_of-standing-in-Both
+same-length-2 c = c.clear-cleared.auto.standing
 
-same-length-3 : tie.Need-same-length-3
-same-length-3 c = c.before.before.before.before.before.before.before.before.before.before.before.clear.auto.1.1.1.1.1.0
+same-length-3 : tie.Need-shape_of-empty-in-Both
+same-length-3 c = c.clear-cleared.auto.empty
 
-same-length-4 : tie.Need-same-length-4
-same-length-4 c = c.before.before.before.before.before.before.before.before.before.before.before.clear.auto.1.1.1.1.1.1.0
+same-length-4 : tie.Need-shape_of-out-in-Both
+same-length-4 c = c.clear-cleared.auto.out
 
-returns : tie.Need-returns
+returns : tie.Need-returns-in-Both
 returns c =
-    let clear = c.before.before.before.before.before.before.before.before.before.before.before.clear in
-    let f = clear.ensures.few.few _ _ _ c.before.cleared.given.1 in
+    let clear = c.clear-cleared in
+    let f = clear.ensures.few.few _ _ _ c.in-Both.is in
     record {
       few = pair-both (omega (arith, f.2)) (omega arith);
-      clears = λ t s j. two_at_once t.yard _ _ _ _ _ ((clear.ensures.clears t).both _ _ _ c.before.cleared.given.1);
+      clears = λ t s j. two_at_once t.yard _ _ _ _ _ ((clear.ensures.clears t).both _ _ _ c.in-Both.is);
     }
 
-same-length-5 : tie.Need-same-length-5
-same-length-5 c = c.before.before.before.before.before.before.before.before.before.before.before.before.before.before.before.before.before.before.before.before.before.clear.auto.1.1.1.0
+same-length-5 : tie.Need-shape_of-placement-in-Single
+same-length-5 c = c.clear-cleared.auto.placement
 
-same-length-6 : tie.Need-same-length-6
-same-length-6 c = c.before.before.before.before.before.before.before.before.before.before.before.before.before.before.before.before.before.before.before.before.before.clear.auto.1.1.1.1.0
+same-length-6 : tie.Need-shape_of-standing-in-Single
+same-length-6 c = c.clear-cleared.auto.standing
 
-same-length-7 : tie.Need-same-length-7
-same-length-7 c = c.before.before.before.before.before.before.before.before.before.before.before.before.before.before.before.before.before.before.before.before.before.clear.auto.1.1.1.1.1.0
+same-length-7 : tie.Need-shape_of-empty-in-Single
+same-length-7 c = c.clear-cleared.auto.empty
 
-same-length-8 : tie.Need-same-length-8
-same-length-8 c = c.before.before.out2.given.1 ∙ c.before.before.before.before.before.before.before.before.before.before.before.before.before.before.before.before.before.before.before.before.before.clear.auto.1.1.1.1.1.1.0
+same-length-8 : tie.Need-shape_of-out-in-Single
+same-length-8 c = c.out-in-Single-1.given.1 ∙ c.clear-cleared.auto.out
 
-returns-2 : tie.Need-returns-2
+returns-2 : tie.Need-returns-in-Single
 returns-2 c =
-    let cleared2 = c.before.before.before.before.before.before.before.before.before.before.before.cleared2 in
-    let clear = c.before.before.before.before.before.before.before.before.before.before.before.before.before.before.before.before.before.before.before.before.before.clear in
-    let start = c.before.before.before.before.before.before.before.before.before.before.before.before.before.before.before.before.before.before.before.before.before.before.before.before.before.before.before.before.before.before.before in
-    let p = start.requires.0 in
-    let z = start.requires.1 in
-    let f = clear.ensures.few.single _ _ cleared2.given.1 in
-    let kw : length clear.new.1.1.1.1.0 ≡ length start.args.standing.now = clear.auto.1.1.1.1.0 in
+   
+    let clear = c.clear-cleared in
+    let p = c.requires.0 in
+    let z = c.requires.1 in
+    let f = clear.ensures.few.single _ _ c.in-Single.is in
+    let kw : length clear.new.standing ≡ length c.args.standing.now = clear.auto.standing in
     record {
-      few = pair-after clear_once_most f.1 c.before.before.before.go_on.ensures.few c.after.ensures;
+      few = pair-after clear_once_most f.1 c.go_on-rest.ensures.few c.after.ensures;
       clears = λ t s j.
-          let k = (clear.ensures.clears t).single _ _ cleared2.given.1 in
+          let k = (clear.ensures.clears t).single _ _ c.in-Single.is in
           let there = still-there t.yard _ _ _ _ _ s p.placed.apart z.coupled.leads z.coupled.follows j _ k.played.moved in
-          two-in-time t.yard _ _ _ _ _ k (λ more sum a. rest-lent _ c.before.before.before.before.before.before.before.before.place-in.ensures c.before.before.out2.given a) ((rw kw at c.before.before.before.go_on.ensures.goes_on) t there) c.after.ensures;
+          two-in-time t.yard _ _ _ _ _ k (λ more sum a. rest-lent _ c.place_in-from.ensures c.out-in-Single-1.given a) ((rw kw at c.go_on-rest.ensures.goes_on) t there) c.after.ensures;
     }
 
-same-length-9 : tie.Need-same-length-9
-same-length-9 c = c.before.before.before.before.before.before.before.before.before.before.clear.auto.1.1.1.0
+same-length-9 : tie.Need-shape_of-placement-in-Short
+same-length-9 c = c.clear-cleared.auto.placement
 
-same-length-10 : tie.Need-same-length-10
-same-length-10 c = c.before.before.before.before.before.before.before.before.before.before.clear.auto.1.1.1.1.0
+same-length-10 : tie.Need-shape_of-standing-in-Short
+same-length-10 c = c.clear-cleared.auto.standing
 
-same-length-11 : tie.Need-same-length-11
-same-length-11 c = c.before.before.before.before.before.before.before.before.before.before.clear.auto.1.1.1.1.1.0
+same-length-11 : tie.Need-shape_of-empty-in-Short
+same-length-11 c = c.clear-cleared.auto.empty
 
-same-length-12 : tie.Need-same-length-12
-same-length-12 c = c.before.before.before.before.before.before.before.before.before.before.clear.auto.1.1.1.1.1.1.0
+same-length-12 : tie.Need-shape_of-out-in-Short
+same-length-12 c = c.clear-cleared.auto.out
 
-returns-3 : tie.Need-returns-3
+returns-3 : tie.Need-returns-in-Short
 returns-3 c =
-    let clear = c.before.before.before.before.before.before.before.before.before.before.clear in
-    record { few = pair-none _ _; clears = λ t s j. two-few t.yard _ _ _ _ _ ((clear.ensures.clears t).short c.enum_told.given.1) }
+    let clear = c.clear-cleared in
+    record { few = pair-none _ _; clears = λ t s j. two-few t.yard _ _ _ _ _ ((clear.ensures.clears t).short c.in-Short.is) }
 
-pub clear-two-spec : {M : Type 1} → statement M
-clear-two-spec =
+pub clear_two_spec : {M : Type 1} → statement M
+clear_two_spec =
     tie.close
     (tie.spec
     clear-requires

@@ -7,38 +7,37 @@ use borrow.Author.Rules.{rules}
 use Rattle.comparing.proofs.compare.Statement.{statement}
 use Rattle.comparing.proofs.compare.Tie as tie
 
-differ-requires : tie.Need-differ-requires
+differ-requires : tie.Need-differ-answer-requires
 differ-requires c κs = search rules
 
-number-of-requires : tie.Need-number-of-requires
+number-of-requires : tie.Need-number_of-requires
 number-of-requires c κs = search rules
 
-value-of-requires : tie.Need-value-of-requires
+value-of-requires : tie.Need-value_of-requires
 value-of-requires c κs = search rules
 
-longer-of-requires : tie.Need-longer-of-requires
+longer-of-requires : tie.Need-longer_of-requires
 longer-of-requires c κs = search rules
 
 rest-requires : tie.Need-rest-requires
-rest-requires c κs = let s = c.before.before.before.before.before.before.before.before in begins s.args.first.now s.args.second.now _ _ c.before.before.before.before.differ.ensures.answers
+rest-requires c κs = begins c.args.first.now c.args.second.now _ _ c.differ-answer.ensures.answers
 
-same_length : tie.Need-same-length
+same_length : tie.Need-shape_of-differences
 same_length c = search rules
 
 returns : tie.Need-returns
 returns c =
-    let s = c.before.before.before.before.before.before.before.before.before in
-    let says = c.before.before.before.before.before.differ.ensures in
+    let says = c.differ-answer.ensures in
     record {
-      numbered = c.before.before.before.number_of.ensures ∙ ap number_by says.answers;
-      valued = c.before.before.value_of_lem.ensures ∙ ap value_by says.answers;
-      which = c.before.longer-of.ensures ∙ ap (longer_by s.args.first.now s.args.second.now) says.answers;
-      hands_back = c.rest.ensures ∙ ap (part_by s.args.first.now s.args.second.now) says.answers;
+      numbered = c.number_of.ensures ∙ ap number_by says.answers;
+      valued = c.value_of_lem.ensures ∙ ap value_by says.answers;
+      which = c.longer_of.ensures ∙ ap (longer_by c.args.first.now c.args.second.now) says.answers;
+      hands_back = c.rest.ensures ∙ ap (part_by c.args.first.now c.args.second.now) says.answers;
       leaves = says.leaves;
     }
 
-pub compare-spec : {M : Type 1} → statement M
-compare-spec =
+pub compare_spec : {M : Type 1} → statement M
+compare_spec =
     tie.close
     (tie.spec
     differ-requires

@@ -10,70 +10,66 @@ use borrow.Author.Rules.{rules}
 use Rattle.comparing.proofs.count.Statement.{statement}
 use Rattle.comparing.proofs.count.Tie as tie
 
-abbrev invariant-loop : tie.invariant-loop
+abbrev invariant-loop : tie.invariant-loop-i
 invariant-loop list counts₀ i₀ counts i = Counting list counts i
 
-abbrev decreases-loop : tie.decreases-loop
+abbrev decreases-loop : tie.decreases-loop-i
 decreases-loop list counts₀ i₀ counts i = length list - i
 
-loop-holds : tie.Need-loop-init invariant-loop decreases-loop
-loop-holds c = let s = c.before in rw s.requires.1 (counting-start s.args.list.now)
+loop-holds : tie.Need-loop-i-init invariant-loop decreases-loop
+loop-holds c = rw c.requires.1 (counting-start c.args.list.now)
 
-mul-unpack : tie.Need-overflow-mul-unpack invariant-loop decreases-loop
+mul-unpack : tie.Need-offset_bounds-list-i invariant-loop decreases-loop
 mul-unpack c = search rules
 
-shared-slice-read-unpack : tie.Need-shared-slice-read-unpack invariant-loop decreases-loop
+shared-slice-read-unpack : tie.Need-bounds-list-i invariant-loop decreases-loop
 shared-slice-read-unpack c = search rules
 
-unpack-requires : tie.Need-unpack-requires invariant-loop decreases-loop
+unpack-requires : tie.Need-unpack-x-requires invariant-loop decreases-loop
 unpack-requires c κs = search rules
 
-cast-place : tie.Need-overflow-cast-place invariant-loop decreases-loop
+cast-place : tie.Need-overflow_cast-place invariant-loop decreases-loop
 cast-place c = search rules
 
-returns : tie.Need-returns invariant-loop decreases-loop
+returns : tie.Need-returns-then-place-ge-CARRIERS invariant-loop decreases-loop
 returns c =
-    let l = c.before.before.before.before.before.before.loop in
-    let s = c.before.before.before.before.before.before.before.before in
+    let l = c.loop-i in
     record {
-      answers = counting-stops s.args.list.now l.counts l.i l.invariant c.before.before.before.before.before.loop-test.true _ (ap (λ x. x.carrier) c.before.before.before.unpack.ensures) c.if1.true;
+      answers = counting-stops c.args.list.now l.counts l.i l.invariant c.loop-i-test.true _ (ap (λ x. x.carrier) c.unpack-x.ensures) c.if-place-ge-CARRIERS.true;
       counted = λ e. never-some _ (sym e);
     }
 
-mul-counts : tie.Need-overflow-mul-counts invariant-loop decreases-loop
+mul-counts : tie.Need-offset_bounds-counts-place invariant-loop decreases-loop
 mul-counts c = search rules
 
-element-copy-out-counts : tie.Need-element-copy-out-counts invariant-loop decreases-loop
+element-copy-out-counts : tie.Need-bounds-counts-place invariant-loop decreases-loop
 element-copy-out-counts c = search rules
 
-add-counts : tie.Need-overflow-add-counts invariant-loop decreases-loop
+add-counts : tie.Need-overflow_add-counts invariant-loop decreases-loop
 add-counts c =
-    let l = c.before.before.before.before.before.before.before.loop in
-    let s = c.before.before.before.before.before.before.before.before.before in
-    omega (arith, l.invariant.low c.before.before.before.before.unpack.result.carrier.0, c.before.before.before.before.before.before.loop-test.true, s.requires.0)
+    let l = c.loop-i in
+    omega (arith, l.invariant.low c.unpack-x.result.carrier.0, c.loop-i-test.true, c.requires.0)
 
-element-write-counts : tie.Need-element-write-counts invariant-loop decreases-loop
+element-write-counts : tie.Need-bounds-counts-place-in-loop-i invariant-loop decreases-loop
 element-write-counts c = search rules
 
-add-i : tie.Need-overflow-add-i invariant-loop decreases-loop
+add-i : tie.Need-overflow_add-i invariant-loop decreases-loop
 add-i c = search rules
 
-loop-less : tie.Need-loop-smaller invariant-loop decreases-loop
+loop-less : tie.Need-loop-i-smaller invariant-loop decreases-loop
 loop-less c = search rules
 
-loop-again : tie.Need-loop-preserved invariant-loop decreases-loop
+loop-again : tie.Need-loop-i-preserved invariant-loop decreases-loop
 loop-again c =
-    let l = c.before.before.before.before.before.before.before.loop in
-    let s = c.before.before.before.before.before.before.before.before.before in
-    counting-on s.args.list.now l.counts l.i l.invariant c.before.before.before.before.before.before.loop-test.true _ (ap (λ x. x.carrier) c.before.before.before.before.unpack.ensures) c.before.if1.false
+    let l = c.loop-i in
+    counting-on c.args.list.now l.counts l.i l.invariant c.loop-i-test.true _ (ap (λ x. x.carrier) c.unpack-x.ensures) c.if-place-ge-CARRIERS.false
 
-returns-2 : tie.Need-returns-2 invariant-loop decreases-loop
+returns-2 : tie.Need-returns invariant-loop decreases-loop
 returns-2 c =
-    let l = c.before.loop in
-    let s = c.before.before.before in
+    let l = c.loop-i in
     record {
-      answers = counting-none s.args.list.now l.counts l.i l.invariant c.loop-test.false;
-      counted = λ e. counting-all s.args.list.now l.counts l.i l.invariant c.loop-test.false;
+      answers = counting-none c.args.list.now l.counts l.i l.invariant c.loop-i-test.false;
+      counted = λ e. counting-all c.args.list.now l.counts l.i l.invariant c.loop-i-test.false;
     }
 
 pub count_spec : {M : Type 1} → statement M

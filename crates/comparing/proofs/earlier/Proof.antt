@@ -7,19 +7,18 @@ use borrow.Author.Rules.{rules}
 use Rattle.comparing.proofs.earlier.Statement.{statement}
 use Rattle.comparing.proofs.earlier.Tie as tie
 
-enum-known-one : tie.Need-enum-known-one
+enum-known-one : tie.Need-enum_known-one
 enum-known-one c = search rules
 
-enum_told : tie.Need-enum-told
+enum_told : tie.Need-enum_told-1
 enum_told c = search rules
 
-returns : tie.Need-returns
+returns : tie.Need-returns-in-Above
 returns c =
-    let s = c.before.before.before in
-    sym (ap (λ a. or_else (counted_of a) (counted_of s.args.other)) c.before.one.given.1)
+    sym (ap (λ a. or_else (counted_of a) (counted_of c.args.other)) c.in-Above.is)
 
-returns-2 : tie.Need-returns-2
+returns-2 : tie.Need-returns-in-All
 returns-2 c = search rules
 
-pub earlier-spec : {M : Type 1} → statement M
-earlier-spec = tie.close (tie.spec enum-known-one enum_told returns returns-2)
+pub earlier_spec : {M : Type 1} → statement M
+earlier_spec = tie.close (tie.spec enum-known-one enum_told returns returns-2)

@@ -7,21 +7,21 @@ use borrow.Author.Rules.{rules}
 use Rattle.comparing.proofs.value_of.Statement.{statement}
 use Rattle.comparing.proofs.value_of.Tie as tie
 
-enum-known-answer : tie.Need-enum-known-answer
+enum-known-answer : tie.Need-enum_known-answer
 enum-known-answer c = search rules
 
-enum-known-answer-2 : tie.Need-enum-known-answer-2
+enum-known-answer-2 : tie.Need-enum_known-answer-in-Denied-1
 enum-known-answer-2 c = search rules
 
 carried-requires : tie.Need-carried-requires
 carried-requires c κs = search rules
 
-returns : tie.Need-returns
+returns : tie.Need-returns-in-Granted
 returns c = search rules
 
-returns-2 : tie.Need-returns-2
-returns-2 c = c.carried.ensures ∙ sym (ap (λ a. value_by (verdict_of a)) c.before.before.answer2.given.1)
+returns-2 : tie.Need-returns-in-Denied
+returns-2 c = c.carried.ensures ∙ sym (ap (λ a. value_by (verdict_of a)) c.in-Denied.is)
 
-pub value-of-spec : {M : Type 1} → statement M
-value-of-spec =
+pub value_of_spec : {M : Type 1} → statement M
+value_of_spec =
     tie.close (tie.spec enum-known-answer enum-known-answer-2 carried-requires returns returns-2)

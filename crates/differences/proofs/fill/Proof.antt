@@ -10,56 +10,54 @@ use Rattle.paper.specs.Limits.{most_carriers}
 use Rattle.differences.proofs.fill.Statement.{statement}
 use Rattle.differences.proofs.fill.Tie as tie
 
-abbrev invariant-loop : tie.invariant-loop
+abbrev invariant-loop : tie.invariant-loop-c
 invariant-loop firsts seconds differences₀ c₀ differences c = Filling seconds firsts differences c
 
-abbrev decreases-loop : tie.decreases-loop
+abbrev decreases-loop : tie.decreases-loop-c
 decreases-loop firsts seconds differences₀ c₀ differences c = most_carriers - c
 
-loop-holds : tie.Need-loop-init invariant-loop decreases-loop
+loop-holds : tie.Need-loop-c-init invariant-loop decreases-loop
 loop-holds c = filling-start c.args.seconds.now c.args.firsts.now c.args.differences.now c.requires
 
-mul-less : tie.Need-overflow-mul-less invariant-loop decreases-loop
+mul-less : tie.Need-offset_bounds-seconds-c invariant-loop decreases-loop
 mul-less c = search rules
 
-element-copy-out-less : tie.Need-element-copy-out-smaller invariant-loop decreases-loop
+element-copy-out-less : tie.Need-bounds-seconds-c invariant-loop decreases-loop
 element-copy-out-less c = search rules
 
-mul-less-2 : tie.Need-overflow-mul-less-2 invariant-loop decreases-loop
+mul-less-2 : tie.Need-offset_bounds-firsts-c invariant-loop decreases-loop
 mul-less-2 c = search rules
 
-element-copy-out-less-2 : tie.Need-element-copy-out-smaller-2 invariant-loop decreases-loop
+element-copy-out-less-2 : tie.Need-bounds-firsts-c invariant-loop decreases-loop
 element-copy-out-less-2 c = search rules
 
 less-requires : tie.Need-less-requires invariant-loop decreases-loop
 less-requires c κs = search rules
 
-mul-t15 : tie.Need-overflow-mul-t15 invariant-loop decreases-loop
+mul-t15 : tie.Need-offset_bounds-differences-c invariant-loop decreases-loop
 mul-t15 c = search rules
 
-slice-set-from-differences : tie.Need-slice-set-from-differences invariant-loop decreases-loop
+slice-set-from-differences : tie.Need-bounds-differences-c invariant-loop decreases-loop
 slice-set-from-differences c = search rules
 
-add-c : tie.Need-overflow-add-c invariant-loop decreases-loop
+add-c : tie.Need-overflow_add-c invariant-loop decreases-loop
 add-c c = search rules
 
-loop-less : tie.Need-loop-smaller invariant-loop decreases-loop
+loop-less : tie.Need-loop-c-smaller invariant-loop decreases-loop
 loop-less c = search rules
 
-loop-again : tie.Need-loop-preserved invariant-loop decreases-loop
+loop-again : tie.Need-loop-c-preserved invariant-loop decreases-loop
 loop-again c =
-    let l = c.before.before.before.before.loop in
-    let s = c.before.before.before.before.before in
-    filling-on s.args.seconds.now s.args.firsts.now l.differences l.c l.invariant c.before.before.before.loop-test.true _ (to_z-of_z w64 c.less.result (record { sfits = c.less.type-inv }) ∙ c.less.ensures)
+    let l = c.loop-c in
+    filling-on c.args.seconds.now c.args.firsts.now l.differences l.c l.invariant c.loop-c-test.true _ (to_z-of_z w64 c.less.result (record { sfits = c.less.type-inv }) ∙ c.less.ensures)
 
-same_length : tie.Need-same-length invariant-loop decreases-loop
+same_length : tie.Need-shape_of-differences invariant-loop decreases-loop
 same_length c = search rules
 
 returns : tie.Need-returns invariant-loop decreases-loop
 returns c =
-    let l = c.before.loop in
-    let s = c.before.before in
-    filling-ends s.args.seconds.now s.args.firsts.now l.differences l.c l.invariant c.loop-test.false
+    let l = c.loop-c in
+    filling-ends c.args.seconds.now c.args.firsts.now l.differences l.c l.invariant c.loop-c-test.false
 
 pub fill_spec : {M : Type 1} → statement M
 fill_spec =

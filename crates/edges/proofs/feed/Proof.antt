@@ -13,54 +13,54 @@ use Rattle.edges.proofs.Storing.{stored-length, came-piece}
 use Rattle.edges.proofs.feed.Statement.{statement}
 use Rattle.edges.proofs.feed.Tie as tie
 
-abbrev invariant-loop : tie.invariant-loop
+abbrev invariant-loop : tie.invariant-loop-i
 invariant-loop piece ends₀ now₀ i₀ ends now i =
     (i ≤ length piece) × ((length ends ≡ length ends₀)
     × ((t : Text) (before : List ℕ) → length t + length piece < last_line → Came t now₀ before ends₀ → Came (t ++ take i piece) now before ends))
 
-abbrev decreases-loop : tie.decreases-loop
+abbrev decreases-loop : tie.decreases-loop-i
 decreases-loop piece ends₀ now₀ i₀ ends now i = length piece - i
 
-loop-holds : tie.Need-loop-init invariant-loop decreases-loop
+loop-holds : tie.Need-loop-i-init invariant-loop decreases-loop
 loop-holds c = (search rules, (refl, λ t before small came. rw (append-nil t) came))
 
-shared-slice-read-step : tie.Need-shared-slice-read-step invariant-loop decreases-loop
+shared-slice-read-step : tie.Need-bounds-piece-i invariant-loop decreases-loop
 shared-slice-read-step c = search rules
 
-step-requires : tie.Need-step-requires invariant-loop decreases-loop
+step-requires : tie.Need-step-next-requires invariant-loop decreases-loop
 step-requires c κs = search rules
 
 keep-requires : tie.Need-keep-requires invariant-loop decreases-loop
 keep-requires c κs = search rules
 
-add-i : tie.Need-overflow-add-i invariant-loop decreases-loop
+add-i : tie.Need-overflow_add-i invariant-loop decreases-loop
 add-i c = search rules
 
-loop-less : tie.Need-loop-smaller invariant-loop decreases-loop
+loop-less : tie.Need-loop-i-smaller invariant-loop decreases-loop
 loop-less c = search rules
 
-loop-again : tie.Need-loop-preserved invariant-loop decreases-loop
+loop-again : tie.Need-loop-i-preserved invariant-loop decreases-loop
 loop-again c =
-    let loop = c.before.before.before.before.before.before.before.loop in
-    let start = c.before.before.before.before.before.before.before.before.before.before in (
+    let loop = c.loop-i in
+    (
       search rules,
       (
-        ap length c.before.before.keep.ensures ∙ stored-length _ _ _ ∙ loop.invariant.1.0,
-        came-piece start.args.piece.now loop.i (search rules) loop.now _ _ _ _ _ loop.invariant.1.1 c.before.before.before.before.step.ensures c.before.before.keep.ensures,
+        ap length c.keep.ensures ∙ stored-length _ _ _ ∙ loop.invariant.1.0,
+        came-piece c.args.piece.now loop.i (search rules) loop.now _ _ _ _ _ loop.invariant.1.1 c.step-next.ensures c.keep.ensures,
       ),
     )
 
-same_length : tie.Need-same-length invariant-loop decreases-loop
-same_length c = c.before.loop.invariant.1.0
+same_length : tie.Need-shape_of-ends invariant-loop decreases-loop
+same_length c = c.loop-i.invariant.1.0
 
 returns : tie.Need-returns invariant-loop decreases-loop
 returns c = record {
-  sized = c.before.loop.invariant.1.0;
-  feeds = λ t before small came. rw (take_all c.before.loop.i c.before.before.before.before.args.piece.now (search rules)) at (c.before.loop.invariant.1.1 t before small came);
+  sized = c.loop-i.invariant.1.0;
+  feeds = λ t before small came. rw (take_all c.loop-i.i c.args.piece.now (search rules)) at (c.loop-i.invariant.1.1 t before small came);
 }
 
-pub feed-spec : {M : Type 1} → statement M
-feed-spec =
+pub feed_spec : {M : Type 1} → statement M
+feed_spec =
     tie.close
     (tie.spec
     invariant-loop

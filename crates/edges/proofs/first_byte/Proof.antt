@@ -6,36 +6,34 @@ use Rattle.edges.proofs.Parts.{first-space, first-none, first_on, first-other, f
 use Rattle.edges.proofs.first_byte.Statement.{statement}
 use Rattle.edges.proofs.first_byte.Tie as tie
 
-returns : tie.Need-returns
-returns c = λ w. first-space w c.before.before.args.k c.before.before.args.n c.before.before.args.b c.before.if1.true c.if2.true
+returns : tie.Need-returns-then-k-ge1
+returns c = λ w. first-space w c.args.k c.args.n c.args.b c.if-b-eq32.true c.if-k-ge1.true
 
-returns-2 : tie.Need-returns-2
-returns-2 c = λ w. first-none w c.before.before.args.k c.before.before.args.n c.before.before.args.b c.before.if1.true c.if2.false
+returns-2 : tie.Need-returns-then-b-eq32
+returns-2 c = λ w. first-none w c.args.k c.args.n c.args.b c.if-b-eq32.true c.if-k-ge1.false
 
-is-digit-requires : tie.Need-is-digit-requires
+is-digit-requires : tie.Need-is_digit-requires
 is-digit-requires c κs = search rules
 
-add-t7 : tie.Need-overflow-add-t7
+add-t7 : tie.Need-overflow_add-result
 add-t7 c = search rules
 
 tallied-requires : tie.Need-tallied-requires
 tallied-requires c κs = search rules
 
-returns-3 : tie.Need-returns-3
+returns-3 : tie.Need-returns-then-is_digit
 returns-3 c =
-    let start = c.before.before.before.before.before in
-    λ w. first_on w start.args.k start.args.n start.args.b c.before.before.before.before.if1.false c.before.before.before.if3.true (sym c.before.before.is_digit.ensures ∙ c.before.if4.true) _ c.tallied.ensures
+    λ w. first_on w c.args.k c.args.n c.args.b c.if-b-eq32.false c.if-k-lt5.true (sym c.is_digit.ensures ∙ c.if-is_digit.true) _ c.tallied.ensures
 
-returns-4 : tie.Need-returns-4
+returns-4 : tie.Need-returns-then-k-lt5
 returns-4 c =
-    let start = c.before.before.before.before in
-    λ w. first-other w start.args.k start.args.n start.args.b c.before.before.before.if1.false (sym c.before.is_digit.ensures ∙ c.if4.false)
+    λ w. first-other w c.args.k c.args.n c.args.b c.if-b-eq32.false (sym c.is_digit.ensures ∙ c.if-is_digit.false)
 
-returns-5 : tie.Need-returns-5
-returns-5 c = λ w. first-long w c.before.before.args.k c.before.before.args.n c.before.before.args.b c.before.if1.false c.if3.false
+returns-5 : tie.Need-returns
+returns-5 c = λ w. first-long w c.args.k c.args.n c.args.b c.if-b-eq32.false c.if-k-lt5.false
 
-pub first-byte-spec : {M : Type 1} → statement M
-first-byte-spec =
+pub first_byte_spec : {M : Type 1} → statement M
+first_byte_spec =
     tie.close
     (tie.spec
     returns

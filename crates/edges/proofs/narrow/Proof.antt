@@ -6,16 +6,16 @@ use Rattle.survey.specs.Narrow.{narrow}
 use Rattle.edges.proofs.narrow.Statement.{statement}
 use Rattle.edges.proofs.narrow.Tie as tie
 
-cast-result : tie.Need-overflow-cast-result
+cast-result : tie.Need-overflow_cast-result
 cast-result c = search rules
 
-returns : tie.Need-returns
+returns : tie.Need-returns-then-x-lt65535
 unfolding narrow
 returns c = omega arith
 
-returns-2 : tie.Need-returns-2
+returns-2 : tie.Need-returns-else-x-lt65535
 unfolding narrow
 returns-2 c = omega arith
 
-pub narrow-spec : {M : Type 1} → statement M
-narrow-spec = tie.close (tie.spec cast-result returns returns-2)
+pub narrow_spec : {M : Type 1} → statement M
+narrow_spec = tie.close (tie.spec cast-result returns returns-2)

@@ -7,66 +7,66 @@ use Rattle.edge_lines.specs.Lines.{word_by}
 use Rattle.edges.proofs.on_byte.Statement.{statement}
 use Rattle.edges.proofs.on_byte.Tie as tie
 
-enum_told : tie.Need-enum-told
+enum_told : tie.Need-enum_told-1
 enum_told c = search rules
 
-returns : tie.Need-returns
+returns : tie.Need-returns-then-b-eq99
 unfolding line_byte
-returns c = rw (c.before.enum_told.given.1, eq-eqb _ _ c.if1.true)
+returns c = rw (c.in-Fresh.is, eq-eqb _ _ c.if-b-eq99.true)
 
-due-byte-requires : tie.Need-due-byte-requires
+due-byte-requires : tie.Need-due_byte-requires
 due-byte-requires c κs = search rules
 
-enum-told-2 : tie.Need-enum-told-2
+enum-told-2 : tie.Need-enum_told-in-Comment
 enum-told-2 c = search rules
 
-enum-told-3 : tie.Need-enum-told-3
+enum-told-3 : tie.Need-enum_told-in-Broken
 enum-told-3 c = search rules
 
-enum-known-part : tie.Need-enum-known-part
+enum-known-part : tie.Need-enum_known-part
 enum-known-part c = search rules
 
-due-byte-requires-2 : tie.Need-due-byte-requires-2
+due-byte-requires-2 : tie.Need-due_byte-requires-in-Word
 due-byte-requires-2 c κs = search rules
 
-enum-known-part-2 : tie.Need-enum-known-part-2
+enum-known-part-2 : tie.Need-enum_known-part-in-First-1
 enum-known-part-2 c = search rules
 
-first-byte-requires : tie.Need-first-byte-requires
+first-byte-requires : tie.Need-first_byte-requires
 first-byte-requires c κs = search rules
 
-enum-known-part-3 : tie.Need-enum-known-part-3
+enum-known-part-3 : tie.Need-enum_known-part-in-Second-1
 enum-known-part-3 c = search rules
 
-second-byte-requires : tie.Need-second-byte-requires
+second-byte-requires : tie.Need-second_byte-requires
 second-byte-requires c κs = search rules
 
-returns-2 : tie.Need-returns-2
+returns-2 : tie.Need-returns-else-b-eq99
 unfolding line_byte
-returns-2 c = rw (c.before.before.enum_told.given.1, ne_eqb _ _ c.before.if1.false) c.due-byte.ensures
+returns-2 c = rw (c.in-Fresh.is, ne_eqb _ _ c.if-b-eq99.false) c.due_byte.ensures
 
-returns-3 : tie.Need-returns-3
+returns-3 : tie.Need-returns-in-Comment
 unfolding line_byte
-returns-3 c = rw c.enum-told2.given.1
+returns-3 c = rw c.in-Comment.is
 
-returns-4 : tie.Need-returns-4
+returns-4 : tie.Need-returns-in-Broken
 unfolding line_byte
-returns-4 c = rw c.enum-told3.given.1
+returns-4 c = rw c.in-Broken.is
 
-returns-5 : tie.Need-returns-5
+returns-5 : tie.Need-returns-in-Word
 unfolding line_byte
-returns-5 c = rw c.before.before.part.given.1 c.due-byte2.ensures
+returns-5 c = rw c.in-Word.is c.due_byte-in-Word.ensures
 
-returns-6 : tie.Need-returns-6
+returns-6 : tie.Need-returns-in-First
 unfolding line_byte
-returns-6 c = rw c.before.before.part2.given.1 (c.first_byte.ensures (word_by c.before.before.before.before.args.due))
+returns-6 c = rw c.in-First.is (c.first_byte.ensures (word_by c.args.due))
 
-returns-7 : tie.Need-returns-7
+returns-7 : tie.Need-returns-in-Second
 unfolding line_byte
-returns-7 c = rw c.before.before.part3.given.1 (c.second-byte.ensures (word_by c.before.before.before.before.args.due))
+returns-7 c = rw c.in-Second.is (c.second_byte.ensures (word_by c.args.due))
 
-pub on-byte-spec : {M : Type 1} → statement M
-on-byte-spec =
+pub on_byte_spec : {M : Type 1} → statement M
+on_byte_spec =
     tie.close
     (tie.spec
     enum_told

@@ -4,14 +4,14 @@ use borrow.Author.Rules.{rules}
 use Rattle.edges.proofs.released.Statement.{statement}
 use Rattle.edges.proofs.released.Tie as tie
 
-on-byte-requires : tie.Need-on-byte-requires
+on-byte-requires : tie.Need-on_byte-requires
 on-byte-requires c κs = search rules
 
-returns : tie.Need-returns
-returns c = rw c.before.if1.true c.on-byte.ensures
+returns : tie.Need-returns-then-held
+returns c = rw c.if-held.true c.on_byte.ensures
 
-returns-2 : tie.Need-returns-2
-returns-2 c = rw c.if1.false
+returns-2 : tie.Need-returns-else-held
+returns-2 c = rw c.if-held.false
 
-pub released-spec : {M : Type 1} → statement M
-released-spec = tie.close (tie.spec on-byte-requires returns returns-2)
+pub released_spec : {M : Type 1} → statement M
+released_spec = tie.close (tie.spec on-byte-requires returns returns-2)

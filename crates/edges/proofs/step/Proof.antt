@@ -5,39 +5,36 @@ use Rattle.edges.proofs.Stepping.{steps-failed, steps-end, steps-cr, steps_on}
 use Rattle.edges.proofs.step.Statement.{statement}
 use Rattle.edges.proofs.step.Tie as tie
 
-returns : tie.Need-returns
-returns c = steps-failed c.before.args.s c.before.args.b c.if1.true
+returns : tie.Need-returns-then-s
+returns c = steps-failed c.args.s c.args.b c.if-s.true
 
 closed-requires : tie.Need-closed-requires
 closed-requires c κs = search rules
 
-returns-2 : tie.Need-returns-2
+returns-2 : tie.Need-returns-then-b-eq10
 returns-2 c =
-    let start = c.before.before.before in
-    steps-end start.args.s start.args.b c.before.before.if1.false c.before.if2.true _ c.closed.ensures
+    steps-end c.args.s c.args.b c.if-s.false c.if-b-eq10.true _ c.closed.ensures
 
-released-requires : tie.Need-released-requires
+released-requires : tie.Need-released-p-requires
 released-requires c κs = search rules
 
 marked-requires : tie.Need-marked-requires
 marked-requires c κs = search rules
 
-returns-3 : tie.Need-returns-3
+returns-3 : tie.Need-returns-then-b-eq13
 returns-3 c =
-    let start = c.before.before.before.before.before in
-    steps-cr start.args.s start.args.b c.before.before.before.before.if1.false c.before.before.before.if2.false _ c.before.before.released.ensures c.before.if3.true _ c.marked.ensures
+    steps-cr c.args.s c.args.b c.if-s.false c.if-b-eq10.false _ c.released-p.ensures c.if-b-eq13.true _ c.marked.ensures
 
-on-byte-requires : tie.Need-on-byte-requires
+on-byte-requires : tie.Need-on_byte-requires
 on-byte-requires c κs = search rules
 
 marked-requires-2 : tie.Need-marked-requires-2
 marked-requires-2 c κs = search rules
 
-returns-4 : tie.Need-returns-4
+returns-4 : tie.Need-returns
 returns-4 c =
-    let released = c.before.before.before.released in
-    let start = c.before.before.before.before.before.before in
-    steps_on start.args.s start.args.b c.before.before.before.before.before.if1.false c.before.before.before.before.if2.false released.result released.ensures c.before.before.if3.false _ c.before.on-byte.ensures _ c.marked2.ensures
+    let released = c.released-p in
+    steps_on c.args.s c.args.b c.if-s.false c.if-b-eq10.false released.result released.ensures c.if-b-eq13.false _ c.on_byte.ensures _ c.marked-2.ensures
 
 pub step_spec : {M : Type 1} → statement M
 step_spec =

@@ -5,34 +5,31 @@ use Rattle.edges.proofs.Parts.{word-past, word-off, word-last, word_on}
 use Rattle.edges.proofs.word_byte.Statement.{statement}
 use Rattle.edges.proofs.word_byte.Tie as tie
 
-shared-slice-read-if2 : tie.Need-shared-slice-read-if2
+shared-slice-read-if2 : tie.Need-bounds-word-at
 shared-slice-read-if2 c = search rules
 
-add-if3 : tie.Need-overflow-add-if3
+add-if3 : tie.Need-overflow_add-at
 add-if3 c = search rules
 
-returns : tie.Need-returns
+returns : tie.Need-returns-then-at-word-2
 returns c =
-    let start = c.before.before.before.before in
-    word-last start.args.word.now start.args.past start.args.b c.before.before.before.if1.true c.before.if2.true c.if3.true
+    word-last c.args.word.now c.args.past c.args.b c.if-at-word.true c.if-b-word.true c.if-at-word-2.true
 
-add-t13 : tie.Need-overflow-add-t13
+add-t13 : tie.Need-overflow_add-result
 add-t13 c = search rules
 
-returns-2 : tie.Need-returns-2
+returns-2 : tie.Need-returns-then-b-word
 returns-2 c =
-    let start = c.before.before.before.before in
-    word_on start.args.word.now start.args.past start.args.b c.before.before.before.if1.true c.before.if2.true c.if3.false
+    word_on c.args.word.now c.args.past c.args.b c.if-at-word.true c.if-b-word.true c.if-at-word-2.false
 
-returns-3 : tie.Need-returns-3
+returns-3 : tie.Need-returns-then-at-word
 returns-3 c =
-    let start = c.before.before.before in
-    word-off start.args.word.now start.args.past start.args.b c.before.before.if1.true c.if2.false
+    word-off c.args.word.now c.args.past c.args.b c.if-at-word.true c.if-b-word.false
 
-returns-4 : tie.Need-returns-4
-returns-4 c = word-past c.before.args.word.now c.before.args.past c.before.args.b c.if1.false
+returns-4 : tie.Need-returns
+returns-4 c = word-past c.args.word.now c.args.past c.args.b c.if-at-word.false
 
-pub word-byte-spec : {M : Type 1} → statement M
-word-byte-spec =
+pub word_byte_spec : {M : Type 1} → statement M
+word_byte_spec =
     tie.close
     (tie.spec shared-slice-read-if2 add-if3 returns add-t13 returns-2 returns-3 returns-4)

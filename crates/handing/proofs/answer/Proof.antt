@@ -4,11 +4,11 @@ use Rattle.handing.proofs.Fitting.{handed-fits, handed-short}
 use Rattle.handing.proofs.answer.Statement.{statement}
 use Rattle.handing.proofs.answer.Tie as tie
 
-returns : tie.Need-returns
-returns c = handed-fits _ _ c.if1.true
+returns : tie.Need-returns-then-needed-has
+returns c = handed-fits _ _ c.if-needed-has.true
 
-returns-2 : tie.Need-returns-2
-returns-2 c = handed-short _ _ c.if1.false
+returns-2 : tie.Need-returns
+returns-2 c = handed-short _ _ c.if-needed-has.false
 
-pub answer-spec : {M : Type 1} → statement M
-answer-spec = tie.close (tie.spec returns returns-2)
+pub answer_spec : {M : Type 1} → statement M
+answer_spec = tie.close (tie.spec returns returns-2)

@@ -7,23 +7,23 @@ use borrow.Author.Rules.{rules}
 use Rattle.line_entries.proofs.action.Statement.{statement}
 use Rattle.line_entries.proofs.action.Tie as tie
 
-cut-requires : tie.Need-cut-requires
+cut-requires : tie.Need-cut-end-requires
 cut-requires c κs = search rules
 
-add-if1 : tie.Need-overflow-add-if1
+add-if1 : tie.Need-overflow_add-end
 add-if1 c = search rules
 
-slice-aggregate-words : tie.Need-slice-aggregate-words
-slice-aggregate-words c = sym (length-take-le _ _ c.before.before.cut.ensures.within)
+slice-aggregate-words : tie.Need-slice_bounds-words-end
+slice-aggregate-words c = sym (length-take-le _ _ c.cut-end.ensures.within)
 
 words-requires : tie.Need-words-requires
 words-requires c κs = search rules
 
-returns : tie.Need-returns
-returns c = c.words.ensures ∙ action-yes _ _ c.before.before.before.cut.ensures c.before.before.if1.true
+returns : tie.Need-returns-then-end-line
+returns c = c.words.ensures ∙ action-yes _ _ c.cut-end.ensures c.if-end-line.true
 
-returns-2 : tie.Need-returns-2
-returns-2 c = action-no _ _ c.before.cut.ensures c.if1.false
+returns-2 : tie.Need-returns
+returns-2 c = action-no _ _ c.cut-end.ensures c.if-end-line.false
 
 pub action_spec : {M : Type 1} → statement M
 action_spec =

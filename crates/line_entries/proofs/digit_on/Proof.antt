@@ -5,30 +5,30 @@ use borrow.Author.Rules.{rules}
 use Rattle.line_entries.proofs.digit_on.Statement.{statement}
 use Rattle.line_entries.proofs.digit_on.Tie as tie
 
-returns : tie.Need-returns
-returns c = digit-no _ _ _ (is-low _ c.if1.true)
+returns : tie.Need-returns-then-b-lt48
+returns c = digit-no _ _ _ (is-low _ c.if-b-lt48.true)
 
-returns-2 : tie.Need-returns-2
-returns-2 c = digit-no _ _ _ (is-high _ c.if2.true)
+returns-2 : tie.Need-returns-then-b-gt57
+returns-2 c = digit-no _ _ _ (is-high _ c.if-b-gt57.true)
 
-mul_next : tie.Need-overflow-mul-next
+mul_next : tie.Need-overflow_mul-next
 mul_next c = search rules
 
-cast-next : tie.Need-overflow-cast-next
+cast-next : tie.Need-overflow_cast-next-2
 cast-next c = search rules
 
-add-next : tie.Need-overflow-add-next
+add-next : tie.Need-overflow_add-next
 add-next c = search rules
 
-cast-t10 : tie.Need-overflow-cast-t10
+cast-t10 : tie.Need-overflow_cast-result
 cast-t10 c = search rules
 
-returns-3 : tie.Need-returns-3
-returns-3 c = digit-yes _ _ _ (is_digit _ c.before.before.if1.false c.before.if2.false) c.if3.true
+returns-3 : tie.Need-returns-then-next-most
+returns-3 c = digit-yes _ _ _ (is_digit _ c.if-b-lt48.false c.if-b-gt57.false) c.if-next-most.true
 
-returns-4 : tie.Need-returns-4
-returns-4 c = digit-over _ _ _ c.if3.false
+returns-4 : tie.Need-returns
+returns-4 c = digit-over _ _ _ c.if-next-most.false
 
-pub digit-on-spec : {M : Type 1} → statement M
-digit-on-spec =
+pub digit_on_spec : {M : Type 1} → statement M
+digit_on_spec =
     tie.close (tie.spec returns returns-2 mul_next cast-next add-next cast-t10 returns-3 returns-4)

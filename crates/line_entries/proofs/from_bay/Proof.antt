@@ -12,55 +12,54 @@ use borrow.Author.Rules.{rules}
 use Rattle.line_entries.proofs.from_bay.Statement.{statement}
 use Rattle.line_entries.proofs.from_bay.Tie as tie
 
-cut-requires : tie.Need-cut-requires
+cut-requires : tie.Need-cut-end-requires
 cut-requires c κs = search rules
 
-slice-aggregate-number-after : tie.Need-slice-aggregate-number-after
-slice-aggregate-number-after c = sym (length-take-le _ _ c.before.before.cut.ensures.within)
+slice-aggregate-number-after : tie.Need-slice_bounds-number_after-end
+slice-aggregate-number-after c = sym (length-take-le _ _ c.cut-end.ensures.within)
 
-number-after-requires : tie.Need-number-after-requires
+number-after-requires : tie.Need-number_after-requires
 number-after-requires c κs = search rules
 
-enum-known-from : tie.Need-enum-known-from
+enum-known-from : tie.Need-enum_known-from
 enum-known-from c = search rules
 
-enum_told : tie.Need-enum-told
+enum_told : tie.Need-enum_told-1
 enum_told c = search rules
 
-returns : tie.Need-returns
-returns c = from-no _ _ c.before.before.before.before.before.cut.ensures _ c.before.before.before.before.if1.true (sym c.enum_told.given.1 ∙ c.before.before.number-after.ensures)
+returns : tie.Need-returns-in_default
+returns c = from-no _ _ c.cut-end.ensures _ c.if-end-text.true (sym c.in_default.is ∙ c.number_after.ensures)
 
-add-next : tie.Need-overflow-add-next
+add-next : tie.Need-overflow_add-next
 add-next c = search rules
 
-cast-to-bay : tie.Need-overflow-cast-to-bay
+cast-to-bay : tie.Need-overflow_cast-from
 cast-to-bay c =
-    let start = c.before.before.before.before.before.before.before.before in
-    let h : c.before.from.given.0.0 ≤ 65535 = capped-low 65535 _ (number_after 98 (take c.before.before.before.before.before.before.cut.result start.args.text.now)) (sym c.before.from.given.1 ∙ c.before.before.before.number-after.ensures) in omega arith
+    let h : c.in-Spells.from ≤ 65535 = capped-low 65535 _ (number_after 98 (take c.cut-end.result c.args.text.now)) (sym c.in-Spells.is ∙ c.number_after.ensures) in omega arith
 
-sub-to-bay : tie.Need-overflow-sub-to-bay
+sub-to-bay : tie.Need-slice_bounds-to_bay-count
 sub-to-bay c = search rules
 
-part-to-bay-start : tie.Need-slice-bounds-to-bay-start
+part-to-bay-start : tie.Need-slice_bounds-to_bay-start
 part-to-bay-start c = search rules
 
-part-to-bay-end : tie.Need-slice-bounds-to-bay-end
+part-to-bay-end : tie.Need-slice_bounds-to_bay-end
 part-to-bay-end c = search rules
 
-to-bay-requires : tie.Need-to-bay-requires
+to-bay-requires : tie.Need-to_bay-requires
 to-bay-requires c κs = search rules
 
-returns-2 : tie.Need-returns-2
+returns-2 : tie.Need-returns-then-end-text
 returns-2 c =
-    let from = c.before.before.before.from in
-    let cut = c.before.before.before.before.before.before.before.before.cut in
-    c.to-bay.ensures ∙ from-yes _ _ cut.ensures _ c.before.before.before.before.before.before.before.if1.true from.given.0.0 (sym from.given.1 ∙ c.before.before.before.before.before.number-after.ensures)
+   
+    let cut = c.cut-end in
+    c.to_bay.ensures ∙ from-yes _ _ cut.ensures _ c.if-end-text.true c.in-Spells.from (sym c.in-Spells.is ∙ c.number_after.ensures)
 
-returns-3 : tie.Need-returns-3
-returns-3 c = from-short _ _ c.before.cut.ensures _ c.if1.false
+returns-3 : tie.Need-returns
+returns-3 c = from-short _ _ c.cut-end.ensures _ c.if-end-text.false
 
-pub from-bay-spec : {M : Type 1} → statement M
-from-bay-spec =
+pub from_bay_spec : {M : Type 1} → statement M
+from_bay_spec =
     tie.close
     (tie.spec
     cut-requires

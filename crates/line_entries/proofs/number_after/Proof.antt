@@ -6,34 +6,33 @@ use borrow.Author.Rules.{rules}
 use Rattle.line_entries.proofs.number_after.Statement.{statement}
 use Rattle.line_entries.proofs.number_after.Tie as tie
 
-returns : tie.Need-returns
-returns c = after_none _ _ _ c.if1.true
+returns : tie.Need-returns-then-word-eq0
+returns c = after_none _ _ _ c.if-word-eq0.true
 
-shared-slice-read-if2 : tie.Need-shared-slice-read-if2
+shared-slice-read-if2 : tie.Need-bounds-word-0
 shared-slice-read-if2 c = search rules
 
-sub_number : tie.Need-overflow-sub-number
+sub_number : tie.Need-slice_bounds-number-count
 sub_number c = search rules
 
-part-number-start : tie.Need-slice-bounds-number-start
+part-number-start : tie.Need-slice_bounds-number-start
 part-number-start c = search rules
 
-part-number-end : tie.Need-slice-bounds-number-end
+part-number-end : tie.Need-slice_bounds-number-end
 part-number-end c = search rules
 
 number-requires : tie.Need-number-requires
 number-requires c κs = search rules
 
-returns-2 : tie.Need-returns-2
+returns-2 : tie.Need-returns-then-word-letter
 returns-2 c =
-    let start = c.before.before.before.before.before.before in
-    c.number.ensures ∙ after-letter start.args.most start.args.letter start.args.word.now c.before.before.before.before.if1.false c.before.before.if2.true
+    c.number.ensures ∙ after-letter c.args.most c.args.letter c.args.word.now c.if-word-eq0.false c.if-word-letter.true
 
-returns-3 : tie.Need-returns-3
-returns-3 c = after-other _ _ _ c.if2.false
+returns-3 : tie.Need-returns
+returns-3 c = after-other _ _ _ c.if-word-letter.false
 
-pub number-after-spec : {M : Type 1} → statement M
-number-after-spec =
+pub number_after_spec : {M : Type 1} → statement M
+number_after_spec =
     tie.close
     (tie.spec
     returns

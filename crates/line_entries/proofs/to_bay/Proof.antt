@@ -14,32 +14,32 @@ use Rattle.line_entries.proofs.to_bay.Tie as tie
 cut-requires : tie.Need-cut-requires
 cut-requires c κs = search rules
 
-returns : tie.Need-returns
-returns c = to-more _ _ c.before.cut.ensures _ _ c.if1.true
+returns : tie.Need-returns-then-cut-text
+returns c = to-more _ _ c.cut.ensures _ _ c.if-cut-text.true
 
-number-after-requires : tie.Need-number-after-requires
+number-after-requires : tie.Need-number_after-requires
 number-after-requires c κs = search rules
 
-enum-known-to : tie.Need-enum-known-to
+enum-known-to : tie.Need-enum_known-to
 enum-known-to c = search rules
 
-enum_told : tie.Need-enum-told
+enum_told : tie.Need-enum_told-1
 enum_told c = search rules
 
-returns-2 : tie.Need-returns-2
-returns-2 c = to-no _ _ c.before.before.before.before.cut.ensures _ _ c.before.before.before.if1.false (sym c.enum_told.given.1 ∙ c.before.before.number-after.ensures)
+returns-2 : tie.Need-returns-in_default
+returns-2 c = to-no _ _ c.cut.ensures _ _ c.if-cut-text.false (sym c.in_default.is ∙ c.number_after.ensures)
 
-cast-t12 : tie.Need-overflow-cast-t12
-cast-t12 c = let h : c.before.to.given.0.0 ≤ 65535 = capped-low 65535 _ (number_after 98 c.before.before.before.before.before.before.before.args.text.now) (sym c.before.to.given.1 ∙ c.before.before.before.number-after.ensures) in omega arith
+cast-t12 : tie.Need-overflow_cast-to
+cast-t12 c = let h : c.in-Spells.to ≤ 65535 = capped-low 65535 _ (number_after 98 c.args.text.now) (sym c.in-Spells.is ∙ c.number_after.ensures) in omega arith
 
 pack-requires : tie.Need-pack-requires
 pack-requires c κs = search rules
 
-returns-3 : tie.Need-returns-3
-returns-3 c = ap Number c.pack.ensures ∙ to-yes _ _ c.before.before.before.before.before.before.cut.ensures _ _ c.before.before.before.before.before.if1.false c.before.before.to.given.0.0 (sym c.before.before.to.given.1 ∙ c.before.before.before.before.number-after.ensures)
+returns-3 : tie.Need-returns
+returns-3 c = ap Number c.pack.ensures ∙ to-yes _ _ c.cut.ensures _ _ c.if-cut-text.false c.in-Spells.to (sym c.in-Spells.is ∙ c.number_after.ensures)
 
-pub to-bay-spec : {M : Type 1} → statement M
-to-bay-spec =
+pub to_bay_spec : {M : Type 1} → statement M
+to_bay_spec =
     tie.close
     (tie.spec
     cut-requires

@@ -9,13 +9,13 @@ use Rattle.link_calls.proofs.begin.Reads as reads
 use Rattle.link_calls.proofs.begin.Lts as lts
 use Rattle.link.proofs.keep.Reads as keep-reads
 
-slice-aggregate-read : tie.Need-slice-aggregate-read
+slice-aggregate-read : tie.Need-slice_bounds-read-end
 slice-aggregate-read c = search rules
 
-read-requires : tie.Need-read-requires
+read-requires : tie.Need-read-found-requires
 read-requires c κs = search rules
 
-enum-known-found : tie.Need-enum-known-found
+enum-known-found : tie.Need-enum_known-found
 enum-known-found c = search rules
 
 start-requires : tie.Need-start-requires
@@ -24,19 +24,18 @@ start-requires c κs = search rules
 keep-requires : tie.Need-keep-requires
 keep-requires c κs = search rules
 
-enum-known-found-2 : tie.Need-enum-known-found-2
+enum-known-found-2 : tie.Need-enum_known-found-in-Bad-1
 enum-known-found-2 c = search rules
 
-returns : tie.Need-returns
+returns : tie.Need-returns-in-Grid
 returns c =
-    let start = c.before.before.before.before.before.before.before.before.before in
-    begin-good c.before.before.before.before.before.before.read.ensures start.args.link _ c.before.before.before.found.given.1 refl _ c.before.start.ensures _ c.keep.ensures
+    begin-good c.read-found.ensures c.args.link _ c.in-Grid.is refl _ c.start.ensures _ c.keep.ensures
 
-returns-2 : tie.Need-returns-2
-returns-2 c = begin-bad c.before.before.before.before.read.ensures c.before.before.before.before.before.before.before.args.link _ c.before.found2.given.1
+returns-2 : tie.Need-returns-in-Bad
+returns-2 c = begin-bad c.read-found.ensures c.args.link _ c.in-Bad.is
 
-pub begin-spec : {M : Type 1} → statement M
-begin-spec =
+pub begin_spec : {M : Type 1} → statement M
+begin_spec =
     tie.close
     (tie.spec
     slice-aggregate-read

@@ -11,11 +11,11 @@ use Rattle.link_calls.proofs.over.Reads as over_reads
 over-requires : tie.Need-over-requires
 over-requires c κs = search rules
 
-returns : tie.Need-returns
-returns c = end-open c.before.before.before.args.link c.before.if1.true _ c.over.ensures
+returns : tie.Need-returns-then-link-eq1
+returns c = end-open c.args.link c.if-link-eq1.true _ c.over.ensures
 
-returns-2 : tie.Need-returns-2
-returns-2 c = end-ended c.before.before.args.link c.if1.false
+returns-2 : tie.Need-returns
+returns-2 c = end-ended c.args.link c.if-link-eq1.false
 
-pub end-spec : {M : Type 1} → statement M
-end-spec = tie.close (tie.spec over-requires returns returns-2)
+pub end_spec : {M : Type 1} → statement M
+end_spec = tie.close (tie.spec over-requires returns returns-2)

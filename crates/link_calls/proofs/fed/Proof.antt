@@ -13,35 +13,33 @@ use Rattle.link.proofs.reading.Reads as reading-reads
 reading-requires : tie.Need-reading-requires
 reading-requires c κs = search rules
 
-slice-aggregate-feed : tie.Need-slice-aggregate-feed
+slice-aggregate-feed : tie.Need-slice_bounds-feed-end
 slice-aggregate-feed c = search rules
 
-slice-aggregate-feed-2 : tie.Need-slice-aggregate-feed-2
+slice-aggregate-feed-2 : tie.Need-slice_bounds-feed-end-2
 slice-aggregate-feed-2 c = search rules
 
-slice-aggregate-feed-3 : tie.Need-slice-aggregate-feed-3
+slice-aggregate-feed-3 : tie.Need-slice_bounds-feed-end-3
 slice-aggregate-feed-3 c = search rules
 
-feed-requires : tie.Need-feed-requires
+feed-requires : tie.Need-feed-r-requires
 feed-requires c κs = search rules
 
-keep-requires : tie.Need-keep-requires
+keep-requires : tie.Need-keep-k-requires
 keep-requires c κs = search rules
 
-returns : tie.Need-returns
+returns : tie.Need-returns-then-r
 returns c =
-    let reading = c.before.before.before.before.before.before.before.before.reading in
-    let start = c.before.before.before.before.before.before.before.before.before.before.before.before.before in
-    fed-broken start.args.link start.args.bytes.now (sym (slice-aggregate-feed-2 c.before.before.before.before.before.before)) (sym (slice-aggregate-feed-3 c.before.before.before.before.before)) _ _ reading.ensures c.before.before.before.before.feed.ensures _ c.before.keep.ensures c.if1.true
+    let reading = c.reading in
+    fed-broken c.args.link c.args.bytes.now (sym (slice-aggregate-feed-2 c.before.before.before.before.before.before)) (sym (slice-aggregate-feed-3 c.before.before.before.before.before)) _ _ reading.ensures c.feed-r.ensures _ c.keep-k.ensures c.if-r.true
 
-returns-2 : tie.Need-returns-2
+returns-2 : tie.Need-returns
 returns-2 c =
-    let reading = c.before.before.before.before.before.before.before.before.reading in
-    let start = c.before.before.before.before.before.before.before.before.before.before.before.before.before in
-    fed-on start.args.link start.args.bytes.now (sym (slice-aggregate-feed-2 c.before.before.before.before.before.before)) (sym (slice-aggregate-feed-3 c.before.before.before.before.before)) _ _ reading.ensures c.before.before.before.before.feed.ensures _ c.before.keep.ensures c.if1.false
+    let reading = c.reading in
+    fed-on c.args.link c.args.bytes.now (sym (slice-aggregate-feed-2 c.before.before.before.before.before.before)) (sym (slice-aggregate-feed-3 c.before.before.before.before.before)) _ _ reading.ensures c.feed-r.ensures _ c.keep-k.ensures c.if-r.false
 
-pub fed-spec : {M : Type 1} → statement M
-fed-spec =
+pub fed_spec : {M : Type 1} → statement M
+fed_spec =
     tie.close
     (tie.spec
     reading-requires

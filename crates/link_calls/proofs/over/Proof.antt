@@ -12,44 +12,42 @@ use Rattle.link.proofs.reading.Reads as reading-reads
 reading-requires : tie.Need-reading-requires
 reading-requires c κs = search rules
 
-slice-aggregate-finish : tie.Need-slice-aggregate-finish
+slice-aggregate-finish : tie.Need-slice_bounds-finish-end
 slice-aggregate-finish c = search rules
 
-slice-aggregate-finish-2 : tie.Need-slice-aggregate-finish-2
+slice-aggregate-finish-2 : tie.Need-slice_bounds-finish-end-2
 slice-aggregate-finish-2 c = search rules
 
-slice-aggregate-finish-3 : tie.Need-slice-aggregate-finish-3
+slice-aggregate-finish-3 : tie.Need-slice_bounds-finish-end-3
 slice-aggregate-finish-3 c = search rules
 
-finish-requires : tie.Need-finish-requires
+finish-requires : tie.Need-finish-r-requires
 finish-requires c κs = search rules
 
-answer-requires : tie.Need-answer-requires
+answer-requires : tie.Need-answer-found-requires
 answer-requires c κs = search rules
 
-enum-known-found : tie.Need-enum-known-found
+enum-known-found : tie.Need-enum_known-found
 enum-known-found c = search rules
 
-cast-t19 : tie.Need-overflow-cast-t19
+cast-t19 : tie.Need-overflow_cast-result
 cast-t19 c = search rules
 
-enum-known-found-2 : tie.Need-enum-known-found-2
+enum-known-found-2 : tie.Need-enum_known-found-in-Bad-1
 enum-known-found-2 c = search rules
 
-returns : tie.Need-returns
+returns : tie.Need-returns-in-Carriers
 returns c =
-    let reading = c.before.before.before.before.before.before.before.before.before.before.reading in
-    let start = c.before.before.before.before.before.before.before.before.before.before.before.before.before.before in
-    over-good start.args.link (sym (slice-aggregate-finish-2 c.before.before.before.before.before.before.before.before)) (sym (slice-aggregate-finish-3 c.before.before.before.before.before.before.before)) _ _ reading.ensures c.before.before.before.before.before.before.finish.ensures _ c.before.before.before.answer.ensures _ c.before.found.given.1
+    let reading = c.reading in
+    over-good c.args.link (sym (slice-aggregate-finish-2 c.before.before.before.before.before.before.before.before)) (sym (slice-aggregate-finish-3 c.before.before.before.before.before.before.before)) _ _ reading.ensures c.finish-r.ensures _ c.answer-found.ensures _ c.in-Carriers.is
 
-returns-2 : tie.Need-returns-2
+returns-2 : tie.Need-returns-in-Bad
 returns-2 c =
-    let reading = c.before.before.before.before.before.before.before.before.before.before.reading in
-    let start = c.before.before.before.before.before.before.before.before.before.before.before.before.before.before in
-    over-bad start.args.link (sym (slice-aggregate-finish-2 c.before.before.before.before.before.before.before.before)) (sym (slice-aggregate-finish-3 c.before.before.before.before.before.before.before)) _ _ reading.ensures c.before.before.before.before.before.before.finish.ensures _ c.before.before.before.answer.ensures _ c.before.found2.given.1
+    let reading = c.reading in
+    over-bad c.args.link (sym (slice-aggregate-finish-2 c.before.before.before.before.before.before.before.before)) (sym (slice-aggregate-finish-3 c.before.before.before.before.before.before.before)) _ _ reading.ensures c.finish-r.ensures _ c.answer-found.ensures _ c.in-Bad.is
 
-pub over-spec : {M : Type 1} → statement M
-over-spec =
+pub over_spec : {M : Type 1} → statement M
+over_spec =
     tie.close
     (tie.spec
     reading-requires

@@ -11,20 +11,17 @@ use Rattle.link_calls.proofs.fed.Reads as fed-reads
 fed-requires : tie.Need-fed-requires
 fed-requires c κs = search rules
 
-returns : tie.Need-returns
+returns : tie.Need-returns-then-bytes-le-PIECE
 returns c =
-    let start = c.before.before.before.before.before in
-    piece-more start.args.link start.args.bytes.now c.before.before.if1.true c.before.if2.true _ c.fed.ensures
+    piece-more c.args.link c.args.bytes.now c.if-link-eq1.true c.if-bytes-le-PIECE.true _ c.fed.ensures
 
-returns-2 : tie.Need-returns-2
+returns-2 : tie.Need-returns-then-link-eq1
 returns-2 c =
-    let start = c.before.before.before.before in
-    piece-long start.args.link start.args.bytes.now c.before.if1.true c.if2.false
+    piece-long c.args.link c.args.bytes.now c.if-link-eq1.true c.if-bytes-le-PIECE.false
 
-returns-3 : tie.Need-returns-3
+returns-3 : tie.Need-returns
 returns-3 c =
-    let start = c.before.before.before in
-    piece-ended start.args.link start.args.bytes.now c.if1.false
+    piece-ended c.args.link c.args.bytes.now c.if-link-eq1.false
 
-pub piece-spec : {M : Type 1} → statement M
-piece-spec = tie.close (tie.spec fed-requires returns returns-2 returns-3)
+pub piece_spec : {M : Type 1} → statement M
+piece_spec = tie.close (tie.spec fed-requires returns returns-2 returns-3)

@@ -6,35 +6,35 @@ use borrow.Author.Rules.{rules}
 use Rattle.log_numbers.proofs.told_agreement.Statement.{statement}
 use Rattle.log_numbers.proofs.told_agreement.Tie as tie
 
-enum_told : tie.Need-enum-told
+enum_told : tie.Need-enum_told-1
 enum_told c = search rules
 
 accepted-requires : tie.Need-accepted-requires
 accepted-requires c κs = search rules
 
-enum-told-2 : tie.Need-enum-told-2
+enum-told-2 : tie.Need-enum_told-in-Differs
 enum-told-2 c = search rules
 
-accepted-requires-2 : tie.Need-accepted-requires-2
+accepted-requires-2 : tie.Need-accepted-requires-in-Differs
 accepted-requires-2 c κs = search rules
 
-enum-known-answer : tie.Need-enum-known-answer
+enum-known-answer : tie.Need-enum_known-answer
 enum-known-answer c = search rules
 
 refused-requires : tie.Need-refused-requires
 refused-requires c κs = search rules
 
-returns : tie.Need-returns
+returns : tie.Need-returns-in-Agrees
 returns c = search rules
 
-returns-2 : tie.Need-returns-2
+returns-2 : tie.Need-returns-in-Differs
 returns-2 c = search rules
 
-returns-3 : tie.Need-returns-3
-returns-3 c = told-as (λ x. agreement_number (agreement_of x)) (λ x. agreement_value (agreement_of x)) c.before.before.before.answer.given.1 c.refused.ensures
+returns-3 : tie.Need-returns-in-Refused
+returns-3 c = told-as (λ x. agreement_number (agreement_of x)) (λ x. agreement_value (agreement_of x)) c.in-Refused.is c.refused.ensures
 
-pub told-agreement-spec : {M : Type 1} → statement M
-told-agreement-spec =
+pub told_agreement_spec : {M : Type 1} → statement M
+told_agreement_spec =
     tie.close
     (tie.spec
     enum_told

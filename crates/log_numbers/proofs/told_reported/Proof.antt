@@ -6,32 +6,32 @@ use borrow.Author.Rules.{rules}
 use Rattle.log_numbers.proofs.told_reported.Statement.{statement}
 use Rattle.log_numbers.proofs.told_reported.Tie as tie
 
-enum_told : tie.Need-enum-told
+enum_told : tie.Need-enum_told-1
 enum_told c = search rules
 
 accepted-requires : tie.Need-accepted-requires
 accepted-requires c κs = search rules
 
-enum-told-2 : tie.Need-enum-told-2
+enum-told-2 : tie.Need-enum_told-in-Already
 enum-told-2 c = search rules
 
-enum-known-answer : tie.Need-enum-known-answer
+enum-known-answer : tie.Need-enum_known-answer
 enum-known-answer c = search rules
 
 refused-requires : tie.Need-refused-requires
 refused-requires c κs = search rules
 
-returns : tie.Need-returns
+returns : tie.Need-returns-in-Accepted
 returns c = search rules
 
-returns-2 : tie.Need-returns-2
+returns-2 : tie.Need-returns-in-Already
 returns-2 c = search rules
 
-returns-3 : tie.Need-returns-3
-returns-3 c = told-as (λ x. report_number (report_of x)) (λ x. report_value (report_of x)) c.before.before.before.answer.given.1 c.refused.ensures
+returns-3 : tie.Need-returns-in-Refused
+returns-3 c = told-as (λ x. report_number (report_of x)) (λ x. report_value (report_of x)) c.in-Refused.is c.refused.ensures
 
-pub told-reported-spec : {M : Type 1} → statement M
-told-reported-spec =
+pub told_reported_spec : {M : Type 1} → statement M
+told_reported_spec =
     tie.close
     (tie.spec
     enum_told
