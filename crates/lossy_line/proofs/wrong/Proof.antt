@@ -4,41 +4,41 @@ use Rattle.std.proofs.Common.{◌-◌, length, rules}
 use Rattle.lossy_line.proofs.wrong.Statement.{statement}
 use Rattle.lossy_line.proofs.wrong.Tie as tie
 
-abbrev invariant-loop : tie.invariant-loop
+abbrev invariant-loop : tie.invariant-loop-c
 invariant-loop plan bills n₀ c₀ n c = Unit {0}
 
-abbrev decreases-loop : tie.decreases-loop
+abbrev decreases-loop : tie.decreases-loop-c
 decreases-loop plan bills n₀ c₀ n c = length bills - c
 
-loop-holds : tie.Need-loop-init invariant-loop decreases-loop
+loop-holds : tie.Need-loop-c-init invariant-loop decreases-loop
 loop-holds c = tt
 
-mul-if1 : tie.Need-overflow-mul-if1 invariant-loop decreases-loop
+mul-if1 : tie.Need-offset_bounds-bills-c invariant-loop decreases-loop
 mul-if1 c = search rules
 
-shared-slice-read-if1 : tie.Need-shared-slice-read-if1 invariant-loop decreases-loop
+shared-slice-read-if1 : tie.Need-bounds-bills-c invariant-loop decreases-loop
 shared-slice-read-if1 c = search rules
 
 due-requires : tie.Need-due-requires invariant-loop decreases-loop
 due-requires c κs = search rules
 
-more-requires : tie.Need-more-requires invariant-loop decreases-loop
+more-requires : tie.Need-more-n-requires invariant-loop decreases-loop
 more-requires c κs = search rules
 
-add-c : tie.Need-overflow-add-c invariant-loop decreases-loop
+add-c : tie.Need-overflow_add-c invariant-loop decreases-loop
 add-c c = search rules
 
-loop-less : tie.Need-loop-smaller invariant-loop decreases-loop
+loop-less : tie.Need-loop-c-smaller invariant-loop decreases-loop
 loop-less c = search rules
 
-loop-again : tie.Need-loop-preserved invariant-loop decreases-loop
+loop-again : tie.Need-loop-c-preserved invariant-loop decreases-loop
 loop-again c = tt
 
 returns : tie.Need-returns invariant-loop decreases-loop
 returns c = search rules
 
-pub wrong-spec : {M : Type 1} → statement M
-wrong-spec =
+pub wrong_spec : {M : Type 1} → statement M
+wrong_spec =
     tie.close
     (tie.spec
     invariant-loop

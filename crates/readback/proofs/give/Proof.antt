@@ -8,14 +8,14 @@ use Rattle.readback.proofs.give.Tie as tie
 fold-requires : tie.Need-fold-requires
 fold-requires c κs = search rules
 
-same_length : tie.Need-same-length
+same_length : tie.Need-shape_of-out-then-count-out
 same_length c = search rules
 
-returns : tie.Need-returns
-returns c = gives _ _ _ _ c.before.before.before.before.if1.true c.before.before.fold.ensures
+returns : tie.Need-returns-then-count-out
+returns c = gives _ _ _ _ c.if-count-out.true c.fold.ensures
 
-returns-2 : tie.Need-returns-2
-returns-2 c = gives-short _ _ _ _ c.if1.false
+returns-2 : tie.Need-returns
+returns-2 c = gives-short _ _ _ _ c.if-count-out.false
 
 pub give_spec : {M : Type 1} → statement M
 give_spec = tie.close (tie.spec fold-requires same_length returns returns-2)

@@ -5,43 +5,40 @@ use borrow.Author.Rules.{rules}
 use Rattle.readback.proofs.plan.Statement.{statement}
 use Rattle.readback.proofs.plan.Tie as tie
 
-slice-aggregate-fold : tie.Need-slice-aggregate-fold
+slice-aggregate-fold : tie.Need-slice_bounds-fold-end
 slice-aggregate-fold c = search rules
 
-fold-requires : tie.Need-fold-requires
+fold-requires : tie.Need-fold-found-requires
 fold-requires c κs = search rules
 
-enum-known-found : tie.Need-enum-known-found
+enum-known-found : tie.Need-enum_known-found
 enum-known-found c = search rules
 
-returns : tie.Need-returns
+returns : tie.Need-returns-then-count-gt-CROSSINGS
 returns c =
-    let start = c.before.before.before.before.before.before.before.before.before in
-    plan-over start.args.file.now start.args.out.now c.before.before.before.before.before.fold.ensures c.before.before.found.given.0.0 c.before.before.found.given.1 c.if1.true
+    plan-over c.args.file.now c.args.out.now c.fold-found.ensures c.in-Numbers.count c.in-Numbers.is c.if-count-gt-CROSSINGS.true
 
 give-requires : tie.Need-give-requires
 give-requires c κs = search rules
 
-enum-known-found-2 : tie.Need-enum-known-found-2
+enum-known-found-2 : tie.Need-enum_known-found-in-Bad-1
 enum-known-found-2 c = search rules
 
-same_length : tie.Need-same-length
+same_length : tie.Need-shape_of-out
 same_length c = search rules
 
-returns-2 : tie.Need-returns-2
+returns-2 : tie.Need-returns-else-count-gt-CROSSINGS
 returns-2 c =
-    let found = c.before.before.before.before.before.before.found in
-    let fold = c.before.before.before.before.before.before.before.before.before.fold in
-    let start = c.before.before.before.before.before.before.before.before.before.before.before.before.before in
-    plan-gives start.args.file.now start.args.out.now fold.ensures found.given.0.0 found.given.1 c.before.before.before.before.if1.false c.before.before.give.ensures
+   
+    let fold = c.fold-found in
+    plan-gives c.args.file.now c.args.out.now fold.ensures c.in-Numbers.count c.in-Numbers.is c.if-count-gt-CROSSINGS.false c.give.ensures
 
-returns-3 : tie.Need-returns-3
+returns-3 : tie.Need-returns-in-Bad
 returns-3 c =
-    let start = c.before.before.before.before.before.before.before.before in
-    plan-bad start.args.file.now start.args.out.now c.before.before.before.before.fold.ensures c.before.found2.given.0.0 c.before.found2.given.1
+    plan-bad c.args.file.now c.args.out.now c.fold-found.ensures c.in-Bad.line c.in-Bad.is
 
-pub plan-spec : {M : Type 1} → statement M
-plan-spec =
+pub plan_spec : {M : Type 1} → statement M
+plan_spec =
     tie.close
     (tie.spec
     slice-aggregate-fold

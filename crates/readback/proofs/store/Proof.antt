@@ -6,19 +6,19 @@ use borrow.Author.Rules.{rules}
 use Rattle.readback.proofs.store.Statement.{statement}
 use Rattle.readback.proofs.store.Tie as tie
 
-mul-out : tie.Need-overflow-mul-out
+mul-out : tie.Need-offset_bounds-out-at
 mul-out c = search rules
 
-slice-write-out : tie.Need-slice-write-out
+slice-write-out : tie.Need-bounds-out-at
 slice-write-out c = search rules
 
-same_length : tie.Need-same-length
+same_length : tie.Need-shape_of-out
 same_length c = search rules
 
-returns : tie.Need-returns
+returns : tie.Need-returns-then-at-out
 returns c = search rules
 
-returns-2 : tie.Need-returns-2
+returns-2 : tie.Need-returns-else-at-out
 returns-2 c = sym (set_out _ _ _ (search rules))
 
 pub store_spec : {M : Type 1} → statement M

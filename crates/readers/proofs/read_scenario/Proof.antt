@@ -7,44 +7,42 @@ use Rattle.listing.proofs.Saying.{list-unmapped, list-as}
 use Rattle.readers.proofs.read_scenario.Statement.{statement}
 use Rattle.readers.proofs.read_scenario.Tie as tie
 
-slice-aggregate-read : tie.Need-slice-aggregate-read
+slice-aggregate-read : tie.Need-slice_bounds-read-end
 slice-aggregate-read c = search rules
 
-read-requires : tie.Need-read-requires
+read-requires : tie.Need-read-found-requires
 read-requires c κs = search rules
 
-enum-known-found : tie.Need-enum-known-found
+enum-known-found : tie.Need-enum_known-found
 enum-known-found c = search rules
 
-slice-aggregate-list : tie.Need-slice-aggregate-list
+slice-aggregate-list : tie.Need-slice_bounds-list-end
 slice-aggregate-list c = search rules
 
 list-requires : tie.Need-list-requires
 list-requires c κs = search rules
 
-enum-known-found-2 : tie.Need-enum-known-found-2
+enum-known-found-2 : tie.Need-enum_known-found-in-Bad-1
 enum-known-found-2 c = search rules
 
-same_length : tie.Need-same-length
+same_length : tie.Need-shape_of-starts
 same_length c = search rules
 
-same-length-2 : tie.Need-same-length-2
+same-length-2 : tie.Need-shape_of-goals
 same-length-2 c = search rules
 
-returns : tie.Need-returns
+returns : tie.Need-returns-in-Grid
 returns c =
-    let found = c.before.before.before.before.before.before.before.before.before.found in
-    let read = c.before.before.before.before.before.before.before.before.before.before.before.before.read in
-    let start = c.before.before.before.before.before.before.before.before.before.before.before.before.before.before.before.before.before.before in
-    list-as (listing-by (mapped-as read.ensures found.given.1 (omega (arith, slice-aggregate-read c.before.before.before.before.before.before.before.before.before.before.before.before.before))) start.args.file.now) c.before.before.before.before.list.ensures
+   
+    let read = c.read-found in
+    list-as (listing-by (mapped-as read.ensures c.in-Grid.is (omega (arith, slice-aggregate-read c.before.before.before.before.before.before.before.before.before.before.before.before.before))) c.args.file.now) c.list.ensures
 
-returns-2 : tie.Need-returns-2
+returns-2 : tie.Need-returns-in-Bad
 returns-2 c =
-    let start = c.before.before.before.before.before.before.before.before.before.before in
-    list-unmapped start.args.file.now _ _ _ (map-bad c.before.before.before.before.read.ensures _ c.before.found2.given.1)
+    list-unmapped c.args.file.now _ _ _ (map-bad c.read-found.ensures _ c.in-Bad.is)
 
-pub read-scenario-spec : {M : Type 1} → statement M
-read-scenario-spec =
+pub read_scenario_spec : {M : Type 1} → statement M
+read_scenario_spec =
     tie.close
     (tie.spec
     slice-aggregate-read

@@ -6,14 +6,14 @@ use Rattle.paper.specs.Yard.{pack, turned}
 use Rattle.reverse_list.proofs.turned.Statement.{statement}
 use Rattle.reverse_list.proofs.turned.Tie as tie
 
-unpack-requires : tie.Need-unpack-requires
+unpack-requires : tie.Need-unpack-x-requires
 unpack-requires c κs = search rules
 
 pack-requires : tie.Need-pack-requires
 pack-requires c κs = search rules
 
 returns : tie.Need-returns
-returns c = c.pack.ensures ∙ ap (λ x. pack (turned x)) c.before.before.before.before.unpack.ensures
+returns c = c.pack.ensures ∙ ap (λ x. pack (turned x)) c.unpack-x.ensures
 
-pub turned-spec : {M : Type 1} → statement M
-turned-spec = tie.close (tie.spec unpack-requires pack-requires returns)
+pub turned_spec : {M : Type 1} → statement M
+turned_spec = tie.close (tie.spec unpack-requires pack-requires returns)
