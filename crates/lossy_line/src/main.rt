@@ -517,7 +517,14 @@ fn settle(
     let mut bills = [0u64; 256];
     place(start, &mut at);
     let illegal = play_all(rails, plan, got, &mut at, &mut bills);
-    show(rt, line, plan, illegal, away(&at, goal), wrong(plan, &bills))
+    show(
+        rt,
+        line,
+        plan,
+        illegal,
+        away(&at, goal),
+        wrong(plan, &bills),
+    )
 }
 
 // The books are opened, tampered with, and kept for a day.

@@ -25,9 +25,7 @@ fn print_refusal(rt: &impl Print, r: Refusal) -> io::Result<()> {
 }
 
 fn main(rt: HostRuntime) -> io::Result<()> {
-    let plan = [
-        65538, 4294967297, 4295032835, 131073, 65536, 4295163905,
-    ];
+    let plan = [65538, 4294967297, 4295032835, 131073, 65536, 4295163905];
     print_plan(&rt, &plan)?;
     print_plan(&rt, &[18446744073709551615])?;
     print_refusal(&rt, Refusal::Crowd)?;

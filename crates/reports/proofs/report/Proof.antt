@@ -8,39 +8,37 @@ use Rattle.reports.proofs.Saying.{fits, has-mark, report-refused, report-told}
 use Rattle.reports.proofs.report.Statement.{statement}
 use Rattle.reports.proofs.report.Tie as tie
 
-check-requires : tie.Need-check-requires
+check-requires : tie.Need-check-checked-requires
 check-requires c κs = search rules
 
-enum-known-checked : tie.Need-enum-known-checked
+enum-known-checked : tie.Need-enum_known-checked
 enum-known-checked c = search rules
 
-returns : tie.Need-returns
-returns c = let s = c.before.before.before.before.before.before.before.before.before in report-refused (order s.args.bays s.args.rails.now s.args.start.now s.args.goal.now) s.args.plan.now s.args.marks.now s.args.name _ (ap checked_of (sym c.before.checked.given.1) ∙ c.before.before.before.check.ensures)
+returns : tie.Need-returns-in-Refused
+returns c = report-refused (order c.args.bays c.args.rails.now c.args.start.now c.args.goal.now) c.args.plan.now c.args.marks.now c.args.name _ (ap checked_of (sym c.in-Refused.is) ∙ c.check-checked.ensures)
 
-enum_told : tie.Need-enum-told
+enum_told : tie.Need-enum_told-1
 enum_told c = search rules
 
-tell-requires : tie.Need-tell-requires
-tell-requires c κs = let s = c.before.before.before.before.before.before.before.before.before in fits (order s.args.bays s.args.rails.now s.args.start.now s.args.goal.now) s.args.plan.now (ap checked_of (sym c.before.enum_told.given.1) ∙ c.before.before.before.check.ensures)
+tell-requires : tie.Need-tell-answer-requires
+tell-requires c κs = fits (order c.args.bays c.args.rails.now c.args.start.now c.args.goal.now) c.args.plan.now (ap checked_of (sym c.in_default.is) ∙ c.check-checked.ensures)
 
-mark-accepted-requires : tie.Need-mark-accepted-requires
+mark-accepted-requires : tie.Need-mark_accepted-requires
 mark-accepted-requires c κs =
-    let s = c.before.before.before.before.before.before.before.before.before.before.before in
-    λ e. has-mark s.args.plan.now s.args.marks.now s.args.name (sym c.before.tell.ensures ∙ e)
+    λ e. has-mark c.args.plan.now c.args.marks.now c.args.name (sym c.tell-answer.ensures ∙ e)
 
-same_length : tie.Need-same-length
+same_length : tie.Need-shape_of-marks
 same_length c = search rules
 
-returns-2 : tie.Need-returns-2
+returns-2 : tie.Need-returns
 returns-2 c =
-    let tell = c.before.before.before.before.tell in
-    let check = c.before.before.before.before.before.before.before.before.check in
-    let s = c.before.before.before.before.before.before.before.before.before.before.before.before.before.before in
-    report-told (order s.args.bays s.args.rails.now s.args.start.now s.args.goal.now) s.args.plan.now (ap checked_of (sym c.before.before.before.before.before.before.enum_told.given.1) ∙ check.ensures) s.args.marks.now s.args.name tell.result _
-    tell.ensures c.before.before.mark-accepted.ensures
+    let tell = c.tell-answer in
+    let check = c.check-checked in
+    report-told (order c.args.bays c.args.rails.now c.args.start.now c.args.goal.now) c.args.plan.now (ap checked_of (sym c.in_default.is) ∙ check.ensures) c.args.marks.now c.args.name tell.result _
+    tell.ensures c.mark_accepted.ensures
 
-pub report-spec : {M : Type 1} → statement M
-report-spec =
+pub report_spec : {M : Type 1} → statement M
+report_spec =
     tie.close
     (tie.spec
     check-requires

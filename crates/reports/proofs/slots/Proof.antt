@@ -8,37 +8,35 @@ use Rattle.reports.proofs.Saying.{fits, short, slots_refused, slots-room, slots_
 use Rattle.reports.proofs.slots.Statement.{statement}
 use Rattle.reports.proofs.slots.Tie as tie
 
-check-requires : tie.Need-check-requires
+check-requires : tie.Need-check-checked-requires
 check-requires c κs = search rules
 
-enum-known-checked : tie.Need-enum-known-checked
+enum-known-checked : tie.Need-enum_known-checked
 enum-known-checked c = search rules
 
-returns : tie.Need-returns
-returns c = let s = c.before.before.before.before.before.before.before.before.before in slots_refused (order s.args.bays s.args.rails.now s.args.start.now s.args.goal.now) s.args.plan.now s.args.out.now _ (ap checked_of (sym c.before.checked.given.1) ∙ c.before.before.before.check.ensures)
+returns : tie.Need-returns-in-Refused
+returns c = slots_refused (order c.args.bays c.args.rails.now c.args.start.now c.args.goal.now) c.args.plan.now c.args.out.now _ (ap checked_of (sym c.in-Refused.is) ∙ c.check-checked.ensures)
 
-enum_told : tie.Need-enum-told
+enum_told : tie.Need-enum_told-1
 enum_told c = search rules
 
-returns-2 : tie.Need-returns-2
-returns-2 c = let s = c.before.before.before.before.before.before.before.before.before in slots-room (order s.args.bays s.args.rails.now s.args.start.now s.args.goal.now) s.args.plan.now (ap checked_of (sym c.before.enum_told.given.1) ∙ c.before.before.before.check.ensures) s.args.out.now c.if1.true
+returns-2 : tie.Need-returns-then-out-plan
+returns-2 c = slots-room (order c.args.bays c.args.rails.now c.args.start.now c.args.goal.now) c.args.plan.now (ap checked_of (sym c.in_default.is) ∙ c.check-checked.ensures) c.args.out.now c.if-out-plan.true
 
-slot-pass-requires : tie.Need-slot-pass-requires
+slot-pass-requires : tie.Need-slot_pass-requires
 slot-pass-requires c κs =
-    let s = c.before.before.before.before.before.before.before.before.before.before in
-    let passes = ap checked_of (sym c.before.before.enum_told.given.1) ∙ c.before.before.before.before.check.ensures in
-    (c.before.if1.false, short (order s.args.bays s.args.rails.now s.args.start.now s.args.goal.now) s.args.plan.now passes, fits (order s.args.bays s.args.rails.now s.args.start.now s.args.goal.now) s.args.plan.now passes)
+    let passes = ap checked_of (sym c.in_default.is) ∙ c.check-checked.ensures in
+    (c.if-out-plan.false, short (order c.args.bays c.args.rails.now c.args.start.now c.args.goal.now) c.args.plan.now passes, fits (order c.args.bays c.args.rails.now c.args.start.now c.args.goal.now) c.args.plan.now passes)
 
-same_length : tie.Need-same-length
+same_length : tie.Need-shape_of-out
 same_length c = search rules
 
-returns-3 : tie.Need-returns-3
+returns-3 : tie.Need-returns
 returns-3 c =
-    let s = c.before.before.before.before.before.before.before.before.before.before.before.before.before in
-    slots_written (order s.args.bays s.args.rails.now s.args.start.now s.args.goal.now) s.args.plan.now (ap checked_of (sym c.before.before.before.before.before.enum_told.given.1) ∙ c.before.before.before.before.before.before.before.check.ensures) s.args.out.now _ c.before.before.before.before.if1.false c.before.before.slot-pass.ensures
+    slots_written (order c.args.bays c.args.rails.now c.args.start.now c.args.goal.now) c.args.plan.now (ap checked_of (sym c.in_default.is) ∙ c.check-checked.ensures) c.args.out.now _ c.if-out-plan.false c.slot_pass.ensures
 
-pub slots-spec : {M : Type 1} → statement M
-slots-spec =
+pub slots_spec : {M : Type 1} → statement M
+slots_spec =
     tie.close
     (tie.spec
     check-requires

@@ -8,8 +8,6 @@ use borrow.Author.Rules.{rules}
 use Rattle.words.specs.Sets.{words}
 use Rattle.search_cases.proofs.gather.Statement.{statement}
 use Rattle.search_cases.proofs.gather.Tie as tie
-use Rattle.search_cases.proofs.gather.Reads as reads
-use Rattle.search_cases.proofs.gather.Lts as lts
 
 abbrev invariant-loop : tie.invariant-loop-i
 invariant-loop bays set₀ i₀ set i = (i ≤ length bays) × (length set ≡ words)

@@ -6,9 +6,6 @@ use Rattle.rings.proofs.Searching.{shown-any}
 use Rattle.search_cases.proofs.Opened.{opened-table}
 use Rattle.search_cases.proofs.path_agrees.Statement.{statement}
 use Rattle.search_cases.proofs.path_agrees.Tie as tie
-use Rattle.search_cases.proofs.path_agrees.Reads as reads
-use Rattle.search_cases.proofs.path_agrees.Lts as lts
-use Rattle.search_cases.proofs.path_is.Reads as path-is-reads
 
 open-requires : tie.Need-open-requires
 open-requires c κs = search rules

@@ -5,10 +5,6 @@ use lib.Seq.{length-take-le}
 use borrow.Author.Rules.{rules}
 use Rattle.search_cases.proofs.path_case.Statement.{statement}
 use Rattle.search_cases.proofs.path_case.Tie as tie
-use Rattle.search_cases.proofs.path_case.Reads as reads
-use Rattle.search_cases.proofs.path_case.Lts as lts
-use Rattle.search_cases.proofs.gather.Reads as gather-reads
-use Rattle.search_cases.proofs.path_agrees.Reads as path-agrees-reads
 
 number-requires : tie.Need-number-bays-requires
 number-requires c κs = search rules

@@ -8,9 +8,6 @@ use borrow.Author.Rules.{rules}
 use Rattle.words.specs.Sets.{span}
 use Rattle.search_cases.proofs.path_is.Statement.{statement}
 use Rattle.search_cases.proofs.path_is.Tie as tie
-use Rattle.search_cases.proofs.path_is.Reads as reads
-use Rattle.search_cases.proofs.path_is.Lts as lts
-use Rattle.search_cases.proofs.same16.Reads as same16-reads
 
 slice-aggregate-path-between : tie.Need-slice_bounds-path_between-end-2
 slice-aggregate-path-between c = search rules

@@ -9,10 +9,6 @@ use Rattle.words.specs.Sets.{span}
 use Rattle.search_cases.proofs.Opened.{ready}
 use Rattle.search_cases.proofs.vacate_agrees.Statement.{statement}
 use Rattle.search_cases.proofs.vacate_agrees.Tie as tie
-use Rattle.search_cases.proofs.vacate_agrees.Reads as reads
-use Rattle.search_cases.proofs.vacate_agrees.Lts as lts
-use Rattle.search_cases.proofs.same64.Reads as same64-reads
-use Rattle.search_cases.proofs.vacated.Reads as vacated-reads
 
 open-requires : tie.Need-open-requires
 open-requires c κs = search rules

@@ -5,10 +5,6 @@ use lib.Seq.{length-take-le}
 use borrow.Author.Rules.{rules}
 use Rattle.search_cases.proofs.vacate_case.Statement.{statement}
 use Rattle.search_cases.proofs.vacate_case.Tie as tie
-use Rattle.search_cases.proofs.vacate_case.Reads as reads
-use Rattle.search_cases.proofs.vacate_case.Lts as lts
-use Rattle.search_cases.proofs.gather.Reads as gather-reads
-use Rattle.search_cases.proofs.vacate_agrees.Reads as vacate-agrees-reads
 
 number-requires : tie.Need-number-bays-requires
 number-requires c κs = search rules
