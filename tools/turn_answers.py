@@ -241,6 +241,11 @@ def turned(text, path, table, outer, joined):
     if outer:
         helpers = {name: (places.get(alike(place)), c) for name, c, place in re.findall(rf"(?m)^(?:abbrev |unfoldable |pub )*(\S+) : \((\w+) : tie\.({WORD})[^()]*\)", text)}
         helpers |= {name: (places.get(alike(place)), "c") for name, place in re.findall(rf"(?m)^(?:abbrev |unfoldable |pub )*(\S+) : tie\.((?!Need-){WORD})(?: [\w-]+)* →", text)}
+        # A goal that is proved can be cited at the places further in.
+        for name, goal in re.findall(rf"(?m)^({WORD}) : tie\.Need-({WORD})", text):
+            place = tree.get("?" + alike(goal)) or tree.get("?" + alike(goal.replace("overflow-", "", 1)))
+            if place:
+                helpers.setdefault(name, (place, "c"))
         text = "\n\n".join(moved(it, table, outer, helpers) for it in text.split("\n\n"))
 
     # What the check finds by itself today.

@@ -2,4 +2,4 @@ pub mod Acting
 pub mod Junctions
 pub mod Holding
 pub mod Lending
-pub mod Lower
+pub mod FromBelow

@@ -1,6 +1,6 @@
 -- The path found is the paper's: it leads from r's bay over rails to its goal. Where there is none, or r cannot go it, the paper is stuck too.
 -- Assumes nothing.
-use Rattle.std.specs.Prelude.{if◌then◌else◌}
+use Rattle.std.specs.Prelude.{if◌then◌else◌, if◌then◌else◌}
 use mathlib.Core.Path.{◌≡◌, sym, ◌∙◌, ap, refl}
 use mathlib.Core.Bool.{true, false}
 use mathlib.Core.List.{List, [], ◌∷◌, drop_last}
@@ -15,7 +15,7 @@ use Rattle.paper.specs.Basics.{◌or◌}
 use Rattle.paper.specs.Path.{Route, path_between}
 use Rattle.paper.specs.Procedure.{Made, only, together, step, Outcome, planned, stuck, or_stuck, onward, ◌next◌, path_of, go, way_home, along, carry}
 use Rattle.paper.specs.Yard.{Bay, Carrier, Yard, Placement, bay_of, after, carousel}
-use Rattle.go.proofs.Lower.{sound-of}
+use Rattle.go.proofs.FromBelow.{sound-of}
 use Rattle.paper.proofs.Carrying.{path-short}
 use Rattle.paper.proofs.Tests.{by-option, never, never-some}
 use Rattle.go.specs.Going.{plan_of, Linked}
@@ -32,8 +32,8 @@ use Rattle.acting.specs.Acting.{Tabled, Ready, Tallied, Tries, nothing}
 use Rattle.acting.specs.declared.Tally.{Tally}
 use Rattle.acting.specs.declared.Tried.TheVariants.{Done}
 use Rattle.acting.proofs.Acting.{tried-done}
-use Rattle.go.proofs.Lower.{in-bays}
-use Rattle.go.specs.Lower.{Loopless, BaysBelow}
+use Rattle.go.proofs.FromBelow.{in-bays}
+use Rattle.go.specs.FromBelow.{Loopless, BaysBelow}
 use Rattle.along.specs.Along.{Goals, HomeBelow, EndsAt, OnPath, PathPast, PathPastSays, TurnAsks, GoalAsks, Goes, Arrives}
 use Rattle.along.specs.declared.ToGoal.{ToGoal}
 use Rattle.along.specs.declared.Gone.TheVariants.{There, Nowhere}

@@ -1,6 +1,6 @@
 -- What a carrier's turn asks, and what going its path says: distinct goals among the bays, one for each carrier; the finished ones at home; a path.
 -- Assumes nothing.
-use Rattle.std.specs.Prelude.{Bool, ◌≡◌, List, [], ◌∷◌, ℕ, ◌+◌, ◌*◌, ◌≤◌, ◌<◌, length, take, drop, if◌then◌else◌}
+use Rattle.std.specs.Prelude.{Bool, ◌≡◌, List, [], ◌∷◌, ℕ, ◌+◌, ◌*◌, ◌≤◌, ◌<◌, length, take, drop, if◌then◌else◌, if◌then◌else◌}
 use Rattle.std.proofs.Math.Option.{some}
 use Rattle.paper.specs.Basics.{NoDup}
 use Rattle.paper.specs.Path.{path_between}
@@ -14,7 +14,7 @@ use Rattle.yard.specs.Table.{Table}
 use Rattle.moving.specs.Bounds.{swap_most}
 use Rattle.acting.specs.Acting.{Tabled, Tallied, nothing}
 use Rattle.acting.specs.declared.Tally.{Tally}
-use Rattle.go.specs.Lower.{Loopless, BaysBelow}
+use Rattle.go.specs.FromBelow.{Loopless, BaysBelow}
 use Rattle.go.specs.Going.{plan_of, Linked}
 use Rattle.along.specs.declared.ToGoal.{ToGoal}
 use Rattle.along.specs.declared.Gone.{Gone}

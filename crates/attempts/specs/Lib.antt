@@ -1,3 +1,3 @@
 pub mod Attempting
 pub mod Asking
-pub mod Lower
+pub mod FromBelow

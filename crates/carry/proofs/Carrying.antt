@@ -14,12 +14,12 @@ use borrow.Author.Tests.{eqb-false, eqb-true}
 use mathlib.Core.Logic.{inl, inr, ⊎_elim}
 use Rattle.paper.specs.Procedure.{Made, together, Outcome, planned, stuck, onward, path_of, go, way_home, carry}
 use Rattle.paper.specs.Yard.{Bay, Carrier, Placement, bay_of, after}
-use Rattle.home.proofs.Lower.{sound-of}
+use Rattle.home.proofs.FromBelow.{sound-of}
 use Rattle.paper.proofs.Carrying.{Gone, go-goes}
 use Rattle.paper.proofs.Members.{nothing-in-nil, out-cons}
 use Rattle.paper.proofs.Swapping.{Chain}
 use Rattle.paper.proofs.Tests.{by_cases, never, never-some, some_same}
-use Rattle.home.specs.Lower.{plan_of, Linked}
+use Rattle.home.specs.FromBelow.{plan_of, Linked}
 use Rattle.words.specs.Sets.{span}
 use Rattle.home.specs.Homing.{Stages}
 use Rattle.paper.proofs.Making.{together-none}
@@ -27,8 +27,8 @@ use Rattle.moving.specs.Placed.{Placed}
 use Rattle.acting.specs.Acting.{Tabled, Ready, Tallied, nothing}
 use Rattle.acting.specs.declared.Tally.{Tally}
 use Rattle.acting.proofs.Acting.{tallied-then}
-use Rattle.home.proofs.Lower.{in-bays}
-use Rattle.home.specs.Lower.{Loopless, BaysBelow}
+use Rattle.home.proofs.FromBelow.{in-bays}
+use Rattle.home.specs.FromBelow.{Loopless, BaysBelow}
 use Rattle.home.proofs.Homing.{stages-done}
 use Rattle.home.proofs.Settling.{Settled, Homeward}
 use Rattle.along.specs.Along.{Goals, HomeBelow, EndsAt, OnPath, TurnAsks, GoalAsks, GoesThere}

@@ -5,7 +5,7 @@ use Rattle.paper.specs.Procedure.{carry}
 use Rattle.moving.specs.Bounds.{carrier_most}
 use Rattle.acting.specs.Acting.{Tabled, nothing}
 use Rattle.acting.specs.declared.Tally.{Tally}
-use Rattle.home.specs.Lower.{BaysBelow}
+use Rattle.home.specs.FromBelow.{BaysBelow}
 use Rattle.along.specs.Along.{GoalAsks}
 use Rattle.along.specs.declared.ToGoal.{ToGoal}
 use Rattle.home.specs.Homing.{Owners, AtMost, Stages}

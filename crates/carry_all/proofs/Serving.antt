@@ -7,22 +7,22 @@ use native.Mathlib.Omega.{arith}
 use lib.ListN.{length}
 use Rattle.paper.specs.Procedure.{Made, only, together, Outcome, planned, stuck, onward, ◌next◌, carry, carry_from, procedure}
 use Rattle.paper.specs.Yard.{Carrier, Yard, Placement, after}
-use Rattle.carry.proofs.Lower.{sound-of}
+use Rattle.carry.proofs.FromBelow.{sound-of}
 use Rattle.paper.proofs.Carrying.{carry-carries}
 use Rattle.words.specs.Sets.{span}
 use Rattle.acting.proofs.Lending.{RestLent, on-the-rest}
-use Rattle.carry.specs.Lower.{Stages}
+use Rattle.carry.specs.FromBelow.{Stages}
 use Rattle.paper.proofs.Making.{together-assoc, together-none, none-together}
 use Rattle.moving.specs.Placed.{Placed}
 use Rattle.acting.specs.Acting.{Tabled, Tallied, nothing}
 use Rattle.acting.specs.declared.Tally.{Tally}
 use Rattle.acting.proofs.Acting.{tallied-none, tallied-then}
-use Rattle.carry.proofs.Lower.{in-bays}
-use Rattle.carry.specs.Lower.{Loopless}
-use Rattle.carry.proofs.Lower.{stages-done}
-use Rattle.carry.specs.Lower.{Goals, HomeBelow}
-use Rattle.carry.specs.Lower.{Planned}
-use Rattle.carry.specs.Lower.{Stuck}
+use Rattle.carry.proofs.FromBelow.{in-bays}
+use Rattle.carry.specs.FromBelow.{Loopless}
+use Rattle.carry.proofs.FromBelow.{stages-done}
+use Rattle.carry.specs.FromBelow.{Goals, HomeBelow}
+use Rattle.carry.specs.FromBelow.{Planned}
+use Rattle.carry.specs.FromBelow.{Stuck}
 use Rattle.docket.specs.declared.Carrier.{Carrier as Named}
 
 -- what is made, and then what the rest gives

@@ -1,2 +1,2 @@
 pub mod Serving
-pub mod Lower
+pub mod FromBelow

@@ -6,10 +6,10 @@ use Rattle.paper.specs.Path.{nearest_first}
 use Rattle.paper.specs.Procedure.{Outcome, procedure}
 use Rattle.paper.specs.Yard.{Yard, Placement}
 use Rattle.acting.specs.Acting.{Tabled, nothing}
-use Rattle.carry.specs.Lower.{Loopless, BaysBelow}
-use Rattle.carry.specs.Lower.{Goals}
-use Rattle.carry.specs.Lower.{Owners, StagesAs}
-use Rattle.carry.specs.Lower.{Staged}
+use Rattle.carry.specs.FromBelow.{Loopless, BaysBelow}
+use Rattle.carry.specs.FromBelow.{Goals}
+use Rattle.carry.specs.FromBelow.{Owners, StagesAs}
+use Rattle.carry.specs.FromBelow.{Staged}
 use Rattle.carry.specs.Carrying.{Settles}
 
 -- every bay is reached from every other, in a yard that the table shows

@@ -1,2 +1,2 @@
 pub mod Attempting
-pub mod Lower
+pub mod FromBelow

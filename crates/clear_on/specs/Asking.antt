@@ -5,7 +5,7 @@ use Rattle.paper.specs.Yard.{Bay}
 use Rattle.paper.proofs.Playing.{Sound}
 use Rattle.moving.specs.Bounds.{attempt_most, clear_most}
 use Rattle.acting.specs.Acting.{Tabled, nothing}
-use Rattle.attempts.specs.Lower.{Coupled}
+use Rattle.attempts.specs.FromBelow.{Coupled}
 use Rattle.attempts.specs.Asking.{Arrived}
 use Rattle.either_way.specs.Either.{go_on_with}
 use Rattle.attempts.specs.declared.Lead.{Lead}

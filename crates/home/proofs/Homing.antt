@@ -20,7 +20,7 @@ use Rattle.moving.specs.Placed.{Placed}
 use Rattle.acting.specs.Acting.{Tabled, nothing, Tallied, Proceeds}
 use Rattle.acting.specs.declared.Tally.{Tally}
 use Rattle.acting.proofs.Acting.{tallied-none, tallied-then, tried-done, tried-failed}
-use Rattle.go.specs.Lower.{Loopless}
+use Rattle.go.specs.FromBelow.{Loopless}
 use Rattle.go.specs.Going.{Linked}
 use Rattle.acting.proofs.Lending.{RestLent, on-the-rest}
 use Rattle.home.proofs.Settling.{Settled, Homeward, due, homed}

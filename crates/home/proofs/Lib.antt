@@ -1,3 +1,3 @@
 pub mod Settling
 pub mod Homing
-pub mod Lower
+pub mod FromBelow

@@ -23,9 +23,9 @@ use Rattle.paper.proofs.Tests.{by_cases, not-both, and_left, and_right, and_both
 use Rattle.words.specs.Sets.{span, mem_row}
 use Rattle.moving.specs.Placed.{Placed}
 use Rattle.acting.specs.Acting.{Tabled}
-use Rattle.go.specs.Lower.{Loopless, CanStep}
+use Rattle.go.specs.FromBelow.{Loopless, CanStep}
 use Rattle.go.specs.Going.{Linked}
-use Rattle.go.proofs.Lower.{stepped-of}
+use Rattle.go.proofs.FromBelow.{stepped-of}
 
 -- each finished carrier is home, or one bay back on the path, and its goal is none of these bays
 abbrev pub Settled : Placement → ℕ → Bay → List Bay → List Bay → Placement → Type 0

@@ -7,7 +7,7 @@ use Rattle.words.specs.Sets.{mem_row}
 use Rattle.moving.specs.Bounds.{swap_most}
 use Rattle.acting.specs.Acting.{Tabled, nothing, Tallied}
 use Rattle.acting.specs.declared.Tally.{Tally}
-use Rattle.go.specs.Lower.{Loopless, BaysBelow}
+use Rattle.go.specs.FromBelow.{Loopless, BaysBelow}
 use Rattle.home.specs.declared.HomeBay.{HomeBay}
 use Rattle.home.specs.declared.Staged.{Staged}
 use Rattle.home.specs.declared.Staged.TheVariants.{Planned, Stuck}

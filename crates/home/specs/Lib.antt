@@ -1,2 +1,2 @@
 pub mod Homing
-pub mod Lower
+pub mod FromBelow

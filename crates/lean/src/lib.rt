@@ -2,7 +2,7 @@
 #![tactic(auto)]
 
 ghost use Rattle.std.specs.Prelude.{◌≤◌, length};
-ghost use Rattle.outcome.specs.Lower.{Admitted};
+ghost use Rattle.outcome.specs.FromBelow.{Admitted};
 ghost use Rattle.outcome.specs.Handing.{HandsOut, HandsOutKept, HandsOutDue};
 
 use outcome::{Counted, Handed, play};

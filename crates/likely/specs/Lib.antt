@@ -1,1 +1,1 @@
-pub mod Lower
+pub mod FromBelow

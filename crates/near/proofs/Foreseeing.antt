@@ -16,7 +16,7 @@ use Rattle.outlook.specs.Outlook.{OutlookAsks, OutlookSays}
 use Rattle.moving.specs.Placed.{Placed}
 use Rattle.acting.specs.Acting.{Tabled, Ready}
 use Rattle.trial.specs.Trying.{Near}
-use Rattle.trial.proofs.Lower.{in-bays}
+use Rattle.trial.proofs.FromBelow.{in-bays}
 
 pub outlook-asks : {table p standing empty : List ℕ} (k : Ready table p standing empty) (r s : Carrier) (v : Bay) → r < length p → s < length p → v < length standing
     → OutlookAsks (length standing) v (bay_of p r) (bay_of p s) table empty

@@ -1,3 +1,3 @@
 pub mod Seeking
 pub mod Foreseeing
-pub mod Lower
+pub mod FromBelow

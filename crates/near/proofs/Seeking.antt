@@ -25,7 +25,7 @@ use Rattle.moving.specs.Bounds.{swap_most}
 use Rattle.acting.specs.Acting.{Tabled, nothing, Within}
 use Rattle.acting.specs.declared.Tally.{Tally}
 use Rattle.acting.specs.declared.Tried.{Tried}
-use Rattle.trial.specs.Lower.{Logged, Attempts}
+use Rattle.trial.specs.FromBelow.{Logged, Attempts}
 use Rattle.trial.proofs.Attempting.{attempts-none, attempts-some}
 use Rattle.trial.specs.Trying.{Beside, Near}
 use Rattle.trial.proofs.Copying.{free_shown}

@@ -12,7 +12,7 @@ use Rattle.acting.specs.Acting.{Tabled, nothing, Within}
 use Rattle.acting.specs.declared.Tally.{Tally}
 use Rattle.acting.specs.declared.Tried.{Tried}
 use Rattle.acting.specs.declared.Tried.TheVariants.{Done, Failed}
-use Rattle.trial.specs.Lower.{Logged, Attempts}
+use Rattle.trial.specs.FromBelow.{Logged, Attempts}
 use Rattle.trial.specs.Trying.{Beside, SideBySide, Nears, tries}
 use Rattle.trial.specs.declared.Trial.{Trial}
 use Rattle.near.specs.declared.Nearby.{Nearby}

@@ -13,8 +13,8 @@ use Rattle.paper.proofs.Planning.{TooLong, within-stuck, within-fits, within-lon
 use Rattle.paper.proofs.Tests.{never}
 use Rattle.docket.specs.declared.Carrier.{Carrier as Named}
 use Rattle.docket.specs.declared.Refusal.TheVariants.{Room, Stopped}
-use Rattle.play.specs.Lower.{Planned, Stuck}
-use Rattle.play.specs.Lower.{Staged}
+use Rattle.play.specs.FromBelow.{Planned, Stuck}
+use Rattle.play.specs.FromBelow.{Staged}
 use Rattle.play.specs.Playing.{Plays}
 use Rattle.acting.specs.declared.Tally.{Tally}
 use Rattle.outcome.specs.Handing.{told, PlanIn, Due, Hands, HandsIfKept}

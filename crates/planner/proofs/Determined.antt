@@ -9,8 +9,8 @@ use Rattle.paper.specs.Answers.{plan, plan_end}
 use Rattle.paper.proofs.Determined.{Determined, telling-by, determined-by}
 use Rattle.docket.proofs.Telling.{refusal_for, refusal-back}
 use Rattle.planner.specs.Statement.{PlanTold, long, denied, told, planned_of, uncounted, parked_by, PlanSays, CountSays}
-use Rattle.rooms.specs.Lower.{Accepted as Counts, Refused as Denies}
-use Rattle.rooms.specs.Lower.{Counted}
+use Rattle.rooms.specs.FromBelow.{Accepted as Counts, Refused as Denies}
+use Rattle.rooms.specs.FromBelow.{Counted}
 use Rattle.planner.specs.declared.Planned.TheVariants.{Accepted, Refused}
 use Rattle.planner.specs.declared.Planned.{Planned}
 

@@ -16,7 +16,7 @@ use Rattle.yard.specs.Table.{Table}
 use Rattle.yard.specs.declared.Yard.{Yard as Numbers}
 use Rattle.yard.specs.Opening.{Admits}
 use Rattle.acting.specs.Acting.{Tabled}
-use Rattle.likely.specs.Lower.{Admitted}
+use Rattle.likely.specs.FromBelow.{Admitted}
 
 module _ (o : Order) where
   pub admitted_of : (table : List ℕ) → first_six o 0 ≡ none → Table (yard_of o) o.bays table → Admitted o.bays table o.starts o.goals

@@ -17,10 +17,10 @@ use Rattle.paper.proofs.Tests.{never}
 use Rattle.laws.proofs.Handing.{handed-passes}
 use Rattle.docket.specs.Reading.{refusal_of}
 use Rattle.docket.specs.declared.Refusal.{Refusal as Docketed}
-use Rattle.rooms.specs.Lower.{counted_of, Hands, HandsOut}
-use Rattle.rooms.specs.Lower.{Accepted as Counts, Refused as Denies}
-use Rattle.rooms.specs.Lower.{Counted}
-use Rattle.likely.specs.Lower.{Admitted}
+use Rattle.rooms.specs.FromBelow.{counted_of, Hands, HandsOut}
+use Rattle.rooms.specs.FromBelow.{Accepted as Counts, Refused as Denies}
+use Rattle.rooms.specs.FromBelow.{Counted}
+use Rattle.likely.specs.FromBelow.{Admitted}
 use Rattle.yard.specs.Opening.{opened_of, Opens}
 use Rattle.yard.specs.declared.Yard.{Yard as Numbers}
 use Rattle.yard.specs.declared.Opened.{Opened}

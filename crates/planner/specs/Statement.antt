@@ -8,9 +8,9 @@ use Rattle.paper.specs.Order.{Order}
 use Rattle.paper.specs.Docket.{yard_of}
 use Rattle.paper.specs.Answers.{plan, plan_parked, plan_end, check}
 use Rattle.docket.specs.Reading.{refusal_of}
-pub use Rattle.rooms.specs.Lower.{PlanTold, long, denied, told, parked_by}
-use Rattle.rooms.specs.Lower.{Counted}
-use Rattle.rooms.specs.Lower.{Accepted as Counts, Refused as Denies}
+pub use Rattle.rooms.specs.FromBelow.{PlanTold, long, denied, told, parked_by}
+use Rattle.rooms.specs.FromBelow.{Counted}
+use Rattle.rooms.specs.FromBelow.{Accepted as Counts, Refused as Denies}
 use Rattle.planner.specs.declared.Planned.{Planned}
 use Rattle.planner.specs.declared.Planned.TheVariants.{Accepted, Refused}
 

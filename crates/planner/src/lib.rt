@@ -2,8 +2,8 @@
 #![tactic(auto)]
 
 ghost use Rattle.paper.specs.Order.{order};
-ghost use Rattle.likely.specs.Lower.{Admitted};
-ghost use Rattle.rooms.specs.Lower.{HandsOut, HandsOutKept};
+ghost use Rattle.likely.specs.FromBelow.{Admitted};
+ghost use Rattle.rooms.specs.FromBelow.{HandsOut, HandsOutKept};
 ghost use Rattle.planner.specs.Statement.{CountSays, PlanSays};
 
 use docket::Refusal;

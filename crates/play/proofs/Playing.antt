@@ -12,9 +12,9 @@ use Rattle.words.specs.Sets.{words, span}
 use Rattle.words.proofs.Sets.{mem-zeros}
 use Rattle.moving.specs.Placed.{Placed}
 use Rattle.acting.specs.Acting.{Ready, nothing}
-use Rattle.carry_all.specs.Lower.{BaysBelow}
-use Rattle.carry_all.specs.Lower.{Owners, Stages}
-use Rattle.carry_all.specs.Lower.{Staged}
+use Rattle.carry_all.specs.FromBelow.{BaysBelow}
+use Rattle.carry_all.specs.FromBelow.{Owners, Stages}
+use Rattle.carry_all.specs.FromBelow.{Staged}
 use Rattle.play.specs.Playing.{TableAsks, Plays}
 
 -- as many places as are taken of an array

@@ -1,2 +1,2 @@
 pub mod Playing
-pub mod Lower
+pub mod FromBelow

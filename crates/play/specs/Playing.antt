@@ -9,12 +9,12 @@ use Rattle.levels.specs.Levels.{Levelled}
 use Rattle.moving.specs.Placed.{Stored}
 use Rattle.acting.specs.Acting.{Tabled, AsFar}
 use Rattle.acting.specs.declared.Tally.{Tally}
-use Rattle.carry_all.specs.Lower.{Loopless}
-use Rattle.carry_all.specs.Lower.{Goals}
+use Rattle.carry_all.specs.FromBelow.{Loopless}
+use Rattle.carry_all.specs.FromBelow.{Goals}
 use Rattle.carry_all.specs.Serving.{procedures, Reaching}
 use Rattle.docket.specs.declared.Carrier.{Carrier as Named}
-use Rattle.carry_all.specs.Lower.{Planned, Stuck}
-use Rattle.carry_all.specs.Lower.{Staged}
+use Rattle.carry_all.specs.FromBelow.{Planned, Stuck}
+use Rattle.carry_all.specs.FromBelow.{Staged}
 
 -- the table is that of a yard of n bays in one piece, and starts and goals are placements in it, as refusals 1 to 6 leave them
 pub record Admitted (n : ℕ) (table : List ℕ) (s g : Placement) : Type 0 where

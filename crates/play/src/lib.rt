@@ -7,7 +7,7 @@ ghost use Rattle.words.specs.Sets.{words, span};
 ghost use Rattle.play.specs.Playing.{Admitted, TableAsks, PlayOnAsks, PlaysOut};
 
 use carry_all::home::Staged;
-pub use home;
+pub use carry_all::home;
 use words::{SPAN, WORDS};
 use yard::Yard;
 

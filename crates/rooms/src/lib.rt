@@ -3,7 +3,7 @@
 #![tactic(auto)]
 
 ghost use Rattle.std.specs.Prelude.{◌≤◌, length};
-ghost use Rattle.outcome.specs.Lower.{Admitted};
+ghost use Rattle.outcome.specs.FromBelow.{Admitted};
 ghost use Rattle.outcome.specs.Handing.{HandsOutKept, HandsOutDue};
 
 pub use outcome;

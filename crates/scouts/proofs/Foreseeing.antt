@@ -21,7 +21,7 @@ use Rattle.paper.proofs.Tests.{by_cases}
 use Rattle.parts.proofs.Paths.{path-begins}
 use Rattle.words.specs.Sets.{mem, words, span}
 use Rattle.acting.specs.Acting.{Tabled, Ready}
-use Rattle.trial.proofs.Lower.{in-bays}
+use Rattle.trial.proofs.FromBelow.{in-bays}
 use Rattle.scout.specs.Scouting.{scout_room}
 use Rattle.scout.specs.declared.Scout.{Scout}
 use Rattle.scout.specs.declared.Sight.{Sight}

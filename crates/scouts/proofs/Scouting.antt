@@ -22,7 +22,7 @@ use Rattle.words.specs.Sets.{span}
 use Rattle.moving.specs.Placed.{Placed}
 use Rattle.acting.specs.Acting.{Tabled}
 use Rattle.attempts.specs.declared.Lead.{Lead}
-use Rattle.trial.specs.Lower.{AtJunction}
+use Rattle.trial.specs.FromBelow.{AtJunction}
 use Rattle.scout.specs.Scouting.{Gone, Sized, SetOutSays, placement_in, standing_in}
 use Rattle.scout.specs.declared.Scout.{Scout}
 use Rattle.trial.specs.Trying.{Led}

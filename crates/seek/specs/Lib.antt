@@ -1,2 +1,2 @@
 pub mod Far
-pub mod Lower
+pub mod FromBelow

@@ -22,7 +22,7 @@ use Rattle.choice.proofs.Taking.{rather-paper}
 use Rattle.words.proofs.Sets.{row_zero}
 use Rattle.moving.specs.Placed.{Placed}
 use Rattle.moving.proofs.Playing.{carrier-is}
-use Rattle.acting.proofs.Lower.{beside-nearest, beside-path}
+use Rattle.acting.proofs.FromBelow.{beside-nearest, beside-path}
 use Rattle.acting.specs.Acting.{Tabled, Ready}
 use Rattle.step.specs.Asking.{AsideAsks}
 use Rattle.step.specs.declared.NextStep.{NextStep}

@@ -1,4 +1,4 @@
 pub mod Stepping
 pub mod Aside
 pub mod Settling
-pub mod Lower
+pub mod FromBelow

@@ -23,7 +23,7 @@ use Rattle.words.specs.Sets.{mem, span}
 use Rattle.words.proofs.Besides.{equal-tests}
 use Rattle.moving.specs.Placed.{Placed}
 use Rattle.moving.proofs.Playing.{carrier-is}
-use Rattle.swap.proofs.Lower.{in-bays}
+use Rattle.swap.proofs.FromBelow.{in-bays}
 use Rattle.acting.specs.Acting.{Tabled, Tallied, Proceeds}
 use Rattle.acting.specs.declared.Tally.{Tally}
 use Rattle.acting.specs.declared.Tried.TheVariants.{Done}

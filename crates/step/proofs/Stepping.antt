@@ -20,7 +20,7 @@ use Rattle.paper.proofs.Tests.{by_cases, not-both, never-some, or_right}
 use Rattle.paper.proofs.Vacating.{Vacated, vacate-vacates, vacate-empty}
 use Rattle.words.specs.Sets.{mem, span, mem_row, Kept}
 use Rattle.words.proofs.Sets.{row_zero, or-false}
-use Rattle.swap.specs.Lower.{Beside}
+use Rattle.swap.specs.FromBelow.{Beside}
 use Rattle.rings.specs.Search.{Shown}
 use Rattle.moving.specs.Placed.{Placed}
 use Rattle.moving.proofs.Playing.{carrier-is, carrier-none}

@@ -25,12 +25,12 @@ use Rattle.rings.proofs.Searching.{ring-first}
 use Rattle.rings.specs.Search.{around}
 use Rattle.moving.specs.Placed.{Placed}
 use Rattle.acting.specs.Acting.{Tabled}
-use Rattle.seek.proofs.Lower.{lowest-in, clear-two, around-of, inside_of, inside-less}
-use Rattle.seek.specs.Lower.{Beside, Near}
-use Rattle.seek.proofs.Lower.{in-bays}
-use Rattle.seek.proofs.Lower.{path-own, trial-first}
-use Rattle.seek.specs.Lower.{fitting}
-use Rattle.seek.proofs.Lower.{Sought, swap-found, sought-found, near_of}
+use Rattle.seek.proofs.FromBelow.{lowest-in, clear-two, around-of, inside_of, inside-less}
+use Rattle.seek.specs.FromBelow.{Beside, Near}
+use Rattle.seek.proofs.FromBelow.{in-bays}
+use Rattle.seek.proofs.FromBelow.{path-own, trial-first}
+use Rattle.seek.specs.FromBelow.{fitting}
+use Rattle.seek.proofs.FromBelow.{Sought, swap-found, sought-found, near_of}
 use Rattle.docket.specs.declared.Bay.{Bay as Numbered}
 use Rattle.swap.specs.Swapping.{TwoSpare, SpareSays}
 use Rattle.swap.specs.declared.Spare.TheVariants.{Both, Fewer}

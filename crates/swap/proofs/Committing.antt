@@ -21,7 +21,7 @@ use Rattle.paper.proofs.Tests.{by_cases}
 use Rattle.paper.proofs.Trading.{traded-length, trade-first, trade-second, trade-other, trade-twice, trade-there, traded-bay}
 use Rattle.paper.proofs.Vacating.{plan-apart}
 use Rattle.trade.specs.Trading.{standing_traded}
-use Rattle.seek.specs.Lower.{Beside}
+use Rattle.seek.specs.FromBelow.{Beside}
 use Rattle.words.proofs.Besides.{equal-tests}
 use Rattle.moving.specs.Placed.{Placed, Stored}
 use Rattle.moving.proofs.Playing.{carrier-is, carrier-none, stored_exact}
@@ -29,7 +29,7 @@ use Rattle.exchange.specs.Exchanging.{Noted}
 use Rattle.acting.specs.Acting.{Tabled, nothing, Proceeds}
 use Rattle.acting.specs.declared.Tally.{Tally}
 use Rattle.acting.proofs.Acting.{proceeds-none, proceeds-some}
-use Rattle.seek.specs.Lower.{Logged, Attempts}
+use Rattle.seek.specs.FromBelow.{Logged, Attempts}
 use Rattle.acting.specs.declared.Tried.TheVariants.{Done}
 use Rattle.acting.specs.declared.Tried.TheVariants.{Failed}
 

@@ -1,3 +1,3 @@
 pub mod Committing
 pub mod Besides
-pub mod Lower
+pub mod FromBelow

@@ -1,2 +1,2 @@
 pub mod Swapping
-pub mod Lower
+pub mod FromBelow

@@ -10,7 +10,7 @@ use Rattle.moving.specs.Placed.{Placed}
 use Rattle.acting.specs.Acting.{Tabled, nothing, Within, Proceeds}
 use Rattle.acting.specs.declared.Tried.{Tried}
 use Rattle.exchange.specs.Exchanging.{Noted, exchanges}
-use Rattle.seek.specs.Lower.{Beside}
+use Rattle.seek.specs.FromBelow.{Beside}
 use Rattle.trade.specs.Trading.{TradeSays}
 use Rattle.swap.specs.declared.Exchange.{Exchange}
 use Rattle.swap.specs.declared.Spare.{Spare}

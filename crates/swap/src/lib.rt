@@ -4,7 +4,7 @@
 
 ghost use Rattle.acting.specs.Acting.{Ready};
 ghost use Rattle.trade.specs.Trading.{TradeAsks};
-ghost use Rattle.seek.specs.Lower.{SeekAsks};
+ghost use Rattle.seek.specs.FromBelow.{SeekAsks};
 ghost use Rattle.swap.specs.Swapping.{SpareAsks, SpareSays, SwapBesideSays, SwapSays};
 
 use acting::{Tally, Tried};

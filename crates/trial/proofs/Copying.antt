@@ -23,7 +23,7 @@ use Rattle.paper.proofs.Tests.{not-both, never-some, and_left, and_right, some-w
 use Rattle.words.specs.Sets.{words, span, mem_row}
 use Rattle.words.proofs.Sets.{zeros, mem-zeros}
 use Rattle.rings.specs.Search.{Shown}
-use Rattle.acting.proofs.Lower.{beside-path}
+use Rattle.acting.proofs.FromBelow.{beside-path}
 use Rattle.clear_on.proofs.Attempting.{in-bays}
 use Rattle.clear_on.specs.Going.{Attempts}
 use Rattle.trial.specs.Trying.{Led, Near}

@@ -1,3 +1,3 @@
 pub mod Attempting
 pub mod Copying
-pub mod Lower
+pub mod FromBelow

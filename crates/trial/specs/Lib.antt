@@ -1,2 +1,2 @@
 pub mod Trying
-pub mod Lower
+pub mod FromBelow

@@ -2,7 +2,7 @@
 -- Assumes nothing.
 use mathlib.Core.Path.{refl, sym, ◌∙◌}
 use borrow.Author.Rules.{rules}
-use Rattle.go.proofs.Lower.{free_shown}
+use Rattle.go.proofs.FromBelow.{free_shown}
 use Rattle.along.proofs.Along.{past-held, past-none}
 use Rattle.along.proofs.path_past.Statement.{statement}
 use Rattle.along.proofs.path_past.Tie as tie

@@ -14,7 +14,7 @@ use Rattle.words.specs.Sets.{span}
 use Rattle.moving.specs.Bounds.{swap_most}
 use Rattle.acting.specs.Acting.{Tabled}
 use Rattle.acting.specs.declared.Tally.{Tally}
-use Rattle.home.specs.Lower.{BaysBelow}
+use Rattle.home.specs.FromBelow.{BaysBelow}
 use Rattle.acting.proofs.Holding.{ready-again}
 use Rattle.acting.proofs.Lending.{rest-lent}
 use Rattle.home.specs.Homing.{Owners}

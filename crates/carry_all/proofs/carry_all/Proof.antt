@@ -8,15 +8,15 @@ use borrow.Author.Rules.{rules}
 use Rattle.paper.specs.Text.{count}
 use Rattle.acting.specs.Acting.{Tabled}
 use Rattle.moving.specs.Bounds.{carrier_most}
-use Rattle.carry.specs.Lower.{BaysBelow}
+use Rattle.carry.specs.FromBelow.{BaysBelow}
 use Rattle.acting.proofs.Holding.{ready-again}
 use Rattle.acting.proofs.Lending.{rest-lent}
-use Rattle.carry.proofs.Lower.{stages-stuck}
-use Rattle.carry.specs.Lower.{Goals, HomeBelow, Bound}
+use Rattle.carry.proofs.FromBelow.{stages-stuck}
+use Rattle.carry.specs.FromBelow.{Goals, HomeBelow, Bound}
 use Rattle.carry.proofs.Carrying.{settles, settles-stuck}
 use Rattle.carry_all.proofs.Serving.{Served, served-none, served-more, served-stuck, served-all, home-more}
-use Rattle.carry.specs.Lower.{Planned}
-use Rattle.carry.specs.Lower.{Stuck}
+use Rattle.carry.specs.FromBelow.{Planned}
+use Rattle.carry.specs.FromBelow.{Stuck}
 use Rattle.carry_all.proofs.carry_all.Statement.{statement}
 use Rattle.carry_all.proofs.carry_all.Tie as tie
 

@@ -56,7 +56,7 @@ returns c =
     let read-scenario = c.read_scenario-carriers_found in
    
     let read-map = c.read_map-found in
-    order-filed read-map.ensures _ c.in-Grid.is (omega (arith, slice-aggregate-read-map c.before.before.before.before.before.before.before.before.before.before.before.before.before.before.before.before.before.before.before.before.before.before)) read-scenario.ensures _ _ c.in-Carriers.is c.rails-n.ensures
+    order-filed read-map.ensures _ c.in-Grid.is (omega (arith, slice-aggregate-read-map c.before.before.before.before.before.before.before.before.before.before.before.before.before.before.before.before.before.before)) read-scenario.ensures _ _ c.in-Carriers.is c.rails-n.ensures
 
 same-length-4 : tie.Need-shape_of-starts-in-Bad-carriers_found
 same-length-4 c = search rules
@@ -68,7 +68,7 @@ returns-2 : tie.Need-returns-in-Bad-carriers_found
 returns-2 c =
    
     let read-map = c.read_map-found in
-    scenario-refused read-map.ensures _ c.in-Grid.is (omega (arith, slice-aggregate-read-map c.before.before.before.before.before.before.before.before.before.before.before.before.before.before.before.before)) c.read_scenario-carriers_found.ensures _ c.args.ends.now c.in-Bad-carriers_found.is
+    scenario-refused read-map.ensures _ c.in-Grid.is (omega (arith, slice-aggregate-read-map c.before.before.before.before.before.before.before.before.before.before.before.before)) c.read_scenario-carriers_found.ensures _ c.args.ends.now c.in-Bad-carriers_found.is
 
 returns-3 : tie.Need-returns-in-Bad
 returns-3 c =

@@ -1,7 +1,7 @@
 -- `planner::hand_out` meets its contract. Where the plan was not kept whole it is due, and the list is as it was lent.
 -- Assumes nothing.
 use mathlib.Core.Path.{◌∙◌}
-use Rattle.rooms.proofs.Lower.{hands-longer}
+use Rattle.rooms.proofs.FromBelow.{hands-longer}
 use borrow.Author.Rules.{rules}
 use Rattle.planner.proofs.hand_out.Statement.{statement}
 use Rattle.planner.proofs.hand_out.Tie as tie

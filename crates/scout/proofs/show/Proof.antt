@@ -13,37 +13,37 @@ use Rattle.scout.proofs.show.Tie as tie
 copy-requires : tie.Need-copy-requires
 copy-requires c κs = search rules
 
-sub-copy : tie.Need-overflow-sub-copy
+sub-copy : tie.Need-slice_bounds-copy-count
 sub-copy c = search rules
 
-part-copy-start : tie.Need-slice-bounds-copy-start
+part-copy-start : tie.Need-slice_bounds-copy-start
 part-copy-start c = search rules
 
-part-copy-end : tie.Need-slice-bounds-copy-end
+part-copy-end : tie.Need-slice_bounds-copy-end
 part-copy-end c = search rules
 
 copy-requires-2 : tie.Need-copy-requires-2
 copy-requires-2 c κs = search rules
 
-same_length : tie.Need-same-length
+same_length : tie.Need-shape_of-room
 same_length c = search rules
 
 returns : tie.Need-returns
 returns c =
-    let z = c.before.before.before.before.before.before.before.before.before.before.before.requires in
-    let a = c.before.before.before.before.before.before.before.before.before.before.before.args in
-    let copy = c.before.before.before.before.before.before.copy in
-    let copy2 = c.before.before.copy2 in
-    let fits : span ≤ length copy.new.0 = omega (arith, copy.auto.0, z.room_size) in
-    let inside : length a.standing.now ≤ length copy2.new.0 =
-    omega (arith, copy2.auto.0, rest-size copy.new.0 span, copy.auto.0, z.room_size, z.bays_fit) in
+    let z = c.requires in
+    let a = c.args in
+    let copy = c.copy in
+    let copy2 = c.copy-2 in
+    let fits : span ≤ length copy.new.to = omega (arith, copy.auto.to, z.room_size) in
+    let inside : length a.standing.now ≤ length copy2.new.to =
+    omega (arith, copy2.auto.to, rest-size copy.new.to span, copy.auto.to, z.room_size, z.bays_fit) in
     record {
-      same_placement = rest-leaves-front copy.new.0 copy2.new.0 _ span fits _ z.carriers_fit ∙ copy.ensures;
-      same_standing = rest-begins copy.new.0 copy2.new.0 _ span fits _ inside ∙ copy2.ensures;
+      same_placement = rest-leaves-front copy.new.to copy2.new.to _ span fits _ z.carriers_fit ∙ copy.ensures;
+      same_standing = rest-begins copy.new.to copy2.new.to _ span fits _ inside ∙ copy2.ensures;
     }
 
-pub show-spec : {M : Type 1} → statement M
-show-spec =
+pub show_spec : {M : Type 1} → statement M
+show_spec =
     tie.close
     (tie.spec
     copy-requires

@@ -9,5 +9,5 @@ use Rattle.scouts.proofs.nobody.Tie as tie
 returns : tie.Need-returns
 returns c = record { ours = refl; theirs = refl; stuck_size = refl; none_stuck = λ b. mem-zeros words b }
 
-pub nobody-spec : {M : Type 1} → statement M
-nobody-spec = tie.close (tie.spec returns)
+pub nobody_spec : {M : Type 1} → statement M
+nobody_spec = tie.close (tie.spec returns)

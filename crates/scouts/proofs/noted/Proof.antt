@@ -9,39 +9,36 @@ use Rattle.paper.proofs.Tests.{or_cases}
 use Rattle.scouts.proofs.noted.Statement.{statement}
 use Rattle.scouts.proofs.noted.Tie as tie
 
-slice-aggregate-join : tie.Need-slice-aggregate-join
+slice-aggregate-join : tie.Need-slice_bounds-join-end
 slice-aggregate-join c = search rules
 
-mul-join : tie.Need-overflow-mul-join
+mul-join : tie.Need-offset_bounds-path-place
 mul-join c = search rules
 
-shared-slice-read-join : tie.Need-shared-slice-read-join
+shared-slice-read-join : tie.Need-bounds-path-place
 shared-slice-read-join c = search rules
 
-cast-join : tie.Need-overflow-cast-join
+cast-join : tie.Need-overflow_cast-path
 cast-join c =
-    let start = c.before.before.before.before in
-    omega (arith, start.requires.low start.args.place c.before.before.if1.true)
+    omega (arith, c.requires.low c.args.place c.if-place-path.true)
 
 join-requires : tie.Need-join-requires
 join-requires c κs =
-    let start = c.before.before.before.before in
-    (start.requires.size, omega (arith, start.requires.low start.args.place c.before.before.if1.true))
+    (c.requires.size, omega (arith, c.requires.low c.args.place c.if-place-path.true))
 
-returns : tie.Need-returns
+returns : tie.Need-returns-then-place-path
 returns c =
-    let join = c.before.join in
-    let start = c.before.before.before.before.before.before in
+    let join = c.join in
     record {
-      size = join.auto.0 ∙ start.requires.size;
-      only = λ b h. or_cases _ _ (sym (join.ensures b) ∙ h) (λ t. inl t) (λ t. inr (c.before.before.before.before.if1.true, eqb-true _ _ t));
+      size = join.auto.ws ∙ c.requires.size;
+      only = λ b h. or_cases _ _ (sym (join.ensures b) ∙ h) (λ t. inl t) (λ t. inr (c.if-place-path.true, eqb-true _ _ t));
     }
 
-returns-2 : tie.Need-returns-2
-returns-2 c = record { size = c.before.before.requires.size; only = λ b h. inl h }
+returns-2 : tie.Need-returns-else-place-path
+returns-2 c = record { size = c.requires.size; only = λ b h. inl h }
 
-pub noted-spec : {M : Type 1} → statement M
-noted-spec =
+pub noted_spec : {M : Type 1} → statement M
+noted_spec =
     tie.close
     (tie.spec
     slice-aggregate-join

@@ -10,45 +10,44 @@ use borrow.Author.Rules.{rules}
 use Rattle.paper.proofs.Members.{nothing-in-nil}
 use Rattle.words.specs.Sets.{span}
 use Rattle.acting.proofs.Holding.{ready-again}
-use Rattle.trial.proofs.Lower.{in-bays}
+use Rattle.trial.proofs.FromBelow.{in-bays}
 use Rattle.trial.proofs.Copying.{part, part-inside}
 use Rattle.scouts.proofs.Sending.{came-of, sent-most, sent-of}
 use Rattle.scouts.proofs.send.Statement.{statement}
 use Rattle.scouts.proofs.send.Tie as tie
 
-mul-t18 : tie.Need-overflow-mul-t18
+mul-t18 : tie.Need-offset_bounds-path-rails
 mul-t18 c = search rules
 
-shared-slice-read-t20 : tie.Need-shared-slice-read-t20
+shared-slice-read-t20 : tie.Need-bounds-path-rails
 shared-slice-read-t20 c = search rules
 
-on-the-path-requires : tie.Need-on-the-path-requires
+on-the-path-requires : tie.Need-on_the_path-there-requires
 on-the-path-requires c κs = search rules
 
-add-ahead : tie.Need-overflow-add-ahead
+add-ahead : tie.Need-overflow_add-ahead
 add-ahead c = search rules
 
-mul-look : tie.Need-overflow-mul-look
+mul-look : tie.Need-offset_bounds-path-ahead
 mul-look c = search rules
 
-sub-look : tie.Need-overflow-sub-look
+sub-look : tie.Need-slice_bounds-look-count
 sub-look c = search rules
 
-part-look-start : tie.Need-slice-bounds-look-start
+part-look-start : tie.Need-slice_bounds-look-start
 part-look-start c = search rules
 
-part-look-end : tie.Need-slice-bounds-look-end
+part-look-end : tie.Need-slice_bounds-look-end
 part-look-end c = search rules
 
-look-requires : tie.Need-look-requires
+look-requires : tie.Need-look-sight-requires
 look-requires c κs =
-    let start = c.before.before.before.before.before.before.before.before.before.before.before.before.before.before.before in
-    let a = start.args in
-    let p = start.requires.0 in
-    let z = start.requires.1 in
-    let w = c.before.before.before.before.before.on-the-path.ensures in
-    let there = c.before.before.before.before.before.on-the-path.result in
-    let room = c.before.before.before.before.before.on-the-path.new.1.1.1.1.1.1.1.0 in
+    let a = c.args in
+    let p = c.requires.0 in
+    let z = c.requires.1 in
+    let w = c.on_the_path-there.ensures in
+    let there = c.on_the_path-there.result in
+    let room = c.on_the_path-there.new.room in
     let t = z.some_yard.0 in
     let came = came-of p t z.some_yard.2 (in-bays t z.asks.inside, nothing-in-nil _) z.asks.short there room w in
     let few = p.placed.few in
@@ -67,27 +66,25 @@ look-requires c κs =
       short = omega (arith, long, w.there, z.asks.short);
     }
 
-add-t18 : tie.Need-overflow-add-t18
+add-t18 : tie.Need-overflow_add-result
 add-t18 c =
-    let start = c.before.before.before.before.before.before.before.before.before.before.before.before.before.before.before.before.before.before.before.before in
-    let z = start.requires.1 in
-    let there = c.before.before.before.before.before.before.before.before.before.before.on-the-path.result in
-    let w = c.before.before.before.before.before.before.before.before.before.before.on-the-path.ensures in
-    let long = ap length (part start.args.path.now (there.rails + 1)) ∙ length-drop (there.rails + 1) start.args.path.now in
-    omega (arith, c.before.before.before.before.look.ensures.most, long, w.there, z.asks.short)
+    let z = c.requires.1 in
+    let there = c.on_the_path-there.result in
+    let w = c.on_the_path-there.ensures in
+    let long = ap length (part c.args.path.now (there.rails + 1)) ∙ length-drop (there.rails + 1) c.args.path.now in
+    omega (arith, c.look-sight.ensures.most, long, w.there, z.asks.short)
 
-same_length : tie.Need-same-length
-same_length c = c.before.before.before.before.look.auto.1.1.1.1.1.1.0 ∙ c.before.before.before.before.before.before.before.before.before.before.on-the-path.auto.1.1.1.1.1.1.1.0
+same_length : tie.Need-shape_of-room
+same_length c = c.look-sight.auto.room ∙ c.on_the_path-there.auto.room
 
 returns : tie.Need-returns
 returns c =
-    let start = c.before.before.before.before.before.before.before.before.before.before.before.before.before.before.before.before.before.before.before.before in
-    let a = start.args in
-    let p = start.requires.0 in
-    let z = start.requires.1 in
-    let w = c.before.before.before.before.before.before.before.before.before.before.on-the-path.ensures in
-    let there = c.before.before.before.before.before.before.before.before.before.before.on-the-path.result in
-    let look = c.before.before.before.before.look in
+    let a = c.args in
+    let p = c.requires.0 in
+    let z = c.requires.1 in
+    let w = c.on_the_path-there.ensures in
+    let there = c.on_the_path-there.result in
+    let look = c.look-sight in
     let l = rw (part a.path.now (there.rails + 1), add-one) at look.ensures in
     let long = ap length (part a.path.now (there.rails + 1)) ∙ length-drop (there.rails + 1) a.path.now in
     record {
@@ -96,8 +93,8 @@ returns c =
           rw add-one (sent-of p t s (in-bays t z.asks.inside, nothing-in-nil _) z.asks.short there _ w z.asks.coupled.leads z.asks.coupled.follows z.asks.coupled.differ look.result _ l);
     }
 
-pub send-spec : {M : Type 1} → statement M
-send-spec =
+pub send_spec : {M : Type 1} → statement M
+send_spec =
     tie.close
     (tie.spec
     mul-t18

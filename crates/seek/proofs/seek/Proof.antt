@@ -6,51 +6,50 @@ use Rattle.near.specs.declared.Nearby.TheVariants.{Found, Farther, Nowhere}
 use Rattle.seek.proofs.seek.Statement.{statement}
 use Rattle.seek.proofs.seek.Tie as tie
 
-seek-near-requires : tie.Need-seek-near-requires
+seek-near-requires : tie.Need-seek_near-close-requires
 seek-near-requires c κs = search rules
 
-enum-known-close : tie.Need-enum-known-close
-enum-known-close c = c.match.keys1
+enum-known-close : tie.Need-enum_known-close
+enum-known-close c = search rules
 
-enum-known-close-2 : tie.Need-enum-known-close-2
-enum-known-close-2 c = c.match.keys2
+enum-known-close-2 : tie.Need-enum_known-close-in-Farther-1
+enum-known-close-2 c = search rules
 
-seek-far-requires : tie.Need-seek-far-requires
+seek-far-requires : tie.Need-seek_far-requires
 seek-far-requires c κs =
-    let start = c.before.before.before.before.before.before.before.before.before.before.before.before.before in
-    let near = c.before.before.before.before.before.before.seek-near in
-    let e : near.result ≡ Farther c.before.before.close2.given.0.0 = c.before.before.close2.given.1 in
-    (start.requires.0, record { asks = start.requires.1; missed = near.ensures.farther _ e })
+    let near = c.seek_near-close in
+    let e : near.result ≡ Farther c.in-Farther.k = c.in-Farther.is in
+    (c.requires.0, record { asks = c.requires.1; missed = near.ensures.farther _ e })
 
-enum_told : tie.Need-enum-told
-enum_told c = c.match.keys3
+enum_told : tie.Need-enum_told-1
+enum_told c = search rules
 
-same_length : tie.Need-same-length
+same_length : tie.Need-shape_of-out-in-Found
 same_length c = search rules
 
-returns : tie.Need-returns
+returns : tie.Need-returns-in-Found
 returns c =
-    let near = c.before.before.before.before.before.seek-near in
-    let e : near.result ≡ Found c.before.close.given.0.0 = c.before.close.given.1 in
+    let near = c.seek_near-close in
+    let e : near.result ≡ Found c.in-Found.m = c.in-Found.is in
     record { few = near.ensures.few _ e; swaps = near.ensures.found _ e }
 
-same-length-2 : tie.Need-same-length-2
+same-length-2 : tie.Need-shape_of-out-in-Farther
 same-length-2 c = search rules
 
-returns-2 : tie.Need-returns-2
+returns-2 : tie.Need-returns-in-Farther
 returns-2 c = search rules
 
-same-length-3 : tie.Need-same-length-3
+same-length-3 : tie.Need-shape_of-out-in-Nowhere
 same-length-3 c = search rules
 
-returns-3 : tie.Need-returns-3
+returns-3 : tie.Need-returns-in-Nowhere
 returns-3 c =
-    let near = c.before.before.before.before.seek-near in
-    let e : near.result ≡ Nowhere = c.enum_told.given.1 in
+    let near = c.seek_near-close in
+    let e : near.result ≡ Nowhere = c.in-Nowhere.is in
     record { few = tt; swaps = near.ensures.nowhere e }
 
-pub seek-spec : {M : Type 1} → statement M
-seek-spec =
+pub seek_spec : {M : Type 1} → statement M
+seek_spec =
     tie.close
     (tie.spec
     seek-near-requires

@@ -7,51 +7,50 @@ use Rattle.clear_on.proofs.Attempting.{ready-copy}
 use Rattle.trial.proofs.attempt.Statement.{statement}
 use Rattle.trial.proofs.attempt.Tie as tie
 
-slice-aggregate-copy : tie.Need-slice-aggregate-copy
+slice-aggregate-copy : tie.Need-slice_bounds-copy-end
 slice-aggregate-copy c = search rules
 
 copy-requires : tie.Need-copy-requires
 copy-requires c κs = search rules
 
-slice-aggregate-copy-2 : tie.Need-slice-aggregate-copy-2
+slice-aggregate-copy-2 : tie.Need-slice_bounds-copy-end-2
 slice-aggregate-copy-2 c = search rules
 
 copy-requires-2 : tie.Need-copy-requires-2
 copy-requires-2 c κs = search rules
 
-slice-aggregate-keep : tie.Need-slice-aggregate-keep
+slice-aggregate-keep : tie.Need-slice_bounds-keep-end
 slice-aggregate-keep c = search rules
 
 keep-requires : tie.Need-keep-requires
 keep-requires c κs = search rules
 
-array-borrow-prefix-bays : tie.Need-array-borrow-prefix-bays
+array-borrow-prefix-bays : tie.Need-slice_bounds-bays-end
 array-borrow-prefix-bays c = search rules
 
-slice-aggregate-attempt-on : tie.Need-slice-aggregate-attempt-on
+slice-aggregate-attempt-on : tie.Need-slice_bounds-attempt_on-end
 slice-aggregate-attempt-on c =
-    let copy = c.before.before.before.before.before.before.before.before.copy in
+    let copy = c.copy in
     sym (ap length copy.ensures)
 
-array-borrow-prefix-carriers : tie.Need-array-borrow-prefix-carriers
+array-borrow-prefix-carriers : tie.Need-slice_bounds-carriers-end
 array-borrow-prefix-carriers c = search rules
 
-slice-aggregate-attempt-on-2 : tie.Need-slice-aggregate-attempt-on-2
-slice-aggregate-attempt-on-2 c = sym (ap length c.before.before.before.before.before.before.copy2.ensures)
+slice-aggregate-attempt-on-2 : tie.Need-slice_bounds-attempt_on-end-2
+slice-aggregate-attempt-on-2 c = sym (ap length c.copy-2.ensures)
 
-slice-aggregate-attempt-on-3 : tie.Need-slice-aggregate-attempt-on-3
+slice-aggregate-attempt-on-3 : tie.Need-slice_bounds-attempt_on-end-3
 slice-aggregate-attempt-on-3 c = search rules
 
-attempt-on-requires : tie.Need-attempt-on-requires
+attempt-on-requires : tie.Need-attempt_on-requires
 attempt-on-requires c κs =
-    let copy2 = c.before.before.before.before.before.before.before.before.copy2 in
-    let copy = c.before.before.before.before.before.before.before.before.before.before.before.copy in
-    let start = c.before.before.before.before.before.before.before.before.before.before.before.before.before.before.before.before.before.before.before in
-    let p = start.requires.0 in
-    let z = start.requires.1 in
+    let copy2 = c.copy-2 in
+    let copy = c.copy in
+    let p = c.requires.0 in
+    let z = c.requires.1 in
     let e = copy.ensures in
     let d = copy2.ensures in (
-      ready-copy p _ _ _ e d (search rules) c.before.before.before.before.before.keep.ensures.row,
+      ready-copy p _ _ _ e d (search rules) c.keep.ensures.row,
       record {
         coupled = record { leads = rw e z.coupled.leads; follows = rw e z.coupled.follows; differ = z.coupled.differ };
         inside = rw d z.inside;
@@ -60,20 +59,20 @@ attempt-on-requires c κs =
       },
     )
 
-same_length : tie.Need-same-length
-same_length c = c.before.before.before.before.before.attempt-on.auto.1.1.1.1.1.1.0
+same_length : tie.Need-shape_of-out
+same_length c = c.attempt_on.auto.out
 
 returns : tie.Need-returns
 returns c =
-    let attempt-on = c.before.before.before.before.before.attempt-on in
-    let copy2 = c.before.before.before.before.before.before.before.before.before.before.before.before.before.before.copy2 in
-    let copy = c.before.before.before.before.before.before.before.before.before.before.before.before.before.before.before.before.before.copy in
+    let attempt-on = c.attempt_on in
+    let copy2 = c.copy-2 in
+    let copy = c.copy in
     let e = copy.ensures in
     let d = copy2.ensures in
     record { few = attempt-on.ensures.few; attempts = rw (e, d) at attempt-on.ensures.attempts }
 
-pub attempt-spec : {M : Type 1} → statement M
-attempt-spec =
+pub attempt_spec : {M : Type 1} → statement M
+attempt_spec =
     tie.close
     (tie.spec
     slice-aggregate-copy

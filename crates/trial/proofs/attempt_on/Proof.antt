@@ -8,48 +8,48 @@ use Rattle.trial.proofs.Attempting.{attempts-none, attempted}
 use Rattle.trial.proofs.attempt_on.Statement.{statement}
 use Rattle.trial.proofs.attempt_on.Tie as tie
 
-set-up-requires : tie.Need-set-up-requires
+set-up-requires : tie.Need-set_up-ready-requires
 set-up-requires c κs = search rules
 
-enum-known-ready : tie.Need-enum-known-ready
-enum-known-ready c = c.match.keys1
+enum-known-ready : tie.Need-enum_known-ready
+enum-known-ready c = search rules
 
-enum_told : tie.Need-enum-told
-enum_told c = c.match.keys2
+enum_told : tie.Need-enum_told-1
+enum_told c = search rules
 
-same_length : tie.Need-same-length
+same_length : tie.Need-shape_of-placement-in_default
 same_length c =
-    let set-up = c.before.before.before.before.before.before.before.before.before.before.set-up in
-    set-up.auto.1.1.1.0
+    let set-up = c.set_up-ready in
+    set-up.auto.placement
 
-same-length-2 : tie.Need-same-length-2
+same-length-2 : tie.Need-shape_of-standing-in_default
 same-length-2 c =
-    let set-up = c.before.before.before.before.before.before.before.before.before.before.set-up in
-    set-up.auto.1.1.1.1.0
+    let set-up = c.set_up-ready in
+    set-up.auto.standing
 
-same-length-3 : tie.Need-same-length-3
+same-length-3 : tie.Need-shape_of-empty-in_default
 same-length-3 c =
-    let set-up = c.before.before.before.before.before.before.before.before.before.before.set-up in
-    set-up.auto.1.1.1.1.1.0
+    let set-up = c.set_up-ready in
+    set-up.auto.empty
 
-same-length-4 : tie.Need-same-length-4
+same-length-4 : tie.Need-shape_of-out-in_default
 same-length-4 c =
-    let set-up = c.before.before.before.before.before.before.before.before.before.before.set-up in
-    set-up.auto.1.1.1.1.1.1.0
+    let set-up = c.set_up-ready in
+    set-up.auto.out
 
-returns : tie.Need-returns
+returns : tie.Need-returns-in_default
 returns c =
-    let set-up = c.before.before.before.before.before.before.before.before.before.before.set-up in
-    record { few = tt; attempts = λ t led. attempts-none ((set-up.ensures.sets_up t led).missing c.enum_told.given.1) }
+    let set-up = c.set_up-ready in
+    record { few = tt; attempts = λ t led. attempts-none ((set-up.ensures.sets_up t led).missing c.in_default.is) }
 
-cast-follower : tie.Need-overflow-cast-follower
+cast-follower : tie.Need-overflow_cast-follower
 cast-follower c = search rules
 
-mul-behind : tie.Need-overflow-mul-behind
+mul-behind : tie.Need-offset_bounds-placement-follower
 mul-behind c = search rules
 
-slice-read-behind : tie.Need-slice-read-behind
-slice-read-behind c = omega (arith, c.before.before.before.before.before.before.before.before.before.before.before.before.before.before.before.set-up.auto.1.1.1.0, c.before.before.before.before.before.before.before.before.before.before.before.before.before.before.before.before.before.before.before.before.before.before.before.before.before.before.requires.1.coupled.follows)
+slice-read-behind : tie.Need-bounds-placement-follower
+slice-read-behind c = omega (arith, c.set_up-ready.auto.placement, c.requires.1.coupled.follows)
 
 lower-requires : tie.Need-lower-requires
 lower-requires c κs = search rules
@@ -57,69 +57,68 @@ lower-requires c κs = search rules
 higher-requires : tie.Need-higher-requires
 higher-requires c κs = search rules
 
-exchange-requires : tie.Need-exchange-requires
+exchange-requires : tie.Need-exchange-d-requires
 exchange-requires c κs =
-    let set-up = c.before.before.before.before.before.before.before.before.before.before.before.before.before.before.before.before.before.before.set-up in
-    let f = set-up.ensures.few.few _ _ _ c.before.before.before.before.before.before.before.before.ready.given.1 in
+    let set-up = c.set_up-ready in
+    let f = set-up.ensures.few.few _ _ _ c.in-Both.is in
     omega (arith, f.0)
 
 undo-requires : tie.Need-undo-requires
 undo-requires c κs =
-    let ready = c.before.before.before.before.before.before.before.before.before.before.before.before.ready in
-    let set-up = c.before.before.before.before.before.before.before.before.before.before.before.before.before.before.before.before.before.before.before.before.before.before.set-up in
-    let f = set-up.ensures.few.few _ _ _ ready.given.1 in
-    let e = rw length-exchange at c.before.before.before.exchange.ensures.counted in
+   
+    let set-up = c.set_up-ready in
+    let f = set-up.ensures.few.few _ _ _ c.in-Both.is in
+    let e = rw length-exchange at c.exchange-d.ensures.counted in
     (omega (arith, e), omega (arith, e, f.0))
 
-add-crossings : tie.Need-overflow-add-crossings
+add-crossings : tie.Need-overflow_add-crossings
 add-crossings c =
-    let ready = c.before.before.before.before.before.before.before.before.before.before.before.before.before.before.before.ready in
-    let set-up = c.before.before.before.before.before.before.before.before.before.before.before.before.before.before.before.before.before.before.before.before.before.before.before.before.before.set-up in
-    let f = set-up.ensures.few.few _ _ _ ready.given.1 in
-    let e = rw length-exchange at c.before.before.before.before.before.before.exchange.ensures.counted in
+   
+    let set-up = c.set_up-ready in
+    let f = set-up.ensures.few.few _ _ _ c.in-Both.is in
+    let e = rw length-exchange at c.exchange-d.ensures.counted in
     omega (arith, e, f.0)
 
-same-length-5 : tie.Need-same-length-5
+same-length-5 : tie.Need-shape_of-placement
 same-length-5 c =
-    let set-up = c.before.before.before.before.before.before.before.before.before.before.before.before.before.before.before.before.before.before.before.before.before.before.before.before.before.set-up in
-    set-up.auto.1.1.1.0
+    let set-up = c.set_up-ready in
+    set-up.auto.placement
 
-same-length-6 : tie.Need-same-length-6
+same-length-6 : tie.Need-shape_of-standing
 same-length-6 c =
-    let set-up = c.before.before.before.before.before.before.before.before.before.before.before.before.before.before.before.before.before.before.before.before.before.before.before.before.before.set-up in
-    set-up.auto.1.1.1.1.0
+    let set-up = c.set_up-ready in
+    set-up.auto.standing
 
-same-length-7 : tie.Need-same-length-7
+same-length-7 : tie.Need-shape_of-empty
 same-length-7 c =
-    let set-up = c.before.before.before.before.before.before.before.before.before.before.before.before.before.before.before.before.before.before.before.before.before.before.before.before.before.set-up in
-    set-up.auto.1.1.1.1.1.0
+    let set-up = c.set_up-ready in
+    set-up.auto.empty
 
-same-length-8 : tie.Need-same-length-8
+same-length-8 : tie.Need-shape_of-out
 same-length-8 c =
-    let set-up = c.before.before.before.before.before.before.before.before.before.before.before.before.before.before.before.before.before.before.before.before.before.before.before.before.before.set-up in
-    c.before.before.undo.auto.0 ∙ c.before.before.before.before.before.before.exchange.auto.0 ∙ set-up.auto.1.1.1.1.1.1.0
+    let set-up = c.set_up-ready in
+    c.undo.auto.out ∙ c.exchange-d.auto.out ∙ set-up.auto.out
 
-returns-2 : tie.Need-returns-2
+returns-2 : tie.Need-returns
 returns-2 c =
-    let exchange = c.before.before.before.before.before.before.exchange in
-    let lower = c.before.before.before.before.before.before.before.before.lower in
-    let ready = c.before.before.before.before.before.before.before.before.before.before.before.before.before.before.before.ready in
-    let set-up = c.before.before.before.before.before.before.before.before.before.before.before.before.before.before.before.before.before.before.before.before.before.before.before.before.before.set-up in
-    let start = c.before.before.before.before.before.before.before.before.before.before.before.before.before.before.before.before.before.before.before.before.before.before.before.before.before.before.before.before.before.before.before.before.before.before.before.before in
-    let p = start.requires.0 in
-    let z = start.requires.1.coupled in
-    let f = set-up.ensures.few.few _ _ _ ready.given.1 in
+    let exchange = c.exchange-d in
+    let lower = c.lower in
+   
+    let set-up = c.set_up-ready in
+    let p = c.requires.0 in
+    let z = c.requires.1.coupled in
+    let f = set-up.ensures.few.few _ _ _ c.in-Both.is in
     let e = rw length-exchange at exchange.ensures.counted in
     record {
       few = omega (arith, e, f.0);
       attempts = λ t led.
-          let q = (set-up.ensures.sets_up t led).both _ _ _ ready.given.1 in
-          let ex = rw (lower.ensures, c.before.before.before.before.before.before.before.higher.ensures) at exchange.ensures in
-          attempted q p.placed z.leads z.follows z.differ _ t.joins p.most led ex c.before.before.undo.ensures c.before.before.undo.auto.0;
+          let q = (set-up.ensures.sets_up t led).both _ _ _ c.in-Both.is in
+          let ex = rw (lower.ensures, c.higher.ensures) at exchange.ensures in
+          attempted q p.placed z.leads z.follows z.differ _ t.joins p.most led ex c.undo.ensures c.undo.auto.out;
     }
 
-pub attempt-on-spec : {M : Type 1} → statement M
-attempt-on-spec =
+pub attempt_on_spec : {M : Type 1} → statement M
+attempt_on_spec =
     tie.close
     (tie.spec
     set-up-requires

@@ -4,10 +4,10 @@ use borrow.Author.Rules.{rules}
 use Rattle.trial.proofs.lower.Statement.{statement}
 use Rattle.trial.proofs.lower.Tie as tie
 
-returns : tie.Need-returns
+returns : tie.Need-returns-then-x-y
 returns c = search rules
 
-returns-2 : tie.Need-returns-2
+returns-2 : tie.Need-returns
 returns-2 c = search rules
 
 pub lower_spec : {M : Type 1} → statement M

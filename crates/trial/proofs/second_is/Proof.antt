@@ -11,21 +11,20 @@ use Rattle.paper.specs.Basics.{◌and◌}
 use Rattle.trial.proofs.second_is.Statement.{statement}
 use Rattle.trial.proofs.second_is.Tie as tie
 
-returns : tie.Need-returns
+returns : tie.Need-returns-then-path-lt2
 unfolding ◌and◌
-returns c = let h : ltb 1 (length c.before.args.path.now) ≡ false = le-ltb 1 (length c.before.args.path.now) (omega (arith, c.if1.true)) in rw h
+returns c = let h : ltb 1 (length c.args.path.now) ≡ false = le-ltb 1 (length c.args.path.now) (omega (arith, c.if-path-lt2.true)) in rw h
 
-shared-slice-read-result : tie.Need-shared-slice-read-result
+shared-slice-read-result : tie.Need-bounds-path-1
 shared-slice-read-result c = search rules
 
-returns-2 : tie.Need-returns-2
+returns-2 : tie.Need-returns
 unfolding ◌and◌
 returns-2 c =
-    let start = c.before.before.before in
-    let h : ltb 1 (length start.args.path.now) ≡ true = lt-ltb 1 (length start.args.path.now) (omega (arith, c.before.before.if1.false)) in rw h
+    let h : ltb 1 (length c.args.path.now) ≡ true = lt-ltb 1 (length c.args.path.now) (omega (arith, c.if-path-lt2.false)) in rw h
 
-pub second-is-spec : {M : Type 1} → statement M
-second-is-spec =
+pub second_is_spec : {M : Type 1} → statement M
+second_is_spec =
     tie.close
     (tie.spec
     returns

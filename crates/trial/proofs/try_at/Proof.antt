@@ -9,94 +9,86 @@ use borrow.Author.Rules.{rules}
 use Rattle.trial.proofs.try_at.Statement.{statement}
 use Rattle.trial.proofs.try_at.Tie as tie
 
-cast-carrier : tie.Need-overflow-cast-carrier
+cast-carrier : tie.Need-overflow_cast-carrier
 cast-carrier c = search rules
 
-mul-u : tie.Need-overflow-mul-u
+mul-u : tie.Need-offset_bounds-placement-carrier
 mul-u c = search rules
 
-shared-slice-read-u : tie.Need-shared-slice-read-u
+shared-slice-read-u : tie.Need-bounds-placement-carrier
 shared-slice-read-u c = search rules
 
-slice-aggregate-try-on : tie.Need-slice-aggregate-try-on
+slice-aggregate-try-on : tie.Need-slice_bounds-try_on-end
 slice-aggregate-try-on c = search rules
 
-try-on-requires : tie.Need-try-on-requires
+try-on-requires : tie.Need-try_on-requires
 try-on-requires c κs =
-    let start = c.before.before.before.before.before.before.before.before.before.before.before.before in
-    let p = start.requires.0 in
-    let z = start.requires.1 in
-    (p, record { asks = z; bays_inside = alone-inside _ _ (p.placed.inside start.args.trial.carrier.0 z.first); short = omega arith; some_bays = omega arith })
+    let p = c.requires.0 in
+    let z = c.requires.1 in
+    (p, record { asks = z; bays_inside = alone-inside _ _ (p.placed.inside c.args.trial.carrier.0 z.first); short = omega arith; some_bays = omega arith })
 
-same_length : tie.Need-same-length
-same_length c = c.before.before.try-on.auto.1.1.1.1.1.1.0
+same_length : tie.Need-shape_of-out-then-u-v
+same_length c = c.try_on.auto.out
 
-returns : tie.Need-returns
+returns : tie.Need-returns-then-u-v
 returns c =
-    let start = c.before.before.before.before.before.before.before.before.before.before.before.before.before.before.before in
-    let z = start.requires.1 in
-    let own : bay_of start.args.placement.now start.args.trial.carrier.0 ≡ start.args.trial.junction.0 = c.before.before.before.before.before.if1.true in
-    record { few = c.before.before.try-on.ensures.few; attempts = λ t near. c.before.before.try-on.ensures.attempts t near (path-own near (in-bays t z.inside) own) }
+    let z = c.requires.1 in
+    let own : bay_of c.args.placement.now c.args.trial.carrier.0 ≡ c.args.trial.junction.0 = c.if-u-v.true in
+    record { few = c.try_on.ensures.few; attempts = λ t near. c.try_on.ensures.attempts t near (path-own near (in-bays t z.inside) own) }
 
-cast-is-in : tie.Need-overflow-cast-is-in
+cast-is-in : tie.Need-overflow_cast-u
 cast-is-in c =
-    let s = c.before.before.before.before.before.before.before.before.before.before in
-    omega (arith, s.requires.0.placed.inside s.args.trial.carrier.0 s.requires.1.first, s.requires.0.most)
+    omega (arith, c.requires.0.placed.inside c.args.trial.carrier.0 c.requires.1.first, c.requires.0.most)
 
-mul-is-in : tie.Need-overflow-mul-is-in
+mul-is-in : tie.Need-overflow_mul-u
 mul-is-in c =
-    let s = c.before.before.before.before.before.before.before.before.before.before in
-    omega (arith, s.requires.0.placed.inside s.args.trial.carrier.0 s.requires.1.first, s.requires.0.most)
+    omega (arith, c.requires.0.placed.inside c.args.trial.carrier.0 c.requires.1.first, c.requires.0.most)
 
-cast-is-in-2 : tie.Need-overflow-cast-is-in-2
+cast-is-in-2 : tie.Need-overflow_cast-v
 cast-is-in-2 c = search rules
 
-add-is-in : tie.Need-overflow-add-is-in
+add-is-in : tie.Need-overflow_add-u
 add-is-in c =
-    let s = c.before.before.before.before.before.before.before.before.before.before.before in
-    omega (arith, s.requires.0.placed.inside s.args.trial.carrier.0 s.requires.1.first, s.requires.0.most, s.requires.1.inside)
+    omega (arith, c.requires.0.placed.inside c.args.trial.carrier.0 c.requires.1.first, c.requires.0.most, c.requires.1.inside)
 
-is-in-requires : tie.Need-is-in-requires
+is-in-requires : tie.Need-is_in-requires
 is-in-requires c κs =
-    let s = c.before.before.before.before.before.before.before.before.before.before.before in
-    omega (arith, s.requires.0.placed.inside s.args.trial.carrier.0 s.requires.1.first, s.requires.0.most, s.requires.1.inside, s.requires.0.table_size)
+    omega (arith, c.requires.0.placed.inside c.args.trial.carrier.0 c.requires.1.first, c.requires.0.most, c.requires.1.inside, c.requires.0.table_size)
 
-slice-aggregate-try-on-2 : tie.Need-slice-aggregate-try-on-2
+slice-aggregate-try-on-2 : tie.Need-slice_bounds-try_on-end-then-is_in
 slice-aggregate-try-on-2 c = search rules
 
-try-on-requires-2 : tie.Need-try-on-requires-2
+try-on-requires-2 : tie.Need-try_on-requires-then-is_in
 try-on-requires-2 c κs =
-    let s = c.before.before.before.before.before.before.before.before.before.before.before.before.before.before.before in
-    let p = s.requires.0 in
-    let z = s.requires.1 in
-    (p, record { asks = z; bays_inside = two-inside _ _ _ (p.placed.inside s.args.trial.carrier.0 z.first) z.inside; short = omega arith; some_bays = omega arith })
+    let p = c.requires.0 in
+    let z = c.requires.1 in
+    (p, record { asks = z; bays_inside = two-inside _ _ _ (p.placed.inside c.args.trial.carrier.0 z.first) z.inside; short = omega arith; some_bays = omega arith })
 
-same-length-2 : tie.Need-same-length-2
-same-length-2 c = c.before.before.try-on2.auto.1.1.1.1.1.1.0
+same-length-2 : tie.Need-shape_of-out-then-is_in
+same-length-2 c = c.try_on-then-is_in.auto.out
 
-returns-2 : tie.Need-returns-2
+returns-2 : tie.Need-returns-then-is_in
 returns-2 c =
-    let if1 = c.before.before.before.before.before.before.before.before.if1 in
-    let s = c.before.before.before.before.before.before.before.before.before.before.before.before.before.before.before.before.before.before in
-    let p = s.requires.0 in
-    let z = s.requires.1 in
-    let rail = sym c.before.before.before.before.before.if2.true ∙ c.before.before.before.before.before.before.is-in.ensures in
+    let if1 = c.if-u-v in
+    let p = c.requires.0 in
+    let z = c.requires.1 in
+    let rail = sym c.if-is_in.true ∙ c.is_in.ensures in
     record {
-      few = c.before.before.try-on2.ensures.few;
-      attempts = λ t near. c.before.before.try-on2.ensures.attempts t near (path-beside t _ _ p.most (p.placed.inside s.args.trial.carrier.0 z.first) z.inside if1.false rail);
+      few = c.try_on-then-is_in.ensures.few;
+      attempts = λ t near. c.try_on-then-is_in.ensures.attempts t near (path-beside t _ _ p.most (p.placed.inside c.args.trial.carrier.0 z.first) z.inside if1.false rail);
     }
 
-try-along-requires : tie.Need-try-along-requires
+try-along-requires : tie.Need-try_along-requires
 try-along-requires c κs = search rules
 
-same-length-3 : tie.Need-same-length-3
-same-length-3 c = c.before.before.try-along.auto.1.1.1.1.1.0
+same-length-3 : tie.Need-shape_of-out
+same-length-3 c = c.try_along.auto.out
 
-returns-3 : tie.Need-returns-3
+returns-3 : tie.Need-returns
 returns-3 c = search rules
 
-pub try-at-spec : {M : Type 1} → statement M
-try-at-spec =
+pub try_at_spec : {M : Type 1} → statement M
+try_at_spec =
     tie.close
     (tie.spec
     cast-carrier

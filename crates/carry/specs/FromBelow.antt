@@ -1,6 +1,6 @@
 -- What the crates above take from the crates below this one: they name this crate alone, since rt walks every way from one crate down to another.
 pub use Rattle.along.specs.Along.{Bound, Goals, HomeBelow}
 pub use Rattle.home.specs.Homing.{Owners, Stages, StagesAs}
-pub use Rattle.home.specs.Lower.{BaysBelow, Loopless}
+pub use Rattle.home.specs.FromBelow.{BaysBelow, Loopless}
 pub use Rattle.home.specs.declared.Staged.{Staged}
 pub use Rattle.home.specs.declared.Staged.TheVariants.{Planned, Stuck}

@@ -1,3 +1,2 @@
 -- What the crates above take from the crates below this one: they name this crate alone, since rt walks every way from one crate down to another.
-pub use Rattle.home.proofs.Homing.{stages-done, stages-stuck}
-pub use Rattle.home.proofs.Lower.{in-bays, sound-of}
+pub use Rattle.seek.proofs.FromBelow.{free_shown, in-bays, ready-again}

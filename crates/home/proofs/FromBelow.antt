@@ -1,2 +1,2 @@
 -- What the crates above take from the crates below this one: they name this crate alone, since rt walks every way from one crate down to another.
-pub use Rattle.swap.proofs.Lower.{free_shown, in-bays}
+pub use Rattle.go.proofs.FromBelow.{in-bays, sound-of}

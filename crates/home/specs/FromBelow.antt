@@ -1,2 +1,3 @@
 -- What the crates above take from the crates below this one: they name this crate alone, since rt walks every way from one crate down to another.
-pub use Rattle.seek.proofs.Lower.{free_shown, in-bays, ready-again}
+pub use Rattle.go.specs.Going.{Linked, plan_of}
+pub use Rattle.go.specs.FromBelow.{BaysBelow, Loopless}
