@@ -31,7 +31,7 @@ same_length c = search rules
 returns : tie.Need-returns-in-Grid
 returns c =
     let read = c.read-found in
-    lay-as (laying-by (mapped-as read.ensures c.in-Grid.is (omega (arith, slice-aggregate-read c.before.before.before.before.before.before.before.before.before.before.before)))) c.lay.ensures
+    lay-as (laying-by (mapped-as read.ensures c.in-Grid.is (omega (arith, slice-aggregate-read c.before.before.before.before.before.before.before.before.before)))) c.lay.ensures
 
 returns-2 : tie.Need-returns-in-Bad
 returns-2 c = lay-bad _ _ (map-bad c.read-found.ensures _ c.in-Bad.is)

@@ -35,7 +35,7 @@ returns : tie.Need-returns-in-Grid
 returns c =
    
     let read = c.read-found in
-    list-as (listing-by (mapped-as read.ensures c.in-Grid.is (omega (arith, slice-aggregate-read c.before.before.before.before.before.before.before.before.before.before.before.before.before))) c.args.file.now) c.list.ensures
+    list-as (listing-by (mapped-as read.ensures c.in-Grid.is (omega (arith, slice-aggregate-read c.before.before.before.before.before.before.before.before.before.before.before))) c.args.file.now) c.list.ensures
 
 returns-2 : tie.Need-returns-in-Bad
 returns-2 c =
