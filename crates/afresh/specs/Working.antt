@@ -1,6 +1,6 @@
 -- What the pass over plan and marks promises.
 -- Assumes nothing.
-use Rattle.std.specs.Prelude.{◌≡◌, List, ℕ, ◌<◌, ltb, length, get_or, if◌then◌else◌, if◌then◌else◌, if◌then◌else◌}
+use Rattle.std.specs.Prelude.{◌≡◌, List, ℕ, ◌<◌, ltb, length, get_or, if◌then◌else◌}
 use Rattle.paper.specs.Limits.{most_bays}
 use Rattle.paper.specs.Yard.{Bay, Carrier, Placement, crossings, named, after}
 use Rattle.paper.specs.Dependence.{done_of, count_of, slots}

@@ -2,7 +2,7 @@
 // apart, many at a time.
 #![tactic(auto)]
 
-ghost use Rattle.std.specs.Prelude.{◌≡◌, ◌≤◌, max, eqb, length, replicate, if◌then◌else◌, if◌then◌else◌, if◌then◌else◌};
+ghost use Rattle.std.specs.Prelude.{◌≡◌, ◌≤◌, max, eqb, length, replicate, if◌then◌else◌};
 ghost use Rattle.paper.specs.Limits.{most_bays};
 ghost use Rattle.paper.specs.Yard.{crossings, most_crossings};
 ghost use Rattle.paper.specs.Dependence.{done, done_of};

@@ -1,7 +1,7 @@
 -- Crossings over the same tracks take alike placements to alike ones: a legal crossing empties the bay that it leaves and fills the one that it
 -- enters, and whoever stood where it leaves stands where it enters.
 -- Assumes nothing.
-use Rattle.std.specs.Prelude.{if◌then◌else◌, if◌then◌else◌, if◌then◌else◌}
+use Rattle.std.specs.Prelude.{if◌then◌else◌}
 use mathlib.Core.Path.{◌≡◌, refl, sym, ◌∙◌, ap, ap₂}
 use mathlib.Core.Bool.{true, false, not}
 use mathlib.Core.List.{List, [], ◌∷◌, ◌++◌, map-append, reverse-cons}

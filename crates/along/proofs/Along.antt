@@ -1,6 +1,6 @@
 -- The path found is the paper's: it leads from r's bay over rails to its goal. Where there is none, or r cannot go it, the paper is stuck too.
 -- Assumes nothing.
-use Rattle.std.specs.Prelude.{if◌then◌else◌, if◌then◌else◌, if◌then◌else◌}
+use Rattle.std.specs.Prelude.{if◌then◌else◌}
 use mathlib.Core.Path.{◌≡◌, sym, ◌∙◌, ap, refl}
 use mathlib.Core.Bool.{true, false}
 use mathlib.Core.List.{List, [], ◌∷◌, drop_last}

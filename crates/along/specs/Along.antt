@@ -1,6 +1,6 @@
 -- What a carrier's turn asks, and what going its path says: distinct goals among the bays, one for each carrier; the finished ones at home; a path.
 -- Assumes nothing.
-use Rattle.std.specs.Prelude.{Bool, ◌≡◌, List, [], ◌∷◌, ℕ, ◌+◌, ◌*◌, ◌≤◌, ◌<◌, length, take, drop, if◌then◌else◌, if◌then◌else◌, if◌then◌else◌}
+use Rattle.std.specs.Prelude.{Bool, ◌≡◌, List, [], ◌∷◌, ℕ, ◌+◌, ◌*◌, ◌≤◌, ◌<◌, length, take, drop, if◌then◌else◌}
 use Rattle.std.proofs.Math.Option.{some}
 use Rattle.paper.specs.Basics.{NoDup}
 use Rattle.paper.specs.Path.{path_between}

@@ -1,6 +1,6 @@
 -- Demand 3 over record, lines and marks together, for any sequence of reports on a plan that passes the check. A report that is accepted
 -- is one that the paper's report accepts, and any other changes nothing: so the run is the paper's run of the reports that were accepted.
-use Rattle.std.specs.Prelude.{if◌then◌else◌, if◌then◌else◌, if◌then◌else◌}
+use Rattle.std.specs.Prelude.{if◌then◌else◌}
 use mathlib.Core.Path.{◌≡◌, refl, sym, ◌∙◌, ap}
 use mathlib.Core.Bool.{true, false}
 use mathlib.Core.List.{List, [], ◌∷◌, map}

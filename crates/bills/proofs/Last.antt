@@ -1,6 +1,6 @@
 -- The last name in a line: the highest done name of its carrier, which is the last one accepted, since a carrier's crossings depend on each other
 -- and so are accepted in their order.
-use Rattle.std.specs.Prelude.{if◌then◌else◌, if◌then◌else◌, if◌then◌else◌}
+use Rattle.std.specs.Prelude.{if◌then◌else◌}
 use mathlib.Core.Path.{◌≡◌, refl, ◌∙◌, ap}
 use mathlib.Core.Bool.{true, false}
 use mathlib.Core.Logic.{◌↔◌}

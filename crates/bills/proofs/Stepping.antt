@@ -1,6 +1,6 @@
 -- One accepted name more: what record and lines worked out afresh become is what changing them in place gives. An undone crossing is independent of
 -- every done one behind it, so no later crossing of its carrier is done, and whether it moves its carrier in its turn or last is the same.
-use Rattle.std.specs.Prelude.{if◌then◌else◌, if◌then◌else◌, if◌then◌else◌}
+use Rattle.std.specs.Prelude.{if◌then◌else◌}
 use mathlib.Core.Path.{◌≡◌, refl, sym, ◌∙◌, ap}
 use mathlib.Core.Bool.{true, false}
 use mathlib.Core.List.{List, [], ◌∷◌, map}

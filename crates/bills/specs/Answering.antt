@@ -1,7 +1,7 @@
 -- What opening, the agreement test and a report on record and lines answer, in which order they test, and what they leave. A report on record and
 -- lines answers what a report does.
 -- Assumes nothing.
-use Rattle.std.specs.Prelude.{Bool, true, false, not, List, [], ◌∷◌, ℕ, eqb, length, get_or, set, if◌then◌else◌, if◌then◌else◌, if◌then◌else◌}
+use Rattle.std.specs.Prelude.{Bool, true, false, not, List, [], ◌∷◌, ℕ, eqb, length, get_or, set, if◌then◌else◌}
 use Rattle.std.proofs.Math.Option.{Option}
 use Rattle.paper.specs.Basics.{if_some◌then◌else◌, ◌and◌, or_else, when}
 use Rattle.paper.specs.Yard.{crossings, named}

@@ -1,6 +1,6 @@
 -- Bills as we go: what record and lines are once they are worked out afresh from plan, start and marks, and how an accepted report changes them.
 -- Assumes nothing.
-use Rattle.std.specs.Prelude.{List, [], ◌∷◌, ◌++◌, map, ℕ, suc, ◌-◌, max, eqb, length, get_or, set, replicate, if◌then◌else◌, if◌then◌else◌, if◌then◌else◌}
+use Rattle.std.specs.Prelude.{List, [], ◌∷◌, ◌++◌, map, ℕ, suc, ◌-◌, max, eqb, length, get_or, set, replicate, if◌then◌else◌}
 use Rattle.paper.specs.Basics.{◌and◌, up_to}
 use Rattle.paper.specs.Yard.{Bay, Carrier, Placement, Crossing, most_bays, most_crossings, move}
 use Rattle.paper.specs.Dependence.{done, slots, done_of, placement_by, count_of}

@@ -1,7 +1,7 @@
 -- Demand 3 over record, lines and marks together, as a record of what has to hold. proofs/Demand3 proves it whole, and proofs/Nailed derives from it alone what a biller
 -- relies on.
 -- Assumes nothing.
-use Rattle.std.specs.Prelude.{◌≡◌, true, false, ◌↔◌, List, [], ◌∷◌, map, ℕ, ◌<◌, ◌+◌, eqb, length, get_or, if◌then◌else◌, if◌then◌else◌, if◌then◌else◌}
+use Rattle.std.specs.Prelude.{◌≡◌, true, false, ◌↔◌, List, [], ◌∷◌, map, ℕ, ◌<◌, ◌+◌, eqb, length, get_or, if◌then◌else◌}
 use Rattle.paper.specs.Basics.{In, NoDup}
 use Rattle.paper.specs.Yard.{Carrier, Placement, Crossing, after, legal_plan, crossings, named}
 use Rattle.paper.specs.Order.{Order}

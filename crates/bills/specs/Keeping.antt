@@ -1,6 +1,6 @@
 -- Any sequence of reports on one plan, with record and lines beside the marks.
 -- Assumes nothing.
-use Rattle.std.specs.Prelude.{List, [], ◌∷◌, ℕ, length, if◌then◌else◌, if◌then◌else◌, if◌then◌else◌}
+use Rattle.std.specs.Prelude.{List, [], ◌∷◌, ℕ, length, if◌then◌else◌}
 use Rattle.paper.specs.Yard.{Placement, crossings}
 use Rattle.paper.specs.Dependence.{fresh}
 use Rattle.paper.specs.Answers.{Report, accepts}

@@ -1,6 +1,6 @@
 -- The order of carriers around a ring, as one sees it who goes round from one of them.
 -- Assumes nothing.
-use Rattle.std.specs.Prelude.{ℕ, ◌<◌, ◌+◌, ◌-◌, ltb, if◌then◌else◌, if◌then◌else◌, if◌then◌else◌}
+use Rattle.std.specs.Prelude.{ℕ, ◌<◌, ◌+◌, ◌-◌, ltb, if◌then◌else◌}
 use Rattle.paper.specs.Yard.{Carrier, Yard, Placement, bay_of}
 use Rattle.carousels.specs.Round.{Round}
 

@@ -1,6 +1,6 @@
 -- How many carriers of a scenario count, and what is stored of one.
 -- Assumes nothing.
-use Rattle.std.specs.Prelude.{Bool, List, ℕ, eqb, ltb, set, if◌then◌else◌, if◌then◌else◌, if◌then◌else◌}
+use Rattle.std.specs.Prelude.{Bool, List, ℕ, eqb, ltb, set, if◌then◌else◌}
 use Rattle.paper.specs.Limits.{most_carriers}
 
 -- the carriers that a state says it has read, with at most 254 and none before the version

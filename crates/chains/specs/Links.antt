@@ -1,6 +1,6 @@
 -- Five links for each crossing of a plan, by which a search passes over the crossings that cannot be what it looks for.
 -- Assumes nothing.
-use Rattle.std.specs.Prelude.{◌≡◌, List, [], ℕ, zero, suc, ◌≤◌, ◌<◌, ◌+◌, ◌*◌, eqb, length, get_or, if◌then◌else◌, if◌then◌else◌, if◌then◌else◌}
+use Rattle.std.specs.Prelude.{◌≡◌, List, [], ℕ, zero, suc, ◌≤◌, ◌<◌, ◌+◌, ◌*◌, eqb, length, get_or, if◌then◌else◌}
 use Rattle.paper.specs.Limits.{most_bays, most_crossings}
 use Rattle.paper.specs.Yard.{Crossing, crossings, named}
 

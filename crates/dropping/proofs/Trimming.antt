@@ -1,5 +1,5 @@
 -- Dropping goes up name by name: what is dropped so far, and then what dropping the rest would give, is the whole.
-use Rattle.std.specs.Prelude.{if◌then◌else◌, if◌then◌else◌, if◌then◌else◌}
+use Rattle.std.specs.Prelude.{if◌then◌else◌}
 use mathlib.Core.Path.{◌≡◌, refl, sym, ◌∙◌, ap}
 use mathlib.Core.List.{List, ◌∷◌}
 use Prim.Native.Nat.{ℕ, zero, suc, ◌≤◌, ◌<◌, ◌+◌}

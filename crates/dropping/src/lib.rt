@@ -3,7 +3,7 @@
 // is found word by word, since a cut sends the look back. A search by bay or carrier goes by links, past the crossings that cannot be what it looks for.
 #![tactic(auto)]
 
-ghost use Rattle.std.specs.Prelude.{◌≡◌, suc, ◌≤◌, ◌<◌, ◌*◌, ◌-◌, eqb, length, get_or, if◌then◌else◌, if◌then◌else◌, if◌then◌else◌};
+ghost use Rattle.std.specs.Prelude.{◌≡◌, suc, ◌≤◌, ◌<◌, ◌*◌, ◌-◌, eqb, length, get_or, if◌then◌else◌};
 ghost use Rattle.paper.specs.Basics.{◌and◌};
 ghost use Rattle.paper.specs.Yard.{crossings, named};
 ghost use Rattle.trips.specs.Trips.{shorten as shorten_of};

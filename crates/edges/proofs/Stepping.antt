@@ -1,5 +1,5 @@
 -- A byte of the file makes of the state what the definition's step makes of it, byte by byte of the four kinds; and so does the end.
-use Rattle.std.specs.Prelude.{if◌then◌else◌, if◌then◌else◌, if◌then◌else◌}
+use Rattle.std.specs.Prelude.{if◌then◌else◌}
 use mathlib.Core.Path.{◌≡◌, refl, sym, ◌∙◌, ap}
 use mathlib.Core.Bool.{Bool, true, false}
 use mathlib.Core.List.{List}

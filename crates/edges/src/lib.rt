@@ -2,7 +2,7 @@
 // count and the last rail, which `feed` stores where the count has grown. So a file of any length is read in the same room.
 #![tactic(auto)]
 
-ghost use Rattle.std.specs.Prelude.{◌≡◌, List, [], ℕ, ◌≤◌, length, drop, if◌then◌else◌, if◌then◌else◌, if◌then◌else◌};
+ghost use Rattle.std.specs.Prelude.{◌≡◌, List, [], ℕ, ◌≤◌, length, drop, if◌then◌else◌};
 ghost use Rattle.paper.specs.Text.{Text, is_digit};
 ghost use Rattle.paper.specs.Bytes.{tally};
 ghost use Rattle.survey.specs.Bytes.{in_first, in_second, word_byte, line_byte};

@@ -1,6 +1,6 @@
 -- What slots by an edition answer, in which order they test, and what they leave in the lent list.
 -- Assumes nothing.
-use Rattle.std.specs.Prelude.{Bool, not, List, ◌++◌, ℕ, eqb, length, drop, if◌then◌else◌, if◌then◌else◌, if◌then◌else◌}
+use Rattle.std.specs.Prelude.{Bool, not, List, ◌++◌, ℕ, eqb, length, drop, if◌then◌else◌}
 use Rattle.std.proofs.Math.Option.{Option}
 use Rattle.paper.specs.Basics.{if_some◌then◌else◌, or_else, when, ◌or◌}
 use Rattle.paper.specs.Yard.{Crossing, crossings}

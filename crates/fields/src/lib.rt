@@ -2,7 +2,7 @@
 // functions over tiny ones, each equal to its definition.
 #![tactic(auto)]
 
-ghost use Rattle.std.specs.Prelude.{◌≡◌, true, false, suc, ◌<◌, ltb, leb, if◌then◌else◌, if◌then◌else◌, if◌then◌else◌};
+ghost use Rattle.std.specs.Prelude.{◌≡◌, true, false, suc, ◌<◌, ltb, leb, if◌then◌else◌};
 ghost use Rattle.paper.specs.Basics.{◌and◌, ◌or◌};
 ghost use Rattle.paper.specs.Text.{is_digit, is_point, text};
 ghost use Rattle.paper.specs.Bytes.{match_byte, matched, grow, tally, sized_field, number_field, length_field, keep_at, well_field, see as see_byte, field_past as past_field};

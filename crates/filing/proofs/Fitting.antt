@@ -1,5 +1,5 @@
 -- Every order fits in 16,384 ends of rails and 254 carriers: a cell is the lower bay of two rails at most, and a 255th carrier's line is bad.
-use Rattle.std.specs.Prelude.{if◌then◌else◌, if◌then◌else◌, if◌then◌else◌}
+use Rattle.std.specs.Prelude.{if◌then◌else◌}
 use mathlib.Core.Path.{◌≡◌, refl}
 use mathlib.Core.Bool.{Bool, true, false}
 use mathlib.Core.List.{List, [], ◌∷◌, ◌++◌, map}

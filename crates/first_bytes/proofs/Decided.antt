@@ -1,5 +1,5 @@
 -- The first bytes of the two files decide all that the program prints: the plan as it is, shortened, or with its times by either edition.
-use Rattle.std.specs.Prelude.{if◌then◌else◌, if◌then◌else◌, if◌then◌else◌}
+use Rattle.std.specs.Prelude.{if◌then◌else◌}
 use mathlib.Core.Path.{◌≡◌, ap}
 use mathlib.Core.Bool.{Bool}
 use mathlib.Core.Option.{Option}

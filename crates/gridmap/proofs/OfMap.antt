@@ -1,6 +1,6 @@
 -- The numbers that `gridmap::read` leaves are those of the map: a cell has a number if it is a bay, and then one more than the bays
 -- before it. So rails and bays by the numbers are the map's.
-use Rattle.std.specs.Prelude.{if◌then◌else◌, if◌then◌else◌, if◌then◌else◌}
+use Rattle.std.specs.Prelude.{if◌then◌else◌}
 use mathlib.Core.Path.{◌≡◌, refl, sym, ◌∙◌, ap}
 use mathlib.Core.Bool.{Bool, true, false}
 use mathlib.Core.List.{List, [], ◌∷◌, ◌++◌, map}

@@ -1,6 +1,6 @@
 -- A text handed over in a lent list: whole, or not at all where it does not fit.
 -- Assumes nothing.
-use Rattle.std.specs.Prelude.{List, ◌++◌, ◌≡◌, ℕ, leb, length, drop, if◌then◌else◌, if◌then◌else◌, if◌then◌else◌}
+use Rattle.std.specs.Prelude.{List, ◌++◌, ◌≡◌, ℕ, leb, length, drop, if◌then◌else◌}
 use Rattle.paper.specs.Docket.{Verdict, granted, denied, room}
 
 -- the text at the front of the list, if it fits; "a refusal changes no lent list"

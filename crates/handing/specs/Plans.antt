@@ -1,6 +1,6 @@
 -- The print of any list of crossings, handed over: what is answered, and what stands in the lent list then.
 -- Assumes nothing.
-use Rattle.std.specs.Prelude.{List, ℕ, leb, length, if◌then◌else◌, if◌then◌else◌, if◌then◌else◌}
+use Rattle.std.specs.Prelude.{List, ℕ, leb, length, if◌then◌else◌}
 use Rattle.paper.specs.Yard.{crossings, most_crossings}
 use Rattle.paper.specs.Docket.{Verdict, denied, size}
 use Rattle.paper.specs.Print.{print_plan}

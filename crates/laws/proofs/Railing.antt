@@ -1,6 +1,6 @@
 -- A map's rails are held as the document says: lower bay first, in rising order of lower, then higher bay. Bays are numbered in the
 -- order of their cells, and of a cell's own rails the one to the cell beside it leads to the lower bay.
-use Rattle.std.specs.Prelude.{if◌then◌else◌, if◌then◌else◌, if◌then◌else◌}
+use Rattle.std.specs.Prelude.{if◌then◌else◌}
 use mathlib.Core.Path.{◌≡◌, refl, ◌∙◌, ap}
 use mathlib.Core.Bool.{true, false}
 use mathlib.Core.List.{List, [], ◌∷◌, map}

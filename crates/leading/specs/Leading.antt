@@ -1,6 +1,6 @@
 -- The equal leading crossings of two lists, and the rest of the longer one.
 -- Assumes nothing.
-use Rattle.std.specs.Prelude.{List, [], ◌∷◌, ℕ, zero, suc, ◌≤◌, eqb, ltb, length, drop, if◌then◌else◌, if◌then◌else◌, if◌then◌else◌}
+use Rattle.std.specs.Prelude.{List, [], ◌∷◌, ℕ, zero, suc, ◌≤◌, eqb, ltb, length, drop, if◌then◌else◌}
 use Rattle.paper.specs.Docket.{Verdict, granted, denied}
 
 -- "the number of equal leading crossings"

@@ -1,7 +1,7 @@
 -- What opening, the agreement test and a report promise, on record and lines by value. Lines come as they are held: the promises read the first `count` of
 -- them, and so are of whatever is handed in.
 -- Assumes nothing.
-use Rattle.std.specs.Prelude.{◌≡◌, List, [], ℕ, length, if◌then◌else◌, if◌then◌else◌, if◌then◌else◌}
+use Rattle.std.specs.Prelude.{◌≡◌, List, [], ℕ, length, if◌then◌else◌}
 use Rattle.paper.specs.Basics.{if_some◌then◌else◌}
 use Rattle.paper.specs.Yard.{crossings, named}
 use Rattle.paper.specs.Order.{Order}

@@ -1,6 +1,6 @@
 -- What a line of a printed plan says, and what a line of reports says. An action is read as the paper reads it (`read_action`).
 -- Assumes nothing.
-use Rattle.std.specs.Prelude.{Bool, true, false, ℕ, eqb, leb, length, get_or, if◌then◌else◌, if◌then◌else◌, if◌then◌else◌}
+use Rattle.std.specs.Prelude.{Bool, true, false, ℕ, eqb, leb, length, get_or, if◌then◌else◌}
 use Rattle.std.proofs.Math.Option.{Option, none, some}
 use Rattle.paper.specs.Basics.{◌and◌}
 use Rattle.paper.specs.Yard.{Crossing, pack}

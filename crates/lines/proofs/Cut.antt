@@ -1,5 +1,5 @@
 -- Lines are made from the right, so up to the first LF they make one line, without a CR at its end, and the rest makes the others.
-use Rattle.std.specs.Prelude.{if◌then◌else◌, if◌then◌else◌, if◌then◌else◌}
+use Rattle.std.specs.Prelude.{if◌then◌else◌}
 use mathlib.Core.Path.{◌≡◌, refl, sym, ◌∙◌, ap}
 use mathlib.Core.Bool.{true, false, not}
 use mathlib.Core.List.{[], ◌∷◌, ◌++◌, append-nil}

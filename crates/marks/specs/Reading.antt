@@ -1,6 +1,6 @@
 -- How the code's answers read as the paper's, and what a report answers from refusal 12 on.
 -- Assumes nothing.
-use Rattle.std.specs.Prelude.{List, ℕ, if◌then◌else◌, if◌then◌else◌, if◌then◌else◌}
+use Rattle.std.specs.Prelude.{List, ℕ, if◌then◌else◌}
 use Rattle.std.proofs.Math.Option.{Option, none, some}
 use Rattle.paper.specs.Basics.{if_some◌then◌else◌}
 use Rattle.paper.specs.Yard.{Crossing}

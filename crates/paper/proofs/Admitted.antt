@@ -1,6 +1,6 @@
 -- What it means that 1 to 6 were passed, row by row: the sizes fit, each rail joins two bays of the yard, every bay is reached
 -- by rails, two bays stay empty, and carriers stand apart.
-use Rattle.std.specs.Prelude.{if◌then◌else◌, if◌then◌else◌, if◌then◌else◌}
+use Rattle.std.specs.Prelude.{if◌then◌else◌}
 use mathlib.Core.Path.{◌≡◌, refl, sym, ◌∙◌, ap}
 use mathlib.Core.Bool.{Bool, true, false, not}
 use mathlib.Core.List.{List, [], ◌∷◌, ◌++◌}

@@ -1,6 +1,6 @@
 -- Any two answers of the code that a statement allows are equal: it says which definition the answer reads as, and the reading tells any two answers apart. The
 -- crates above cite this for their functions. A refusal is told by its number and what it carries.
-use Rattle.std.specs.Prelude.{if◌then◌else◌, if◌then◌else◌, if◌then◌else◌}
+use Rattle.std.specs.Prelude.{if◌then◌else◌}
 use mathlib.Core.Path.{◌≡◌, refl, sym, ◌∙◌, ap, ap₂}
 use mathlib.Core.Bool.{true, false}
 use mathlib.Core.List.{List, [], ◌∷◌}

@@ -1,6 +1,6 @@
 -- What is kept of a field or of a given text, byte by byte, decides the layout's tests of it: counts are kept up to one past
 -- the limit, which is all that a test asks.
-use Rattle.std.specs.Prelude.{if◌then◌else◌, if◌then◌else◌, if◌then◌else◌}
+use Rattle.std.specs.Prelude.{if◌then◌else◌}
 use mathlib.Core.Path.{◌≡◌, refl, sym, ◌∙◌, ap, ap₂}
 use mathlib.Core.Bool.{Bool, true, false, not}
 use mathlib.Core.List.{[], ◌∷◌, foldl}

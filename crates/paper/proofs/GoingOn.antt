@@ -1,6 +1,6 @@
 -- Clearing goes on with one kept bay e. An attempt vacates x and then e, holding the two carriers' bays, or does so while both stand a bay
 -- further on: so it is legal, the two stand where they stood, and x and e are empty. What sufficed without going on is as it was.
-use Rattle.std.specs.Prelude.{if◌then◌else◌, if◌then◌else◌, if◌then◌else◌}
+use Rattle.std.specs.Prelude.{if◌then◌else◌}
 use mathlib.Core.Path.{◌≡◌, refl, sym, ◌∙◌}
 use mathlib.Core.Bool.{true, false}
 use mathlib.Core.List.{List, [], ◌∷◌, ◌++◌}

@@ -1,6 +1,6 @@
 -- The slots rise strictly along dependence and are the lowest that do: each is one more than the highest it must exceed. One
 -- pass with the last slot of each carrier and bay finds them, since slots at a bay only rise.
-use Rattle.std.specs.Prelude.{if◌then◌else◌, if◌then◌else◌, if◌then◌else◌}
+use Rattle.std.specs.Prelude.{if◌then◌else◌}
 use mathlib.Core.Path.{◌≡◌, refl, sym, ◌∙◌, ap, ap₂, fun_ext}
 use mathlib.Core.Bool.{Bool, true, false}
 use mathlib.Core.Option.{none}

@@ -1,6 +1,6 @@
 -- What planning, check, slots and report answer, in which order they test, and what they leave in the lent lists.
 -- Assumes nothing.
-use Rattle.std.specs.Prelude.{◌≡◌, Bool, true, false, ◌⊎◌, List, [], ◌++◌, map, ℕ, ◌<◌, length, set, drop, if◌then◌else◌, if◌then◌else◌, if◌then◌else◌}
+use Rattle.std.specs.Prelude.{◌≡◌, Bool, true, false, ◌⊎◌, List, [], ◌++◌, map, ℕ, ◌<◌, length, set, drop, if◌then◌else◌}
 use Rattle.std.proofs.Math.Option.{Option, none, some}
 use Rattle.paper.specs.Basics.{if_some◌then◌else◌, or_else}
 use Rattle.paper.specs.Yard.{Crossing, pack, crossings, after, most_crossings}

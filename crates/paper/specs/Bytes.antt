@@ -1,7 +1,7 @@
 -- Files byte by byte, for code and for files that come in pieces: a small state, a step and a finish. proofs/Fed shows for any
 -- layout that folding the step over a file and finishing gives what reading its lines gives.
 -- Assumes nothing.
-use Rattle.std.specs.Prelude.{Bool, true, false, not, ℕ, suc, ◌+◌, ◌-◌, ◌*◌, eqb, ltb, leb, length, get_or, if◌then◌else◌, if◌then◌else◌, if◌then◌else◌}
+use Rattle.std.specs.Prelude.{Bool, true, false, not, ℕ, suc, ◌+◌, ◌-◌, ◌*◌, eqb, ltb, leb, length, get_or, if◌then◌else◌}
 use mathlib.Core.List.{List, [], ◌∷◌, ◌++◌, foldl}
 use Rattle.std.proofs.Math.Option.{Option, none, some}
 use Rattle.paper.specs.Basics.{◌and◌, ◌or◌, ◌>>=◌, when}

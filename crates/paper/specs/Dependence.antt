@@ -1,6 +1,6 @@
 -- Dependence, slots and marks.
 -- Assumes nothing.
-use Rattle.std.specs.Prelude.{◌≡◌, Bool, true, not, List, [], ◌∷◌, ◌++◌, ℕ, zero, suc, max, ◌<◌, ◌≤◌, eqb, length, get_or, replicate, if◌then◌else◌, if◌then◌else◌, if◌then◌else◌}
+use Rattle.std.specs.Prelude.{◌≡◌, Bool, true, not, List, [], ◌∷◌, ◌++◌, ℕ, zero, suc, max, ◌<◌, ◌≤◌, eqb, length, get_or, replicate, if◌then◌else◌}
 use Rattle.std.proofs.Math.Option.{Option}
 use Rattle.paper.specs.Basics.{◌and◌, ◌or◌, any, find, up_to}
 use Rattle.paper.specs.Yard.{Carrier, Placement, Crossing, named, after}

@@ -1,7 +1,7 @@
 -- Numbers on a refused docket: the table. Rows 1 to 15 are document 01's, one definition each: row N is `no-N`, the refusal with what it
 -- carries, or none. Rows 16 to 20 and 25 are document 02's, 26 and 27 are of files that we added; what each is given for stands with its request.
 -- Assumes nothing.
-use Rattle.std.specs.Prelude.{Bool, not, List, [], ◌∷◌, ℕ, suc, ◌+◌, ◌/◌, ◌%◌, eqb, ltb, leb, length, if◌then◌else◌, if◌then◌else◌, if◌then◌else◌}
+use Rattle.std.specs.Prelude.{Bool, not, List, [], ◌∷◌, ℕ, suc, ◌+◌, ◌/◌, ◌%◌, eqb, ltb, leb, length, if◌then◌else◌}
 use Rattle.std.proofs.Math.Option.{Option, none, some}
 use Rattle.paper.specs.Basics.{◌or◌, ◌>>=◌, when, any, find, first_bad, elem, up_to}
 use Rattle.paper.specs.Yard.{Bay, Carrier, Rail, Yard, Placement, Crossing, fewest_bays, most_bays, most_rails, most_crossings, kept_empty, bay_of, lowest_open, open_bays, move, joined, legal}

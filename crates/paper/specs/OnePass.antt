@@ -1,7 +1,7 @@
 -- Forms for code where the document's own would look at every pair of crossings: one pass over the plan, remembering what each
 -- carrier and each bay has met. proofs/Slotting and proofs/Marking show that they say the same.
 -- Assumes nothing.
-use Rattle.std.specs.Prelude.{Bool, true, false, List, [], ◌∷◌, ℕ, suc, max, ◌<◌, eqb, length, get_or, if◌then◌else◌, if◌then◌else◌, if◌then◌else◌}
+use Rattle.std.specs.Prelude.{Bool, true, false, List, [], ◌∷◌, ℕ, suc, max, ◌<◌, eqb, length, get_or, if◌then◌else◌}
 use Rattle.paper.specs.Basics.{◌or◌}
 use Rattle.paper.specs.Yard.{Crossing, unpack}
 use Rattle.paper.specs.Dependence.{done}

@@ -1,7 +1,7 @@
 -- Ways between bays: what can be reached, what is nearest, and the shortest path.
 -- They stand here twice: in the document's words, and as they are computed, by rings. proofs/Shortest, Nearest and Reach show that both say the same.
 -- Assumes nothing.
-use Rattle.std.specs.Prelude.{Bool, true, List, [], ◌∷◌, ◌++◌, ◌⊎◌, ◌≡◌, ℕ, zero, suc, min, ◌<◌, ◌≤◌, eqb, ltb, length, get_or, if◌then◌else◌, if◌then◌else◌, if◌then◌else◌}
+use Rattle.std.specs.Prelude.{Bool, true, List, [], ◌∷◌, ◌++◌, ◌⊎◌, ◌≡◌, ℕ, zero, suc, min, ◌<◌, ◌≤◌, eqb, ltb, length, get_or, if◌then◌else◌}
 use Rattle.std.proofs.Math.Option
 use Rattle.std.proofs.Math.Option.{Option, none, some}
 use Rattle.paper.specs.Basics.{if_some◌then◌else◌, ◌and◌, when, filter, any, first_of, lowest_of, concat, elem, without, In, Out, NoDup}

@@ -1,6 +1,6 @@
 -- How the order is found, sentence by sentence. An action takes the placement and gives what it makes, or none where it fails.
 -- Assumes nothing.
-use Rattle.std.specs.Prelude.{not, ◌≡◌, ℕ, zero, suc, min, max, ◌+◌, eqb, ltb, leb, length, get_or, set, take, drop, if◌then◌else◌, if◌then◌else◌, if◌then◌else◌}
+use Rattle.std.specs.Prelude.{not, ◌≡◌, ℕ, zero, suc, min, max, ◌+◌, eqb, ltb, leb, length, get_or, set, take, drop, if◌then◌else◌}
 use mathlib.Core.List.{List, [], ◌∷◌, ◌++◌, map, drop_last}
 use Rattle.std.proofs.Math.Option.{Option, none, some}
 use Rattle.paper.specs.Basics.{if_some◌then◌else◌, ◌and◌, ◌>>=◌, or_else, filter, first_of, elem, without}

@@ -1,6 +1,6 @@
 -- The scenario file: its layout, and the starts and goals in it.
 -- Assumes nothing.
-use Rattle.std.specs.Prelude.{Bool, List, [], ◌∷◌, ◌++◌, ℕ, eqb, ltb, leb, length, get_or, if◌then◌else◌, if◌then◌else◌, if◌then◌else◌}
+use Rattle.std.specs.Prelude.{Bool, List, [], ◌∷◌, ◌++◌, ℕ, eqb, ltb, leb, length, get_or, if◌then◌else◌}
 use Rattle.std.proofs.Math.Option.{Option, none, some}
 use Rattle.paper.specs.Basics.{◌and◌, ◌or◌, ◌>>=◌, when, any}
 use Rattle.paper.specs.Limits.{most_carriers}

@@ -1,6 +1,6 @@
 -- The vault and its numbers: yard, placement, crossing, and when a crossing is legal.
 -- Assumes nothing.
-use Rattle.std.specs.Prelude.{Bool, true, false, not, List, [], ◌∷◌, map, reverse, ℕ, ◌+◌, ◌-◌, ◌*◌, ◌/◌, ◌%◌, ◌^◌, eqb, ltb, leb, length, get_or, set, if◌then◌else◌, if◌then◌else◌, if◌then◌else◌}
+use Rattle.std.specs.Prelude.{Bool, true, false, not, List, [], ◌∷◌, map, reverse, ℕ, ◌+◌, ◌-◌, ◌*◌, ◌/◌, ◌%◌, ◌^◌, eqb, ltb, leb, length, get_or, set, if◌then◌else◌}
 use Rattle.paper.specs.Basics.{◌and◌, ◌or◌, filter, any, elem, place_of, up_to}
 pub use Rattle.paper.specs.Limits.{fewest_bays, most_bays, most_rails, most_crossings, kept_empty}
 

@@ -1,6 +1,6 @@
 -- What a name finds in a plan, and how the code's answer reads as that.
 -- Assumes nothing.
-use Rattle.std.specs.Prelude.{List, ℕ, leb, length, if◌then◌else◌, if◌then◌else◌, if◌then◌else◌}
+use Rattle.std.specs.Prelude.{List, ℕ, leb, length, if◌then◌else◌}
 use Rattle.std.proofs.Math.Option.{Option, none, some}
 use Rattle.paper.specs.Yard.{Crossing, named}
 use Rattle.docket.specs.Reading.{crossing_of}

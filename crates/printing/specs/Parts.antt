@@ -1,6 +1,6 @@
 -- The parts of the print that the code writes at once.
 -- Assumes nothing.
-use Rattle.std.specs.Prelude.{List, map, ℕ, leb, length, if◌then◌else◌, if◌then◌else◌, if◌then◌else◌}
+use Rattle.std.specs.Prelude.{List, map, ℕ, leb, length, if◌then◌else◌}
 use Rattle.paper.specs.Yard.{crossings, most_crossings}
 use Rattle.paper.specs.Docket.{room}
 use Rattle.paper.specs.Answers.{Answer, accepted, refused}

@@ -1,6 +1,6 @@
 -- What is answered for a plan's file and for a file of reports, and what is left in the lent list. A refusal changes nothing.
 -- Assumes nothing.
-use Rattle.std.specs.Prelude.{Bool, true, false, List, ◌≡◌, ℕ, leb, length, if◌then◌else◌, if◌then◌else◌, if◌then◌else◌}
+use Rattle.std.specs.Prelude.{Bool, true, false, List, ◌≡◌, ℕ, leb, length, if◌then◌else◌}
 use Rattle.paper.specs.Yard.{most_crossings}
 use Rattle.paper.specs.Docket.{Verdict, denied, size, bad_plan, bad_reports}
 use Rattle.paper.specs.Text.{Text, Read, good, bad_line}

@@ -1,7 +1,7 @@
 // The crossings that are still in the plan: counted, and written where the lent list has room for them.
 #![tactic(auto)]
 
-ghost use Rattle.std.specs.Prelude.{◌≡◌, ◌++◌, ◌≤◌, eqb, length, drop, if◌then◌else◌, if◌then◌else◌, if◌then◌else◌};
+ghost use Rattle.std.specs.Prelude.{◌≡◌, ◌++◌, ◌≤◌, eqb, length, drop, if◌then◌else◌};
 ghost use Rattle.paper.specs.Yard.{crossings, most_crossings};
 ghost use Rattle.trips.specs.Trips.{shorten as shorten_of};
 ghost use Rattle.trips.specs.Names.{left};

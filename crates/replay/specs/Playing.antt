@@ -1,6 +1,6 @@
 -- What playing a plan starts from and what it leaves, and how the code's answers read as the paper's.
 -- Assumes nothing.
-use Rattle.std.specs.Prelude.{◌≡◌, Bool, true, List, ℕ, ◌*◌, ◌≤◌, ◌<◌, ltb, length, if◌then◌else◌, if◌then◌else◌, if◌then◌else◌}
+use Rattle.std.specs.Prelude.{◌≡◌, Bool, true, List, ℕ, ◌*◌, ◌≤◌, ◌<◌, ltb, length, if◌then◌else◌}
 use Rattle.std.proofs.Math.Option.{Option, none, some}
 use Rattle.paper.specs.Basics.{elem}
 use Rattle.paper.specs.Yard.{Yard, Bay, Carrier, Placement, Crossing, bay_of, after, legal}

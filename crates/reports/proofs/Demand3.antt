@@ -1,6 +1,6 @@
 -- Demand 3 of the code's own `report`: of every run of it from fresh marks, whatever answers and marks its statement allows.
 -- It holds since the statement allows one answer only, the paper's, so a run is the paper's run.
-use Rattle.std.specs.Prelude.{if◌then◌else◌, if◌then◌else◌}
+use Rattle.std.specs.Prelude.{if◌then◌else◌}
 use mathlib.Core.Path.{◌≡◌, refl, ◌∙◌, ap}
 use mathlib.Core.Bool.{true, false}
 use mathlib.Core.Logic.{◌↔◌}

@@ -1,7 +1,7 @@
 // The last return of a there-and-back trip. The search goes by links, past the crossings that do not enter the bay.
 #![tactic(auto)]
 
-ghost use Rattle.std.specs.Prelude.{◌≡◌, suc, ◌<◌, eqb, length, get_or, if◌then◌else◌, if◌then◌else◌, if◌then◌else◌};
+ghost use Rattle.std.specs.Prelude.{◌≡◌, suc, ◌<◌, eqb, length, get_or, if◌then◌else◌};
 ghost use Rattle.paper.specs.Basics.{◌and◌};
 ghost use Rattle.paper.specs.Yard.{crossings, named};
 ghost use Rattle.trips.specs.Trips.{enters, is_of};

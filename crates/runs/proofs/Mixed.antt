@@ -1,6 +1,6 @@
 -- Demand 3 over any mix of calls. A billed report that is accepted is one that the paper's report accepts, any other changes nothing, and openings and agreement tests
 -- touch no mark: so the marks and names are those of the paper's run of the plain reports and of the billed ones that were accepted.
-use Rattle.std.specs.Prelude.{if◌then◌else◌, if◌then◌else◌, if◌then◌else◌}
+use Rattle.std.specs.Prelude.{if◌then◌else◌}
 use mathlib.Core.Path.{◌≡◌, refl, ◌∙◌, ap}
 use mathlib.Core.Bool.{false}
 use mathlib.Core.List.{List, [], ◌∷◌, map}

@@ -1,6 +1,6 @@
 -- Any sequence of calls on one plan, its marks, its record and its lines: plain reports, billed reports, openings and agreement tests, mixed as they come.
 -- Assumes nothing.
-use Rattle.std.specs.Prelude.{Bool, true, false, ◌↔◌, List, [], ◌∷◌, map, ◌≡◌, ℕ, ◌<◌, length, if◌then◌else◌, if◌then◌else◌, if◌then◌else◌}
+use Rattle.std.specs.Prelude.{Bool, true, false, ◌↔◌, List, [], ◌∷◌, map, ◌≡◌, ℕ, ◌<◌, length, if◌then◌else◌}
 use Rattle.paper.specs.Basics.{In, NoDup}
 use Rattle.paper.specs.Yard.{Carrier, Placement, after, legal_plan, crossings, named}
 use Rattle.paper.specs.Order.{Order}

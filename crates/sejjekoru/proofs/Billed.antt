@@ -1,7 +1,7 @@
 -- Demand 3 of the library's own functions on a running record: of an opening on fresh marks and of every run of reports after it, whatever numbers and books
 -- their statements allow. It holds since a statement allows the definition's books only, so a run is the definition's run.
 -- Assumes nothing.
-use Rattle.std.specs.Prelude.{if◌then◌else◌, if◌then◌else◌, if◌then◌else◌}
+use Rattle.std.specs.Prelude.{if◌then◌else◌}
 use mathlib.Core.Path.{◌≡◌, refl, sym, ◌∙◌, ap}
 use mathlib.Core.List.{List, [], ◌∷◌}
 use mathlib.Core.Option.{Option, none, some}

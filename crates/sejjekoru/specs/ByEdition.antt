@@ -1,6 +1,6 @@
 -- What slots by either edition, and the timed plan, promise to C: the two numbers, and what stands in the lent list at the end.
 -- Assumes nothing.
-use Rattle.std.specs.Prelude.{Bool, not, List, ℕ, eqb, ltb, length, if◌then◌else◌, if◌then◌else◌, if◌then◌else◌}
+use Rattle.std.specs.Prelude.{Bool, not, List, ℕ, eqb, ltb, length, if◌then◌else◌}
 use Rattle.std.proofs.Math.Option.{Option}
 use Rattle.std.proofs.lemmas.List.Edits.{sets}
 use Rattle.paper.specs.Order.{Order}

@@ -1,6 +1,6 @@
 -- Letters of a row, and sides in digits, as the code reads them.
 -- Assumes nothing.
-use Rattle.std.specs.Prelude.{Bool, ℕ, zero, suc, ◌-◌, leb, if◌then◌else◌, if◌then◌else◌, if◌then◌else◌}
+use Rattle.std.specs.Prelude.{Bool, ℕ, zero, suc, ◌-◌, leb, if◌then◌else◌}
 use Rattle.std.proofs.Math.Option.{Option, none, some}
 use Rattle.paper.specs.Basics.{◌and◌, ◌or◌, when}
 use Rattle.paper.specs.Text.{Text, is_digit, value, is_number}

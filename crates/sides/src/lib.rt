@@ -1,7 +1,7 @@
 // The map file's layout: its height and width, or its first bad line. What the rows say is read once they are known to be good.
 #![tactic(auto)]
 
-ghost use Rattle.std.specs.Prelude.{◌≡◌, ◌≤◌, leb, if◌then◌else◌, if◌then◌else◌, if◌then◌else◌};
+ghost use Rattle.std.specs.Prelude.{◌≡◌, ◌≤◌, leb, if◌then◌else◌};
 ghost use Rattle.paper.specs.Basics.{◌or◌};
 ghost use Rattle.paper.specs.Text.{all};
 ghost use Rattle.paper.specs.Map.{side_after, bay_letter, is_row, read_map};

@@ -1,6 +1,6 @@
 -- The survey read byte by byte is the survey read line by line: behind the word stand two fields, and each byte of a field decides
 -- whether it can still be a number of one to five digits.
-use Rattle.std.specs.Prelude.{if◌then◌else◌, if◌then◌else◌, if◌then◌else◌}
+use Rattle.std.specs.Prelude.{if◌then◌else◌}
 use mathlib.Core.Path.{◌≡◌, refl, sym, ◌∙◌}
 use mathlib.Core.Bool.{Bool, true, false}
 use mathlib.Core.List.{List, [], ◌∷◌, foldl}

@@ -2,7 +2,7 @@
 -- reads as the lines do. What it keeps has a fixed size but for the ends that were read, so a file of any length is read in the
 -- same room: comment lines make files that keep the layout as long as one likes.
 -- Assumes nothing.
-use Rattle.std.specs.Prelude.{false, List, [], ◌∷◌, ℕ, suc, eqb, ltb, leb, if◌then◌else◌, if◌then◌else◌, if◌then◌else◌}
+use Rattle.std.specs.Prelude.{false, List, [], ◌∷◌, ℕ, suc, eqb, ltb, leb, if◌then◌else◌}
 use Rattle.std.proofs.Math.Option.{Option, none, some}
 use Rattle.paper.specs.Basics.{◌and◌}
 use Rattle.paper.specs.Yard.{Bay}

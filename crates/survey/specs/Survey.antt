@@ -1,6 +1,6 @@
 -- The surveyors' file (DIMACS edge file): its layout, the file that a yard is written as, and what reading and writing test.
 -- Assumes nothing.
-use Rattle.std.specs.Prelude.{Bool, List, [], ◌∷◌, ◌++◌, map, ℕ, suc, ◌-◌, ◌*◌, ◌/◌, eqb, ltb, leb, length, get_or, take, drop, if◌then◌else◌, if◌then◌else◌, if◌then◌else◌}
+use Rattle.std.specs.Prelude.{Bool, List, [], ◌∷◌, ◌++◌, map, ℕ, suc, ◌-◌, ◌*◌, ◌/◌, eqb, ltb, leb, length, get_or, take, drop, if◌then◌else◌}
 use Rattle.std.proofs.Math.Option.{Option, none, some}
 use Rattle.paper.specs.Basics.{◌and◌, ◌>>=◌, when, or_else}
 use Rattle.paper.specs.Yard.{Bay, Rail}

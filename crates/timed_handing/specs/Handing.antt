@@ -1,6 +1,6 @@
 -- What the steps from an answer to its print promise.
 -- Assumes nothing.
-use Rattle.std.specs.Prelude.{◌≡◌, List, ℕ, ltb, length, if◌then◌else◌, if◌then◌else◌, if◌then◌else◌}
+use Rattle.std.specs.Prelude.{◌≡◌, List, ℕ, ltb, length, if◌then◌else◌}
 use Rattle.std.proofs.lemmas.List.Edits.{sets}
 use Rattle.paper.specs.Docket.{granted, denied, room}
 use Rattle.paper.specs.Answers.{Answer}

@@ -1,6 +1,6 @@
 -- The program with `--timed`: the plan that the two files ask for, each crossing with its time.
 -- Assumes nothing.
-use Rattle.std.specs.Prelude.{Bool, ℕ, if◌then◌else◌, if◌then◌else◌, if◌then◌else◌}
+use Rattle.std.specs.Prelude.{Bool, ℕ, if◌then◌else◌}
 use Rattle.std.proofs.Math.Option.{Option}
 use Rattle.paper.specs.Docket.{edition}
 use Rattle.paper.specs.Answers.{Answer, accepted, refused}

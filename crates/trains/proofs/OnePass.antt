@@ -1,5 +1,5 @@
 -- One pass gives the train slots: a table holds for each carrier, and for each bay, the slot of the latest that the definition looks for.
-use Rattle.std.specs.Prelude.{if◌then◌else◌, if◌then◌else◌, if◌then◌else◌}
+use Rattle.std.specs.Prelude.{if◌then◌else◌}
 use mathlib.Core.Path.{◌≡◌, refl, sym, ap}
 use mathlib.Core.List.{List, [], ◌∷◌}
 use Prim.Native.Nat.{ℕ, suc, max, ◌<◌}

@@ -1,7 +1,7 @@
 -- Why a slot's crossings can be done all at once. A bay is left in a later slot than it was entered, since the carrier makes both, and is entered
 -- again no earlier than it was left. So once the crossings of the slots up to t are done, each crossing that comes next in the plan and is of
 -- these slots is legal there too: its carrier stands at `from`, and `to` is empty.
-use Rattle.std.specs.Prelude.{if◌then◌else◌, if◌then◌else◌, if◌then◌else◌}
+use Rattle.std.specs.Prelude.{if◌then◌else◌}
 use mathlib.Core.Path.{◌≡◌, refl, sym, ◌∙◌, ap}
 use mathlib.Core.Bool.{Bool, true, false}
 use mathlib.Core.List.{List, [], ◌∷◌}

@@ -1,6 +1,6 @@
 -- The timed plan: "one `T: (move ..) [1]` a line in plan order, T the slot less one, the comment line last as in 01"; and reading it.
 -- Assumes nothing.
-use Rattle.std.specs.Prelude.{List, [], ◌∷◌, ◌++◌, ℕ, suc, ◌-◌, eqb, leb, length, get_or, take, drop, if◌then◌else◌, if◌then◌else◌, if◌then◌else◌}
+use Rattle.std.specs.Prelude.{List, [], ◌∷◌, ◌++◌, ℕ, suc, ◌-◌, eqb, leb, length, get_or, take, drop, if◌then◌else◌}
 use Rattle.std.proofs.Math.Option.{Option, none, some}
 use Rattle.paper.specs.Basics.{◌and◌, ◌>>=◌}
 use Rattle.paper.specs.Yard.{Crossing}

@@ -1,6 +1,6 @@
 -- The second edition of slots, for depots with block signals: a carrier may roll into a bay in the slot in which another rolls out.
 -- Assumes nothing.
-use Rattle.std.specs.Prelude.{Bool, List, [], ◌∷◌, ℕ, zero, suc, max, eqb, if◌then◌else◌, if◌then◌else◌, if◌then◌else◌}
+use Rattle.std.specs.Prelude.{Bool, List, [], ◌∷◌, ℕ, zero, suc, max, eqb, if◌then◌else◌}
 use Rattle.paper.specs.Basics.{highest_of}
 use Rattle.paper.specs.Yard.{Bay, Carrier, Crossing}
 

@@ -1,7 +1,7 @@
 -- Forms for code: every crossing keeps its place, and a byte beside each says whether it is still in the plan, 0, or dropped. Nothing is
 -- moved at a cut. proofs/Naming shows that they say the same.
 -- Assumes nothing.
-use Rattle.std.specs.Prelude.{List, [], ◌∷◌, ◌++◌, ℕ, zero, suc, eqb, take, drop, if◌then◌else◌, if◌then◌else◌, if◌then◌else◌}
+use Rattle.std.specs.Prelude.{List, [], ◌∷◌, ◌++◌, ℕ, zero, suc, eqb, take, drop, if◌then◌else◌}
 use Rattle.std.proofs.Math.Option.{Option, none, some}
 use Rattle.paper.specs.Basics.{◌>>=◌, or_else}
 use Rattle.paper.specs.Yard.{Bay, Carrier, Crossing}

@@ -1,7 +1,7 @@
 -- There-and-back trips: a carrier leaves a bay and stands there again, and no other carrier has entered it meanwhile. Shortening
 -- drops such trips until there is none.
 -- Assumes nothing.
-use Rattle.std.specs.Prelude.{Bool, not, List, [], ◌∷◌, ◌++◌, ◌≡◌, ℕ, zero, suc, ◌<◌, ◌-◌, eqb, length, take, drop, if◌then◌else◌, if◌then◌else◌, if◌then◌else◌}
+use Rattle.std.specs.Prelude.{Bool, not, List, [], ◌∷◌, ◌++◌, ◌≡◌, ℕ, zero, suc, ◌<◌, ◌-◌, eqb, length, take, drop, if◌then◌else◌}
 use Rattle.std.proofs.Math.Option.{Option, none, some}
 use Rattle.paper.specs.Basics.{if_some◌then◌else◌, ◌>>=◌, or_else, filter}
 use Rattle.paper.specs.Yard.{Bay, Carrier, Crossing, named}

@@ -1,6 +1,6 @@
 -- `dropping::drop_trip` meets its contract. The leaving, and then one byte at a time up to the last return; names that are passed stay as they are.
 -- Assumes nothing.
-use Rattle.std.specs.Prelude.{if◌then◌else◌, if◌then◌else◌, if◌then◌else◌}
+use Rattle.std.specs.Prelude.{if◌then◌else◌}
 use borrow.Author.Rules.{rules}
 use borrow.Author.Tests.{eqb-true}
 use Rattle.dropping.proofs.Trimming.{trim-next, trim_end, trim-over}

@@ -1,6 +1,6 @@
 -- `remaining::one_left` meets its contract, case by case.
 -- Assumes nothing.
-use Rattle.std.specs.Prelude.{if◌then◌else◌, if◌then◌else◌, if◌then◌else◌}
+use Rattle.std.specs.Prelude.{if◌then◌else◌}
 use borrow.Author.Tests.{eq-eqb, ne_eqb}
 use mathlib.Core.Path.{sym, ap}
 use Rattle.remaining.proofs.one_left.Statement.{statement}

@@ -1,6 +1,6 @@
 -- `remaining::write_left` meets its contract. What is written so far and what is left of the rest are the whole; a dropped crossing is written over.
 -- Assumes nothing.
-use Rattle.std.specs.Prelude.{if◌then◌else◌, if◌then◌else◌, if◌then◌else◌}
+use Rattle.std.specs.Prelude.{if◌then◌else◌}
 use Rattle.remaining.proofs.Writing.{Writing, writing_start, writing-inside, writing-next, writing-end, one-small}
 use Rattle.trips.specs.Names.{left}
 use lib.Dec.{eqb}

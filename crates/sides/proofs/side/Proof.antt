@@ -1,6 +1,6 @@
 -- `sides::side` meets its contract: one digit, two, or another length.
 -- Assumes nothing.
-use Rattle.std.specs.Prelude.{if◌then◌else◌, if◌then◌else◌, if◌then◌else◌}
+use Rattle.std.specs.Prelude.{if◌then◌else◌}
 use mathlib.Core.Path.{◌∙◌, ap}
 use lib.Dec.{leb}
 use borrow.Author.Rules.{rules}
