@@ -49,9 +49,9 @@ pub is-high : (b : ℕ) → 57 < b → is_digit b ≡ false
 unfolding is_digit
 is-high b h = rw (lt-leb b 57 h, and-false (leb 48 b))
 
-pub is_digit : (b : ℕ) → 48 ≤ b → b ≤ 57 → is_digit b ≡ true
+pub is-digit : (b : ℕ) → 48 ≤ b → b ≤ 57 → is_digit b ≡ true
 unfolding is_digit ◌and◌
-is_digit b h k = rw (le-leb 48 b h, le-leb b 57 k)
+is-digit b h k = rw (le-leb 48 b h, le-leb b 57 k)
 
 module _ (most n b : ℕ) where
   abbrev next : ℕ

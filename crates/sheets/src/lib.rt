@@ -1,5 +1,4 @@
-// Lent account lines: read to a value, written from one, and one of them changed. A reference to a struct is not covered by the borrow checker, so
-// these three are proved by walks of their code; all else is done by value.
+// Lent account lines: read to a value, written from one, and one of them changed. All else is done by value.
 #![tactic(auto)]
 
 ghost use Rattle.std.specs.Prelude.{◌≡◌, ◌++◌, ◌≤◌, length, take, drop, set};

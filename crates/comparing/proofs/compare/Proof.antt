@@ -30,7 +30,7 @@ returns c =
     let says = c.differ-answer.ensures in
     record {
       numbered = c.number_of.ensures ∙ ap number_by says.answers;
-      valued = c.value_of_lem.ensures ∙ ap value_by says.answers;
+      valued = c.value_of.ensures ∙ ap value_by says.answers;
       which = c.longer_of.ensures ∙ ap (longer_by c.args.first.now c.args.second.now) says.answers;
       hands_back = c.rest.ensures ∙ ap (part_by c.args.first.now c.args.second.now) says.answers;
       leaves = says.leaves;

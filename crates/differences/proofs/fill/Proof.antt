@@ -49,7 +49,7 @@ loop-less c = search rules
 loop-again : tie.Need-loop-c-preserved invariant-loop decreases-loop
 loop-again c =
     let l = c.loop-c in
-    filling-on c.args.seconds.now c.args.firsts.now l.differences l.c l.invariant c.loop-c-test.true _ (to_z-of_z w64 c.less.result (record { sfits = c.less.type-inv }) ∙ c.less.ensures)
+    filling-on c.args.seconds.now c.args.firsts.now l.differences l.c l.invariant c.loop-c-test.true _ (to_z-of_z w64 c.less.result (record { sfits = c.less.type_inv }) ∙ c.less.ensures)
 
 same_length : tie.Need-shape_of-differences invariant-loop decreases-loop
 same_length c = search rules

@@ -1,6 +1,6 @@
 -- `line_entries::digit_on` meets its contract.
 -- Assumes nothing.
-use Rattle.line_entries.proofs.Numbers.{digit-yes, digit-no, digit-over, is-low, is-high, is_digit}
+use Rattle.line_entries.proofs.Numbers.{digit-yes, digit-no, digit-over, is-low, is-high, is-digit}
 use borrow.Author.Rules.{rules}
 use Rattle.line_entries.proofs.digit_on.Statement.{statement}
 use Rattle.line_entries.proofs.digit_on.Tie as tie
@@ -24,7 +24,7 @@ cast-t10 : tie.Need-overflow_cast-result
 cast-t10 c = search rules
 
 returns-3 : tie.Need-returns-then-next-most
-returns-3 c = digit-yes _ _ _ (is_digit _ c.if-b-lt48.false c.if-b-gt57.false) c.if-next-most.true
+returns-3 c = digit-yes _ _ _ (is-digit _ c.if-b-lt48.false c.if-b-gt57.false) c.if-next-most.true
 
 returns-4 : tie.Need-returns
 returns-4 c = digit-over _ _ _ c.if-next-most.false

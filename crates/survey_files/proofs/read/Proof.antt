@@ -4,25 +4,24 @@ use borrow.Author.Rules.{rules}
 use Rattle.survey_files.proofs.read.Statement.{statement}
 use Rattle.survey_files.proofs.read.Tie as tie
 
-slice-aggregate-read : tie.Need-slice-aggregate-read
+slice-aggregate-read : tie.Need-slice_bounds-read-end
 slice-aggregate-read c = search rules
 
-read-requires : tie.Need-read-requires
+read-requires : tie.Need-read-found-requires
 read-requires c κs = search rules
 
-slice-aggregate-settle : tie.Need-slice-aggregate-settle
+slice-aggregate-settle : tie.Need-slice_bounds-settle-end
 slice-aggregate-settle c = search rules
 
 settle-requires : tie.Need-settle-requires
 settle-requires c κs = search rules
 
-same_length : tie.Need-same-length
+same_length : tie.Need-shape_of-rails
 same_length c = search rules
 
 returns : tie.Need-returns
 returns c =
-    let start = c.before.before.before.before.before.before.before.before.before.before in
-    c.before.before.settle.ensures.says start.args.file.now _ (search rules) (search rules) c.before.before.before.before.before.before.read.ensures
+    c.settle.ensures.says c.args.file.now _ (search rules) (search rules) c.read-found.ensures
 
 pub read_spec : {M : Type 1} → statement M
 read_spec =

@@ -9,48 +9,43 @@ use Rattle.surveying.proofs.Telling.{write-refused, write-room, write-all}
 use Rattle.survey_files.proofs.write.Statement.{statement}
 use Rattle.survey_files.proofs.write.Tie as tie
 
-test-requires : tie.Need-test-requires
+test-requires : tie.Need-test-tested-requires
 test-requires c κs = search rules
 
-enum-known-tested : tie.Need-enum-known-tested
+enum-known-tested : tie.Need-enum_known-tested
 enum-known-tested c = search rules
 
-returns : tie.Need-returns
+returns : tie.Need-returns-in-Refused
 returns c =
-    let start = c.before.before.before.before.before.before in
-    write-refused start.args.bays start.args.rails.now start.args.out.now _ _ (ap tested_of (sym c.before.tested.given.1) ∙ c.before.before.before.test.ensures) refl
+    write-refused c.args.bays c.args.rails.now c.args.out.now _ _ (ap tested_of (sym c.in-Refused.is) ∙ c.test-tested.ensures) refl
 
-enum_told : tie.Need-enum-told
+enum_told : tie.Need-enum_told-1
 enum_told c = search rules
 
-slice-aggregate-write : tie.Need-slice-aggregate-write
+slice-aggregate-write : tie.Need-slice_bounds-write-end
 slice-aggregate-write c = search rules
 
-write-requires : tie.Need-write-requires
+write-requires : tie.Need-write-needed-requires
 write-requires c κs =
-    let start = c.before.before.before.before.before.before in
-    omega (arith, (passes start.args.bays start.args.rails.now (sym (ap tested_of (sym c.before.enum_told.given.1) ∙ c.before.before.before.test.ensures))).few-ends)
+    omega (arith, (passes c.args.bays c.args.rails.now (sym (ap tested_of (sym c.in_default.is) ∙ c.test-tested.ensures))).few-ends)
 
-returns-2 : tie.Need-returns-2
+returns-2 : tie.Need-returns-then-out-needed
 returns-2 c =
-    let start = c.before.before.before.before.before.before.before.before.before in
-    write-room start.args.bays start.args.rails.now start.args.out.now _ (ap tested_of (sym c.before.before.before.before.enum_told.given.1) ∙ c.before.before.before.before.before.before.test.ensures) _ c.before.before.write.ensures.wrote.counted c.if1.true refl
+    write-room c.args.bays c.args.rails.now c.args.out.now _ (ap tested_of (sym c.in_default.is) ∙ c.test-tested.ensures) _ c.write-needed.ensures.wrote.counted c.if-out-needed.true refl
 
-write-requires-2 : tie.Need-write-requires-2
+write-requires-2 : tie.Need-write-written-requires
 write-requires-2 c κs =
-    let start = c.before.before.before.before.before.before.before.before.before.before in
-    omega (arith, (passes start.args.bays start.args.rails.now (sym (ap tested_of (sym c.before.before.before.before.before.enum_told.given.1) ∙ c.before.before.before.before.before.before.before.test.ensures))).few-ends)
+    omega (arith, (passes c.args.bays c.args.rails.now (sym (ap tested_of (sym c.in_default.is) ∙ c.test-tested.ensures))).few-ends)
 
-same_length : tie.Need-same-length
+same_length : tie.Need-shape_of-out
 same_length c = search rules
 
-returns-3 : tie.Need-returns-3
+returns-3 : tie.Need-returns
 returns-3 c =
-    let write = c.before.before.before.before.before.before.write in
-    let enum_told = c.before.before.before.before.before.before.before.before.enum_told in
-    let test = c.before.before.before.before.before.before.before.before.before.before.test in
-    let start = c.before.before.before.before.before.before.before.before.before.before.before.before.before in
-    write-all start.args.bays start.args.rails.now start.args.out.now _ (ap tested_of (sym enum_told.given.1) ∙ test.ensures) _ _ _ write.ensures.wrote.counted write.ensures.short c.before.before.before.before.if1.false c.before.before.write2.ensures.wrote refl
+    let write = c.write-needed in
+   
+    let test = c.test-tested in
+    write-all c.args.bays c.args.rails.now c.args.out.now _ (ap tested_of (sym c.in_default.is) ∙ test.ensures) _ _ _ write.ensures.wrote.counted write.ensures.short c.if-out-needed.false c.write-written.ensures.wrote refl
 
 pub write_spec : {M : Type 1} → statement M
 write_spec =

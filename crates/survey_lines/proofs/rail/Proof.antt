@@ -10,55 +10,40 @@ use Rattle.survey_lines.proofs.Parts.{rail-done}
 use Rattle.survey_lines.proofs.rail.Statement.{statement}
 use Rattle.survey_lines.proofs.rail.Tie as tie
 
-slice-aggregate-put-named : tie.Need-slice-aggregate-put-named
-slice-aggregate-put-named c = search rules
-
-add-put-named : tie.Need-overflow-add-put-named
+add-put-named : tie.Need-overflow_add-a
 add-put-named c = search rules
 
-put-named-requires : tie.Need-put-named-requires
+put-named-requires : tie.Need-put_named-from-requires
 put-named-requires c κs = search rules
 
-slice-aggregate-put-named-2 : tie.Need-slice-aggregate-put-named-2
-slice-aggregate-put-named-2 c = search rules
-
-add-put-named-2 : tie.Need-overflow-add-put-named-2
+add-put-named-2 : tie.Need-overflow_add-b
 add-put-named-2 c = search rules
 
-put-named-requires-2 : tie.Need-put-named-requires-2
+put-named-requires-2 : tie.Need-put_named-to-requires
 put-named-requires-2 c κs =
-    let start = c.before.before.before.before.before.before.before.before in
-    omega (arith, c.before.before.before.before.put-named.ensures.counted, named-short (text "e ") (start.args.a + 1) (search rules), start.requires)
+    omega (arith, c.put_named-from.ensures.counted, named-short (text "e ") (c.args.a + 1) (search rules), c.requires)
 
-slice-aggregate-put-text : tie.Need-slice-aggregate-put-text
-slice-aggregate-put-text c = search rules
-
-put-text-requires : tie.Need-put-text-requires
+put-text-requires : tie.Need-put_text-requires
 put-text-requires c κs =
-    let put-named = c.before.before.before.before.before.before.before.before.before.put-named in
-    let start = c.before.before.before.before.before.before.before.before.before.before.before.before.before in
-    omega (arith, put-named.ensures.counted, c.before.before.before.before.put-named2.ensures.counted, named-short (text "e ") (start.args.a + 1) (search rules), named-short (text " ") (start.args.b + 1) (search rules), start.requires)
+    let put-named = c.put_named-from in
+    omega (arith, put-named.ensures.counted, c.put_named-to.ensures.counted, named-short (text "e ") (c.args.a + 1) (search rules), named-short (text " ") (c.args.b + 1) (search rules), c.requires)
 
-same_length : tie.Need-same-length
+same_length : tie.Need-shape_of-out
 same_length c = search rules
 
 returns : tie.Need-returns
 returns c =
-    let put-named = c.before.before.before.before.before.before.before.before.before.before.before.before.put-named in
-    let start = c.before.before.before.before.before.before.before.before.before.before.before.before.before.before.before.before in
-    rail-done (start.args.a + 1) (start.args.b + 1) (search rules, search rules) start.args.a start.args.b refl refl put-named.ensures c.before.before.before.before.before.before.before.put-named2.ensures c.before.before.put-text.ensures
+    let put-named = c.put_named-from in
+    rail-done (c.args.a + 1) (c.args.b + 1) (search rules, search rules) c.args.a c.args.b refl refl put-named.ensures c.put_named-to.ensures c.put_text.ensures
 
-pub rail-spec : {M : Type 1} → statement M
-rail-spec =
+pub rail_spec : {M : Type 1} → statement M
+rail_spec =
     tie.close
     (tie.spec
-    slice-aggregate-put-named
     add-put-named
     put-named-requires
-    slice-aggregate-put-named-2
     add-put-named-2
     put-named-requires-2
-    slice-aggregate-put-text
     put-text-requires
     same_length
     returns)

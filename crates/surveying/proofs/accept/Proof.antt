@@ -8,44 +8,41 @@ use Rattle.surveying.proofs.Telling.{accept-refused, accept-room, accept-all}
 use Rattle.surveying.proofs.accept.Statement.{statement}
 use Rattle.surveying.proofs.accept.Tie as tie
 
-test-requires : tie.Need-test-requires
+test-requires : tie.Need-test-tested-requires
 test-requires c κs = search rules
 
-enum-known-tested : tie.Need-enum-known-tested
+enum-known-tested : tie.Need-enum_known-tested
 enum-known-tested c = search rules
 
 refused-requires : tie.Need-refused-requires
 refused-requires c κs = search rules
 
-returns : tie.Need-returns
+returns : tie.Need-returns-in-Refused
 returns c =
-    let start = c.before.before.before.before.before.before.before in
-    accept-refused start.args.bays start.args.ends.now start.args.rails.now _ _ (ap tested_of (sym c.before.before.tested.given.1) ∙ c.before.before.before.before.test.ensures) c.refused.ensures.bays (ap verdict_of c.refused.ensures.verdict)
+    accept-refused c.args.bays c.args.ends.now c.args.rails.now _ _ (ap tested_of (sym c.in-Refused.is) ∙ c.test-tested.ensures) c.refused.ensures.bays (ap verdict_of c.refused.ensures.verdict)
 
-enum_told : tie.Need-enum-told
+enum_told : tie.Need-enum_told-1
 enum_told c = search rules
 
-refused-requires-2 : tie.Need-refused-requires-2
+refused-requires-2 : tie.Need-refused-requires-then-rails-count
 refused-requires-2 c κs = search rules
 
-returns-2 : tie.Need-returns-2
+returns-2 : tie.Need-returns-then-rails-count
 returns-2 c =
-    let start = c.before.before.before.before.before.before.before in
-    accept-room start.args.bays start.args.ends.now start.args.rails.now _ (ap tested_of (sym c.before.before.enum_told.given.1) ∙ c.before.before.before.before.test.ensures) c.before.if1.true c.refused2.ensures.bays (ap verdict_of c.refused2.ensures.verdict)
+    accept-room c.args.bays c.args.ends.now c.args.rails.now _ (ap tested_of (sym c.in_default.is) ∙ c.test-tested.ensures) c.if-rails-count.true c.refused-then-rails-count.ensures.bays (ap verdict_of c.refused-then-rails-count.ensures.verdict)
 
 shorts-requires : tie.Need-shorts-requires
 shorts-requires c κs = search rules
 
-same_length : tie.Need-same-length
+same_length : tie.Need-shape_of-rails
 same_length c = search rules
 
-returns-3 : tie.Need-returns-3
+returns-3 : tie.Need-returns
 returns-3 c =
-    let start = c.before.before.before.before.before.before.before.before.before.before in
-    accept-all start.args.bays start.args.ends.now start.args.rails.now _ (ap tested_of (sym c.before.before.before.before.before.enum_told.given.1) ∙ c.before.before.before.before.before.before.before.test.ensures) _ c.before.before.before.before.if1.false refl refl c.before.before.shorts.ensures
+    accept-all c.args.bays c.args.ends.now c.args.rails.now _ (ap tested_of (sym c.in_default.is) ∙ c.test-tested.ensures) _ c.if-rails-count.false refl refl c.shorts.ensures
 
-pub accept-spec : {M : Type 1} → statement M
-accept-spec =
+pub accept_spec : {M : Type 1} → statement M
+accept_spec =
     tie.close
     (tie.spec
     test-requires

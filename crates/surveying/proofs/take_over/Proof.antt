@@ -11,29 +11,26 @@ use Rattle.surveying.proofs.take_over.Tie as tie
 refused-requires : tie.Need-refused-requires
 refused-requires c κs = search rules
 
-returns : tie.Need-returns
+returns : tie.Need-returns-then-room-count
 returns c =
-    let start = c.before.before.before.before in
-    take_long start.args.bays start.args.count start.args.room.now start.args.rails.now _ c.before.if1.true c.refused.ensures.bays (ap verdict_of c.refused.ensures.verdict)
+    take_long c.args.bays c.args.count c.args.room.now c.args.rails.now _ c.if-room-count.true c.refused.ensures.bays (ap verdict_of c.refused.ensures.verdict)
 
-slice-aggregate-accept : tie.Need-slice-aggregate-accept
+slice-aggregate-accept : tie.Need-slice_bounds-accept-end
 slice-aggregate-accept c =
-    let start = c.before.before.before.before in
-    sym (length-take-le start.args.count start.args.room.now c.before.if1.false)
+    sym (length-take-le c.args.count c.args.room.now c.if-room-count.false)
 
 accept-requires : tie.Need-accept-requires
 accept-requires c κs = search rules
 
-same_length : tie.Need-same-length
+same_length : tie.Need-shape_of-rails
 same_length c = search rules
 
-returns-2 : tie.Need-returns-2
+returns-2 : tie.Need-returns
 returns-2 c =
-    let start = c.before.before.before.before.before.before.before.before in
-    take_whole start.args.bays start.args.count start.args.room.now start.args.rails.now _ _ c.before.before.before.before.before.if1.false c.before.before.accept.ensures
+    take_whole c.args.bays c.args.count c.args.room.now c.args.rails.now _ _ c.if-room-count.false c.accept.ensures
 
-pub take-over-spec : {M : Type 1} → statement M
-take-over-spec =
+pub take_over_spec : {M : Type 1} → statement M
+take_over_spec =
     tie.close
     (tie.spec
     refused-requires

@@ -10,29 +10,27 @@ use Rattle.survey.proofs.Three.{three-are-six}
 use Rattle.surveying.proofs.test.Statement.{statement}
 use Rattle.surveying.proofs.test.Tie as tie
 
-slice-aggregate-nobody : tie.Need-slice-aggregate-nobody
+slice-aggregate-nobody : tie.Need-slice_bounds-nobody-end
 slice-aggregate-nobody c = search rules
 
-open-in-requires : tie.Need-open-in-requires
+open-in-requires : tie.Need-open_in-opened-requires
 open-in-requires c κs = mem-zeros (most_bays * set_words)
 
-enum-known-opened : tie.Need-enum-known-opened
+enum-known-opened : tie.Need-enum_known-opened
 enum-known-opened c = search rules
 
-returns : tie.Need-returns
+returns : tie.Need-returns-in-Refused
 returns c =
-    let start = c.before.before.before.before.before.before.before in
-    ap opened_of (sym c.before.opened.given.1) ∙ c.before.before.before.open_in.ensures.answer ∙ three-are-six start.args.bays start.args.rails.now
+    ap opened_of (sym c.in-Refused.is) ∙ c.open_in-opened.ensures.answer ∙ three-are-six c.args.bays c.args.rails.now
 
-enum_told : tie.Need-enum-told
+enum_told : tie.Need-enum_told-1
 enum_told c = search rules
 
-returns-2 : tie.Need-returns-2
+returns-2 : tie.Need-returns
 returns-2 c =
-    let start = c.before.before.before.before.before.before in
-    ap opened_of (sym c.enum_told.given.1) ∙ c.before.before.open_in.ensures.answer ∙ three-are-six start.args.bays start.args.rails.now
+    ap opened_of (sym c.in_default.is) ∙ c.open_in-opened.ensures.answer ∙ three-are-six c.args.bays c.args.rails.now
 
-pub test-spec : {M : Type 1} → statement M
-test-spec =
+pub test_spec : {M : Type 1} → statement M
+test_spec =
     tie.close
     (tie.spec slice-aggregate-nobody open-in-requires enum-known-opened returns enum_told returns-2)

@@ -5,26 +5,26 @@ use borrow.Author.Rules.{rules}
 use Rattle.timed_handing.proofs.hand.Statement.{statement}
 use Rattle.timed_handing.proofs.hand.Tie as tie
 
-slice-aggregate-print-answer : tie.Need-slice-aggregate-print-answer
+slice-aggregate-print-answer : tie.Need-slice_bounds-print_answer-end
 slice-aggregate-print-answer c = search rules
 
-print-answer-requires : tie.Need-print-answer-requires
+print-answer-requires : tie.Need-print_answer-needed-requires
 print-answer-requires c κs = search rules
 
-returns : tie.Need-returns
-returns c = hands-room c.before.before.print-answer.ensures _ c.if1.true
+returns : tie.Need-returns-then-out-needed
+returns c = hands-room c.print_answer-needed.ensures _ c.if-out-needed.true
 
-print-answer-requires-2 : tie.Need-print-answer-requires-2
+print-answer-requires-2 : tie.Need-print_answer-requires
 print-answer-requires-2 c κs = search rules
 
-same_length : tie.Need-same-length
-same_length c = c.before.before.print-answer2.auto.1.1.1.0
+same_length : tie.Need-shape_of-out
+same_length c = c.print_answer.auto.out
 
-returns-2 : tie.Need-returns-2
-returns-2 c = hands-whole c.before.before.before.before.before.before.print-answer.ensures _ c.before.before.before.before.if1.false c.before.before.print-answer2.ensures
+returns-2 : tie.Need-returns
+returns-2 c = hands-whole c.print_answer-needed.ensures _ c.if-out-needed.false c.print_answer.ensures
 
-pub hand-spec : {M : Type 1} → statement M
-hand-spec =
+pub hand_spec : {M : Type 1} → statement M
+hand_spec =
     tie.close
     (tie.spec
     slice-aggregate-print-answer
