@@ -3,8 +3,6 @@ mod Saying
 pub mod Opened
 pub mod Billing
 pub mod Passing
-mod Lifetimes
-pub mod Shared
 pub mod Billed
 pub mod Compared
 pub mod Placed

@@ -39,12 +39,12 @@ enum-known-found-2 c = search rules
 returns : tie.Need-returns-in-Carriers
 returns c =
     let reading = c.reading in
-    over-good c.args.link (sym (slice-aggregate-finish-2 c.before.before.before.before.before.before.before.before)) (sym (slice-aggregate-finish-3 c.before.before.before.before.before.before.before)) _ _ reading.ensures c.finish-r.ensures _ c.answer-found.ensures _ c.in-Carriers.is
+    over-good c.args.link (sym (slice-aggregate-finish-2 c.before.before.before.before.before.before)) (sym (slice-aggregate-finish-3 c.before.before.before.before.before)) _ _ reading.ensures c.finish-r.ensures _ c.answer-found.ensures _ c.in-Carriers.is
 
 returns-2 : tie.Need-returns-in-Bad
 returns-2 c =
     let reading = c.reading in
-    over-bad c.args.link (sym (slice-aggregate-finish-2 c.before.before.before.before.before.before.before.before)) (sym (slice-aggregate-finish-3 c.before.before.before.before.before.before.before)) _ _ reading.ensures c.finish-r.ensures _ c.answer-found.ensures _ c.in-Bad.is
+    over-bad c.args.link (sym (slice-aggregate-finish-2 c.before.before.before.before.before.before)) (sym (slice-aggregate-finish-3 c.before.before.before.before.before)) _ _ reading.ensures c.finish-r.ensures _ c.answer-found.ensures _ c.in-Bad.is
 
 pub over_spec : {M : Type 1} → statement M
 over_spec =

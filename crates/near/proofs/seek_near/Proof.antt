@@ -83,7 +83,7 @@ nearest-holds c =
     (refl, search rules, search rules, omega arith, λ t h. widening-first (free_shown t) _ (zeros words) hu (λ b l. refl) (λ b. c.alone.ensures b ∙ (unfold ◌or◌ in rw (mem-zeros words b))) c.alone-2.ensures, λ t b. sought-first t _ _ _, c.reach-last.ensures)
 
 slice-aggregate-next-from :
-    tie.Need-slice-aggregate-next-from invariant-loop decreases-loop invariant-nearest decreases-nearest
+    tie.Need-slice_bounds-next_from-end invariant-loop decreases-loop invariant-nearest decreases-nearest
 slice-aggregate-next-from c = search rules
 
 next-from-requires : tie.Need-next_from-v-requires invariant-loop decreases-loop invariant-nearest decreases-nearest
@@ -119,7 +119,7 @@ enum_told : tie.Need-enum_told-1 invariant-loop decreases-loop invariant-nearest
 enum_told c = search rules
 
 slice-aggregate-next-from-2 :
-    tie.Need-slice-aggregate-next-from-2 invariant-loop decreases-loop invariant-nearest decreases-nearest
+    tie.Need-slice_bounds-next_from-end-in-loop-v invariant-loop decreases-loop invariant-nearest decreases-nearest
 slice-aggregate-next-from-2 c = search rules
 
 add-next-from : tie.Need-overflow_add-v invariant-loop decreases-loop invariant-nearest decreases-nearest

@@ -114,7 +114,7 @@ nearest-holds c =
     )
 
 slice-aggregate-first-far :
-    tie.Need-slice-aggregate-first-far invariant-loop decreases-loop invariant-nearest decreases-nearest
+    tie.Need-slice_bounds-first_far-end invariant-loop decreases-loop invariant-nearest decreases-nearest
 slice-aggregate-first-far c = search rules
 
 first-far-requires : tie.Need-first_far-v-requires invariant-loop decreases-loop invariant-nearest decreases-nearest
@@ -170,7 +170,7 @@ array-share-prefix-path c =
     omega (arith, n.6, n.7, n.8, p.most)
 
 slice-aggregate-try-junction :
-    tie.Need-slice-aggregate-try-junction invariant-loop decreases-loop invariant-nearest decreases-nearest
+    tie.Need-slice_bounds-try_junction-end invariant-loop decreases-loop invariant-nearest decreases-nearest
 slice-aggregate-try-junction c =
     let p = c.requires.0 in
     let n = c.nearest.invariant in
@@ -178,7 +178,7 @@ slice-aggregate-try-junction c =
     sym (length-take-le _ _ (omega (arith, size, n.6, n.7, n.8, p.most)))
 
 slice-aggregate-try-junction-2 :
-    tie.Need-slice-aggregate-try-junction-2 invariant-loop decreases-loop invariant-nearest decreases-nearest
+    tie.Need-slice_bounds-try_junction-end-then-is_junction invariant-loop decreases-loop invariant-nearest decreases-nearest
 slice-aggregate-try-junction-2 c = search (rules, c.loop-v.invariant.6)
 
 try-junction-requires : tie.Need-try_junction-turn-requires invariant-loop decreases-loop invariant-nearest decreases-nearest
@@ -198,7 +198,7 @@ enum_told : tie.Need-enum_told-1 invariant-loop decreases-loop invariant-nearest
 enum_told c = search rules
 
 slice-aggregate-next-from :
-    tie.Need-slice-aggregate-next-from invariant-loop decreases-loop invariant-nearest decreases-nearest
+    tie.Need-slice_bounds-next_from-end invariant-loop decreases-loop invariant-nearest decreases-nearest
 slice-aggregate-next-from c = search rules
 
 add-next-from : tie.Need-overflow_add-v invariant-loop decreases-loop invariant-nearest decreases-nearest
@@ -244,19 +244,19 @@ loop-again c =
     c.if-is_junction.branch
 
 slice-aggregate-next-ring :
-    tie.Need-slice-aggregate-next-ring invariant-loop decreases-loop invariant-nearest decreases-nearest
+    tie.Need-slice_bounds-next_ring-end invariant-loop decreases-loop invariant-nearest decreases-nearest
 slice-aggregate-next-ring c = search rules
 
 slice-aggregate-next-ring-2 :
-    tie.Need-slice-aggregate-next-ring-2 invariant-loop decreases-loop invariant-nearest decreases-nearest
+    tie.Need-slice_bounds-next_ring-end-in-nearest invariant-loop decreases-loop invariant-nearest decreases-nearest
 slice-aggregate-next-ring-2 c = search rules
 
 slice-aggregate-next-ring-3 :
-    tie.Need-slice-aggregate-next-ring-3 invariant-loop decreases-loop invariant-nearest decreases-nearest
+    tie.Need-slice_bounds-next_ring-end-in-nearest-2 invariant-loop decreases-loop invariant-nearest decreases-nearest
 slice-aggregate-next-ring-3 c = search rules
 
 slice-aggregate-next-ring-4 :
-    tie.Need-slice-aggregate-next-ring-4 invariant-loop decreases-loop invariant-nearest decreases-nearest
+    tie.Need-slice_bounds-next_ring-end-in-nearest-3 invariant-loop decreases-loop invariant-nearest decreases-nearest
 slice-aggregate-next-ring-4 c = search rules
 
 next-ring-requires : tie.Need-next_ring-count-requires invariant-loop decreases-loop invariant-nearest decreases-nearest
