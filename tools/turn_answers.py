@@ -235,6 +235,7 @@ def aligned(text, new, old):
 
 def turned(text, path, table, outer, joined):
     goals, steps, places, arms, tree = table
+    text = re.sub(r"(?m)^(\S+) :\n +(tie\.Need-)", r"\1 : \2", text)
     module = re.search(r"(?m)^use (Rattle\.\S+)\.Tie as tie$", text)
     if joined and module:
         text = by_ways(text, steps, joined, module[1])
@@ -255,6 +256,11 @@ def turned(text, path, table, outer, joined):
             text = re.sub(r"(?m)^use ", "use borrow.Author.Rules.{rules}\nuse ", text, count=1)
 
     def of_told(part):
+        for m in list(re.finditer(rf"\n? *let ({WORD}) = ({WORD}(?:\.{WORD})*)\.given in", part)):
+            uses = re.findall(rf"(?<![\w.'-]){re.escape(m[1])}(?![\w'-])\.?", part.replace(m[0], "", 1))
+            if uses and all(it.endswith(".") for it in uses):
+                part = part.replace(m[0], "", 1)
+                part = re.sub(rf"(?<![\w.'-]){re.escape(m[1])}(?=\.)", lambda _: m[2] + ".given", part)
         for m in list(re.finditer(rf"\n? *let ({WORD}) = (\w+(?:\.before)*\.({WORD})) in", part)):
             uses = re.findall(rf"(?<![\w.'-]){re.escape(m[1])}(?![\w'-])\.?", part.replace(m[0], "", 1))
             if alike(m[3]) in arms and uses and all(it.endswith(".") for it in uses):

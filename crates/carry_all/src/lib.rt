@@ -5,9 +5,9 @@ ghost use Rattle.acting.specs.Acting.{Ready};
 ghost use Rattle.carry_all.specs.Serving.{CarryAllAsks, CarryAllSays};
 
 use carry::along::ToGoal;
+pub use carry::home;
 use carry::home::Staged;
 use docket::{Bay, Carrier};
-pub use carry::home;
 
 // All carriers by rising number, each lent the rest of the list. What the yard is, is asked once, since in a carousel every bay must tell.
 pub fn carry_all(

@@ -6,8 +6,8 @@ ghost use Rattle.std.specs.Prelude.{◌≤◌, ◌<◌, ◌*◌, length};
 ghost use Rattle.words.specs.Sets.{words, span};
 ghost use Rattle.play.specs.Playing.{Admitted, TableAsks, PlayOnAsks, PlaysOut};
 
-use carry_all::home::Staged;
 pub use carry_all::home;
+use carry_all::home::Staged;
 use words::{SPAN, WORDS};
 use yard::Yard;
 

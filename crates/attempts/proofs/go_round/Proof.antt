@@ -98,7 +98,6 @@ part-enter-end c = search rules
 
 enter-requires-2 : tie.Need-enter-back-requires
 enter-requires-2 c κs =
-   
     let vacate-both = c.vacate_both-vacated in
     let enter = c.enter-forth in
     let p = c.requires.0 in
@@ -141,7 +140,6 @@ same-length-8 c = c.out-3-1.given.1 ∙ c.out-2-1.given.1 ∙ c.enter-forth.auto
 returns-2 : tie.Need-returns
 returns-2 c =
     let enter2 = c.enter-back in
-   
     let vacate-both = c.vacate_both-vacated in
     let enter = c.enter-forth in
     let z = c.requires.1 in

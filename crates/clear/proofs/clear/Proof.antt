@@ -289,7 +289,6 @@ part-keep-second-end c = search rules
 
 keep-second-requires-2 : tie.Need-keep_second-rest-requires
 keep-second-requires-2 c κs =
-   
     let keep_one = c.keep_one-first in
     let join = c.join in
     let alone = c.alone in
@@ -317,7 +316,6 @@ keep-second-requires-2 c κs =
 
 after-requires : tie.Need-after-requires
 after-requires c κs =
-   
     let keep_one = c.keep_one-first in
     let e : keep_one.result ≡ One c.in-One.kept c.in-One.made = c.in-One.is in
     let few = rw e at keep_one.ensures.few in
@@ -338,7 +336,6 @@ same-length-13 c = c.out-3-1.given.1 ∙ c.keep_one-first.auto.out
 returns-4 : tie.Need-returns
 returns-4 c =
     let keep-second2 = c.keep_second-rest in
-   
     let keep_one = c.keep_one-first in
     let if1 = c.if-x-lt-SPAN in
     let lowest-common = c.lowest_common-x in

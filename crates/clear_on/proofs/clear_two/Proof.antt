@@ -40,7 +40,6 @@ part-go-on-end c = search rules
 
 go-on-requires : tie.Need-go_on-rest-requires
 go-on-requires c κs =
-   
     let clear = c.clear-cleared in
     let p = c.requires.0 in
     let z = c.requires.1 in
@@ -100,7 +99,6 @@ same-length-8 c = c.out-in-Single-1.given.1 ∙ c.clear-cleared.auto.out
 
 returns-2 : tie.Need-returns-in-Single
 returns-2 c =
-   
     let clear = c.clear-cleared in
     let p = c.requires.0 in
     let z = c.requires.1 in

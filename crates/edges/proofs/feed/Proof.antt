@@ -41,8 +41,7 @@ loop-less c = search rules
 
 loop-again : tie.Need-loop-i-preserved invariant-loop decreases-loop
 loop-again c =
-    let loop = c.loop-i in
-    (
+    let loop = c.loop-i in (
       search rules,
       (
         ap length c.keep.ensures ∙ stored-length _ _ _ ∙ loop.invariant.1.0,

@@ -54,7 +54,6 @@ same-length-3 c = search rules
 returns : tie.Need-returns-in-Carriers
 returns c =
     let read-scenario = c.read_scenario-carriers_found in
-   
     let read-map = c.read_map-found in
     order-filed read-map.ensures _ c.in-Grid.is (omega (arith, slice-aggregate-read-map c.before.before.before.before.before.before.before.before.before.before.before.before.before.before.before.before.before.before)) read-scenario.ensures _ _ c.in-Carriers.is c.rails-n.ensures
 
@@ -66,7 +65,6 @@ same-length-5 c = search rules
 
 returns-2 : tie.Need-returns-in-Bad-carriers_found
 returns-2 c =
-   
     let read-map = c.read_map-found in
     scenario-refused read-map.ensures _ c.in-Grid.is (omega (arith, slice-aggregate-read-map c.before.before.before.before.before.before.before.before.before.before.before.before)) c.read_scenario-carriers_found.ensures _ c.args.ends.now c.in-Bad-carriers_found.is
 

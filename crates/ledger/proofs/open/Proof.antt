@@ -26,7 +26,6 @@ hold-requires c κs = search rules
 
 returns : tie.Need-returns-in-Refused
 returns c =
-   
     let o = order c.args.bays c.args.rails.now c.args.start.now c.args.goal.now in open-refused o c.args.plan.now c.args.marks.now c.args.running c.args.count c.in-Refused.r c.hold.result (c.hold.ensures ∙ ap (held_of 0) c.no_lines.ensures) (eleven-first o c.args.plan.now c.args.marks.now c.args.running c.args.count c.in-Refused.r (ap checked_of (sym c.in-Refused.is) ∙ c.up_to_eleven-checked.ensures))
 
 enum_told : tie.Need-enum_told-1

@@ -69,7 +69,6 @@ same-length-3 c = search rules
 
 returns-3 : tie.Need-returns
 returns-3 c =
-   
     let up-to-eleven = c.up_to_eleven-checked in
     let o = order c.args.bays c.args.rails.now c.args.start.now c.args.goal.now in
     let passes = ap checked_of (sym c.in_default.is) ∙ up-to-eleven.ensures in

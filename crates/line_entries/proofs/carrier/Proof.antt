@@ -42,7 +42,6 @@ from-bay-requires c κs = search rules
 
 returns-2 : tie.Need-returns-then-end-text
 returns-2 c =
-   
     let cut = c.cut-end in
     c.from_bay.ensures ∙ carrier-yes _ _ cut.ensures c.if-end-text.true c.in-Spells.carrier (sym c.in-Spells.is ∙ c.number_after.ensures)
 

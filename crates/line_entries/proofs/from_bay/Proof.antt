@@ -51,7 +51,6 @@ to-bay-requires c κs = search rules
 
 returns-2 : tie.Need-returns-then-end-text
 returns-2 c =
-   
     let cut = c.cut-end in
     c.to_bay.ensures ∙ from-yes _ _ cut.ensures _ c.if-end-text.true c.in-Spells.from (sym c.in-Spells.is ∙ c.number_after.ensures)
 

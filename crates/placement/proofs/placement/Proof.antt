@@ -38,7 +38,6 @@ shorts-requires c κs = search rules
 
 move-done-requires : tie.Need-move_done-requires
 move-done-requires c κs =
-   
     let check = c.check-checked in
     let passes = ap checked_of (sym c.in_default.is) ∙ check.ensures in
     let b = sym c.bad_marks.ensures ∙ c.if-bad_marks.false in
@@ -52,7 +51,6 @@ returns-4 c =
     let if2 = c.if-at-start in
     let if1 = c.if-bad_marks in
     let bad-marks = c.bad_marks in
-   
     let check = c.check-checked in
     let b = sym bad-marks.ensures ∙ if1.false in
     says-placed (order c.args.bays c.args.rails.now c.args.start.now c.args.goal.now) c.args.plan.now c.args.marks.now c.args.at.now (ap checked_of (sym c.in_default.is) ∙ check.ensures) b if2.false _ _ c.shorts.ensures c.move_done.ensures

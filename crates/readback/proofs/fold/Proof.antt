@@ -55,13 +55,11 @@ same-length-2 c = search rules
 
 returns-2 : tie.Need-returns-then-is_broken invariant-loop decreases-loop
 returns-2 c =
-   
     let loop = c.loop-stop in
     came-bad c.args.reports c.args.file.now c.args.out.now loop.invariant.1.1.1.1 _ _ (c.next_line.ensures.line c.in-Text.stop c.in-Text.next c.in-Text.is) c.of_line-said.result c.of_line-said.ensures (sym c.is_broken.ensures ∙ c.if-is_broken.true)
 
 keep-requires : tie.Need-keep-count-requires invariant-loop decreases-loop
 keep-requires c κs =
-   
     let next-line = c.next_line in
     let loop = c.loop-stop in
     let t = next-line.ensures.line c.in-Text.stop c.in-Text.next c.in-Text.is in omega (arith, t.on, t.within, loop.invariant.1.1.0)
@@ -71,14 +69,12 @@ add-line c = search rules
 
 loop-less : tie.Need-loop-stop-smaller invariant-loop decreases-loop
 loop-less c =
-   
     let next-line = c.next_line in
     let t = next-line.ensures.line c.in-Text.stop c.in-Text.next c.in-Text.is in omega (arith, t.on, t.within)
 
 loop-again : tie.Need-loop-stop-preserved invariant-loop decreases-loop
 loop-again c =
     let of-line = c.of_line-said in
-   
     let next-line = c.next_line in
     let loop = c.loop-stop in
     let t = next-line.ensures.line c.in-Text.stop c.in-Text.next c.in-Text.is in (t.within, (omega (arith, t.on, loop.invariant.1.0), (omega (arith, t.on, c.keep-count.ensures.counted, numbers-few of-line.result, loop.invariant.1.1.0), (wrote-length c.keep-count.ensures ∙ loop.invariant.1.1.1.0, came-next c.args.reports c.args.file.now c.args.out.now loop.invariant.1.1.1.1 _ _ t of-line.result of-line.ensures (sym c.is_broken.ensures ∙ c.if-is_broken.false) c.keep-count.ensures))))

@@ -29,7 +29,6 @@ same_length c = search rules
 
 returns-2 : tie.Need-returns-else-count-gt-CROSSINGS
 returns-2 c =
-   
     let fold = c.fold-found in
     plan-gives c.args.file.now c.args.out.now fold.ensures c.in-Numbers.count c.in-Numbers.is c.if-count-gt-CROSSINGS.false c.give.ensures
 

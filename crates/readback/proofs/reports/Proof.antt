@@ -25,7 +25,6 @@ same_length c = search rules
 
 returns : tie.Need-returns-in-Numbers
 returns c =
-   
     let fold = c.fold-found in
     reports-give c.args.file.now c.args.out.now fold.ensures c.in-Numbers.count c.in-Numbers.is c.give.ensures
 

@@ -33,7 +33,6 @@ same-length-2 c = search rules
 
 returns : tie.Need-returns-in-Grid
 returns c =
-   
     let read = c.read-found in
     list-as (listing-by (mapped-as read.ensures c.in-Grid.is (omega (arith, slice-aggregate-read c.before.before.before.before.before.before.before.before.before.before.before))) c.args.file.now) c.list.ensures
 

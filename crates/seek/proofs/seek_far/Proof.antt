@@ -2,7 +2,6 @@
 -- Assumes nothing.
 use mathlib.Core.Path.{◌≡◌, refl, sym, ap, ◌∙◌}
 use mathlib.Core.Bool.{true}
-use mathlib.Core.Logic.{⊎_elim}
 use Prim.Native.Nat.{◌≤◌, ◌<◌, ◌-◌}
 use native.Mathlib.Omega.{arith}
 use lib.ListN.{length, replicate}
@@ -20,6 +19,7 @@ use Rattle.near.proofs.Seeking.{Sought, sought-first, sought-found, sought-end, 
 use Rattle.seek.proofs.Seeking.{sought-far, scouted-first, search-first, search-dry, search-more, foresee-asks}
 use Rattle.seek.proofs.seek_far.Statement.{statement}
 use Rattle.seek.proofs.seek_far.Tie as tie
+use Rattle.seek.proofs.seek_far.Lts.{then-is_junction+in_default, else-is_junction}
 
 abbrev invariant-loop : tie.invariant-loop-v
 invariant-loop table r s k placement standing empty out₀ carrier u n seen ring met before path₀ room₀ scouts₀ done count d v₀ out path room scouts v =
@@ -113,8 +113,7 @@ nearest-holds c =
       search rules,
     )
 
-slice-aggregate-first-far :
-    tie.Need-slice_bounds-first_far-end invariant-loop decreases-loop invariant-nearest decreases-nearest
+slice-aggregate-first-far : tie.Need-slice_bounds-first_far-end invariant-loop decreases-loop invariant-nearest decreases-nearest
 slice-aggregate-first-far c = search rules
 
 first-far-requires : tie.Need-first_far-v-requires invariant-loop decreases-loop invariant-nearest decreases-nearest
@@ -169,16 +168,14 @@ array-share-prefix-path c =
     let n = c.nearest.invariant in
     omega (arith, n.6, n.7, n.8, p.most)
 
-slice-aggregate-try-junction :
-    tie.Need-slice_bounds-try_junction-end invariant-loop decreases-loop invariant-nearest decreases-nearest
+slice-aggregate-try-junction : tie.Need-slice_bounds-try_junction-end invariant-loop decreases-loop invariant-nearest decreases-nearest
 slice-aggregate-try-junction c =
     let p = c.requires.0 in
     let n = c.nearest.invariant in
     let size = c.trace.auto.path ∙ c.loop-v.invariant.1 in
     sym (length-take-le _ _ (omega (arith, size, n.6, n.7, n.8, p.most)))
 
-slice-aggregate-try-junction-2 :
-    tie.Need-slice_bounds-try_junction-end-then-is_junction invariant-loop decreases-loop invariant-nearest decreases-nearest
+slice-aggregate-try-junction-2 : tie.Need-slice_bounds-try_junction-end-then-is_junction invariant-loop decreases-loop invariant-nearest decreases-nearest
 slice-aggregate-try-junction-2 c = search (rules, c.loop-v.invariant.6)
 
 try-junction-requires : tie.Need-try_junction-turn-requires invariant-loop decreases-loop invariant-nearest decreases-nearest
@@ -197,8 +194,7 @@ enum-known-tried c = search rules
 enum_told : tie.Need-enum_told-1 invariant-loop decreases-loop invariant-nearest decreases-nearest
 enum_told c = search rules
 
-slice-aggregate-next-from :
-    tie.Need-slice_bounds-next_from-end invariant-loop decreases-loop invariant-nearest decreases-nearest
+slice-aggregate-next-from : tie.Need-slice_bounds-next_from-end invariant-loop decreases-loop invariant-nearest decreases-nearest
 slice-aggregate-next-from c = search rules
 
 add-next-from : tie.Need-overflow_add-v invariant-loop decreases-loop invariant-nearest decreases-nearest
@@ -220,43 +216,39 @@ loop-again c =
     let loop = c.loop-v in
     let nearest = c.nearest in
     let l = c.next_from-v.ensures in
-    ⊎_elim
-    (λ q. (
-      ap length q.15 ∙ q.8.kept.1.1.1.1.1.1.1.0 ∙ loop.invariant.0,
-      ap length q.16 ∙ q.3.kept.1.1.1.0 ∙ loop.invariant.1,
-      l.upto,
-      l.hit,
-      λ t b.
-          let w = q.8.ensures.tried t b (sym (is-junction.ensures t) ∙ q.0.taken) in
-          sought-more t _ _ _ p.most hu _ _ (nearest.invariant.9 t).ringing _ _ (loop.invariant.4 t b) (w.fails q.14.given.1) l,
-      rw (q.17, q.18) q.8.ensures.scouted,
-      ap length q.17 ∙ q.8.kept.1.1.1.1.1.1.0 ∙ loop.invariant.6,
-    ))
-    (λ q. (
-      ap length q.1 ∙ loop.invariant.0,
-      ap length q.2 ∙ loop.invariant.1,
-      l.upto,
-      l.hit,
-      λ t b. sought-more t _ _ _ p.most hu _ _ (nearest.invariant.9 t).ringing _ _ (loop.invariant.4 t b) (fitting-not _ _ _ _ _ (sym (is-junction.ensures t) ∙ q.0.left)) l,
-      rw (q.3, q.4) loop.invariant.5,
-      ap length q.3 ∙ loop.invariant.6,
-    ))
-    c.if-is_junction.branch
+    elim c.if-is_junction.branch [
+      | then-is_junction+in_default q ↦ (
+        ap length q.out-is ∙ q.try_junction-turn.auto.out ∙ loop.invariant.0,
+        ap length q.path-is ∙ q.trace.auto.path ∙ loop.invariant.1,
+        l.upto,
+        l.hit,
+        λ t b.
+            let w = q.try_junction-turn.ensures.tried t b (sym (is-junction.ensures t) ∙ q.if-is_junction.true) in
+            sought-more t _ _ _ p.most hu _ _ (nearest.invariant.9 t).ringing _ _ (loop.invariant.4 t b) (w.fails q.in_default.is) l,
+        rw (q.room-is, q.scouts-is) q.try_junction-turn.ensures.scouted,
+        ap length q.room-is ∙ q.try_junction-turn.auto.room ∙ loop.invariant.6,
+      )
+      | else-is_junction q ↦ (
+        ap length q.out-is ∙ loop.invariant.0,
+        ap length q.path-is ∙ loop.invariant.1,
+        l.upto,
+        l.hit,
+        λ t b. sought-more t _ _ _ p.most hu _ _ (nearest.invariant.9 t).ringing _ _ (loop.invariant.4 t b) (fitting-not _ _ _ _ _ (sym (is-junction.ensures t) ∙ q.if-is_junction.false)) l,
+        rw (q.room-is, q.scouts-is) loop.invariant.5,
+        ap length q.room-is ∙ loop.invariant.6,
+      )
+    ]
 
-slice-aggregate-next-ring :
-    tie.Need-slice_bounds-next_ring-end invariant-loop decreases-loop invariant-nearest decreases-nearest
+slice-aggregate-next-ring : tie.Need-slice_bounds-next_ring-end invariant-loop decreases-loop invariant-nearest decreases-nearest
 slice-aggregate-next-ring c = search rules
 
-slice-aggregate-next-ring-2 :
-    tie.Need-slice_bounds-next_ring-end-in-nearest invariant-loop decreases-loop invariant-nearest decreases-nearest
+slice-aggregate-next-ring-2 : tie.Need-slice_bounds-next_ring-end-in-nearest invariant-loop decreases-loop invariant-nearest decreases-nearest
 slice-aggregate-next-ring-2 c = search rules
 
-slice-aggregate-next-ring-3 :
-    tie.Need-slice_bounds-next_ring-end-in-nearest-2 invariant-loop decreases-loop invariant-nearest decreases-nearest
+slice-aggregate-next-ring-3 : tie.Need-slice_bounds-next_ring-end-in-nearest-2 invariant-loop decreases-loop invariant-nearest decreases-nearest
 slice-aggregate-next-ring-3 c = search rules
 
-slice-aggregate-next-ring-4 :
-    tie.Need-slice_bounds-next_ring-end-in-nearest-3 invariant-loop decreases-loop invariant-nearest decreases-nearest
+slice-aggregate-next-ring-4 : tie.Need-slice_bounds-next_ring-end-in-nearest-3 invariant-loop decreases-loop invariant-nearest decreases-nearest
 slice-aggregate-next-ring-4 c = search rules
 
 next-ring-requires : tie.Need-next_ring-count-requires invariant-loop decreases-loop invariant-nearest decreases-nearest
@@ -352,30 +344,6 @@ returns-2 c =
           swap-none _ _ _ _ (sought-end t _ _ _ _ dry left);
     }
 
-asked-12 : tie.Need-slice_bounds-first_far-end invariant-loop decreases-loop invariant-nearest decreases-nearest
-asked-12 c = search rules
-
-asked-22 : tie.Need-slice_bounds-try_junction-end invariant-loop decreases-loop invariant-nearest decreases-nearest
-asked-22 c = search rules
-
-asked-23 : tie.Need-slice_bounds-try_junction-end-then-is_junction invariant-loop decreases-loop invariant-nearest decreases-nearest
-asked-23 c = search rules
-
-asked-27 : tie.Need-slice_bounds-next_from-end invariant-loop decreases-loop invariant-nearest decreases-nearest
-asked-27 c = search rules
-
-asked-32 : tie.Need-slice_bounds-next_ring-end invariant-loop decreases-loop invariant-nearest decreases-nearest
-asked-32 c = search rules
-
-asked-33 : tie.Need-slice_bounds-next_ring-end-in-nearest invariant-loop decreases-loop invariant-nearest decreases-nearest
-asked-33 c = search rules
-
-asked-34 : tie.Need-slice_bounds-next_ring-end-in-nearest-2 invariant-loop decreases-loop invariant-nearest decreases-nearest
-asked-34 c = search rules
-
-asked-35 : tie.Need-slice_bounds-next_ring-end-in-nearest-3 invariant-loop decreases-loop invariant-nearest decreases-nearest
-asked-35 c = search rules
-
 pub seek_far_spec : {M : Type 1} → statement M
 seek_far_spec =
     tie.close
@@ -396,7 +364,7 @@ seek_far_spec =
     alone-requires-2
     array-write-met
     nearest-holds
-    asked-12
+    slice-aggregate-first-far
     first-far-requires
     loop-holds
     cast-t45
@@ -406,20 +374,20 @@ seek_far_spec =
     trace-requires
     add-rails
     array-share-prefix-path
-    asked-22
-    asked-23
+    slice-aggregate-try-junction
+    slice-aggregate-try-junction-2
     try-junction-requires
     enum-known-tried
     enum_told
-    asked-27
+    slice-aggregate-next-from
     add-next-from
     next-from-requires
     loop-less
     loop-again
-    asked-32
-    asked-33
-    asked-34
-    asked-35
+    slice-aggregate-next-ring
+    slice-aggregate-next-ring-2
+    slice-aggregate-next-ring-3
+    slice-aggregate-next-ring-4
     next-ring-requires
     add-d
     nearest-less

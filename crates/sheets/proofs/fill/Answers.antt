@@ -17,7 +17,7 @@ loop-i-preserved c =
     let lines = c.args.lines.now in
     let e : suc i ≡ i + 1 = omega arith in
     let now : set c.loop-i.lines i c.line_at.result ≡ take (suc i) held ++ drop (suc i) lines =
-      ap (λ k. set k i c.line_at.result) c.loop-i.invariant.so_far
-      ∙ ap (set (take i held ++ drop i lines) i) c.line_at.ensures
-      ∙ next i held lines _ (omega arith) (omega arith) in
+    ap (λ k. set k i c.line_at.result) c.loop-i.invariant.so_far
+    ∙ ap (set (take i held ++ drop i lines) i) c.line_at.ensures
+    ∙ next i held lines _ (omega arith) (omega arith) in
     record { within = omega arith; so_far = now ∙ ap (λ (k : ℕ). take k held ++ drop k lines) e }

@@ -43,7 +43,6 @@ same_length c = search rules
 returns-3 : tie.Need-returns
 returns-3 c =
     let write = c.write-needed in
-   
     let test = c.test-tested in
     write-all c.args.bays c.args.rails.now c.args.out.now _ (ap tested_of (sym c.in_default.is) ∙ test.ensures) _ _ _ write.ensures.wrote.counted write.ensures.short c.if-out-needed.false c.write-written.ensures.wrote refl
 

@@ -5,62 +5,62 @@ use Rattle.swap.proofs.Besides.{two-spare, both-spare, fewer-spare}
 use Rattle.swap.proofs.spare_bays.Statement.{statement}
 use Rattle.swap.proofs.spare_bays.Tie as tie
 
-slice-aggregate-join-row : tie.Need-slice-aggregate-join-row
+slice-aggregate-join-row : tie.Need-slice_bounds-join_row-end
 slice-aggregate-join-row c = search rules
 
-cast-join-row : tie.Need-overflow-cast-join-row
+cast-join-row : tie.Need-overflow_cast-u
 cast-join-row c = search rules
 
-join-row-requires : tie.Need-join-row-requires
+join-row-requires : tie.Need-join_row-requires
 join-row-requires c κs = search rules
 
-slice-aggregate-remove : tie.Need-slice-aggregate-remove
+slice-aggregate-remove : tie.Need-slice_bounds-remove-end
 slice-aggregate-remove c = search rules
 
-cast-remove : tie.Need-overflow-cast-remove
+cast-remove : tie.Need-overflow_cast-w
 cast-remove c = search rules
 
 remove-requires : tie.Need-remove-requires
 remove-requires c κs = search rules
 
-slice-aggregate-lowest-common : tie.Need-slice-aggregate-lowest-common
+slice-aggregate-lowest-common : tie.Need-slice_bounds-lowest_common-end
 slice-aggregate-lowest-common c = search rules
 
-lowest-common-requires : tie.Need-lowest-common-requires
+lowest-common-requires : tie.Need-lowest_common-x-requires
 lowest-common-requires c κs = search rules
 
-returns : tie.Need-returns
+returns : tie.Need-returns-then-x-ge-SPAN
 returns c = fewer-spare
 
-slice-aggregate-remove-2 : tie.Need-slice-aggregate-remove-2
+slice-aggregate-remove-2 : tie.Need-slice_bounds-remove-end-2
 slice-aggregate-remove-2 c = search rules
 
 remove-requires-2 : tie.Need-remove-requires-2
 remove-requires-2 c κs = search rules
 
-slice-aggregate-lowest-common-2 : tie.Need-slice-aggregate-lowest-common-2
+slice-aggregate-lowest-common-2 : tie.Need-slice_bounds-lowest_common-end-2
 slice-aggregate-lowest-common-2 c = search rules
 
-lowest-common-requires-2 : tie.Need-lowest-common-requires-2
+lowest-common-requires-2 : tie.Need-lowest_common-y-requires
 lowest-common-requires-2 c κs = search rules
 
-returns-2 : tie.Need-returns-2
+returns-2 : tie.Need-returns-then-y-ge-SPAN
 returns-2 c = fewer-spare
 
-cast-t21 : tie.Need-overflow-cast-t21
+cast-t21 : tie.Need-overflow_cast-result
 cast-t21 c = search rules
 
-cast-t23 : tie.Need-overflow-cast-t23
+cast-t23 : tie.Need-overflow_cast-result-2
 cast-t23 c = search rules
 
-returns-3 : tie.Need-returns-3
+returns-3 : tie.Need-returns
 returns-3 c =
-    let remove = c.before.before.before.before.before.before.before.before.before.before.remove in
-    let join-row = c.before.before.before.before.before.before.before.before.before.before.before.before.before.before.join-row in
-    both-spare _ _ (two-spare _ _ _ _ _ _ _ join-row.ensures remove.ensures c.before.before.before.before.before.before.before.lowest-common.ensures c.before.before.before.before.before.before.if1.false c.before.before.before.before.remove2.ensures c.before.lowest-common2.ensures c.if2.false)
+    let remove = c.remove in
+    let join-row = c.join_row in
+    both-spare _ _ (two-spare _ _ _ _ _ _ _ join-row.ensures remove.ensures c.lowest_common-x.ensures c.if-x-ge-SPAN.false c.remove-2.ensures c.lowest_common-y.ensures c.if-y-ge-SPAN.false)
 
-pub spare-bays-spec : {M : Type 1} → statement M
-spare-bays-spec =
+pub spare_bays_spec : {M : Type 1} → statement M
+spare_bays_spec =
     tie.close
     (tie.spec
     slice-aggregate-join-row

@@ -9,41 +9,39 @@ use Rattle.swap.proofs.Besides.{swap-own}
 use Rattle.swap.proofs.swap.Statement.{statement}
 use Rattle.swap.proofs.swap.Tie as tie
 
-cast-first : tie.Need-overflow-cast-first
+cast-first : tie.Need-overflow_cast-first
 cast-first c = search rules
 
-cast-second : tie.Need-overflow-cast-second
+cast-second : tie.Need-overflow_cast-second
 cast-second c = search rules
 
-mul-t17 : tie.Need-overflow-mul-t17
+mul-t17 : tie.Need-offset_bounds-placement-first
 mul-t17 c = search rules
 
-slice-read-t19 : tie.Need-slice-read-t19
+slice-read-t19 : tie.Need-bounds-placement-first
 slice-read-t19 c = search rules
 
-mul-t17-2 : tie.Need-overflow-mul-t17-2
+mul-t17-2 : tie.Need-offset_bounds-placement-second
 mul-t17-2 c = search rules
 
-slice-read-t19-2 : tie.Need-slice-read-t19-2
+slice-read-t19-2 : tie.Need-bounds-placement-second
 slice-read-t19-2 c = search rules
 
-spare-bays-requires : tie.Need-spare-bays-requires
+spare-bays-requires : tie.Need-spare_bays-spare-requires
 spare-bays-requires c κs =
-    let start = c.before.before.before.before.before.before.before.before.before in
-    let p = start.requires.0 in
-    let z = start.requires.1 in
+    let p = c.requires.0 in
+    let z = c.requires.1 in
     let hr = p.placed.inside _ z.first in
     let hs = p.placed.inside _ z.second in
     record { row = omega (arith, hr, p.table_size); low = omega (arith, hs, p.most); empty_size = p.empty_size }
 
-enum-known-spare : tie.Need-enum-known-spare
-enum-known-spare c = c.match.keys1
+enum-known-spare : tie.Need-enum_known-spare
+enum-known-spare c = search rules
 
-swap-beside-requires : tie.Need-swap-beside-requires
+swap-beside-requires : tie.Need-swap_beside-crossings-requires
 swap-beside-requires c κs =
-    let start = c.before.before.before.before.before.before.before.before.before.before.before.before.before.before.before.before in
-    let p = start.requires.0 in
-    let z = start.requires.1 in
+    let p = c.requires.0 in
+    let z = c.requires.1 in
     record {
       first = z.first;
       second = z.second;
@@ -52,50 +50,48 @@ swap-beside-requires c κs =
       second_shown = p.placed.inside _ z.second;
     }
 
-same_length : tie.Need-same-length
-same_length c = c.before.before.before.before.before.before.swap-beside.auto.1.1.1.0
+same_length : tie.Need-shape_of-placement-in-Both
+same_length c = c.swap_beside-crossings.auto.placement
 
-same-length-2 : tie.Need-same-length-2
-same-length-2 c = c.before.before.before.before.before.before.swap-beside.auto.1.1.1.1.0
+same-length-2 : tie.Need-shape_of-standing-in-Both
+same-length-2 c = c.swap_beside-crossings.auto.standing
 
-same-length-3 : tie.Need-same-length-3
-same-length-3 c = c.before.before.before.before.before.before.swap-beside.auto.1.1.1.1.1.0
+same-length-3 : tie.Need-shape_of-out-in-Both
+same-length-3 c = c.swap_beside-crossings.auto.out
 
-returns : tie.Need-returns
+returns : tie.Need-returns-in-Both
 returns c =
-    let spare = c.before.before.before.before.before.before.before.before.before.before.before.spare in
-    let spare-bays = c.before.before.before.before.before.before.before.before.before.before.before.before.before.spare-bays in
-    let start = c.before.before.before.before.before.before.before.before.before.before.before.before.before.before.before.before.before.before.before.before.before.before.before in
-    let p = start.requires.0 in
-    let z = start.requires.1 in
-    let g = spare.given in
-    let two = spare-bays.ensures.both g.0.0 g.0.1.0 g.1 in
-    let swap-beside = c.before.before.before.before.before.before.swap-beside in
+   
+    let spare-bays = c.spare_bays-spare in
+    let p = c.requires.0 in
+    let z = c.requires.1 in
+    let two = spare-bays.ensures.both c.in-Both.x c.in-Both.y c.in-Both.is in
+    let swap-beside = c.swap_beside-crossings in
     let w = swap-beside.ensures in
     let few = rw length-exchange at w.noted.counted in
-    let long = swap-beside.auto.1.1.1.1.1.0 in
+    let long = swap-beside.auto.out in
     record {
       few = omega (arith, few);
       proceeds = λ t b. traded-proceeds t p.placed refl _ _ z.first z.second z.differ b _ _ (swap-own t p.placed p.most z.first z.second b two) w.traded.moved w.traded.stands long (noted-logged w.noted);
     }
 
-enum_told : tie.Need-enum-told
-enum_told c = c.match.keys2
+enum_told : tie.Need-enum_told-1
+enum_told c = search rules
 
-swap-far-requires : tie.Need-swap-far-requires
+swap-far-requires : tie.Need-swap_far-requires
 swap-far-requires c κs = search rules
 
-same-length-4 : tie.Need-same-length-4
-same-length-4 c = c.before.before.before.before.before.before.swap-far.auto.1.1.1.0
+same-length-4 : tie.Need-shape_of-placement
+same-length-4 c = c.swap_far.auto.placement
 
-same-length-5 : tie.Need-same-length-5
-same-length-5 c = c.before.before.before.before.before.before.swap-far.auto.1.1.1.1.0
+same-length-5 : tie.Need-shape_of-standing
+same-length-5 c = c.swap_far.auto.standing
 
-same-length-6 : tie.Need-same-length-6
-same-length-6 c = c.before.before.before.before.before.before.swap-far.auto.1.1.1.1.1.1.0
+same-length-6 : tie.Need-shape_of-out
+same-length-6 c = c.swap_far.auto.out
 
-returns-2 : tie.Need-returns-2
-returns-2 c = c.before.before.before.before.before.before.swap-far.ensures
+returns-2 : tie.Need-returns
+returns-2 c = c.swap_far.ensures
 
 pub swap_spec : {M : Type 1} → statement M
 swap_spec =

@@ -20,7 +20,6 @@ slice-aggregate-pass-2 c = search rules
 
 pass-requires : tie.Need-pass-requires
 pass-requires c κs =
-   
     let inside = c.requires.within.inside _ c.in-Granted.is in let n = length-take-le _ c.args.plan.now inside in let sized = c.requires.sized in (omega arith, omega arith, c.requires.fits _ c.in-Granted.is)
 
 slice-aggregate-print : tie.Need-slice_bounds-print-end
@@ -34,7 +33,6 @@ slice-aggregate-print-2 c = let inside = c.requires.within.inside _ c.in-Granted
 
 print-requires : tie.Need-print-requires
 print-requires c κs =
-   
     let inside = c.requires.within.inside _ c.in-Granted.is in let sized = c.requires.sized in let n = length-take-le _ c.args.plan.now inside in (omega arith, length-take-le _ _ (omega arith) ∙ sym n)
 
 enum-known-answer-2 : tie.Need-enum_known-answer-in-Denied-1
@@ -48,7 +46,6 @@ same_length c = c.print.auto.out
 
 returns : tie.Need-returns-in-Granted
 returns c =
-   
     let q = c.in-Granted.is in plan-prints c.args.edition _ q (slots-stand c.args.edition c.args.plan.now _ _ _ (c.requires.within.inside _ q) c.pass.ensures) c.print.ensures
 
 same-length-2 : tie.Need-shape_of-out-in-Denied

@@ -65,7 +65,6 @@ exchange-requires c κs =
 
 undo-requires : tie.Need-undo-requires
 undo-requires c κs =
-   
     let set-up = c.set_up-ready in
     let f = set-up.ensures.few.few _ _ _ c.in-Both.is in
     let e = rw length-exchange at c.exchange-d.ensures.counted in
@@ -73,7 +72,6 @@ undo-requires c κs =
 
 add-crossings : tie.Need-overflow_add-crossings
 add-crossings c =
-   
     let set-up = c.set_up-ready in
     let f = set-up.ensures.few.few _ _ _ c.in-Both.is in
     let e = rw length-exchange at c.exchange-d.ensures.counted in
@@ -103,7 +101,6 @@ returns-2 : tie.Need-returns
 returns-2 c =
     let exchange = c.exchange-d in
     let lower = c.lower in
-   
     let set-up = c.set_up-ready in
     let p = c.requires.0 in
     let z = c.requires.1.coupled in

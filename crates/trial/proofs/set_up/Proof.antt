@@ -72,7 +72,6 @@ part-clear-two-end c = search rules
 
 clear-two-requires : tie.Need-clear_two-cleared-requires
 clear-two-requires c κs =
-   
     let bring = c.bring-brought in
     let p = c.requires.0 in
     let z = c.requires.1 in
@@ -110,7 +109,6 @@ same-length-8 c = c.out-2-1.given.1 ∙ c.bring-brought.auto.out
 returns-2 : tie.Need-returns
 returns-2 c =
     let clear-two = c.clear_two-cleared in
-   
     let bring = c.bring-brought in
     let p = c.requires.0 in
     let z = c.requires.1 in

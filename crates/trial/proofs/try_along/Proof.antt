@@ -63,7 +63,6 @@ slice-aggregate-try-on c =
 
 try-on-requires : tie.Need-try_on-requires
 try-on-requires c κs =
-   
     let path-between = c.path_between in
     let p = c.requires.0 in
     let z = c.requires.1 in
