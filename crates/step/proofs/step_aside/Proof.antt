@@ -10,11 +10,10 @@ use Rattle.step.proofs.Aside.{inside-e, empty-e, full-in, made-aside}
 use Rattle.step.proofs.step_aside.Statement.{statement}
 use Rattle.step.proofs.step_aside.Tie as tie
 
-fill-requires : tie.Need-fill-requires
+fill-requires : tie.Need-fill-aside-requires
 fill-requires c κs =
-    let start = c.before.before.before.before.before.before.before.before.before.before.before in
-    let p = start.requires.0 in
-    let z = start.requires.1 in (
+    let p = c.requires.0 in
+    let z = c.requires.1 in (
       record {
         from_inside = z.can.bay_there;
         to_inside = inside-e p.tabled p z;
@@ -28,27 +27,26 @@ fill-requires c κs =
       p.table_size,
     )
 
-cast-own : tie.Need-overflow-cast-own
+cast-own : tie.Need-overflow_cast-own
 cast-own c = search rules
 
-mul-t24 : tie.Need-overflow-mul-t24
+mul-t24 : tie.Need-offset_bounds-placement-own
 mul-t24 c = search rules
 
-slice-read-t26 : tie.Need-slice-read-t26
+slice-read-t26 : tie.Need-bounds-placement-own
 slice-read-t26 c = search rules
 
-cross-requires : tie.Need-cross-requires
+cross-requires : tie.Need-cross-crossings-requires
 cross-requires c κs =
-    let fill = c.before.before.before.before.before.before.before.before.before.before.before.before.before.before.fill in
-    let start = c.before.before.before.before.before.before.before.before.before.before.before.before.before.before.before.before.before.before.before.before.before.before.before.before.before.before in
-    let p = start.requires.0 in
-    let z = start.requires.1 in
-    let kw : length fill.new.1.1.0 ≡ length start.args.standing.now = fill.auto.1.1.0 in
-    let kf : length fill.new.1.1.1.0 ≡ length start.args.empty.now = fill.auto.1.1.1.0 in
+    let fill = c.fill-aside in
+    let p = c.requires.0 in
+    let z = c.requires.1 in
+    let kw : length fill.new.standing ≡ length c.args.standing.now = fill.auto.standing in
+    let kf : length fill.new.empty ≡ length c.args.empty.now = fill.auto.empty in
     let d = fill.ensures p.tabled in
     let m = made-aside p.tabled p z in
     record {
-      from_inside = rw kw (d.placed.inside start.args.next.carrier.0 (r-inside p.tabled p.most z.can p.placed _ m _ d.moved));
+      from_inside = rw kw (d.placed.inside c.args.next.carrier.0 (r-inside p.tabled p.most z.can p.placed _ m _ d.moved));
       to_inside = rw kw z.can.bay_there;
       most = omega (arith, p.most, kw);
       empty_size = omega (arith, p.empty_size, kf);
@@ -58,26 +56,25 @@ cross-requires c κs =
       placed = rw kw d.placed;
     }
 
-same_length : tie.Need-same-length
-same_length c = c.before.before.before.before.before.before.before.before.cross.auto.0 ∙ c.before.before.before.before.before.before.before.before.before.before.before.before.before.before.before.before.before.before.before.before.before.before.before.fill.auto.1.0
+same_length : tie.Need-shape_of-placement
+same_length c = c.cross-crossings.auto.placement ∙ c.fill-aside.auto.placement
 
-same-length-2 : tie.Need-same-length-2
-same-length-2 c = c.before.before.before.before.before.before.before.before.cross.auto.1.0 ∙ c.before.before.before.before.before.before.before.before.before.before.before.before.before.before.before.before.before.before.before.before.before.before.before.fill.auto.1.1.0
+same-length-2 : tie.Need-shape_of-standing
+same-length-2 c = c.cross-crossings.auto.standing ∙ c.fill-aside.auto.standing
 
-same-length-3 : tie.Need-same-length-3
-same-length-3 c = c.before.before.before.before.before.before.before.before.cross.auto.1.1.0 ∙ c.before.before.before.before.before.before.before.before.before.before.before.before.before.before.before.before.before.before.before.before.before.before.before.fill.auto.1.1.1.0
+same-length-3 : tie.Need-shape_of-empty
+same-length-3 c = c.cross-crossings.auto.empty ∙ c.fill-aside.auto.empty
 
-same-length-4 : tie.Need-same-length-4
-same-length-4 c = c.before.before.before.before.before.before.before.before.cross.auto.1.1.1.1.1.0 ∙ c.before.before.before.before.before.before.before.before.before.before.before.before.before.before.before.before.before.before.before.before.before.before.before.fill.auto.1.1.1.1.1.1.0
+same-length-4 : tie.Need-shape_of-out
+same-length-4 c = c.cross-crossings.auto.out ∙ c.fill-aside.auto.out
 
 returns : tie.Need-returns
 returns c =
-    let cross = c.before.before.before.before.before.before.before.before.cross in
-    let fill = c.before.before.before.before.before.before.before.before.before.before.before.before.before.before.before.before.before.before.before.before.before.before.before.fill in
-    let start = c.before.before.before.before.before.before.before.before.before.before.before.before.before.before.before.before.before.before.before.before.before.before.before.before.before.before.before.before.before.before.before.before.before.before.before in
-    let p = start.requires.0 in
-    let z = start.requires.1 in
-    let kw : length fill.new.1.1.0 ≡ length start.args.standing.now = fill.auto.1.1.0 in
+    let cross = c.cross-crossings in
+    let fill = c.fill-aside in
+    let p = c.requires.0 in
+    let z = c.requires.1 in
+    let kw : length fill.new.standing ≡ length c.args.standing.now = fill.auto.standing in
     let d = fill.ensures p.tabled in
     let crossed = rw kw at cross.ensures in
     record {
@@ -87,8 +84,8 @@ returns c =
           stepped-cross t p.most z.can p.placed _ m (fill.ensures t) (tallied-from _ crossed);
     }
 
-pub step-aside-spec : {M : Type 1} → statement M
-step-aside-spec =
+pub step_aside_spec : {M : Type 1} → statement M
+step_aside_spec =
     tie.close
     (tie.spec
     fill-requires

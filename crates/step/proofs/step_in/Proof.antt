@@ -10,20 +10,19 @@ use Rattle.step.proofs.Settling.{settled-free}
 use Rattle.step.proofs.step_in.Statement.{statement}
 use Rattle.step.proofs.step_in.Tie as tie
 
-cast-own : tie.Need-overflow-cast-own
+cast-own : tie.Need-overflow_cast-own
 cast-own c = search rules
 
-mul-t11 : tie.Need-overflow-mul-t11
+mul-t11 : tie.Need-offset_bounds-placement-own
 mul-t11 c = search rules
 
-slice-read-t13 : tie.Need-slice-read-t13
+slice-read-t13 : tie.Need-bounds-placement-own
 slice-read-t13 c = search rules
 
-cross-requires : tie.Need-cross-requires
+cross-requires : tie.Need-cross-m-requires
 cross-requires c κs =
-    let start = c.before.before.before.before.before.before.before.before.before.before.before in
-    let a = start.args in
-    let z = start.requires in
+    let a = c.args in
+    let z = c.requires in
     record {
       from_inside = z.placed.inside a.r.0 z.carrier_there;
       to_inside = z.bay_there;
@@ -37,40 +36,38 @@ cross-requires c κs =
 
 settle-requires : tie.Need-settle-requires
 settle-requires c κs =
-    let start = c.before.before.before.before.before.before.before.before.before.before.before.before.before.before.before.before.before.before.before.before.before in
-    let z = start.requires in
+    let z = c.requires in
     record {
       size = z.settled_size;
-      from_low = omega (arith, z.placed.inside start.args.r.0 z.carrier_there, z.most);
+      from_low = omega (arith, z.placed.inside c.args.r.0 z.carrier_there, z.most);
       to_low = omega (arith, z.bay_there, z.most);
     }
 
-same_length : tie.Need-same-length
-same_length c = c.before.before.before.before.before.before.before.before.before.before.before.before.cross.auto.0
+same_length : tie.Need-shape_of-placement
+same_length c = c.cross-m.auto.placement
 
-same-length-2 : tie.Need-same-length-2
-same-length-2 c = c.before.before.before.before.before.before.before.before.before.before.before.before.cross.auto.1.0
+same-length-2 : tie.Need-shape_of-standing
+same-length-2 c = c.cross-m.auto.standing
 
-same-length-3 : tie.Need-same-length-3
-same-length-3 c = c.before.before.before.before.before.before.before.before.before.before.before.before.cross.auto.1.1.0
+same-length-3 : tie.Need-shape_of-empty
+same-length-3 c = c.cross-m.auto.empty
 
-same-length-4 : tie.Need-same-length-4
-same-length-4 c = c.before.before.settle.auto.0
+same-length-4 : tie.Need-shape_of-settled
+same-length-4 c = c.settle.auto.settled
 
-same-length-5 : tie.Need-same-length-5
-same-length-5 c = c.before.before.before.before.before.before.before.before.before.before.before.before.cross.auto.1.1.1.1.1.0
+same-length-5 : tie.Need-shape_of-out
+same-length-5 c = c.cross-m.auto.out
 
 returns : tie.Need-returns
 returns c =
-    let cross = c.before.before.before.before.before.before.before.before.before.before.before.before.cross in
-    let start = c.before.before.before.before.before.before.before.before.before.before.before.before.before.before.before.before.before.before.before.before.before.before.before.before in
-    let a = start.args in
-    let z = start.requires in
+    let cross = c.cross-m in
+    let a = c.args in
+    let z = c.requires in
     let crossed = cross.ensures in
-    record { crosses = crossed; below = settled-free a.r.0 a.w.0 a.placement.now z.placed z.carrier_there crossed c.before.before.settle.auto.0 c.before.before.settle.ensures }
+    record { crosses = crossed; below = settled-free a.r.0 a.w.0 a.placement.now z.placed z.carrier_there crossed c.settle.auto.settled c.settle.ensures }
 
-pub step-in-spec : {M : Type 1} → statement M
-step-in-spec =
+pub step_in_spec : {M : Type 1} → statement M
+step_in_spec =
     tie.close
     (tie.spec
     cast-own
