@@ -7,23 +7,22 @@ use Rattle.along.proofs.Along.{past-held, past-none}
 use Rattle.along.proofs.path_past.Statement.{statement}
 use Rattle.along.proofs.path_past.Tie as tie
 
-path-between-requires : tie.Need-path-between-requires
+path-between-requires : tie.Need-path_between-requires
 path-between-requires c κs = search rules
 
-same_length : tie.Need-same-length
-same_length c = c.before.before.path-between.auto.1.1.1.1.1.0
+same_length : tie.Need-shape_of-path-then-in_carousel
+same_length c = c.path_between.auto.path
 
-returns : tie.Need-returns
+returns : tie.Need-returns-then-in_carousel
 returns c =
-    let start = c.before.before.before.before.before.before.before.before in
-    λ s. past-held s _ _ _ _ (sym c.before.before.before.before.if1.true ∙ start.requires.1 s.yard s.joins) (c.before.before.path-between.ensures.found s)
+    λ s. past-held s _ _ _ _ (sym c.if-in_carousel.true ∙ c.requires.1 s.yard s.joins) (c.path_between.ensures.found s)
 
-slice-aggregate-path-between : tie.Need-slice-aggregate-path-between
+slice-aggregate-path-between : tie.Need-slice_bounds-path_between-end
 slice-aggregate-path-between c = search rules
 
-path-between-requires-2 : tie.Need-path-between-requires-2
+path-between-requires-2 : tie.Need-path_between-requires-2
 path-between-requires-2 c κs =
-    let asks = c.before.before.before.before.before.before.requires.0 in
+    let asks = c.requires.0 in
     let shown = asks.lent.shown in
     record {
       lent = record { most = asks.lent.most; table_size = asks.lent.table_size; held_size = refl; shown = free_shown (record { yard = shown.yard; joins = shown.joins }) };
@@ -32,18 +31,17 @@ path-between-requires-2 c κs =
       room = asks.room;
     }
 
-same-length-2 : tie.Need-same-length-2
-same-length-2 c = c.before.before.path-between2.auto.1.1.1.1.1.0
+same-length-2 : tie.Need-shape_of-path
+same-length-2 c = c.path_between-2.auto.path
 
-returns-2 : tie.Need-returns-2
+returns-2 : tie.Need-returns
 returns-2 c =
-    let start = c.before.before.before.before.before.before.before.before.before in
     λ s.
     let bare = free_shown (record { yard = s.yard; joins = s.joins }) in
-    past-none s bare _ _ _ _ refl refl (sym c.before.before.before.before.before.if1.false ∙ start.requires.1 s.yard s.joins) (c.before.before.path-between2.ensures.found bare)
+    past-none s bare _ _ _ _ refl refl (sym c.if-in_carousel.false ∙ c.requires.1 s.yard s.joins) (c.path_between-2.ensures.found bare)
 
-pub path-past-spec : {M : Type 1} → statement M
-path-past-spec =
+pub path_past_spec : {M : Type 1} → statement M
+path_past_spec =
     tie.close
     (tie.spec
     path-between-requires

@@ -27,7 +27,7 @@ use Rattle.along.specs.declared.Gone.TheVariants.{There, Nowhere}
 use Rattle.carry.proofs.carry.Statement.{statement}
 use Rattle.carry.proofs.carry.Tie as tie
 
-abbrev invariant-loop : tie.invariant-loop
+abbrev invariant-loop : tie.invariant-loop-i
 invariant-loop table owner placement₀ standing₀ empty₀ settled₀ out₀ path k at finished i₀ placement standing empty settled out count i =
     (i ≤ i₀) × (count.crossings + swap_most * i ≤ at.crossings + swap_most * i₀) × (length placement ≡ length placement₀) × (length standing ≡ length standing₀) × (length empty ≡ length empty₀) × (length out ≡ length out₀)
     × ((goals : List ℕ) (h : Homeward (length standing₀) table goals finished (between k path) placement₀) → Apart goals → finished ≤ length goals → length placement₀ ≡ length goals → Owners (length standing₀) goals owner
@@ -35,123 +35,122 @@ invariant-loop table owner placement₀ standing₀ empty₀ settled₀ out₀ p
     × ((t : Tabled (length standing₀) table) (goals : List ℕ) → finished ≤ length goals → Owners (length standing₀) goals owner → Homed t.yard goals finished (between k path) (length standing₀) placement₀ out₀ at i placement standing empty out count)
     × (length settled ≡ length settled₀) × BaysBelow finished placement settled
 
-abbrev decreases-loop : tie.decreases-loop
+abbrev decreases-loop : tie.decreases-loop-i
 decreases-loop table owner placement₀ standing₀ empty₀ settled₀ out₀ path k at finished i₀ placement standing empty settled out count i =
     i
 
 -- what is known once r has gone its path: the first k bays in the room
-module _ (g : tie.After-gone invariant-loop decreases-loop) where
+module _ (g : tie.In-There invariant-loop decreases-loop) where
   abbrev path : List ℕ
-  path = g.before.before.before.before.before.before.before.before.before.before.before.before.before.go-along.new.1.1.1.1.1.1.1.0
+  path = g.go_along-gone.new.path
 
   abbrev k : ℕ
-  k = g.gone.given.0.0
+  k = g.in-There.k
 
   abbrev done : Tally
-  done = g.gone.given.0.1.0
+  done = g.in-There.done
 
-  there : g.before.before.before.before.before.before.before.before.before.before.before.before.before.go-along.result ≡ There k done
-  there = g.gone.given.1
+  there : g.go_along-gone.result ≡ There k done
+  there = g.in-There.is
 
   low : k ≤ span
-  low = omega (arith, g.before.before.before.before.before.before.before.before.before.before.before.before.before.go-along.ensures.arrives.fits k done there, g.before.before.before.before.before.before.before.before.before.before.before.before.before.before.before.before.before.before.before.before.before.before.before.before.before.before.before.before.pre.0.most)
+  low = omega (arith, g.go_along-gone.ensures.arrives.fits k done there, g.pre.0.most)
 
   fits : k ≤ length path
-  fits = let kept : length path ≡ span = g.before.before.before.before.before.before.before.before.before.before.before.before.before.go-along.kept.1.1.1.1.1.1.1.0 in omega (arith, low, kept)
+  fits = let kept : length path ≡ span = g.go_along-gone.kept.1.1.1.1.1.1.1.0 in omega (arith, low, kept)
 
-  same_standing : length g.before.before.before.before.before.before.before.before.before.before.before.before.before.go-along.last.1.1.1.0 ≡ length g.before.before.before.before.before.before.before.before.before.before.before.before.before.before.before.before.before.before.before.before.before.before.before.before.before.before.before.before.args.standing.now
-  same_standing = g.before.before.before.before.before.before.before.before.before.before.before.before.before.go-along.kept.1.1.1.0
+  same_standing : length g.go_along-gone.last.1.1.1.0 ≡ length g.args.standing.now
+  same_standing = g.go_along-gone.kept.1.1.1.0
 
 -- and of the bay that is looked after: it is between the path's first bay and its last
-module _ (t : tie.In-loop invariant-loop decreases-loop) where
-  abbrev gone : tie.After-gone invariant-loop decreases-loop
+module _ (t : tie.In-loop-i invariant-loop decreases-loop) where
+  abbrev gone : tie.In-There invariant-loop decreases-loop
   gone = t.before.before.before.before.before
 
-  one : t.before.loop.i - 1 + 1 ≡ t.before.loop.i
-  one = omega (arith, t.loop-test.taken)
+  one : t.loop-i.i - 1 + 1 ≡ t.loop-i.i
+  one = omega (arith, t.loop-i-test.taken)
 
-  here : t.before.loop.i - 1 < length (between (k gone) (path gone))
-  here = omega (arith, t.loop-test.taken, t.before.loop.inv.0, between-length (k gone) (path gone) (fits gone))
+  here : t.loop-i.i - 1 < length (between (k gone) (path gone))
+  here = omega (arith, t.loop-i-test.taken, t.loop-i.inv.0, between-length (k gone) (path gone) (fits gone))
 
-  get : get_or (path gone) t.before.loop.i 0 ≡ get_or (between (k gone) (path gone)) (t.before.loop.i - 1) 0
-  get = rw one at (between-get (k gone) (path gone) (fits gone) (t.before.loop.i - 1) here)
+  get : get_or (path gone) t.loop-i.i 0 ≡ get_or (between (k gone) (path gone)) (t.loop-i.i - 1) 0
+  get = rw one at (between-get (k gone) (path gone) (fits gone) (t.loop-i.i - 1) here)
 
-slice-aggregate-room : tie.Need-slice-aggregate-room invariant-loop decreases-loop
+slice-aggregate-room : tie.Need-slice_bounds-room-end invariant-loop decreases-loop
 slice-aggregate-room c = search rules
 
-go-along-requires : tie.Need-go-along-requires invariant-loop decreases-loop
+go-along-requires : tie.Need-go_along-gone-requires invariant-loop decreases-loop
 go-along-requires c κs =
-    let start = c.before.before.before.before.before.before.before.before.before.before.before.before.before.before in
-    (start.requires.0, (start.requires.1.0, (start.requires.1.1.bound, refl)))
+    (c.requires.0, (c.requires.1.0, (c.requires.1.1.bound, refl)))
 
-enum-known-gone : tie.Need-enum-known-gone invariant-loop decreases-loop
-enum-known-gone c = c.match.keys1
+enum-known-gone : tie.Need-enum_known-gone invariant-loop decreases-loop
+enum-known-gone c = search rules
 
-enum_told : tie.Need-enum-told invariant-loop decreases-loop
-enum_told c = c.match.keys2
+enum_told : tie.Need-enum_told-1 invariant-loop decreases-loop
+enum_told c = search rules
 
-same_length : tie.Need-same-length invariant-loop decreases-loop
-same_length c = c.before.before.before.before.before.before.before.before.before.before.before.before.before.go-along.auto.1.1.0
+same_length : tie.Need-shape_of-placement-in_default invariant-loop decreases-loop
+same_length c = c.go_along-gone.auto.placement
 
-same-length-2 : tie.Need-same-length-2 invariant-loop decreases-loop
-same-length-2 c = c.before.before.before.before.before.before.before.before.before.before.before.before.before.go-along.auto.1.1.1.0
+same-length-2 : tie.Need-shape_of-standing-in_default invariant-loop decreases-loop
+same-length-2 c = c.go_along-gone.auto.standing
 
-same-length-3 : tie.Need-same-length-3 invariant-loop decreases-loop
-same-length-3 c = c.before.before.before.before.before.before.before.before.before.before.before.before.before.go-along.auto.1.1.1.1.0
+same-length-3 : tie.Need-shape_of-empty-in_default invariant-loop decreases-loop
+same-length-3 c = c.go_along-gone.auto.empty
 
-same-length-4 : tie.Need-same-length-4 invariant-loop decreases-loop
-same-length-4 c = c.before.before.before.before.before.before.before.before.before.before.before.before.before.go-along.auto.1.1.1.1.1.0
+same-length-4 : tie.Need-shape_of-settled-in_default invariant-loop decreases-loop
+same-length-4 c = c.go_along-gone.auto.settled
 
-same-length-5 : tie.Need-same-length-5 invariant-loop decreases-loop
-same-length-5 c = c.before.before.before.before.before.before.before.before.before.before.before.before.before.go-along.auto.1.1.1.1.1.1.0
+same-length-5 : tie.Need-shape_of-out-in_default invariant-loop decreases-loop
+same-length-5 c = c.go_along-gone.auto.out
 
-returns : tie.Need-returns invariant-loop decreases-loop
+returns : tie.Need-returns-in_default invariant-loop decreases-loop
 returns c =
-    let go-along = c.before.before.before.before.before.before.before.before.before.before.before.before.before.go-along in
-    let e : go-along.result ≡ Nowhere = c.enum_told.given.1 in
+    let go-along = c.go_along-gone in
+    let e : go-along.result ≡ Nowhere = c.in_default.is in
     record { at_most = at-most-stuck; stages = λ t b o. stages-stuck ((go-along.ensures.goes t b).nowhere e); settles = settles-stuck }
 
-same-length-6 : tie.Need-same-length-6 invariant-loop decreases-loop
-same-length-6 c = c.before.before.before.before.before.before.before.before.before.before.before.before.before.before.before.go-along.auto.1.1.0
+same-length-6 : tie.Need-shape_of-placement-then-k-lt3 invariant-loop decreases-loop
+same-length-6 c = c.go_along-gone.auto.placement
 
-same-length-7 : tie.Need-same-length-7 invariant-loop decreases-loop
-same-length-7 c = c.before.before.before.before.before.before.before.before.before.before.before.before.before.before.before.go-along.auto.1.1.1.0
+same-length-7 : tie.Need-shape_of-standing-then-k-lt3 invariant-loop decreases-loop
+same-length-7 c = c.go_along-gone.auto.standing
 
-same-length-8 : tie.Need-same-length-8 invariant-loop decreases-loop
-same-length-8 c = c.before.before.before.before.before.before.before.before.before.before.before.before.before.before.before.go-along.auto.1.1.1.1.0
+same-length-8 : tie.Need-shape_of-empty-then-k-lt3 invariant-loop decreases-loop
+same-length-8 c = c.go_along-gone.auto.empty
 
-same-length-9 : tie.Need-same-length-9 invariant-loop decreases-loop
-same-length-9 c = c.before.before.before.before.before.before.before.before.before.before.before.before.before.before.before.go-along.auto.1.1.1.1.1.0
+same-length-9 : tie.Need-shape_of-settled-then-k-lt3 invariant-loop decreases-loop
+same-length-9 c = c.go_along-gone.auto.settled
 
-same-length-10 : tie.Need-same-length-10 invariant-loop decreases-loop
-same-length-10 c = c.before.before.before.before.before.before.before.before.before.before.before.before.before.before.before.go-along.auto.1.1.1.1.1.1.0
+same-length-10 : tie.Need-shape_of-out-then-k-lt3 invariant-loop decreases-loop
+same-length-10 c = c.go_along-gone.auto.out
 
-returns-2 : tie.Need-returns-2 invariant-loop decreases-loop
+returns-2 : tie.Need-returns-then-k-lt3 invariant-loop decreases-loop
 returns-2 c =
     let g = c.before.before in
-    let go-along = c.before.before.before.before.before.before.before.before.before.before.before.before.before.before.before.go-along in
+    let go-along = c.go_along-gone in
     let start = c.before.before.before.before.before.before.before.before.before.before.before.before.before.before.before.before.before.before.before.before.before.before.before.before.before.before.before.before.before.before in
     let arrived = go-along.ensures.arrives in
     let same = length-take-le (k g) (path g) (fits g) in
     record {
-      at_most = at_most (omega (arith, arrived.few (k g) (done g) (there g), c.if1.true));
-      stages = λ t b o. gone-short t start.requires.0 start.requires.1.0 b ((go-along.ensures.goes t b).there (k g) (done g) (there g)) (omega (arith, same, c.if1.true));
+      at_most = at_most (omega (arith, arrived.few (k g) (done g) (there g), c.if-k-lt3.true));
+      stages = λ t b o. gone-short t start.requires.0 start.requires.1.0 b ((go-along.ensures.goes t b).there (k g) (done g) (there g)) (omega (arith, same, c.if-k-lt3.true));
       settles = settles (arrived.below (k g) (done g) (there g));
     }
 
-cast-finished : tie.Need-overflow-cast-finished invariant-loop decreases-loop
+cast-finished : tie.Need-overflow_cast-finished invariant-loop decreases-loop
 cast-finished c = search rules
 
-add-finished : tie.Need-overflow-add-finished invariant-loop decreases-loop
+add-finished : tie.Need-overflow_add-finished invariant-loop decreases-loop
 add-finished c = search rules
 
-sub-i : tie.Need-overflow-sub-i invariant-loop decreases-loop
-sub-i c = omega (arith, c.before.if1.false)
+sub-i : tie.Need-overflow_sub-i invariant-loop decreases-loop
+sub-i c = omega (arith, c.if-k-lt3.false)
 
-loop-holds : tie.Need-loop-init invariant-loop decreases-loop
+loop-holds : tie.Need-loop-i-init invariant-loop decreases-loop
 loop-holds c =
     let g = c.before.before.before in
-    let go-along = c.before.before.before.before.before.before.before.before.before.before.before.before.before.before.before.before.go-along in
+    let go-along = c.go_along-gone in
     let start = c.before.before.before.before.before.before.before.before.before.before.before.before.before.before.before.before.before.before.before.before.before.before.before.before.before.before.before.before.before.before.before in
     let went = (go-along.ensures.goes start.requires.0.tabled start.requires.1.1.bound).there (k g) (done g) (there g) in
     let all : length (between (k g) (path g)) ≤ k g - 2 = omega (arith, between-length (k g) (path g) (fits g)) in (
@@ -167,36 +166,36 @@ loop-holds c =
       go-along.ensures.arrives.below (k g) (done g) (there g),
     )
 
-mul-t40 : tie.Need-overflow-mul-t40 invariant-loop decreases-loop
-mul-t40 c = omega (arith, c.before.loop.invariant.0, low (gone c))
+mul-t40 : tie.Need-offset_bounds-path-i invariant-loop decreases-loop
+mul-t40 c = omega (arith, c.loop-i.invariant.0, low (gone c))
 
-array-read-t43 : tie.Need-array-read-t43 invariant-loop decreases-loop
-array-read-t43 c = omega (arith, c.before.loop.invariant.0, low (gone c))
+array-read-t43 : tie.Need-bounds-path-i invariant-loop decreases-loop
+array-read-t43 c = omega (arith, c.loop-i.invariant.0, low (gone c))
 
-place-in-requires : tie.Need-place-in-requires invariant-loop decreases-loop
+place-in-requires : tie.Need-place_in-from-requires invariant-loop decreases-loop
 place-in-requires c κs = search rules
 
-mul-rest : tie.Need-overflow-mul-rest invariant-loop decreases-loop
+mul-rest : tie.Need-offset_bounds-out-from invariant-loop decreases-loop
 mul-rest c =
     let g = c.before.before.before.before.before.before.before in
-    let v = c.before.before.before.loop.invariant in
-    omega (arith, c.place-in.ensures, v.0, v.1, c.before.before.before.before.before.before.before.before.before.before.before.before.before.before.before.before.before.before.before.before.go-along.ensures.arrives.few (k g) (done g) (there g), low g)
+    let v = c.loop-i.invariant in
+    omega (arith, c.place_in-from.ensures, v.0, v.1, c.go_along-gone.ensures.arrives.few (k g) (done g) (there g), low g)
 
-sub-rest : tie.Need-overflow-sub-rest invariant-loop decreases-loop
+sub-rest : tie.Need-slice_bounds-rest-count invariant-loop decreases-loop
 sub-rest c = search rules
 
-part-rest-start : tie.Need-slice-bounds-rest-start invariant-loop decreases-loop
+part-rest-start : tie.Need-slice_bounds-rest-start invariant-loop decreases-loop
 part-rest-start c = search rules
 
-part-rest-end : tie.Need-slice-bounds-rest-end invariant-loop decreases-loop
+part-rest-end : tie.Need-slice_bounds-rest-end invariant-loop decreases-loop
 part-rest-end c = search rules
 
-home-at-requires : tie.Need-home-at-requires invariant-loop decreases-loop
+home-at-requires : tie.Need-home_at-homed-requires invariant-loop decreases-loop
 home-at-requires c κs =
     let t = c.before.before.before.before.before.before.before in
-    let l = c.before.before.before.before.before.before.before.before.loop in
+    let l = c.loop-i in
     let g = c.before.before.before.before.before.before.before.before.before.before.before.before in
-    let go-along = c.before.before.before.before.before.before.before.before.before.before.before.before.before.before.before.before.before.before.before.before.before.before.before.before.before.go-along in
+    let go-along = c.go_along-gone in
     let start = c.before.before.before.before.before.before.before.before.before.before.before.before.before.before.before.before.before.before.before.before.before.before.before.before.before.before.before.before.before.before.before.before.before.before.before.before.before.before.before.before in
     let p = start.requires.0 in
     let z = start.requires.1.0 in
@@ -204,16 +203,16 @@ home-at-requires c κs =
     let o = start.requires.1.1.owners in
     let v = l.invariant in
     let went = (go-along.ensures.goes p.tabled b).there (k g) (done g) (there g) in
-    let kp : length go-along.new.1.1.0 ≡ length start.args.placement.now = go-along.auto.1.1.0 in
+    let kp : length go-along.new.placement ≡ length start.args.placement.now = go-along.auto.placement in
     let w : length l.standing ≡ length start.args.standing.now = v.3 ∙ same_standing g in
-    let h = gone-homeward p.tabled p z b went (omega (arith, length-take-le (k g) (path g) (fits g), c.before.before.before.before.before.before.before.before.before.before.if1.false)) in
+    let h = gone-homeward p.tabled p z b went (omega (arith, length-take-le (k g) (path g) (fits g), c.if-k-lt3.false)) in
     let many : start.args.to.carrier.0 + 1 ≤ length b.goals = omega (arith, z.carrier_there, b.each.many) in
     let len : length l.placement ≡ length b.goals = omega (arith, v.2, kp, b.each.many) in
     let s = rw (← (one t)) at ((rw (same_standing g) at v.6) b.goals h b.each.apart many (omega (arith, kp, b.each.many)) o) in
     let inside = turn_low h b.each.apart many (l.i - 1) (here t) l.placement len s in
     let due = turn-due h b.each.apart many (l.i - 1) (here t) l.placement len s o in
     let homed = (rw (same_standing g) at v.7) p.tabled b.goals many o in (
-      ready-again p _ _ _ w (v.4 ∙ go-along.auto.1.1.1.1.0) homed.played.placed,
+      ready-again p _ _ _ w (v.4 ∙ go-along.auto.empty) homed.played.placed,
       record {
         finished_there = omega (arith, z.carrier_there, v.2, kp);
         bay_there = rw (w, get t) inside;
@@ -224,113 +223,113 @@ home-at-requires c κs =
       },
     )
 
-enum-known-homed : tie.Need-enum-known-homed invariant-loop decreases-loop
-enum-known-homed c = c.match2.keys1
+enum-known-homed : tie.Need-enum_known-homed invariant-loop decreases-loop
+enum-known-homed c = search rules
 
-enum-told-2 : tie.Need-enum-told-2 invariant-loop decreases-loop
-enum-told-2 c = c.match2.keys2
+enum-told-2 : tie.Need-enum_told-in_default-homed invariant-loop decreases-loop
+enum-told-2 c = search rules
 
-same-length-11 : tie.Need-same-length-11 invariant-loop decreases-loop
-same-length-11 c = c.before.before.before.before.before.before.before.before.before.before.before.before.home-at.auto.1.1.1.0 ∙ c.before.before.before.before.before.before.before.before.before.before.before.before.before.before.before.before.before.before.before.before.before.loop.invariant.2 ∙ c.before.before.before.before.before.before.before.before.before.before.before.before.before.before.before.before.before.before.before.before.before.before.before.before.before.before.before.before.before.before.before.before.before.before.before.before.before.before.go-along.auto.1.1.0
+same-length-11 : tie.Need-shape_of-placement-in_default-homed invariant-loop decreases-loop
+same-length-11 c = c.home_at-homed.auto.placement ∙ c.loop-i.invariant.2 ∙ c.go_along-gone.auto.placement
 
-same-length-12 : tie.Need-same-length-12 invariant-loop decreases-loop
-same-length-12 c = c.before.before.before.before.before.before.before.before.before.before.before.before.home-at.auto.1.1.1.1.0 ∙ c.before.before.before.before.before.before.before.before.before.before.before.before.before.before.before.before.before.before.before.before.before.loop.invariant.3 ∙ c.before.before.before.before.before.before.before.before.before.before.before.before.before.before.before.before.before.before.before.before.before.before.before.before.before.before.before.before.before.before.before.before.before.before.before.before.before.before.go-along.auto.1.1.1.0
+same-length-12 : tie.Need-shape_of-standing-in_default-homed invariant-loop decreases-loop
+same-length-12 c = c.home_at-homed.auto.standing ∙ c.loop-i.invariant.3 ∙ c.go_along-gone.auto.standing
 
-same-length-13 : tie.Need-same-length-13 invariant-loop decreases-loop
-same-length-13 c = c.before.before.before.before.before.before.before.before.before.before.before.before.home-at.auto.1.1.1.1.1.0 ∙ c.before.before.before.before.before.before.before.before.before.before.before.before.before.before.before.before.before.before.before.before.before.loop.invariant.4 ∙ c.before.before.before.before.before.before.before.before.before.before.before.before.before.before.before.before.before.before.before.before.before.before.before.before.before.before.before.before.before.before.before.before.before.before.before.before.before.before.go-along.auto.1.1.1.1.0
+same-length-13 : tie.Need-shape_of-empty-in_default-homed invariant-loop decreases-loop
+same-length-13 c = c.home_at-homed.auto.empty ∙ c.loop-i.invariant.4 ∙ c.go_along-gone.auto.empty
 
-same-length-14 : tie.Need-same-length-14 invariant-loop decreases-loop
-same-length-14 c = c.before.before.before.before.before.before.before.before.before.before.before.before.home-at.auto.1.1.1.1.1.1.0 ∙ c.before.before.before.before.before.before.before.before.before.before.before.before.before.before.before.before.before.before.before.before.before.loop.invariant.8 ∙ c.before.before.before.before.before.before.before.before.before.before.before.before.before.before.before.before.before.before.before.before.before.before.before.before.before.before.before.before.before.before.before.before.before.before.before.before.before.before.go-along.auto.1.1.1.1.1.0
+same-length-14 : tie.Need-shape_of-settled-in_default-homed invariant-loop decreases-loop
+same-length-14 c = c.home_at-homed.auto.settled ∙ c.loop-i.invariant.8 ∙ c.go_along-gone.auto.settled
 
-same-length-15 : tie.Need-same-length-15 invariant-loop decreases-loop
-same-length-15 c = c.before.before.before.before.before.before.before.before.before.before.before.out2.given.1 ∙ c.before.before.before.before.before.before.before.before.before.before.before.before.before.before.before.before.before.before.before.before.before.loop.invariant.5 ∙ c.before.before.before.before.before.before.before.before.before.before.before.before.before.before.before.before.before.before.before.before.before.before.before.before.before.before.before.before.before.before.before.before.before.before.before.before.before.before.go-along.auto.1.1.1.1.1.1.0
+same-length-15 : tie.Need-shape_of-out-in_default-homed invariant-loop decreases-loop
+same-length-15 c = c.out-in-loop-i-1.given.1 ∙ c.loop-i.invariant.5 ∙ c.go_along-gone.auto.out
 
-returns-3 : tie.Need-returns-3 invariant-loop decreases-loop
+returns-3 : tie.Need-returns-in_default-homed invariant-loop decreases-loop
 returns-3 c =
-    let home-at = c.before.before.before.before.before.before.before.before.before.before.before.before.home-at in
+    let home-at = c.home_at-homed in
     let d = c.before.before.before.before.before.before.before.before.before.before.before.before.before.before.before.before.before.before.before.before in
-    let v = c.before.before.before.before.before.before.before.before.before.before.before.before.before.before.before.before.before.before.before.before.before.loop.invariant in
+    let v = c.loop-i.invariant in
     let g = c.before.before.before.before.before.before.before.before.before.before.before.before.before.before.before.before.before.before.before.before.before.before.before.before.before in
     let start = c.before.before.before.before.before.before.before.before.before.before.before.before.before.before.before.before.before.before.before.before.before.before.before.before.before.before.before.before.before.before.before.before.before.before.before.before.before.before.before.before.before.before.before.before.before.before.before.before.before.before.before.before.before in
     let z = start.requires.1.0 in
-    let w : length c.before.before.before.before.before.before.before.before.before.before.before.before.before.before.before.before.before.before.before.before.before.loop.standing ≡ length start.args.standing.now = v.3 ∙ same_standing g in
-    let e : home-at.result ≡ Stuck c.enum-told2.given.0.0 = c.enum-told2.given.1 in
+    let w : length c.loop-i.standing ≡ length start.args.standing.now = v.3 ∙ same_standing g in
+    let e : home-at.result ≡ Stuck c.in_default-homed.field-0 = c.in_default-homed.is in
     let f = rw (w, get d) at home-at.ensures.stages in
     rw e (record {
       at_most = at-most-stuck;
       stages = λ t b o.
-          let went = (c.before.before.before.before.before.before.before.before.before.before.before.before.before.before.before.before.before.before.before.before.before.before.before.before.before.before.before.before.before.before.before.before.before.before.before.before.before.before.go-along.ensures.goes t b).there (k g) (done g) (there g) in
+          let went = (c.go_along-gone.ensures.goes t b).there (k g) (done g) (there g) in
           let many : start.args.to.carrier.0 + 1 ≤ length b.goals = omega (arith, z.carrier_there, b.each.many) in
           gone-home t start.requires.0 z b went
           (stages-stuck (homed-stops (rw (← (one d)) at ((rw (same_standing g) at v.7) t b.goals many o)) (here d) (rw e at (f t b.goals many o))));
       settles = settles-stuck;
     })
 
-add-requires : tie.Need-add-requires invariant-loop decreases-loop
+add-requires : tie.Need-add-count-requires invariant-loop decreases-loop
 add-requires c κs =
-    let v = c.before.before.before.before.before.before.before.before.before.before.before.before.before.before.before.before.before.before.before.before.before.before.loop.invariant in
+    let v = c.loop-i.invariant in
     let g = c.before.before.before.before.before.before.before.before.before.before.before.before.before.before.before.before.before.before.before.before.before.before.before.before.before.before in
-    let e : c.before.before.before.before.before.before.before.before.before.before.before.before.before.home-at.result ≡ Planned c.before.homed.given.0.0 = c.before.homed.given.1 in
-    omega (arith, c.before.before.before.before.before.before.before.before.before.before.before.before.before.home-at.ensures.at_most.few _ e, v.0, v.1, c.before.before.before.before.before.before.before.before.before.before.before.before.before.before.before.before.before.before.before.before.before.before.before.before.before.before.before.before.before.before.before.before.before.before.before.before.before.before.before.go-along.ensures.arrives.few (k g) (done g) (there g), low g)
+    let e : c.home_at-homed.result ≡ Planned c.in-Planned.made = c.in-Planned.is in
+    omega (arith, c.home_at-homed.ensures.at_most.few _ e, v.0, v.1, c.go_along-gone.ensures.arrives.few (k g) (done g) (there g), low g)
 
-sub-i-2 : tie.Need-overflow-sub-i-2 invariant-loop decreases-loop
-sub-i-2 c = omega (arith, c.before.before.before.before.before.before.before.before.before.before.before.before.before.before.before.before.before.before.before.before.before.before.loop-test.true)
+sub-i-2 : tie.Need-overflow_sub-i-in-loop-i invariant-loop decreases-loop
+sub-i-2 c = omega (arith, c.loop-i-test.true)
 
-loop-less : tie.Need-loop-smaller invariant-loop decreases-loop
-loop-less c = omega (arith, c.before.before.before.before.before.before.before.before.before.before.before.before.before.before.before.before.before.before.before.before.before.before.loop-test.true)
+loop-less : tie.Need-loop-i-smaller invariant-loop decreases-loop
+loop-less c = omega (arith, c.loop-i-test.true)
 
-loop-again : tie.Need-loop-preserved invariant-loop decreases-loop
+loop-again : tie.Need-loop-i-preserved invariant-loop decreases-loop
 loop-again c =
-    let home-at = c.before.before.before.before.before.before.before.before.before.before.before.before.before.before.home-at in
+    let home-at = c.home_at-homed in
     let d = c.before.before.before.before.before.before.before.before.before.before.before.before.before.before.before.before.before.before.before.before.before.before in
-    let taken = c.before.before.before.before.before.before.before.before.before.before.before.before.before.before.before.before.before.before.before.before.before.before.loop-test.true in
-    let l = c.before.before.before.before.before.before.before.before.before.before.before.before.before.before.before.before.before.before.before.before.before.before.before.loop in
+    let taken = c.loop-i-test.true in
+    let l = c.loop-i in
     let g = c.before.before.before.before.before.before.before.before.before.before.before.before.before.before.before.before.before.before.before.before.before.before.before.before.before.before.before in
     let start = c.before.before.before.before.before.before.before.before.before.before.before.before.before.before.before.before.before.before.before.before.before.before.before.before.before.before.before.before.before.before.before.before.before.before.before.before.before.before.before.before.before.before.before.before.before.before.before.before.before.before.before.before.before.before.before in
     let p = start.requires.0 in
     let kw = same_standing g in
     let v = l.invariant in
     let n = home-at.auto in
-    let e : home-at.result ≡ Planned c.before.before.homed.given.0.0 = c.before.before.homed.given.1 in
+    let e : home-at.result ≡ Planned c.in-Planned.made = c.in-Planned.is in
     let f = rw (v.3, get d) at home-at.ensures.stages in
-    let out = c.before.before.before.before.before.before.before.before.before.before.before.before.before.out2.given in
+    let out = c.out-in-loop-i-1.given in
     let t₀ = rw (← kw) at p.tabled in (
       omega (arith, taken, v.0),
-      omega (arith, home-at.ensures.at_most.few _ e, v.1, taken, c.add.ensures.crossings),
-      n.1.1.1.0 ∙ v.2,
-      n.1.1.1.1.0 ∙ v.3,
-      n.1.1.1.1.1.0 ∙ v.4,
+      omega (arith, home-at.ensures.at_most.few _ e, v.1, taken, c.add-count.ensures.crossings),
+      n.placement ∙ v.2,
+      n.standing ∙ v.3,
+      n.empty ∙ v.4,
       omega (arith, out.1, v.5),
       λ goals h apart many same o.
           turn-homed h apart many (l.i - 1) (here d) l.placement (v.2 ∙ same) (rw (← (one d)) at (v.6 goals h apart many same o)) t₀ (omega (arith, p.most, kw)) (rw (← kw) at start.requires.1.0.loopless) (v.7 t₀ goals many o).played.placed (rw e at (f t₀ goals many o)),
-      λ t goals many o. homed_more (rw (← (one d)) at (v.7 t goals many o)) (here d) (rest-lent _ c.before.before.before.before.before.before.before.before.before.before.before.before.before.before.before.before.before.before.before.before.place-in.ensures out c.add.ensures) (rw e at (f t goals many o)),
-      n.1.1.1.1.1.1.0 ∙ v.8,
+      λ t goals many o. homed_more (rw (← (one d)) at (v.7 t goals many o)) (here d) (rest-lent _ c.place_in-from.ensures out c.add-count.ensures) (rw e at (f t goals many o)),
+      n.settled ∙ v.8,
       home-at.ensures.below,
     )
 
-same-length-16 : tie.Need-same-length-16 invariant-loop decreases-loop
-same-length-16 c = c.before.loop.invariant.2 ∙ c.before.before.before.before.before.before.before.before.before.before.before.before.before.before.before.before.before.before.go-along.auto.1.1.0
+same-length-16 : tie.Need-shape_of-placement invariant-loop decreases-loop
+same-length-16 c = c.loop-i.invariant.2 ∙ c.go_along-gone.auto.placement
 
-same-length-17 : tie.Need-same-length-17 invariant-loop decreases-loop
-same-length-17 c = c.before.loop.invariant.3 ∙ c.before.before.before.before.before.before.before.before.before.before.before.before.before.before.before.before.before.before.go-along.auto.1.1.1.0
+same-length-17 : tie.Need-shape_of-standing invariant-loop decreases-loop
+same-length-17 c = c.loop-i.invariant.3 ∙ c.go_along-gone.auto.standing
 
-same-length-18 : tie.Need-same-length-18 invariant-loop decreases-loop
-same-length-18 c = c.before.loop.invariant.4 ∙ c.before.before.before.before.before.before.before.before.before.before.before.before.before.before.before.before.before.before.go-along.auto.1.1.1.1.0
+same-length-18 : tie.Need-shape_of-empty invariant-loop decreases-loop
+same-length-18 c = c.loop-i.invariant.4 ∙ c.go_along-gone.auto.empty
 
-same-length-19 : tie.Need-same-length-19 invariant-loop decreases-loop
-same-length-19 c = c.before.loop.invariant.8 ∙ c.before.before.before.before.before.before.before.before.before.before.before.before.before.before.before.before.before.before.go-along.auto.1.1.1.1.1.0
+same-length-19 : tie.Need-shape_of-settled invariant-loop decreases-loop
+same-length-19 c = c.loop-i.invariant.8 ∙ c.go_along-gone.auto.settled
 
-same-length-20 : tie.Need-same-length-20 invariant-loop decreases-loop
-same-length-20 c = c.before.loop.invariant.5 ∙ c.before.before.before.before.before.before.before.before.before.before.before.before.before.before.before.before.before.before.go-along.auto.1.1.1.1.1.1.0
+same-length-20 : tie.Need-shape_of-out invariant-loop decreases-loop
+same-length-20 c = c.loop-i.invariant.5 ∙ c.go_along-gone.auto.out
 
-returns-4 : tie.Need-returns-4 invariant-loop decreases-loop
+returns-4 : tie.Need-returns invariant-loop decreases-loop
 returns-4 c =
-    let v = c.before.loop.invariant in
+    let v = c.loop-i.invariant in
     let g = c.before.before.before.before.before in
-    let go-along = c.before.before.before.before.before.before.before.before.before.before.before.before.before.before.before.before.before.before.go-along in
+    let go-along = c.go_along-gone in
     let start = c.before.before.before.before.before.before.before.before.before.before.before.before.before.before.before.before.before.before.before.before.before.before.before.before.before.before.before.before.before.before.before.before.before in
     let z = start.requires.1.0 in
-    let nil : c.before.loop.i ≡ 0 = omega (arith, c.loop-test.false) in
+    let nil : c.loop-i.i ≡ 0 = omega (arith, c.loop-i-test.false) in
     record {
       at_most = at_most (omega (arith, v.1, nil, go-along.ensures.arrives.few (k g) (done g) (there g), low g));
       stages = λ t b o.
@@ -340,8 +339,8 @@ returns-4 c =
       settles = settles v.9;
     }
 
-pub carry-spec : {M : Type 1} → statement M
-carry-spec =
+pub carry_spec : {M : Type 1} → statement M
+carry_spec =
     tie.close
     (tie.spec
     invariant-loop

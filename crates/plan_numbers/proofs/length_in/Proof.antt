@@ -7,17 +7,17 @@ use borrow.Author.Rules.{rules}
 use Rattle.plan_numbers.proofs.length_in.Statement.{statement}
 use Rattle.plan_numbers.proofs.length_in.Tie as tie
 
-enum-known-answer : tie.Need-enum-known-answer
+enum-known-answer : tie.Need-enum_known-answer
 enum-known-answer c = search rules
 
-enum-known-answer-2 : tie.Need-enum-known-answer-2
+enum-known-answer-2 : tie.Need-enum_known-answer-in-Refused-1
 enum-known-answer-2 c = search rules
 
-returns : tie.Need-returns
-returns c = sym (ap (λ x. verdict_for (planned_of (uncounted x))) c.before.answer.given.1)
+returns : tie.Need-returns-in-Accepted
+returns c = sym (ap (λ x. verdict_for (planned_of (uncounted x))) c.in-Accepted.is)
 
-returns-2 : tie.Need-returns-2
-returns-2 c = sym (ap (λ x. verdict_for (planned_of (uncounted x))) c.before.answer2.given.1)
+returns-2 : tie.Need-returns-in-Refused
+returns-2 c = sym (ap (λ x. verdict_for (planned_of (uncounted x))) c.in-Refused.is)
 
-pub length-in-spec : {M : Type 1} → statement M
-length-in-spec = tie.close (tie.spec enum-known-answer enum-known-answer-2 returns returns-2)
+pub length_in_spec : {M : Type 1} → statement M
+length_in_spec = tie.close (tie.spec enum-known-answer enum-known-answer-2 returns returns-2)

@@ -7,17 +7,17 @@ use borrow.Author.Rules.{rules}
 use Rattle.plan_numbers.proofs.told_planned.Statement.{statement}
 use Rattle.plan_numbers.proofs.told_planned.Tie as tie
 
-parked-in-requires : tie.Need-parked-in-requires
+parked-in-requires : tie.Need-parked_in-requires
 parked-in-requires c κs = search rules
 
-length-in-requires : tie.Need-length-in-requires
+length-in-requires : tie.Need-length_in-requires
 length-in-requires c κs = search rules
 
 told-requires : tie.Need-told-requires
 told-requires c κs = search rules
 
 returns : tie.Need-returns
-returns c = (told-as verdict_number verdict_value (sym c.before.before.length-in.ensures) c.told.ensures, search rules)
+returns c = (told-as verdict_number verdict_value (sym c.length_in.ensures) c.told.ensures, search rules)
 
-pub told-planned-spec : {M : Type 1} → statement M
-told-planned-spec = tie.close (tie.spec parked-in-requires length-in-requires told-requires returns)
+pub told_planned_spec : {M : Type 1} → statement M
+told_planned_spec = tie.close (tie.spec parked-in-requires length-in-requires told-requires returns)

@@ -120,7 +120,6 @@ same-length-4 c = c.swap.auto.out ∙ c.make_room-vacated.auto.out
 returns : tie.Need-returns-in_default
 returns c =
     let swap = c.swap in
-   
     let make-room = c.make_room-vacated in
     let add = c.add in
     let keep = c.keep in
@@ -148,7 +147,6 @@ slice-read-t27 c =
 
 cross-requires : tie.Need-cross-crossings-requires
 cross-requires c κs =
-   
     let make-room = c.make_room-vacated in
     let add = c.add in
     let keep = c.keep in
@@ -186,7 +184,6 @@ same-length-8 c = c.cross-crossings.auto.out ∙ c.make_room-vacated.auto.out
 returns-2 : tie.Need-returns
 returns-2 c =
     let cross = c.cross-crossings in
-   
     let make-room = c.make_room-vacated in
     let add = c.add in
     let keep = c.keep in

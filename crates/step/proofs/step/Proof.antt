@@ -79,7 +79,6 @@ same-length-10 c = c.step_to-stepped.auto.out
 
 returns-2 : tie.Need-returns
 returns-2 c =
-   
     let step-to = c.step_to-stepped in
     let p = c.requires.0 in
     let z = c.requires.1 in

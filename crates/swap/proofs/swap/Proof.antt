@@ -61,7 +61,6 @@ same-length-3 c = c.swap_beside-crossings.auto.out
 
 returns : tie.Need-returns-in-Both
 returns c =
-   
     let spare-bays = c.spare_bays-spare in
     let p = c.requires.0 in
     let z = c.requires.1 in

@@ -58,7 +58,6 @@ same-length-6 c = c.seek-found.auto.out
 returns-2 : tie.Need-returns
 returns-2 c =
     let trade = c.trade in
-   
     let seek = c.seek-found in
     let p = c.requires.0 in
     let z = c.requires.1 in
