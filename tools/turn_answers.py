@@ -157,7 +157,7 @@ def moved(part, table, outer, helpers):
         rest = alike(m[2])
         where["c"] = tree.get("?" + rest) or tree.get("?" + alike(m[2].replace("overflow-", "", 1)))
     else:
-        m = re.search(rf"(?m)^(?:abbrev |unfoldable |pub )*(\S+) :", part)
+        m = re.search(rf"(?m)^ *(?:abbrev |unfoldable |pub )*(?!module )(\S+) :(?! tie\.Need)", re.sub(r"(?m)^(module|--).*$", "", part))
         if m and m[1] in helpers:
             where[helpers[m[1]][1]] = helpers[m[1]][0]
     if not any(where.values()):
@@ -181,6 +181,11 @@ def moved(part, table, outer, helpers):
         it = m[1] in helpers and far(m[2], helpers[m[1]][0])
         return f"{m[1]} {it}" if it else m[0]
 
+    def of_body(m):
+        it = far(m[4], places.get(alike(m[2])))
+        return f"{m[1]}{m[2]}{m[3]}{it}" if it else m[0]
+
+    part = re.sub(rf"(?m)^( *(?:abbrev )?{WORD} : tie\.)({WORD})([^→\n]*\n *{WORD} = )(\w+)(?:\.before)+$", of_body, part)
     part = re.sub(r"let (\w+) = (\w+)(?:\.before)+ in", of_let, part)
     if not helpers:
         return part
@@ -242,6 +247,9 @@ def turned(text, path, table, outer, joined):
     if outer:
         helpers = {name: (places.get(alike(place)), c) for name, c, place in re.findall(rf"(?m)^(?:abbrev |unfoldable |pub )*(\S+) : \((\w+) : tie\.({WORD})[^()]*\)", text)}
         helpers |= {name: (places.get(alike(place)), "c") for name, place in re.findall(rf"(?m)^(?:abbrev |unfoldable |pub )*(\S+) : tie\.((?!Need-){WORD})(?: [\w-]+)* →", text)}
+        for var, place, body in re.findall(rf"(?m)^module _ \((\w+) : tie\.({WORD})[^()]*\) where\n((?:  .*\n|\n)+)", text):
+            for name in re.findall(rf"(?m)^  (?:abbrev )?({WORD}) :", body):
+                helpers.setdefault(name, (places.get(alike(place)), var))
         # A goal that is proved can be cited at the places further in.
         for name, goal in re.findall(rf"(?m)^({WORD}) : tie\.Need-({WORD})", text):
             place = tree.get("?" + alike(goal)) or tree.get("?" + alike(goal.replace("overflow-", "", 1)))
@@ -336,6 +344,14 @@ def turned(text, path, table, outer, joined):
                 return m[1] + "." + ".".join([*it, *way[n:]])
         return m[0]
 
+    # What the kit's script turns behind `c` alone.
+    for old, new in (("kept", "auto"), ("last", "new")):
+        text = re.sub(rf"\.{old}(?=\.[01](?!\w))", "." + new, text)
+    text = re.sub(r"(?<=[\w)])\.pre(?![\w'-])", ".requires", text)
+    text = re.sub(r"(?<=[\w)])\.inv(?![\w'-])", ".invariant", text)
+    text = re.sub(r"(\.(?:if|loop)[\w-]*)\.taken(?![\w'-])", r"\1.true", text)
+    text = re.sub(r"(\.(?:if|loop)[\w-]*)\.left(?![\w'-])", r"\1.false", text)
+
     # What a call has left of what it was lent goes by the parameter's name.
     def of_lent(m):
         params = arms.get("=" + alike(m[1]))
@@ -381,11 +397,11 @@ def turned(text, path, table, outer, joined):
 
 def flat(part):
     """A place further out that is only read by its fields: the goal's own place has them too."""
-    while m := re.search(r"(?m)^( *)let (\w+) = c(?:\.before)+ in[ \n]\s*|let (\w+) = c(?:\.before)+ in\s+", part):
-        name = m[2] or m[3]
-        rest = part[: m.start()] + (m[1] or "") + part[m.end() :] if m[2] else part[: m.start()] + part[m.end() :]
-        if re.search(rf"(?<![\w.'-]){name}(?![\w.'-])|let {name} =", rest):
-            break
+    for m in list(re.finditer(r"(?:(?<=\n) *)?let (\w+) = c(?:\.before)+ in\s+", part)):
+        name = m[1]
+        rest = part.replace(m[0], re.match(" *", m[0])[0], 1)
+        if rest == part or re.search(rf"(?<![\w.'-]){name}(?![\w.'-])|let {name} =", rest):
+            continue
         if re.search(r"λ (?:\w+ )*c\b", rest):
             part = re.sub(rf"let {name} = c(?:\.before)+ in", f"let {name} = c in", part)
             continue

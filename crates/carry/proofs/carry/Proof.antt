@@ -54,24 +54,24 @@ module _ (g : tie.In-There invariant-loop decreases-loop) where
   there = g.in-There.is
 
   low : k ≤ span
-  low = omega (arith, g.go_along-gone.ensures.arrives.fits k done there, g.pre.0.most)
+  low = omega (arith, g.go_along-gone.ensures.arrives.fits k done there, g.requires.0.most)
 
   fits : k ≤ length path
-  fits = let kept : length path ≡ span = g.go_along-gone.kept.1.1.1.1.1.1.1.0 in omega (arith, low, kept)
+  fits = let kept : length path ≡ span = g.go_along-gone.auto.path in omega (arith, low, kept)
 
-  same_standing : length g.go_along-gone.last.1.1.1.0 ≡ length g.args.standing.now
-  same_standing = g.go_along-gone.kept.1.1.1.0
+  same_standing : length g.go_along-gone.new.standing ≡ length g.args.standing.now
+  same_standing = g.go_along-gone.auto.standing
 
 -- and of the bay that is looked after: it is between the path's first bay and its last
 module _ (t : tie.In-loop-i invariant-loop decreases-loop) where
   abbrev gone : tie.In-There invariant-loop decreases-loop
-  gone = t.before.before.before.before.before
+  gone = t.before.before.before.before
 
   one : t.loop-i.i - 1 + 1 ≡ t.loop-i.i
-  one = omega (arith, t.loop-i-test.taken)
+  one = omega (arith, t.loop-i-test.true)
 
   here : t.loop-i.i - 1 < length (between (k gone) (path gone))
-  here = omega (arith, t.loop-i-test.taken, t.loop-i.inv.0, between-length (k gone) (path gone) (fits gone))
+  here = omega (arith, t.loop-i-test.true, t.loop-i.invariant.0, between-length (k gone) (path gone) (fits gone))
 
   get : get_or (path gone) t.loop-i.i 0 ≡ get_or (between (k gone) (path gone)) (t.loop-i.i - 1) 0
   get = rw one at (between-get (k gone) (path gone) (fits gone) (t.loop-i.i - 1) here)
@@ -127,14 +127,13 @@ same-length-10 c = c.go_along-gone.auto.out
 
 returns-2 : tie.Need-returns-then-k-lt3 invariant-loop decreases-loop
 returns-2 c =
-    let g = c.before.before in
+    let g = c.before in
     let go-along = c.go_along-gone in
-    let start = c.before.before.before.before.before.before.before.before.before.before.before.before.before.before.before.before.before.before.before.before.before.before.before.before.before.before.before.before.before.before in
     let arrived = go-along.ensures.arrives in
     let same = length-take-le (k g) (path g) (fits g) in
     record {
       at_most = at_most (omega (arith, arrived.few (k g) (done g) (there g), c.if-k-lt3.true));
-      stages = λ t b o. gone-short t start.requires.0 start.requires.1.0 b ((go-along.ensures.goes t b).there (k g) (done g) (there g)) (omega (arith, same, c.if-k-lt3.true));
+      stages = λ t b o. gone-short t c.requires.0 c.requires.1.0 b ((go-along.ensures.goes t b).there (k g) (done g) (there g)) (omega (arith, same, c.if-k-lt3.true));
       settles = settles (arrived.below (k g) (done g) (there g));
     }
 
@@ -149,10 +148,9 @@ sub-i c = omega (arith, c.if-k-lt3.false)
 
 loop-holds : tie.Need-loop-i-init invariant-loop decreases-loop
 loop-holds c =
-    let g = c.before.before.before in
+    let g = c.before.before in
     let go-along = c.go_along-gone in
-    let start = c.before.before.before.before.before.before.before.before.before.before.before.before.before.before.before.before.before.before.before.before.before.before.before.before.before.before.before.before.before.before.before in
-    let went = (go-along.ensures.goes start.requires.0.tabled start.requires.1.1.bound).there (k g) (done g) (there g) in
+    let went = (go-along.ensures.goes c.requires.0.tabled c.requires.1.1.bound).there (k g) (done g) (there g) in
     let all : length (between (k g) (path g)) ≤ k g - 2 = omega (arith, between-length (k g) (path g) (fits g)) in (
       omega arith,
       omega arith,
@@ -177,7 +175,7 @@ place-in-requires c κs = search rules
 
 mul-rest : tie.Need-offset_bounds-out-from invariant-loop decreases-loop
 mul-rest c =
-    let g = c.before.before.before.before.before.before.before in
+    let g = c.before.before.before.before.before in
     let v = c.loop-i.invariant in
     omega (arith, c.place_in-from.ensures, v.0, v.1, c.go_along-gone.ensures.arrives.few (k g) (done g) (there g), low g)
 
@@ -192,21 +190,20 @@ part-rest-end c = search rules
 
 home-at-requires : tie.Need-home_at-homed-requires invariant-loop decreases-loop
 home-at-requires c κs =
-    let t = c.before.before.before.before.before.before.before in
+    let t = c.before.before.before.before.before.before in
     let l = c.loop-i in
-    let g = c.before.before.before.before.before.before.before.before.before.before.before.before in
+    let g = c.before.before.before.before.before.before.before.before.before.before in
     let go-along = c.go_along-gone in
-    let start = c.before.before.before.before.before.before.before.before.before.before.before.before.before.before.before.before.before.before.before.before.before.before.before.before.before.before.before.before.before.before.before.before.before.before.before.before.before.before.before.before in
-    let p = start.requires.0 in
-    let z = start.requires.1.0 in
-    let b = start.requires.1.1.bound in
-    let o = start.requires.1.1.owners in
+    let p = c.requires.0 in
+    let z = c.requires.1.0 in
+    let b = c.requires.1.1.bound in
+    let o = c.requires.1.1.owners in
     let v = l.invariant in
     let went = (go-along.ensures.goes p.tabled b).there (k g) (done g) (there g) in
-    let kp : length go-along.new.placement ≡ length start.args.placement.now = go-along.auto.placement in
-    let w : length l.standing ≡ length start.args.standing.now = v.3 ∙ same_standing g in
+    let kp : length go-along.new.placement ≡ length c.args.placement.now = go-along.auto.placement in
+    let w : length l.standing ≡ length c.args.standing.now = v.3 ∙ same_standing g in
     let h = gone-homeward p.tabled p z b went (omega (arith, length-take-le (k g) (path g) (fits g), c.if-k-lt3.false)) in
-    let many : start.args.to.carrier.0 + 1 ≤ length b.goals = omega (arith, z.carrier_there, b.each.many) in
+    let many : c.args.to.carrier.0 + 1 ≤ length b.goals = omega (arith, z.carrier_there, b.each.many) in
     let len : length l.placement ≡ length b.goals = omega (arith, v.2, kp, b.each.many) in
     let s = rw (← (one t)) at ((rw (same_standing g) at v.6) b.goals h b.each.apart many (omega (arith, kp, b.each.many)) o) in
     let inside = turn_low h b.each.apart many (l.i - 1) (here t) l.placement len s in
@@ -247,20 +244,19 @@ same-length-15 c = c.out-in-loop-i-1.given.1 ∙ c.loop-i.invariant.5 ∙ c.go_a
 returns-3 : tie.Need-returns-in_default-homed invariant-loop decreases-loop
 returns-3 c =
     let home-at = c.home_at-homed in
-    let d = c.before.before.before.before.before.before.before.before.before.before.before.before.before.before.before.before.before.before.before.before in
+    let d = c.before.before.before.before.before.before.before.before.before.before.before.before.before.before.before.before.before.before in
     let v = c.loop-i.invariant in
-    let g = c.before.before.before.before.before.before.before.before.before.before.before.before.before.before.before.before.before.before.before.before.before.before.before.before.before in
-    let start = c.before.before.before.before.before.before.before.before.before.before.before.before.before.before.before.before.before.before.before.before.before.before.before.before.before.before.before.before.before.before.before.before.before.before.before.before.before.before.before.before.before.before.before.before.before.before.before.before.before.before.before.before.before in
-    let z = start.requires.1.0 in
-    let w : length c.loop-i.standing ≡ length start.args.standing.now = v.3 ∙ same_standing g in
+    let g = c.before.before.before.before.before.before.before.before.before.before.before.before.before.before.before.before.before.before.before.before.before.before in
+    let z = c.requires.1.0 in
+    let w : length c.loop-i.standing ≡ length c.args.standing.now = v.3 ∙ same_standing g in
     let e : home-at.result ≡ Stuck c.in_default-homed.field-0 = c.in_default-homed.is in
     let f = rw (w, get d) at home-at.ensures.stages in
     rw e (record {
       at_most = at-most-stuck;
       stages = λ t b o.
           let went = (c.go_along-gone.ensures.goes t b).there (k g) (done g) (there g) in
-          let many : start.args.to.carrier.0 + 1 ≤ length b.goals = omega (arith, z.carrier_there, b.each.many) in
-          gone-home t start.requires.0 z b went
+          let many : c.args.to.carrier.0 + 1 ≤ length b.goals = omega (arith, z.carrier_there, b.each.many) in
+          gone-home t c.requires.0 z b went
           (stages-stuck (homed-stops (rw (← (one d)) at ((rw (same_standing g) at v.7) t b.goals many o)) (here d) (rw e at (f t b.goals many o))));
       settles = settles-stuck;
     })
@@ -268,7 +264,7 @@ returns-3 c =
 add-requires : tie.Need-add-count-requires invariant-loop decreases-loop
 add-requires c κs =
     let v = c.loop-i.invariant in
-    let g = c.before.before.before.before.before.before.before.before.before.before.before.before.before.before.before.before.before.before.before.before.before.before.before.before.before.before in
+    let g = c.before.before.before.before.before.before.before.before.before.before.before.before.before.before.before.before.before.before.before.before.before.before in
     let e : c.home_at-homed.result ≡ Planned c.in-Planned.made = c.in-Planned.is in
     omega (arith, c.home_at-homed.ensures.at_most.few _ e, v.0, v.1, c.go_along-gone.ensures.arrives.few (k g) (done g) (there g), low g)
 
@@ -281,12 +277,11 @@ loop-less c = omega (arith, c.loop-i-test.true)
 loop-again : tie.Need-loop-i-preserved invariant-loop decreases-loop
 loop-again c =
     let home-at = c.home_at-homed in
-    let d = c.before.before.before.before.before.before.before.before.before.before.before.before.before.before.before.before.before.before.before.before.before.before in
+    let d = c.before.before.before.before.before.before.before.before.before.before.before.before.before.before.before.before.before.before.before in
     let taken = c.loop-i-test.true in
     let l = c.loop-i in
-    let g = c.before.before.before.before.before.before.before.before.before.before.before.before.before.before.before.before.before.before.before.before.before.before.before.before.before.before.before in
-    let start = c.before.before.before.before.before.before.before.before.before.before.before.before.before.before.before.before.before.before.before.before.before.before.before.before.before.before.before.before.before.before.before.before.before.before.before.before.before.before.before.before.before.before.before.before.before.before.before.before.before.before.before.before.before.before.before in
-    let p = start.requires.0 in
+    let g = c.before.before.before.before.before.before.before.before.before.before.before.before.before.before.before.before.before.before.before.before.before.before.before in
+    let p = c.requires.0 in
     let kw = same_standing g in
     let v = l.invariant in
     let n = home-at.auto in
@@ -301,7 +296,7 @@ loop-again c =
       n.empty ∙ v.4,
       omega (arith, out.1, v.5),
       λ goals h apart many same o.
-          turn-homed h apart many (l.i - 1) (here d) l.placement (v.2 ∙ same) (rw (← (one d)) at (v.6 goals h apart many same o)) t₀ (omega (arith, p.most, kw)) (rw (← kw) at start.requires.1.0.loopless) (v.7 t₀ goals many o).played.placed (rw e at (f t₀ goals many o)),
+          turn-homed h apart many (l.i - 1) (here d) l.placement (v.2 ∙ same) (rw (← (one d)) at (v.6 goals h apart many same o)) t₀ (omega (arith, p.most, kw)) (rw (← kw) at c.requires.1.0.loopless) (v.7 t₀ goals many o).played.placed (rw e at (f t₀ goals many o)),
       λ t goals many o. homed_more (rw (← (one d)) at (v.7 t goals many o)) (here d) (rest-lent _ c.place_in-from.ensures out c.add-count.ensures) (rw e at (f t goals many o)),
       n.settled ∙ v.8,
       home-at.ensures.below,
@@ -325,17 +320,16 @@ same-length-20 c = c.loop-i.invariant.5 ∙ c.go_along-gone.auto.out
 returns-4 : tie.Need-returns invariant-loop decreases-loop
 returns-4 c =
     let v = c.loop-i.invariant in
-    let g = c.before.before.before.before.before in
+    let g = c.before.before.before.before in
     let go-along = c.go_along-gone in
-    let start = c.before.before.before.before.before.before.before.before.before.before.before.before.before.before.before.before.before.before.before.before.before.before.before.before.before.before.before.before.before.before.before.before.before in
-    let z = start.requires.1.0 in
+    let z = c.requires.1.0 in
     let nil : c.loop-i.i ≡ 0 = omega (arith, c.loop-i-test.false) in
     record {
       at_most = at_most (omega (arith, v.1, nil, go-along.ensures.arrives.few (k g) (done g) (there g), low g));
       stages = λ t b o.
           let went = (go-along.ensures.goes t b).there (k g) (done g) (there g) in
-          let many : start.args.to.carrier.0 + 1 ≤ length b.goals = omega (arith, z.carrier_there, b.each.many) in
-          gone-home t start.requires.0 z b went (homed_all (rw nil at ((rw (same_standing g) at v.7) t b.goals many o)));
+          let many : c.args.to.carrier.0 + 1 ≤ length b.goals = omega (arith, z.carrier_there, b.each.many) in
+          gone-home t c.requires.0 z b went (homed_all (rw nil at ((rw (same_standing g) at v.7) t b.goals many o)));
       settles = settles v.9;
     }
 
