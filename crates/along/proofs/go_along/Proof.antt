@@ -145,7 +145,6 @@ slice-read-add-2 c =
 
 cast-add : tie.Need-overflow_cast-placement
 cast-add c =
-   
     let go = c.go-gone in
     let ready = c.requires.0 in
     let e : go.result ≡ Done c.in-Done.done = c.in-Done.is in
@@ -155,7 +154,6 @@ cast-add c =
 
 add-requires : tie.Need-add-requires
 add-requires c κs =
-   
     let go = c.go-gone in
     let ready = c.requires.0 in
     let e : go.result ≡ Done c.in-Done.done = c.in-Done.is in
@@ -184,7 +182,6 @@ same-length-16 c = c.path_past.auto.path
 returns-4 : tie.Need-returns
 returns-4 c =
     let add = c.add in
-   
     let go = c.go-gone in
     let ready = c.requires.0 in
     let turn = c.requires.1.0 in
