@@ -5,41 +5,41 @@ use borrow.Author.Rules.{rules}
 use Rattle.likely.proofs.holds.Statement.{statement}
 use Rattle.likely.proofs.holds.Tie as tie
 
-returns : tie.Need-returns
+returns : tie.Need-returns-then-room-gt-CROSSINGS
 returns c = search rules
 
-returns-2 : tie.Need-returns-2
+returns-2 : tie.Need-returns-then-yard-lt-SMALL
 returns-2 c = search rules
 
-returns-3 : tie.Need-returns-3
-returns-3 c = λ h. absurd (omega (arith, h, c.before.before.before.before.if1.false))
+returns-3 : tie.Need-returns-then-yard-gt-BAYS
+returns-3 c = λ h. absurd (omega (arith, h, c.if-room-gt-CROSSINGS.false))
 
-returns-4 : tie.Need-returns-4
-returns-4 c = λ h. absurd (omega (arith, h, c.before.before.before.before.before.before.if1.false))
+returns-4 : tie.Need-returns-then-yard-carriers
+returns-4 c = λ h. absurd (omega (arith, h, c.if-room-gt-CROSSINGS.false))
 
-mul-each : tie.Need-overflow-mul-each
+mul-each : tie.Need-overflow_mul-each
 mul-each c = search rules
 
-add-each : tie.Need-overflow-add-each
+add-each : tie.Need-overflow_add-each
 add-each c = search rules
 
-div-each : tie.Need-nonzero-div-each
+div-each : tie.Need-nonzero_div-each
 div-each c = search rules
 
-broad-needs-requires : tie.Need-broad-needs-requires
+broad-needs-requires : tie.Need-broad_needs-requires
 broad-needs-requires c κs = search rules
 
-returns-5 : tie.Need-returns-5
-returns-5 c = λ h. absurd (omega (arith, h, c.before.before.before.before.before.before.before.before.if1.false))
+returns-5 : tie.Need-returns-then-junctions-gt-BAYS
+returns-5 c = λ h. absurd (omega (arith, h, c.if-room-gt-CROSSINGS.false))
 
-thin-needs-requires : tie.Need-thin-needs-requires
+thin-needs-requires : tie.Need-thin_needs-requires
 thin-needs-requires c κs = search rules
 
-returns-6 : tie.Need-returns-6
-returns-6 c = λ h. absurd (omega (arith, h, c.before.before.before.before.before.before.before.before.if1.false))
+returns-6 : tie.Need-returns
+returns-6 c = λ h. absurd (omega (arith, h, c.if-room-gt-CROSSINGS.false))
 
-pub holds-spec : {M : Type 1} → statement M
-holds-spec =
+pub holds_spec : {M : Type 1} → statement M
+holds_spec =
     tie.close
     (tie.spec
     returns

@@ -10,34 +10,32 @@ use borrow.Author.Rules.{rules}
 use Rattle.play.proofs.play_by_rails.Statement.{statement}
 use Rattle.play.proofs.play_by_rails.Tie as tie
 
-mul-rails : tie.Need-overflow-mul-rails
+mul-rails : tie.Need-overflow_mul-rails
 mul-rails c = search rules
 
-slice-aggregate-play-in : tie.Need-slice-aggregate-play-in
-slice-aggregate-play-in c = sym (length-take-le _ _ c.before.before.before.before.before.requires.1)
+slice-aggregate-play-in : tie.Need-slice_bounds-play_in-end
+slice-aggregate-play-in c = sym (length-take-le _ _ c.requires.1)
 
-play-in-requires : tie.Need-play-in-requires
+play-in-requires : tie.Need-play_in-requires
 play-in-requires c κs =
-    let z = c.before.before.before.before.before.before in
-    let table = z.args.table.now in
-    let n = z.args.n in
-    let size = length-take-le (n * words) table z.requires.1 in
+    let table = c.args.table.now in
+    let n = c.args.n in
+    let size = length-take-le (n * words) table c.requires.1 in
     record {
-      admitted = admitted-same (same_taken n (n * words) table (omega arith)) z.requires.0;
+      admitted = admitted-same (same_taken n (n * words) table (omega arith)) c.requires.0;
       table_size = omega (arith, size);
-      levelled = rails-levelled n table z.requires.1;
+      levelled = rails-levelled n table c.requires.1;
     }
 
-same_length : tie.Need-same-length
+same_length : tie.Need-shape_of-out
 same_length c = search rules
 
 returns : tie.Need-returns
 returns c =
-    let z = c.before.before.before.before.before.before.before.before.before in
-    λ t. c.before.before.play-in.ensures (tabled-same (same_taken z.args.n (z.args.n * words) z.args.table.now (omega arith)) t)
+    λ t. c.play_in.ensures (tabled-same (same_taken c.args.n (c.args.n * words) c.args.table.now (omega arith)) t)
 
-pub play-by-rails-spec : {M : Type 1} → statement M
-play-by-rails-spec =
+pub play_by_rails_spec : {M : Type 1} → statement M
+play_by_rails_spec =
     tie.close (tie.spec
     mul-rails
     slice-aggregate-play-in

@@ -7,45 +7,41 @@ use borrow.Author.Rules.{rules}
 use Rattle.play.proofs.play_in.Statement.{statement}
 use Rattle.play.proofs.play_in.Tie as tie
 
-array-borrow-prefix-placement : tie.Need-array-borrow-prefix-placement
+array-borrow-prefix-placement : tie.Need-slice_bounds-placement-end
 array-borrow-prefix-placement c = search rules
 
-slice-aggregate-play-on : tie.Need-slice-aggregate-play-on
+slice-aggregate-play-on : tie.Need-slice_bounds-play_on-end
 slice-aggregate-play-on c =
-    let start = c.before.before.before.before.before in
-    sym (places _ (omega (arith, start.requires.admitted.few, start.requires.admitted.most)))
+    sym (places _ (omega (arith, c.requires.admitted.few, c.requires.admitted.most)))
 
-array-borrow-prefix-standing : tie.Need-array-borrow-prefix-standing
+array-borrow-prefix-standing : tie.Need-slice_bounds-standing-end
 array-borrow-prefix-standing c = search rules
 
-slice-aggregate-play-on-2 : tie.Need-slice-aggregate-play-on-2
-slice-aggregate-play-on-2 c = sym (places _ c.before.before.before.before.before.before.requires.admitted.most)
+slice-aggregate-play-on-2 : tie.Need-slice_bounds-play_on-end-2
+slice-aggregate-play-on-2 c = sym (places _ c.requires.admitted.most)
 
-array-borrow-prefix-owner : tie.Need-array-borrow-prefix-owner
+array-borrow-prefix-owner : tie.Need-slice_bounds-owner-end
 array-borrow-prefix-owner c = search rules
 
-slice-aggregate-play-on-3 : tie.Need-slice-aggregate-play-on-3
+slice-aggregate-play-on-3 : tie.Need-slice_bounds-play_on-end-3
 slice-aggregate-play-on-3 c =
-    let start = c.before.before.before.before.before.before.before in
-    sym (places _ start.requires.admitted.most)
+    sym (places _ c.requires.admitted.most)
 
-play-on-requires : tie.Need-play-on-requires
+play-on-requires : tie.Need-play_on-requires
 play-on-requires c κs =
-    let start = c.before.before.before.before.before.before.before.before in
-    let a = start.requires.admitted in
-    record { asks = rw (places start.args.n a.most) start.requires; placement_size = places _ (omega (arith, a.few, a.most)); owner_size = refl }
+    let a = c.requires.admitted in
+    record { asks = rw (places c.args.n a.most) c.requires; placement_size = places _ (omega (arith, a.few, a.most)); owner_size = refl }
 
-same_length : tie.Need-same-length
+same_length : tie.Need-shape_of-out
 same_length c = search rules
 
 returns : tie.Need-returns
 returns c =
-    let play-on = c.before.before.before.before.before.play-on in
-    let start = c.before.before.before.before.before.before.before.before.before.before.before.before.before.before in
-    rw (places start.args.n start.requires.admitted.most) at play-on.ensures
+    let play-on = c.play_on in
+    rw (places c.args.n c.requires.admitted.most) at play-on.ensures
 
-pub play-in-spec : {M : Type 1} → statement M
-play-in-spec =
+pub play_in_spec : {M : Type 1} → statement M
+play_in_spec =
     tie.close
     (tie.spec
     array-borrow-prefix-placement

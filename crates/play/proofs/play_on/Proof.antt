@@ -13,76 +13,73 @@ use Rattle.play.proofs.play_on.Tie as tie
 shorts-requires : tie.Need-shorts-requires
 shorts-requires c κs = search rules
 
-slice-aggregate-place : tie.Need-slice-aggregate-place
+slice-aggregate-place : tie.Need-slice_bounds-place-end
 slice-aggregate-place c = search rules
 
 place-requires : tie.Need-place-requires
 place-requires c κs = search rules
 
-slice-aggregate-place-2 : tie.Need-slice-aggregate-place-2
+slice-aggregate-place-2 : tie.Need-slice_bounds-place-end-2
 slice-aggregate-place-2 c = search rules
 
 place-requires-2 : tie.Need-place-requires-2
 place-requires-2 c κs =
-    let start = c.before.before.before.before.before.before.before.before.before.before.before.before.before.before.before.before.before.before.before in
-    let pre = start.requires in
+    let pre = c.requires in
     let a = pre.asks.admitted in
-    let most : length start.args.owner.now ≤ span = omega (arith, a.most, pre.owner_size) in
+    let most : length c.args.owner.now ≤ span = omega (arith, a.most, pre.owner_size) in
     (most, refl, omega (arith, a.few, a.goals.many, pre.owner_size), a.goals.apart, λ i h. omega (arith, a.goals.inside i h, pre.owner_size))
 
-slice-aggregate-carry-all : tie.Need-slice-aggregate-carry-all
+slice-aggregate-carry-all : tie.Need-slice_bounds-carry_all-end
 slice-aggregate-carry-all c = search rules
 
-slice-aggregate-carry-all-2 : tie.Need-slice-aggregate-carry-all-2
+slice-aggregate-carry-all-2 : tie.Need-slice_bounds-carry_all-end-2
 slice-aggregate-carry-all-2 c = search rules
 
-carry-all-requires : tie.Need-carry-all-requires
+carry-all-requires : tie.Need-carry_all-requires
 carry-all-requires c κs =
-    let place2 = c.before.before.before.before.before.before.before.before.before.place2 in
-    let place = c.before.before.before.before.before.before.before.before.before.before.before.before.before.before.before.place in
-    let shorts = c.before.before.before.before.before.before.before.before.before.before.before.before.before.before.before.before.before.before.before.before.shorts in
-    let start = c.before.before.before.before.before.before.before.before.before.before.before.before.before.before.before.before.before.before.before.before.before.before.before.before.before.before.before.before.before in
-    let pre = start.requires in
+    let place2 = c.place-2 in
+    let place = c.place in
+    let shorts = c.shorts in
+    let pre = c.requires in
     let a = pre.asks.admitted in
     let e = all-copied _ _ _ pre.placement_size shorts.ensures in
-    let kept : length place.new.1.0 ≡ length start.args.standing.now = place.auto.1.0 in
+    let kept : length place.new.standing ≡ length c.args.standing.now = place.auto.standing in
     let placed = place.ensures in
-    let kept-owner : length place2.new.1.0 ≡ length start.args.owner.now = place2.auto.1.0 in (
-      ready_of start.args.start.now start.args.goal.now _ _ _ (rw kept pre.asks) e (search rules) (rw kept placed),
+    let kept-owner : length place2.new.standing ≡ length c.args.owner.now = place2.auto.standing in (
+      ready_of c.args.start.now c.args.goal.now _ _ _ (rw kept pre.asks) e (search rules) (rw kept placed),
       record {
         each = record { many = a.goals.many ∙ sym (ap length e); apart = a.goals.apart; inside = rw kept a.goals.inside };
         owners = rw kept (owners_of pre.owner_size kept-owner place2.ensures);
         loopless = rw kept a.loopless;
         reaching = rw kept a.reaching;
-        below = rw e (none-settled start.args.start.now);
+        below = rw e (none-settled c.args.start.now);
       },
     )
 
-same_length : tie.Need-same-length
+same_length : tie.Need-shape_of-placement
 same_length c = search rules
 
-same-length-2 : tie.Need-same-length-2
+same-length-2 : tie.Need-shape_of-standing
 same-length-2 c = search rules
 
-same-length-3 : tie.Need-same-length-3
+same-length-3 : tie.Need-shape_of-owner
 same-length-3 c = search rules
 
-same-length-4 : tie.Need-same-length-4
+same-length-4 : tie.Need-shape_of-out
 same-length-4 c = search rules
 
 returns : tie.Need-returns
 returns c =
-    let carry-all = c.before.before.before.before.before.before.before.before.carry-all in
-    let place = c.before.before.before.before.before.before.before.before.before.before.before.before.before.before.before.before.before.before.before.before.before.before.before.before.place in
-    let shorts = c.before.before.before.before.before.before.before.before.before.before.before.before.before.before.before.before.before.before.before.before.before.before.before.before.before.before.before.before.before.shorts in
-    let start = c.before.before.before.before.before.before.before.before.before.before.before.before.before.before.before.before.before.before.before.before.before.before.before.before.before.before.before.before.before.before.before.before.before.before.before.before.before.before in
+    let carry-all = c.carry_all in
+    let place = c.place in
+    let shorts = c.shorts in
     λ t.
-    let e = all-copied _ _ _ start.requires.placement_size shorts.ensures in
-    let kept : length place.new.1.0 ≡ length start.args.standing.now = place.auto.1.0 in
+    let e = all-copied _ _ _ c.requires.placement_size shorts.ensures in
+    let kept : length place.new.standing ≡ length c.args.standing.now = place.auto.standing in
     plays-of ((rw (kept, e) at carry-all.ensures.stages) t)
 
-pub play-on-spec : {M : Type 1} → statement M
-play-on-spec =
+pub play_on_spec : {M : Type 1} → statement M
+play_on_spec =
     tie.close
     (tie.spec
     shorts-requires
