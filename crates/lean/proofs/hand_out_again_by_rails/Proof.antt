@@ -7,23 +7,23 @@ use borrow.Author.Rules.{rules}
 use Rattle.lean.proofs.hand_out_again_by_rails.Statement.{statement}
 use Rattle.lean.proofs.hand_out_again_by_rails.Tie as tie
 
-slice-relend-prefix-play-by-rails : tie.Need-slice-relend-prefix-play-by-rails
+slice-relend-prefix-play-by-rails : tie.Need-slice_bounds-play_by_rails-end-2
 slice-relend-prefix-play-by-rails c = search rules
 
-slice-aggregate-play-by-rails : tie.Need-slice-aggregate-play-by-rails
-slice-aggregate-play-by-rails c = sym (length-take-le _ _ c.before.before.before.before.before.requires.1)
+slice-aggregate-play-by-rails : tie.Need-slice_bounds-play_by_rails-end-3
+slice-aggregate-play-by-rails c = sym (length-take-le _ _ c.requires.1)
 
-play-by-rails-requires : tie.Need-play-by-rails-requires
+play-by-rails-requires : tie.Need-play_by_rails-requires
 play-by-rails-requires c κs = search rules
 
-same_length : tie.Need-same-length
+same_length : tie.Need-shape_of-out
 same_length c = search rules
 
 returns : tie.Need-returns
-returns c = λ t due. hands-again _ (c.before.before.play-by-rails.ensures t) due refl
+returns c = λ t due. hands-again _ (c.play_by_rails.ensures t) due refl
 
-pub hand-out-again-by-rails-spec : {M : Type 1} → statement M
-hand-out-again-by-rails-spec =
+pub hand_out_again_by_rails_spec : {M : Type 1} → statement M
+hand_out_again_by_rails_spec =
     tie.close
     (tie.spec
     slice-relend-prefix-play-by-rails

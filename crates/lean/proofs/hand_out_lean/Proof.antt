@@ -6,41 +6,40 @@ use borrow.Author.Rules.{rules}
 use Rattle.lean.proofs.hand_out_lean.Statement.{statement}
 use Rattle.lean.proofs.hand_out_lean.Tie as tie
 
-hand-out-by-rails-requires : tie.Need-hand-out-by-rails-requires
+hand-out-by-rails-requires : tie.Need-hand_out_by_rails-handed-requires
 hand-out-by-rails-requires c κs = search rules
 
-enum-known-handed : tie.Need-enum-known-handed
-enum-known-handed c = c.match.keys1
+enum-known-handed : tie.Need-enum_known-handed
+enum-known-handed c = search rules
 
-enum-known-handed-2 : tie.Need-enum-known-handed-2
-enum-known-handed-2 c = c.match.keys2
+enum-known-handed-2 : tie.Need-enum_known-handed-in-Longer-1
+enum-known-handed-2 c = search rules
 
-hand-out-again-by-rails-requires : tie.Need-hand-out-again-by-rails-requires
+hand-out-again-by-rails-requires : tie.Need-hand_out_again_by_rails-requires
 hand-out-again-by-rails-requires c κs =
-    let start = c.before.before.before.before.before.before.before.before.before.before.before in
-    let longer = (c.before.before.before.before.before.before.hand-out-by-rails.ensures start.requires.reaching.tabled).longer _ _ c.before.before.handed2.given.1 in
-    (start.requires, rw longer.0 longer.1.fits)
+    let longer = (c.hand_out_by_rails-handed.ensures c.requires.reaching.tabled).longer _ _ c.in-Longer.is in
+    (c.requires, rw longer.0 longer.1.fits)
 
-same_length : tie.Need-same-length
-same_length c = c.before.before.before.before.before.hand-out-by-rails.auto.1.1.1.1.0
+same_length : tie.Need-shape_of-out-in-Done
+same_length c = c.hand_out_by_rails-handed.auto.out
 
-returns : tie.Need-returns
-returns c = λ t. (c.before.before.before.before.before.hand-out-by-rails.ensures t).done _ c.before.handed.given.1
+returns : tie.Need-returns-in-Done
+returns c = λ t. (c.hand_out_by_rails-handed.ensures t).done _ c.in-Done.is
 
-same-length-2 : tie.Need-same-length-2
+same-length-2 : tie.Need-shape_of-out-in-Longer
 same-length-2 c =
-    let hand-out-by-rails = c.before.before.before.before.before.before.before.before.before.hand-out-by-rails in
-    c.before.before.hand-out-again-by-rails.auto.1.1.1.1.1.1.0 ∙ hand-out-by-rails.auto.1.1.1.1.0
+    let hand-out-by-rails = c.hand_out_by_rails-handed in
+    c.hand_out_again_by_rails.auto.out ∙ hand-out-by-rails.auto.out
 
-returns-2 : tie.Need-returns-2
+returns-2 : tie.Need-returns-in-Longer
 returns-2 c =
-    let hand-out-by-rails = c.before.before.before.before.before.before.before.before.before.hand-out-by-rails in
+    let hand-out-by-rails = c.hand_out_by_rails-handed in
     λ t.
-    let longer = (hand-out-by-rails.ensures t).longer _ _ c.before.before.before.before.before.handed2.given.1 in
-    hands-longer longer (c.before.before.hand-out-again-by-rails.ensures t)
+    let longer = (hand-out-by-rails.ensures t).longer _ _ c.in-Longer.is in
+    hands-longer longer (c.hand_out_again_by_rails.ensures t)
 
-pub hand-out-lean-spec : {M : Type 1} → statement M
-hand-out-lean-spec =
+pub hand_out_lean_spec : {M : Type 1} → statement M
+hand_out_lean_spec =
     tie.close
     (tie.spec
     hand-out-by-rails-requires
