@@ -6,41 +6,40 @@ use borrow.Author.Rules.{rules}
 use Rattle.planner.proofs.hand_out.Statement.{statement}
 use Rattle.planner.proofs.hand_out.Tie as tie
 
-hand-out-likely-requires : tie.Need-hand-out-likely-requires
+hand-out-likely-requires : tie.Need-hand_out_likely-handed-requires
 hand-out-likely-requires c κs = search rules
 
-enum-known-handed : tie.Need-enum-known-handed
-enum-known-handed c = c.match.keys1
+enum-known-handed : tie.Need-enum_known-handed
+enum-known-handed c = search rules
 
-enum-known-handed-2 : tie.Need-enum-known-handed-2
-enum-known-handed-2 c = c.match.keys2
+enum-known-handed-2 : tie.Need-enum_known-handed-in-Longer-1
+enum-known-handed-2 c = search rules
 
-hand-out-again-requires : tie.Need-hand-out-again-requires
+hand-out-again-requires : tie.Need-hand_out_again-requires
 hand-out-again-requires c κs =
-    let start = c.before.before.before.before.before.before.before.before.before.before.before in
-    let longer = (c.before.before.before.before.before.before.hand-out-likely.ensures start.requires.reaching.tabled).longer _ _ c.before.before.handed2.given.1 in
-    (start.requires, rw longer.0 longer.1.fits)
+    let longer = (c.hand_out_likely-handed.ensures c.requires.reaching.tabled).longer _ _ c.in-Longer.is in
+    (c.requires, rw longer.0 longer.1.fits)
 
-same_length : tie.Need-same-length
-same_length c = c.before.before.before.before.before.hand-out-likely.auto.1.1.1.1.0
+same_length : tie.Need-shape_of-out-in-Done
+same_length c = c.hand_out_likely-handed.auto.out
 
-returns : tie.Need-returns
-returns c = λ t. (c.before.before.before.before.before.hand-out-likely.ensures t).done _ c.before.handed.given.1
+returns : tie.Need-returns-in-Done
+returns c = λ t. (c.hand_out_likely-handed.ensures t).done _ c.in-Done.is
 
-same-length-2 : tie.Need-same-length-2
+same-length-2 : tie.Need-shape_of-out-in-Longer
 same-length-2 c =
-    let hand-out-likely = c.before.before.before.before.before.before.before.before.before.hand-out-likely in
-    c.before.before.hand-out-again.auto.1.1.1.1.1.1.0 ∙ hand-out-likely.auto.1.1.1.1.0
+    let hand-out-likely = c.hand_out_likely-handed in
+    c.hand_out_again.auto.out ∙ hand-out-likely.auto.out
 
-returns-2 : tie.Need-returns-2
+returns-2 : tie.Need-returns-in-Longer
 returns-2 c =
-    let hand-out-likely = c.before.before.before.before.before.before.before.before.before.hand-out-likely in
+    let hand-out-likely = c.hand_out_likely-handed in
     λ t.
-    let longer = (hand-out-likely.ensures t).longer _ _ c.before.before.before.before.before.handed2.given.1 in
-    hands-longer longer (c.before.before.hand-out-again.ensures t)
+    let longer = (hand-out-likely.ensures t).longer _ _ c.in-Longer.is in
+    hands-longer longer (c.hand_out_again.ensures t)
 
-pub hand-out-spec : {M : Type 1} → statement M
-hand-out-spec =
+pub hand_out_spec : {M : Type 1} → statement M
+hand_out_spec =
     tie.close
     (tie.spec
     hand-out-likely-requires

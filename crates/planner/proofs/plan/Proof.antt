@@ -4,29 +4,29 @@ use borrow.Author.Rules.{rules}
 use Rattle.planner.proofs.plan.Statement.{statement}
 use Rattle.planner.proofs.plan.Tie as tie
 
-plan-counted-requires : tie.Need-plan-counted-requires
+plan-counted-requires : tie.Need-plan_counted-counted-requires
 plan-counted-requires c κs = search rules
 
-enum-known-counted : tie.Need-enum-known-counted
-enum-known-counted c = c.match.keys1
+enum-known-counted : tie.Need-enum_known-counted
+enum-known-counted c = search rules
 
-enum-known-counted-2 : tie.Need-enum-known-counted-2
-enum-known-counted-2 c = c.match.keys2
+enum-known-counted-2 : tie.Need-enum_known-counted-in-Refused-1
+enum-known-counted-2 c = search rules
 
-same_length : tie.Need-same-length
-same_length c = c.before.before.before.before.before.plan-counted.auto.1.1.1.1.0
+same_length : tie.Need-shape_of-out-in-Accepted
+same_length c = c.plan_counted-counted.auto.out
 
-returns : tie.Need-returns
-returns c = rw c.before.counted.given.1 at c.before.before.before.before.before.plan-counted.ensures.says
+returns : tie.Need-returns-in-Accepted
+returns c = rw c.in-Accepted.is at c.plan_counted-counted.ensures.says
 
-same-length-2 : tie.Need-same-length-2
-same-length-2 c = c.before.before.before.before.before.plan-counted.auto.1.1.1.1.0
+same-length-2 : tie.Need-shape_of-out-in-Refused
+same-length-2 c = c.plan_counted-counted.auto.out
 
-returns-2 : tie.Need-returns-2
-returns-2 c = rw c.before.counted2.given.1 at c.before.before.before.before.before.plan-counted.ensures.says
+returns-2 : tie.Need-returns-in-Refused
+returns-2 c = rw c.in-Refused.is at c.plan_counted-counted.ensures.says
 
-pub plan-spec : {M : Type 1} → statement M
-plan-spec =
+pub plan_spec : {M : Type 1} → statement M
+plan_spec =
     tie.close
     (tie.spec
     plan-counted-requires
