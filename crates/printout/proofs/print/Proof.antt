@@ -9,30 +9,30 @@ use Rattle.program.proofs.program.Reads as program-reads
 use Rattle.program.proofs.program_short.Reads as program-short-reads
 
 -- src/lib.rt:21:9
-program-short-requires : tie.Need-program-short-requires
+program-short-requires : tie.Need-program_short-requires
 program-short-requires c κs = search rules
 
 -- src/lib.rt:21:9
-same_length : tie.Need-same-length
-same_length c = c.before.before.program-short.auto.1.1.1.1.0
+same_length : tie.Need-shape_of-out-then-short
+same_length c = c.program_short.auto.out
 
 -- src/lib.rt:21:9
-returns : tie.Need-returns
-returns c = rw c.before.before.before.before.if1.true c.before.before.program-short.ensures
+returns : tie.Need-returns-then-short
+returns c = rw c.if-short.true c.program_short.ensures
 
 -- src/lib.rt:23:5
 program-requires : tie.Need-program-requires
 program-requires c κs = search rules
 
 -- src/lib.rt:10:1
-same-length-2 : tie.Need-same-length-2
-same-length-2 c = c.before.before.program.auto.1.1.1.1.0
+same-length-2 : tie.Need-shape_of-out
+same-length-2 c = c.program.auto.out
 
 -- src/lib.rt:10:1
-returns-2 : tie.Need-returns-2
-returns-2 c = rw c.before.before.before.before.if1.false c.before.before.program.ensures
+returns-2 : tie.Need-returns
+returns-2 c = rw c.if-short.false c.program.ensures
 
-pub print-spec : {M : Type 1} → statement M
-print-spec =
+pub print_spec : {M : Type 1} → statement M
+print_spec =
     tie.close
     (tie.spec program-short-requires same_length returns program-requires same-length-2 returns-2)

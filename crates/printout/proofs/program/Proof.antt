@@ -13,19 +13,19 @@ use Rattle.handing.proofs.text.Reads as text-reads
 use Rattle.printout.proofs.print.Reads as print-reads
 
 -- src/lib.rt:38:57
-slice-aggregate-print : tie.Need-slice-aggregate-print
+slice-aggregate-print : tie.Need-slice_bounds-print-end
 slice-aggregate-print c = search rules
 
 -- src/lib.rt:38:9
-print-requires : tie.Need-print-requires
+print-requires : tie.Need-print-n-requires
 print-requires c κs = search rules
 
 -- src/lib.rt:39:19
-array-share-prefix-room : tie.Need-array-share-prefix-room
+array-share-prefix-room : tie.Need-slice_bounds-room-end
 array-share-prefix-room c = search rules
 
 -- src/lib.rt:39:19
-slice-aggregate-text : tie.Need-slice-aggregate-text
+slice-aggregate-text : tie.Need-slice_bounds-text-end
 slice-aggregate-text c = sym (length-take-le _ _ (array-share-prefix-room c.before))
 
 -- src/lib.rt:39:5
@@ -33,17 +33,17 @@ text-requires : tie.Need-text-requires
 text-requires c κs = search rules
 
 -- src/lib.rt:27:1
-same_length : tie.Need-same-length
-same_length c = c.before.before.text.auto.1.0
+same_length : tie.Need-shape_of-out
+same_length c = c.text.auto.out
 
 -- src/lib.rt:27:1
 returns : tie.Need-returns
 returns c =
-    let print = c.before.before.before.before.before.before.print in
-    hands-part print.ensures.0 (omega (arith, print.ensures.1, slice-aggregate-print c.before.before.before.before.before.before.before)) c.before.before.text.ensures
+    let print = c.print-n in
+    hands-part print.ensures.0 (omega (arith, print.ensures.1, slice-aggregate-print c.before.before.before.before.before.before.before)) c.text.ensures
 
-pub program-spec : {M : Type 1} → statement M
-program-spec =
+pub program_spec : {M : Type 1} → statement M
+program_spec =
     tie.close
     (tie.spec
     slice-aggregate-print

@@ -9,56 +9,52 @@ use borrow.Author.Rules.{rules}
 use Rattle.program.proofs.answer_for.Statement.{statement}
 use Rattle.program.proofs.answer_for.Tie as tie
 
-slice-aggregate-read-order : tie.Need-slice-aggregate-read-order
+slice-aggregate-read-order : tie.Need-slice_bounds-read_order-end
 slice-aggregate-read-order c = search rules
 
-slice-aggregate-read-order-2 : tie.Need-slice-aggregate-read-order-2
+slice-aggregate-read-order-2 : tie.Need-slice_bounds-read_order-end-2
 slice-aggregate-read-order-2 c = search rules
 
-slice-aggregate-read-order-3 : tie.Need-slice-aggregate-read-order-3
+slice-aggregate-read-order-3 : tie.Need-slice_bounds-read_order-end-3
 slice-aggregate-read-order-3 c = search rules
 
-read-order-requires : tie.Need-read-order-requires
+read-order-requires : tie.Need-read_order-ordered-requires
 read-order-requires c κs = search rules
 
-enum-known-ordered : tie.Need-enum-known-ordered
+enum-known-ordered : tie.Need-enum_known-ordered
 enum-known-ordered c = search rules
 
-slice-aggregate-plan-order : tie.Need-slice-aggregate-plan-order
+slice-aggregate-plan-order : tie.Need-slice_bounds-plan_order-end
 slice-aggregate-plan-order c = search rules
 
-slice-aggregate-plan-order-2 : tie.Need-slice-aggregate-plan-order-2
+slice-aggregate-plan-order-2 : tie.Need-slice_bounds-plan_order-end-in-Order
 slice-aggregate-plan-order-2 c = search rules
 
-slice-aggregate-plan-order-3 : tie.Need-slice-aggregate-plan-order-3
+slice-aggregate-plan-order-3 : tie.Need-slice_bounds-plan_order-end-in-Order-2
 slice-aggregate-plan-order-3 c = search rules
 
-plan-order-requires : tie.Need-plan-order-requires
+plan-order-requires : tie.Need-plan_order-requires
 plan-order-requires c κs =
-    let read-order = c.before.before.before.before.before.before.before.before.before.before.read-order in
-    let start = c.before.before.before.before.before.before.before.before.before.before.before.before.before.before.before.before.before in
-    let s = order-stands read-order.ensures _ c.before.before.before.before.before.ordered.given.1 (omega (arith, slice-aggregate-read-order c.before.before.before.before.before.before.before.before.before.before.before.before.before)) (omega (arith, slice-aggregate-read-order-2 c.before.before.before.before.before.before.before.before.before.before.before.before)) (omega (arith, slice-aggregate-read-order-3 c.before.before.before.before.before.before.before.before.before.before.before)) in (s.rails, s.starting, s.ending, start.requires)
+    let read-order = c.read_order-ordered in
+    let s = order-stands read-order.ensures _ c.in-Order.is (omega (arith, slice-aggregate-read-order c.before.before.before.before.before.before.before.before.before.before.before)) (omega (arith, slice-aggregate-read-order-2 c.before.before.before.before.before.before.before.before.before.before)) (omega (arith, slice-aggregate-read-order-3 c.before.before.before.before.before.before.before.before.before)) in (s.rails, s.starting, s.ending, c.requires)
 
-enum-known-ordered-2 : tie.Need-enum-known-ordered-2
+enum-known-ordered-2 : tie.Need-enum_known-ordered-in-Refused-1
 enum-known-ordered-2 c = search rules
 
-same_length : tie.Need-same-length
-same_length c = c.before.before.plan-order.auto.1.1.1.1.1.0
+same_length : tie.Need-shape_of-plan
+same_length c = c.plan_order.auto.plan
 
-returns : tie.Need-returns
+returns : tie.Need-returns-in-Order
 returns c =
-    let ordered = c.before.before.before.before.before.before.before.before.ordered in
-    let read-order = c.before.before.before.before.before.before.before.before.before.before.before.before.before.read-order in
-    let start = c.before.before.before.before.before.before.before.before.before.before.before.before.before.before.before.before.before.before.before.before in
-    let s = order-stands read-order.ensures _ ordered.given.1 (omega (arith, slice-aggregate-read-order c.before.before.before.before.before.before.before.before.before.before.before.before.before.before.before.before)) (omega (arith, slice-aggregate-read-order-2 c.before.before.before.before.before.before.before.before.before.before.before.before.before.before.before)) (omega (arith, slice-aggregate-read-order-3 c.before.before.before.before.before.before.before.before.before.before.before.before.before.before)) in rw (ap (short_or start.args.shorten) (sym s.answers)) c.before.before.plan-order.ensures
+    let read-order = c.read_order-ordered in
+    let s = order-stands read-order.ensures _ c.in-Order.is (omega (arith, slice-aggregate-read-order c.before.before.before.before.before.before.before.before.before.before.before.before.before.before)) (omega (arith, slice-aggregate-read-order-2 c.before.before.before.before.before.before.before.before.before.before.before.before.before)) (omega (arith, slice-aggregate-read-order-3 c.before.before.before.before.before.before.before.before.before.before.before.before)) in rw (ap (short_or c.args.shorten) (sym s.answers)) c.plan_order.ensures
 
-returns-2 : tie.Need-returns-2
+returns-2 : tie.Need-returns-in-Refused
 returns-2 c =
-    let start = c.before.before.before.before.before.before.before.before.before.before.before.before.before in
-    rw (ap (short_or start.args.shorten) (sym (refusal-stands c.before.before.before.before.before.before.read-order.ensures _ c.before.ordered2.given.1))) (refused-or-ready start.args.shorten _ _ start.requires)
+    rw (ap (short_or c.args.shorten) (sym (refusal-stands c.read_order-ordered.ensures _ c.in-Refused.is))) (refused-or-ready c.args.shorten _ _ c.requires)
 
-pub answer-for-spec : {M : Type 1} → statement M
-answer-for-spec =
+pub answer_for_spec : {M : Type 1} → statement M
+answer_for_spec =
     tie.close
     (tie.spec
     slice-aggregate-read-order

@@ -5,29 +5,29 @@ use Rattle.print_room.proofs.Room.{ready-room}
 use Rattle.program.proofs.print_for.Statement.{statement}
 use Rattle.program.proofs.print_for.Tie as tie
 
-slice-aggregate-answer-for : tie.Need-slice-aggregate-answer-for
+slice-aggregate-answer-for : tie.Need-slice_bounds-answer_for-end
 slice-aggregate-answer-for c = search rules
 
-answer-for-requires : tie.Need-answer-for-requires
+answer-for-requires : tie.Need-answer_for-answer-requires
 answer-for-requires c κs = search rules
 
-slice-aggregate-print : tie.Need-slice-aggregate-print
+slice-aggregate-print : tie.Need-slice_bounds-print-end
 slice-aggregate-print c = search rules
 
 print-requires : tie.Need-print-requires
-print-requires c κs = c.before.before.before.answer-for.ensures.slottable.within
+print-requires c κs = c.answer_for-answer.ensures.slottable.within
 
-same_length : tie.Need-same-length
+same_length : tie.Need-shape_of-out
 same_length c = search rules
 
 returns : tie.Need-returns
 returns c =
-    let ready = c.before.before.before.before.before.before.answer-for.ensures in
-    let prints = c.before.before.print.ensures in
+    let ready = c.answer_for-answer.ensures in
+    let prints = c.print.ensures in
     (prints.prints _ ready.handed, ready-room ready prints)
 
-pub print-for-spec : {M : Type 1} → statement M
-print-for-spec =
+pub print_for_spec : {M : Type 1} → statement M
+print_for_spec =
     tie.close
     (tie.spec
     slice-aggregate-answer-for

@@ -5,15 +5,15 @@ use Rattle.paper.specs.Program.{program}
 use Rattle.program.proofs.program.Statement.{statement}
 use Rattle.program.proofs.program.Tie as tie
 
-print-for-requires : tie.Need-print-for-requires
+print-for-requires : tie.Need-print_for-requires
 print-for-requires c κs = search rules
 
-same_length : tie.Need-same-length
+same_length : tie.Need-shape_of-out
 same_length c = search rules
 
 returns : tie.Need-returns
 unfolding program
-returns c = c.before.before.print-for.ensures
+returns c = c.print_for.ensures
 
-pub program-spec : {M : Type 1} → statement M
-program-spec = tie.close (tie.spec print-for-requires same_length returns)
+pub program_spec : {M : Type 1} → statement M
+program_spec = tie.close (tie.spec print-for-requires same_length returns)

@@ -5,15 +5,15 @@ use Rattle.print_room.specs.Short.{short_program}
 use Rattle.program.proofs.program_short.Statement.{statement}
 use Rattle.program.proofs.program_short.Tie as tie
 
-print-for-requires : tie.Need-print-for-requires
+print-for-requires : tie.Need-print_for-requires
 print-for-requires c κs = search rules
 
-same_length : tie.Need-same-length
+same_length : tie.Need-shape_of-out
 same_length c = search rules
 
 returns : tie.Need-returns
 unfolding short_program
-returns c = c.before.before.print-for.ensures
+returns c = c.print_for.ensures
 
-pub program-short-spec : {M : Type 1} → statement M
-program-short-spec = tie.close (tie.spec print-for-requires same_length returns)
+pub program_short_spec : {M : Type 1} → statement M
+program_short_spec = tie.close (tie.spec print-for-requires same_length returns)

@@ -8,44 +8,39 @@ use borrow.Author.Rules.{rules}
 use Rattle.program.proofs.shorten_planned.Statement.{statement}
 use Rattle.program.proofs.shorten_planned.Tie as tie
 
-enum-known-answer : tie.Need-enum-known-answer
+enum-known-answer : tie.Need-enum_known-answer
 enum-known-answer c = search rules
 
-slice-aggregate-shorten : tie.Need-slice-aggregate-shorten
+slice-aggregate-shorten : tie.Need-slice_bounds-shorten-end
 slice-aggregate-shorten c =
-    let start = c.before.before.before.before.before.before.before.before.before in
-    sym (length-take-le _ _ (start.requires.0.within.inside _ c.before.before.answer.given.1))
+    sym (length-take-le _ _ (c.requires.0.within.inside _ c.in-Granted.is))
 
-array-share-prefix-marks : tie.Need-array-share-prefix-marks
+array-share-prefix-marks : tie.Need-slice_bounds-marks-end
 array-share-prefix-marks c =
-    let start = c.before.before.before.before.before.before.before.before.before in
-    omega (arith, start.requires.0.within.inside _ c.before.before.answer.given.1, start.requires.0.sized)
+    omega (arith, c.requires.0.within.inside _ c.in-Granted.is, c.requires.0.sized)
 
-slice-aggregate-shorten-2 : tie.Need-slice-aggregate-shorten-2
+slice-aggregate-shorten-2 : tie.Need-slice_bounds-shorten-end-in-Granted
 slice-aggregate-shorten-2 c = sym (enough _ (array-share-prefix-marks c.before))
 
 shorten-requires : tie.Need-shorten-requires
 shorten-requires c κs = search rules
 
-enum-known-answer-2 : tie.Need-enum-known-answer-2
+enum-known-answer-2 : tie.Need-enum_known-answer-in-Denied-1
 enum-known-answer-2 c = search rules
 
-same_length : tie.Need-same-length
+same_length : tie.Need-shape_of-short
 same_length c = search rules
 
-returns : tie.Need-returns
+returns : tie.Need-returns-in-Granted
 returns c =
-    let answer = c.before.before.before.before.before.before.before.answer in
-    let start = c.before.before.before.before.before.before.before.before.before.before.before.before.before.before in
-    left-short start.requires.0 _ answer.given.1 _ (marked start.requires.0 _ answer.given.1) _ start.requires.1 c.before.before.shorten.ensures
+    left-short c.requires.0 _ c.in-Granted.is _ (marked c.requires.0 _ c.in-Granted.is) _ c.requires.1 c.shorten.ensures
 
-returns-2 : tie.Need-returns-2
+returns-2 : tie.Need-returns-in-Denied
 returns-2 c =
-    let start = c.before.before.before.before.before.before.before.before in
-    refusal-stays start.requires.0 _ c.before.answer2.given.1 start.requires.1
+    refusal-stays c.requires.0 _ c.in-Denied.is c.requires.1
 
-pub shorten-planned-spec : {M : Type 1} → statement M
-shorten-planned-spec =
+pub shorten_planned_spec : {M : Type 1} → statement M
+shorten_planned_spec =
     tie.close
     (tie.spec
     enum-known-answer

@@ -42,7 +42,7 @@ returns-2 : tie.Need-returns
 returns-2 c =
     let if1 = c.if-not-fits in
     let known = c.known-fits in
-    known-says _ _ _ (sym known.ensures ∙ not-false _ if1.false) c.answer_for-answer.ensures.handed c.hand-2.ensures
+    known-says _ _ _ (sym known.ensures ∙ if1.false) c.answer_for-answer.ensures.handed c.hand-2.ensures
 
 pub program_spec : {M : Type 1} → statement M
 program_spec =
