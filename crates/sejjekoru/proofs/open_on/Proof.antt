@@ -7,17 +7,17 @@ use borrow.Author.Rules.{rules}
 use Rattle.sejjekoru.proofs.open_on.Statement.{statement}
 use Rattle.sejjekoru.proofs.open_on.Tie as tie
 
-open-requires : tie.Need-open-requires
+open-requires : tie.Need-open-opening-requires
 open-requires c κs = search rules
 
-told-checked-requires : tie.Need-told-checked-requires
+told-checked-requires : tie.Need-told_checked-requires
 told-checked-requires c κs = search rules
 
 returns : tie.Need-returns
 returns c =
-    let o = c.before.before.before.before.«open».ensures in
+    let o = c.open-opening.ensures in
     record {
-      tells = told-as number_of (value_of 0) o.answers c.told-checked.ensures;
+      tells = told-as number_of (value_of 0) o.answers c.told_checked.ensures;
       record_then = o.leaves;
       few = held-few _ _ _ _ _ _ o;
       room = held-room _ _ _ _ _ _ o;
@@ -25,5 +25,5 @@ returns c =
       lines_then = lines-filled _ _ _ _ _ _ o;
     }
 
-pub open-on-spec : {M : Type 1} → statement M
-open-on-spec = tie.close (tie.spec open-requires told-checked-requires returns)
+pub open_on_spec : {M : Type 1} → statement M
+open_on_spec = tie.close (tie.spec open-requires told-checked-requires returns)

@@ -6,14 +6,14 @@ use borrow.Author.Rules.{rules}
 use Rattle.sejjekoru.proofs.sejjekoru_check.Statement.{statement}
 use Rattle.sejjekoru.proofs.sejjekoru_check.Tie as tie
 
-check-requires : tie.Need-check-requires
+check-requires : tie.Need-check-answer-requires
 check-requires c κs = search rules
 
-told-checked-requires : tie.Need-told-checked-requires
+told-checked-requires : tie.Need-told_checked-requires
 told-checked-requires c κs = search rules
 
 returns : tie.Need-returns
-returns c = told-as number_of (value_of 0) c.before.before.check.ensures c.told-checked.ensures
+returns c = told-as number_of (value_of 0) c.check-answer.ensures c.told_checked.ensures
 
-pub sejjekoru-check-spec : {M : Type 1} → statement M
-sejjekoru-check-spec = tie.close (tie.spec check-requires told-checked-requires returns)
+pub sejjekoru_check_spec : {M : Type 1} → statement M
+sejjekoru_check_spec = tie.close (tie.spec check-requires told-checked-requires returns)

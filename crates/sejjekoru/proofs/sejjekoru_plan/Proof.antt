@@ -7,20 +7,20 @@ use borrow.Author.Rules.{rules}
 use Rattle.sejjekoru.proofs.sejjekoru_plan.Statement.{statement}
 use Rattle.sejjekoru.proofs.sejjekoru_plan.Tie as tie
 
-plan-counted-requires : tie.Need-plan-counted-requires
+plan-counted-requires : tie.Need-plan_counted-answer-requires
 plan-counted-requires c κs = search rules
 
-told-planned-requires : tie.Need-told-planned-requires
+told-planned-requires : tie.Need-told_planned-requires
 told-planned-requires c κs = search rules
 
-same_length : tie.Need-same-length
+same_length : tie.Need-shape_of-plan
 same_length c = search rules
 
 returns : tie.Need-returns
 returns c =
-    let says = c.before.before.before.before.before.plan-counted.ensures in
-    let told = c.told-planned.ensures in
+    let says = c.plan_counted-answer.ensures in
+    let told = c.told_planned.ensures in
     record { tells = told-as plan_number plan_value says.says.answers told.0; parks = told.1 ∙ says.parks; leaves = says.says.leaves }
 
-pub sejjekoru-plan-spec : {M : Type 1} → statement M
-sejjekoru-plan-spec = tie.close (tie.spec plan-counted-requires told-planned-requires same_length returns)
+pub sejjekoru_plan_spec : {M : Type 1} → statement M
+sejjekoru_plan_spec = tie.close (tie.spec plan-counted-requires told-planned-requires same_length returns)

@@ -6,18 +6,18 @@ use borrow.Author.Rules.{rules}
 use Rattle.sejjekoru.proofs.sejjekoru_report.Statement.{statement}
 use Rattle.sejjekoru.proofs.sejjekoru_report.Tie as tie
 
-report-requires : tie.Need-report-requires
+report-requires : tie.Need-report-answer-requires
 report-requires c κs = search rules
 
-told-reported-requires : tie.Need-told-reported-requires
+told-reported-requires : tie.Need-told_reported-requires
 told-reported-requires c κs = search rules
 
-same_length : tie.Need-same-length
+same_length : tie.Need-shape_of-marks
 same_length c = search rules
 
 returns : tie.Need-returns
-returns c = let says = c.before.before.before.before.report.ensures in record { tells = told-as report_number report_value says.answers c.told-reported.ensures; leaves = says.leaves }
+returns c = let says = c.report-answer.ensures in record { tells = told-as report_number report_value says.answers c.told_reported.ensures; leaves = says.leaves }
 
-pub sejjekoru-report-spec : {M : Type 1} → statement M
-sejjekoru-report-spec =
+pub sejjekoru_report_spec : {M : Type 1} → statement M
+sejjekoru_report_spec =
     tie.close (tie.spec report-requires told-reported-requires same_length returns)

@@ -6,18 +6,18 @@ use borrow.Author.Rules.{rules}
 use Rattle.sejjekoru.proofs.sejjekoru_shorten.Statement.{statement}
 use Rattle.sejjekoru.proofs.sejjekoru_shorten.Tie as tie
 
-shorten-requires : tie.Need-shorten-requires
+shorten-requires : tie.Need-shorten-answer-requires
 shorten-requires c κs = search rules
 
 told-requires : tie.Need-told-requires
 told-requires c κs = search rules
 
-same_length : tie.Need-same-length
+same_length : tie.Need-shape_of-out
 same_length c = search rules
 
 returns : tie.Need-returns
-returns c = let says = c.before.before.before.before.shorten.ensures in record { tells = told-as verdict_number verdict_value says.answers c.told.ensures; leaves = says.ends_as }
+returns c = let says = c.shorten-answer.ensures in record { tells = told-as verdict_number verdict_value says.answers c.told.ensures; leaves = says.ends_as }
 
-pub sejjekoru-shorten-spec : {M : Type 1} → statement M
-sejjekoru-shorten-spec =
+pub sejjekoru_shorten_spec : {M : Type 1} → statement M
+sejjekoru_shorten_spec =
     tie.close (tie.spec shorten-requires told-requires same_length returns)

@@ -7,11 +7,11 @@ use Rattle.sejjekoru.proofs.sejjekoru_slots.Tie as tie
 slots-requires : tie.Need-slots-requires
 slots-requires c κs = search rules
 
-same_length : tie.Need-same-length
+same_length : tie.Need-shape_of-slots
 same_length c = search rules
 
 returns : tie.Need-returns
-returns c = let says = c.before.before.slots.ensures in record { tells = says.0; leaves = says.1 }
+returns c = let says = c.slots.ensures in record { tells = says.0; leaves = says.1 }
 
-pub sejjekoru-slots-spec : {M : Type 1} → statement M
-sejjekoru-slots-spec = tie.close (tie.spec slots-requires same_length returns)
+pub sejjekoru_slots_spec : {M : Type 1} → statement M
+sejjekoru_slots_spec = tie.close (tie.spec slots-requires same_length returns)

@@ -6,19 +6,19 @@ use Rattle.sejjekoru.proofs.Saying.{told-as}
 use Rattle.sejjekoru.proofs.by_edition.sejjekoru_program_timed.Statement.{statement}
 use Rattle.sejjekoru.proofs.by_edition.sejjekoru_program_timed.Tie as tie
 
-program-requires : tie.Need-program-requires
+program-requires : tie.Need-program-answer-requires
 program-requires c κs = search rules
 
 told-requires : tie.Need-told-requires
 told-requires c κs = search rules
 
-same_length : tie.Need-same-length
+same_length : tie.Need-shape_of-out
 same_length c = search rules
 
 returns : tie.Need-returns
 returns c =
-    let says = c.before.before.before.before.program.ensures in
+    let says = c.program-answer.ensures in
     record { tells = told-as verdict_number verdict_value says.answers c.told.ensures; leaves = says.leaves }
 
-pub sejjekoru-program-timed-spec : {M : Type 1} → statement M
-sejjekoru-program-timed-spec = tie.close (tie.spec program-requires told-requires same_length returns)
+pub sejjekoru_program_timed_spec : {M : Type 1} → statement M
+sejjekoru_program_timed_spec = tie.close (tie.spec program-requires told-requires same_length returns)

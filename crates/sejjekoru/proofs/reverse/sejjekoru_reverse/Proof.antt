@@ -6,17 +6,17 @@ use borrow.Author.Rules.{rules}
 use Rattle.sejjekoru.proofs.reverse.sejjekoru_reverse.Statement.{statement}
 use Rattle.sejjekoru.proofs.reverse.sejjekoru_reverse.Tie as tie
 
-reverse-requires : tie.Need-reverse-requires
+reverse-requires : tie.Need-reverse-answer-requires
 reverse-requires c κs = search rules
 
 told-requires : tie.Need-told-requires
 told-requires c κs = search rules
 
-same_length : tie.Need-same-length
+same_length : tie.Need-shape_of-out
 same_length c = search rules
 
 returns : tie.Need-returns
-returns c = let says = c.before.before.before.before.reverse.ensures in record { tells = told-as verdict_number verdict_value says.answers c.told.ensures; leaves = says.leaves }
+returns c = let says = c.reverse-answer.ensures in record { tells = told-as verdict_number verdict_value says.answers c.told.ensures; leaves = says.leaves }
 
-pub sejjekoru-reverse-spec : {M : Type 1} → statement M
-sejjekoru-reverse-spec = tie.close (tie.spec reverse-requires told-requires same_length returns)
+pub sejjekoru_reverse_spec : {M : Type 1} → statement M
+sejjekoru_reverse_spec = tie.close (tie.spec reverse-requires told-requires same_length returns)

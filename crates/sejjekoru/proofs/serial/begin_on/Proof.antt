@@ -6,14 +6,14 @@ use borrow.Author.Rules.{rules}
 use Rattle.sejjekoru.proofs.serial.begin_on.Statement.{statement}
 use Rattle.sejjekoru.proofs.serial.begin_on.Tie as tie
 
-begin-requires : tie.Need-begin-requires
+begin-requires : tie.Need-begin-turn-requires
 begin-requires c κs = search rules
 
 told-requires : tie.Need-told-requires
 told-requires c κs = search rules
 
 returns : tie.Need-returns
-returns c = let says = c.before.before.before.begin.ensures in record { tells = told-as saying_number saying_value says.answers c.told.ensures; leaves = says.leaves }
+returns c = let says = c.begin-turn.ensures in record { tells = told-as saying_number saying_value says.answers c.told.ensures; leaves = says.leaves }
 
-pub begin-on-spec : {M : Type 1} → statement M
-begin-on-spec = tie.close (tie.spec begin-requires told-requires returns)
+pub begin_on_spec : {M : Type 1} → statement M
+begin_on_spec = tie.close (tie.spec begin-requires told-requires returns)

@@ -6,14 +6,14 @@ use borrow.Author.Rules.{rules}
 use Rattle.sejjekoru.proofs.serial.end_on.Statement.{statement}
 use Rattle.sejjekoru.proofs.serial.end_on.Tie as tie
 
-end-requires : tie.Need-end-requires
+end-requires : tie.Need-end-turn-requires
 end-requires c κs = search rules
 
 told-requires : tie.Need-told-requires
 told-requires c κs = search rules
 
 returns : tie.Need-returns
-returns c = let says = c.before.before.before.end.ensures in record { tells = told-as saying_number saying_value says.answers c.told.ensures; after = says.after }
+returns c = let says = c.end-turn.ensures in record { tells = told-as saying_number saying_value says.answers c.told.ensures; after = says.after }
 
-pub end-on-spec : {M : Type 1} → statement M
-end-on-spec = tie.close (tie.spec end-requires told-requires returns)
+pub end_on_spec : {M : Type 1} → statement M
+end_on_spec = tie.close (tie.spec end-requires told-requires returns)

@@ -6,17 +6,17 @@ use Rattle.sejjekoru.proofs.Saying.{told-as}
 use Rattle.sejjekoru.proofs.surveys.sejjekoru_write_survey.Statement.{statement}
 use Rattle.sejjekoru.proofs.surveys.sejjekoru_write_survey.Tie as tie
 
-write-requires : tie.Need-write-requires
+write-requires : tie.Need-write-verdict-requires
 write-requires c κs = search rules
 
 told-requires : tie.Need-told-requires
 told-requires c κs = search rules
 
-same_length : tie.Need-same-length
+same_length : tie.Need-shape_of-out
 same_length c = search rules
 
 returns : tie.Need-returns
-returns c = let says = c.before.before.before.before.write.ensures in record { tells = told-as verdict_number verdict_value says.answer c.told.ensures; leaves = says.left }
+returns c = let says = c.write-verdict.ensures in record { tells = told-as verdict_number verdict_value says.answer c.told.ensures; leaves = says.left }
 
-pub sejjekoru-write-survey-spec : {M : Type 1} → statement M
-sejjekoru-write-survey-spec = tie.close (tie.spec write-requires told-requires same_length returns)
+pub sejjekoru_write_survey_spec : {M : Type 1} → statement M
+sejjekoru_write_survey_spec = tie.close (tie.spec write-requires told-requires same_length returns)

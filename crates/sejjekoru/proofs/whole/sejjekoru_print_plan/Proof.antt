@@ -8,10 +8,10 @@ use Rattle.sejjekoru.proofs.whole.sejjekoru_print_plan.Tie as tie
 told-requires : tie.Need-told-requires
 told-requires c κs = search rules
 
-returns : tie.Need-returns
-returns c = plan-over-tells _ _ c.before.before.if1.true c.told.ensures
+returns : tie.Need-returns-then-plan-gt-CROSSINGS
+returns c = plan-over-tells _ _ c.if-plan-gt-CROSSINGS.true c.told.ensures
 
-plan-requires : tie.Need-plan-requires
+plan-requires : tie.Need-plan-needed-requires
 plan-requires c κs = search rules
 
 answer-requires : tie.Need-answer-requires
@@ -20,14 +20,14 @@ answer-requires c κs = search rules
 told-requires-2 : tie.Need-told-requires-2
 told-requires-2 c κs = search rules
 
-same_length : tie.Need-same-length
+same_length : tie.Need-shape_of-out
 same_length c = search rules
 
-returns-2 : tie.Need-returns-2
-returns-2 c = plan-tells _ _ c.before.before.before.before.before.before.before.if1.false c.before.before.before.before.before.plan.ensures c.before.before.answer.ensures c.told2.ensures
+returns-2 : tie.Need-returns
+returns-2 c = plan-tells _ _ c.if-plan-gt-CROSSINGS.false c.plan-needed.ensures c.answer.ensures c.told-2.ensures
 
-pub sejjekoru-print-plan-spec : {M : Type 1} → statement M
-sejjekoru-print-plan-spec =
+pub sejjekoru_print_plan_spec : {M : Type 1} → statement M
+sejjekoru_print_plan_spec =
     tie.close
     (tie.spec
     told-requires

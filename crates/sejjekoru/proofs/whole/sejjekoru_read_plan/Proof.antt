@@ -6,17 +6,17 @@ use borrow.Author.Rules.{rules}
 use Rattle.sejjekoru.proofs.whole.sejjekoru_read_plan.Statement.{statement}
 use Rattle.sejjekoru.proofs.whole.sejjekoru_read_plan.Tie as tie
 
-plan-requires : tie.Need-plan-requires
+plan-requires : tie.Need-plan-answer-requires
 plan-requires c κs = search rules
 
 told-requires : tie.Need-told-requires
 told-requires c κs = search rules
 
-same_length : tie.Need-same-length
+same_length : tie.Need-shape_of-plan
 same_length c = search rules
 
 returns : tie.Need-returns
-returns c = let says = c.before.before.before.before.plan.ensures in record { tells = told-as verdict_number verdict_value says.answers c.told.ensures; leaves = says.leaves }
+returns c = let says = c.plan-answer.ensures in record { tells = told-as verdict_number verdict_value says.answers c.told.ensures; leaves = says.leaves }
 
-pub sejjekoru-read-plan-spec : {M : Type 1} → statement M
-sejjekoru-read-plan-spec = tie.close (tie.spec plan-requires told-requires same_length returns)
+pub sejjekoru_read_plan_spec : {M : Type 1} → statement M
+sejjekoru_read_plan_spec = tie.close (tie.spec plan-requires told-requires same_length returns)

@@ -6,17 +6,17 @@ use borrow.Author.Rules.{rules}
 use Rattle.sejjekoru.proofs.whole.sejjekoru_read_reports.Statement.{statement}
 use Rattle.sejjekoru.proofs.whole.sejjekoru_read_reports.Tie as tie
 
-reports-requires : tie.Need-reports-requires
+reports-requires : tie.Need-reports-answer-requires
 reports-requires c κs = search rules
 
 told-requires : tie.Need-told-requires
 told-requires c κs = search rules
 
-same_length : tie.Need-same-length
+same_length : tie.Need-shape_of-names
 same_length c = search rules
 
 returns : tie.Need-returns
-returns c = let says = c.before.before.before.before.reports.ensures in record { tells = told-as verdict_number verdict_value says.answers c.told.ensures; leaves = says.leaves }
+returns c = let says = c.reports-answer.ensures in record { tells = told-as verdict_number verdict_value says.answers c.told.ensures; leaves = says.leaves }
 
-pub sejjekoru-read-reports-spec : {M : Type 1} → statement M
-sejjekoru-read-reports-spec = tie.close (tie.spec reports-requires told-requires same_length returns)
+pub sejjekoru_read_reports_spec : {M : Type 1} → statement M
+sejjekoru_read_reports_spec = tie.close (tie.spec reports-requires told-requires same_length returns)
