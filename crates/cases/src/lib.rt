@@ -2,10 +2,16 @@
 // A list stands as its count and then its numbers.
 #![tactic(auto)]
 
-ghost use Rattle.std.specs.Prelude.{◌≡◌, ◌+◌, ◌*◌, ◌%◌, ◌^◌, ◌<◌, ◌≤◌, length, take, drop};
+ghost use Rattle.std.specs.Prelude.{◌≡◌, ◌+◌, ◌*◌, ◌%◌, ◌^◌, ◌<◌, ◌≤◌, length, take, drop, OnOk, IfOk};
 ghost use Rattle.cases.specs.Numerals.{is_digit, from_digit, Reads};
 
+use std::io::Read;
 use std::num::wrapping_add_u64;
+use std::rt::Files;
+use std::{fs, io};
+
+// As many bytes as the files of yards, paths and vacates have at most.
+pub const TEXT: usize = 1 << 16;
 
 // A number that was read, and the place after its last digit.
 #[derive(Clone, Copy)]
@@ -19,6 +25,22 @@ pub struct Numeral {
 pub struct Listed {
     pub count: usize,
     pub next: usize,
+}
+
+// The first bytes of a file, as many as the buffer holds, and how many these are.
+pub fn load(rt: &impl Files, name: &str, buffer: &mut [u8]) -> io::Result<usize>
+    ensures { IfOk result (λ n. n ≤ length buffer.new) }
+{
+    let mut file = fs::open(rt, name)?;
+    let mut done = 0;
+    while done < buffer.len() {
+        let more = file.read(&mut buffer[done..])?;
+        if more == 0 {
+            return Ok(done);
+        }
+        done += more;
+    }
+    Ok(done)
 }
 
 fn is_digit(b: u8) -> bool

@@ -7,7 +7,7 @@ use cases::{first8, first16, first64};
 use checker::Checked;
 use docket::Refusal;
 use marks::Reported;
-use std::{fs, io};
+use std::io;
 
 // An answer in the vectors' numbers: the refusal's and what it carries, 99 for "already", 0 for what is no refusal.
 #[derive(Clone, Copy)]
@@ -344,8 +344,9 @@ fn count_all(kind: u64, text: &[u8]) -> Tally {
 
 // Counts over the whole of a file of data/.
 fn load(rt: &HostRuntime, path: &str, kind: u64) -> io::Result<Tally> {
-    let text = fs::read(rt, path)?;
-    Ok(count_all(kind, &text))
+    let mut text = [0u8; 131072];
+    let n = cases::load(rt, path, &mut text)?;
+    Ok(count_all(kind, first8(&text, n)))
 }
 
 fn show(rt: &impl Print, name: &str, t: Tally) -> io::Result<()> {

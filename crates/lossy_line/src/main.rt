@@ -5,15 +5,15 @@
 #![tactic(auto)]
 
 use bills::Record;
-use cases::{first16, first64};
+use cases::{first8, first16, first64};
 use docket::{Crossing, Refusal};
 use held_lines::HeldLines;
 use ledger::{Accounts, Agreement};
 use marks::Reported;
 use plans::Named;
 use settling::Settlement;
+use std::io;
 use std::num::wrapping_add_u64;
-use std::{fs, io};
 use yard::Yard;
 
 // The numbers of the line's dice: Marsaglia's xorshift.
@@ -649,6 +649,7 @@ fn say(rt: &impl Print, words: &str, n: u64) -> io::Result<()> {
 }
 
 fn main(rt: HostRuntime) -> io::Result<()> {
-    let text = fs::read(&rt, "plan")?;
-    read(&rt, &text)
+    let mut text = [0u8; 8192];
+    let size = cases::load(&rt, "plan", &mut text)?;
+    read(&rt, first8(&text, size))
 }

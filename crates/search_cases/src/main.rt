@@ -12,7 +12,7 @@ ghost use Rattle.moving.specs.Placed.{Placed};
 
 use docket::Bay;
 use rings::Path;
-use std::{fs, io};
+use std::io;
 use vacate::Vacated;
 use words::{SPAN, WORDS};
 use yard::{Opened, Yard};
@@ -297,13 +297,15 @@ fn report(rt: &impl Print, what: &str, i: u64) -> io::Result<()> {
 }
 
 fn paths_of(rt: &HostRuntime, name: &str) -> io::Result<u64> {
-    let text = fs::read(rt, name)?;
-    paths_agreeing(rt, &text)
+    let mut text = [0u8; cases::TEXT];
+    let n = cases::load(rt, name, &mut text)?;
+    paths_agreeing(rt, &text[..n])
 }
 
 fn vacates_of(rt: &HostRuntime, name: &str) -> io::Result<u64> {
-    let text = fs::read(rt, name)?;
-    vacates_agreeing(rt, &text)
+    let mut text = [0u8; cases::TEXT];
+    let n = cases::load(rt, name, &mut text)?;
+    vacates_agreeing(rt, &text[..n])
 }
 
 fn main(rt: HostRuntime) -> io::Result<()> {

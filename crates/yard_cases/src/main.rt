@@ -4,7 +4,7 @@
 // the limits of document 01, Y10 among them. 164 of the vectors' 1,742 are left out: they name a bay over 65,535, which no bay number holds.
 #![tactic(auto)]
 
-use std::{fs, io};
+use std::io;
 use yard::{Opened, Yard};
 
 // The answer in the vectors' numbers.
@@ -88,8 +88,9 @@ fn agreeing(rt: &impl Print, name: &str, text: &[u8]) -> io::Result<u64> {
 
 // How many cases of the file agree.
 fn of_file(rt: &HostRuntime, name: &str) -> io::Result<u64> {
-    let text = fs::read(rt, name)?;
-    agreeing(rt, name, &text)
+    let mut text = [0u8; cases::TEXT];
+    let n = cases::load(rt, name, &mut text)?;
+    agreeing(rt, name, &text[..n])
 }
 
 fn tell(rt: &impl Print, n: u64) -> io::Result<()> {
