@@ -1,8 +1,8 @@
-// Numbers written in decimal between blanks, read from bytes: what the programs that run the vectors read their cases with.
+// Numbers written in decimal between blanks, read from the bytes of a file: what the programs that run the vectors read their cases with.
 // A list stands as its count and then its numbers.
 #![tactic(auto)]
 
-ghost use Rattle.std.specs.Prelude.{◌≡◌, ◌+◌, ◌*◌, ◌%◌, ◌^◌, ◌<◌, ◌≤◌, length, take, drop, OnOk, IfOk};
+ghost use Rattle.std.specs.Prelude.{◌≡◌, ◌+◌, ◌*◌, ◌%◌, ◌^◌, ◌<◌, ◌≤◌, length, take, drop, IfOk};
 ghost use Rattle.cases.specs.Numerals.{is_digit, from_digit, Reads};
 
 use std::io::Read;
@@ -10,7 +10,7 @@ use std::num::wrapping_add_u64;
 use std::rt::Files;
 use std::{fs, io};
 
-// As many bytes as the files of yards, paths and vacates have at most.
+// Room for a file of yards, of paths or of vacates: as many bytes as it has at most.
 pub const TEXT: usize = 1 << 16;
 
 // A number that was read, and the place after its last digit.
